@@ -1,0 +1,9 @@
+pub mod Lists
+pub mod Names
+pub mod Pushes
+pub mod Directives
+pub mod Rules
+pub mod Law
+pub mod WellFormedLemmas
+pub mod Steps
+pub mod Views

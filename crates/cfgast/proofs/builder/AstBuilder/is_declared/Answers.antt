@@ -1,0 +1,19 @@
+use Rattle.std.proofs.Common.{ℕ, false, ◌==◌, Option, bytes_eq, string_bytes, sym, ap, ◌∙◌}
+use Rattle.std.specs.List.{list_any}
+use Rattle.std.specs.Option.{option_map_or}
+use Rattle.cfgast.specs.Building.{is_declared}
+use Rattle.cfgast.specs.View.{syntax, syntax_built}
+use Rattle.cfgast.proofs.Views.{position-map}
+use Rattle.cfgast.proofs.builder.AstBuilder.is_declared.Goals as goal
+
+pub returns-in-Some : goal.returns-in-Some
+unfolding syntax_built syntax is_declared
+returns-in-Some c =
+    c.contains.ensures ∙ ap (λ (o : Option ℕ). option_map_or (λ i. list_any (λ j. i == j) c.args.self.now.ast.token_directives.keys) o false)
+    (c.in-Some.ensures.index ∙ sym (position-map (bytes_eq c.args.name.now) string_bytes c.args.self.now.ast.tokens.keys))
+
+pub returns-in-None : goal.returns-in-None
+unfolding syntax_built syntax is_declared
+returns-in-None c =
+    ap (λ (o : Option ℕ). option_map_or (λ i. list_any (λ j. i == j) c.args.self.now.ast.token_directives.keys) o false)
+    (c.in-None.ensures.index ∙ sym (position-map (bytes_eq c.args.name.now) string_bytes c.args.self.now.ast.tokens.keys))

@@ -1,0 +1,10 @@
+use Rattle.std.proofs.Common.{rules, arith, ◌≡◌, map}
+use Rattle.std.proofs.lemmas.Grind.{common_steps}
+use Rattle.cfgast.specs.View.{symbol_view}
+use Rattle.cfgast.proofs.Views.{map-copies}
+use Rattle.cfgast.proofs.production.ProductionClone.clone.Goals as goal
+
+pub returns : goal.returns
+returns c =
+    let same : map symbol_view c.in_ok-clone.field-0.items ≡ map symbol_view c.args.self.now.symbols.items = map-copies _ symbol_view (λ x y h. h) _ _ c.in_ok-clone.ensures.cases.0 in
+    grind (arith, common_steps, same)

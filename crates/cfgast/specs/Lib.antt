@@ -1,0 +1,5 @@
+pub mod Items
+pub mod Syntax
+pub mod Building
+pub mod View
+pub mod WellFormed

@@ -1,0 +1,69 @@
+-- What the types of the tree show, as plain data.
+use Rattle.std.specs.Prelude.{ℕ, List, String, map, Option, option_map}
+use Rattle.std.specs.String.{string_bytes}
+use Rattle.std.specs.declared.alloc.Global.{Global}
+use Rattle.cfgbase.specs.declared.span.Span.{Span}
+use Rattle.cfgwords.specs.Words.{Word, Token}
+use Rattle.cfgast.specs.Syntax as plain
+use Rattle.cfgast.specs.Syntax.{Syntax, RuleSymbol, TokenSymbol}
+use Rattle.cfgast.specs.declared.symbol.Symbol.{Symbol}
+use Rattle.cfgast.specs.declared.symbol.Symbol.TheVariants as symbols
+use Rattle.cfgast.specs.declared.production.Production.{Production}
+use Rattle.cfgast.specs.declared.rule.Rule.{Rule}
+use Rattle.cfgast.specs.declared.ast.GrammarAST.{GrammarAST}
+use Rattle.cfgast.specs.declared.builder.AstBuilder.{AstBuilder}
+use Rattle.cfgwords.specs.declared.words.Token.{Token as CodeToken}
+
+-- a name and its span
+abbrev pub named_view : String Global × Span → Word
+named_view named = record { name = string_bytes named.0; span = named.1 }
+
+-- a text and its span
+abbrev pub text_view : String Global × Span → List ℕ × Span
+text_view text = (string_bytes text.0, text.1)
+
+abbrev pub symbol_view : Symbol → plain.Symbol
+symbol_view (symbols.Rule name span) = RuleSymbol (named_view (name, span))
+symbol_view (symbols.Token name span) = TokenSymbol (named_view (name, span))
+
+-- the name of a symbol, and its span
+abbrev pub symbol_word : plain.Symbol → Word
+symbol_word (RuleSymbol word) = word
+symbol_word (TokenSymbol word) = word
+
+abbrev pub production_view : Production → plain.Production
+production_view production = record {
+  symbols = map symbol_view production.symbols.items;
+  precedence = option_map string_bytes production.precedence;
+  action = option_map text_view production.action;
+  span = production.prod_span;
+}
+
+abbrev pub rule_view : Rule → plain.Rule
+rule_view rule = record {
+  name = named_view rule.name;
+  productions = rule.pidxs.items;
+  action_type = option_map string_bytes rule.actiont;
+}
+
+-- a rule under its name
+abbrev pub rule_entry : String Global × Rule → List ℕ × plain.Rule
+rule_entry entry = (string_bytes entry.0, rule_view entry.1)
+
+unfoldable pub syntax : GrammarAST → Syntax
+syntax ast = record {
+  start = option_map named_view ast.start;
+  rules = map rule_entry ast.rules.entries;
+  productions = map production_view ast.prods.items;
+  tokens = map string_bytes ast.tokens.keys;
+  spans = ast.spans.items;
+  token_directives = ast.token_directives.keys;
+}
+
+-- what was built so far
+unfoldable pub syntax_built : AstBuilder → Syntax
+syntax_built builder = syntax builder.ast
+
+-- a token of a rule's body
+abbrev pub token_view : CodeToken → Token
+token_view token = record { name = token.name.now; span = token.span; quoted = token.quoted; end = token.end }

@@ -1,0 +1,56 @@
+-- Lines and columns of a text, which is the list of its bytes in UTF-8. A line ends in a LF, which is part of it. A CR alone ends no line.
+use Rattle.std.specs.Prelude.{◌≡◌, ℕ, suc, ◌+◌, ◌-◌, Bool, ◌&&◌, ◌==◌, nat_lt, if◌then◌else◌, List, [], ◌∷◌, ◌++◌, map, length, take, drop, slice_index}
+use Rattle.std.specs.List.{concat, count_by, before_first, after_last}
+use Rattle.std.specs.Borrow.{Bor}
+use Rattle.std.specs.Str.{chars}
+
+-- whether a byte is a LF
+abbrev pub is_newline : ℕ → Bool
+is_newline byte = byte == 10
+
+-- whether the byte at b is a LF right after a CR
+abbrev pub ends_crlf : List ℕ → ℕ → Bool
+ends_crlf text b = nat_lt 0 b && (slice_index text b == 10 && slice_index text (b - 1) == 13)
+
+-- the number of b's line, from 1: one more than the LFs among the first b bytes
+unfoldable pub line_number : List ℕ → ℕ → ℕ
+line_number text b = count_by is_newline (take b text) + 1
+
+-- the part of b's line that stands before b
+unfoldable pub line_front : List ℕ → ℕ → List ℕ
+line_front text b = after_last is_newline (take b text)
+
+-- where b's line starts
+unfoldable pub line_start : List ℕ → ℕ → ℕ
+line_start text b = length (take b text) - length (line_front text b)
+
+-- where b's line ends: at the first LF at or after b, else at the text's end
+unfoldable pub line_end : List ℕ → ℕ → ℕ
+line_end text b = length (take b text) + length (before_first is_newline (drop b text))
+
+-- how many characters b's line has up to and with the one at b, where the text's end counts as one
+abbrev pub character_count : List ℕ → ℕ → ℕ
+character_count text b = length (chars (line_front text b)) + 1
+
+-- the column of b, from 1: that count, but a LF right after a CR has the CR's column
+unfoldable pub column : List ℕ → ℕ → ℕ
+column text b = if ends_crlf text b then character_count text (b - 1) else character_count text b
+
+-- the places of a text's LFs, in order
+unfoldable pub newlines_of : List ℕ → List ℕ
+newlines_of [] = []
+newlines_of (byte ∷ text) = (if is_newline byte then 0 ∷ [] else []) ++ map suc (newlines_of text)
+
+-- what a cache holds of a text: how many bytes it has, and the places of its LFs
+pub record Kept : Type 0 where
+  pub bytes : ℕ
+  pub newlines : List ℕ
+
+-- the cache stands for the text
+pub record StandsFor (cache : Kept) (text : List ℕ) : Type 0 where
+  pub bytes : cache.bytes ≡ length text
+  pub newlines : cache.newlines ≡ newlines_of text
+
+-- the pieces one after another
+abbrev pub joined : List (Bor (List ℕ)) → List ℕ
+joined pieces = concat (map (λ piece. piece.now) pieces)

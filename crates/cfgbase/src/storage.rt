@@ -1,0 +1,111 @@
+ghost use Rattle.std.specs.Prelude.{◌≡◌, ◌^◌, ◌<◌, ◌≤◌, ◌↔◌, ℕ, IsSome, IfSome, refl};
+ghost use Rattle.std.specs.Ordering.{nat_cmp};
+
+use std::hash::Hash;
+
+/// A type whose values store numbers from 0 up to `MAX`, each number once.
+pub trait Storage: Copy + Ord + Hash {
+    /// The greatest number that is stored.
+    const MAX: usize;
+
+    ghost MAX: { ℕ };
+
+    // The number that a value stores.
+    ghost number: { Self → ℕ };
+
+    /// The number that the value stores.
+    fn to_usize(self) -> usize
+        ensures value { result ≡ number self }
+        ensures range { result ≤ MAX }
+        ensures limit { MAX < 2 ^ 32 };
+
+    /// The value that stores `n`, or `None` where `n` is past `MAX`.
+    fn from_usize(n: usize) -> Option<Self>
+        ensures fits { IsSome result ↔ (n ≤ MAX) }
+        ensures value { IfSome result (λ x. number x ≡ n) };
+
+    // Two values of one number are the same.
+    ghost same: { (x y : Self) → number x ≡ number y → x ≡ y };
+
+    // Values are ordered as their numbers.
+    ghost ordered: { (x y : Self) → Self.cmp x y ≡ nat_cmp (number x) (number y) };
+}
+
+impl Storage for u8 {
+    const MAX: usize = u8::MAX as usize;
+
+    ghost MAX = { 255 };
+
+    ghost number = { λ x. x };
+
+    ghost same = { λ x y e. e };
+
+    ghost ordered = { λ x y. refl };
+
+    fn to_usize(self) -> usize {
+        usize::from(self)
+    }
+
+    fn from_usize(n: usize) -> Option<u8> {
+        u8::try_from(n).ok()
+    }
+}
+
+impl Storage for u16 {
+    const MAX: usize = u16::MAX as usize;
+
+    ghost MAX = { 65535 };
+
+    ghost number = { λ x. x };
+
+    ghost same = { λ x y e. e };
+
+    ghost ordered = { λ x y. refl };
+
+    fn to_usize(self) -> usize {
+        usize::from(self)
+    }
+
+    fn from_usize(n: usize) -> Option<u16> {
+        u16::try_from(n).ok()
+    }
+}
+
+impl Storage for u32 {
+    const MAX: usize = u32::MAX as usize;
+
+    ghost MAX = { 4294967295 };
+
+    ghost number = { λ x. x };
+
+    ghost same = { λ x y e. e };
+
+    ghost ordered = { λ x y. refl };
+
+    fn to_usize(self) -> usize {
+        self as usize
+    }
+
+    fn from_usize(n: usize) -> Option<u32> {
+        u32::try_from(n).ok()
+    }
+}
+
+#[cfg(test)]
+mod tests {
+    use super::*;
+
+    fn stored<S: Storage>(n: usize) -> Option<usize> {
+        S::from_usize(n).map(|x| x.to_usize())
+    }
+
+    #[test]
+    fn stores_numbers_up_to_the_greatest(rt: HostRuntime) {
+        assert_eq!(rt; stored::<u8>(255), Some(255));
+        assert_eq!(rt; stored::<u8>(256), None);
+        assert_eq!(rt; stored::<u16>(65535), Some(65535));
+        assert_eq!(rt; stored::<u16>(65536), None);
+        assert_eq!(rt; stored::<u32>(4294967295), Some(4294967295));
+        assert_eq!(rt; stored::<u32>(4294967296), None);
+    }
+}

@@ -1,0 +1,10 @@
+pub mod Blanks
+pub mod CheckLemmas
+pub mod ErrorLemmas
+pub mod Lengths
+pub mod Loops
+pub mod OneReading
+pub mod Readings
+pub mod Steps
+pub mod Symbols
+pub mod WarningLemmas

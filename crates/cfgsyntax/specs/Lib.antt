@@ -1,0 +1,10 @@
+pub mod Builds
+pub mod Check
+pub mod Errors
+pub mod Faults
+pub mod Grammar
+pub mod Parsed
+pub mod Reading
+pub mod Reads
+pub mod Texts
+pub mod Warnings

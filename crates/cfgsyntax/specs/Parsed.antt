@@ -1,0 +1,10 @@
+-- What callers see of an `ASTWithValidityInfo`.
+use Rattle.std.specs.Prelude.{List}
+use Rattle.cfgast.specs.Syntax.{Syntax}
+use Rattle.cfgsyntax.specs.Errors.{GrammarError}
+use Rattle.cfgsyntax.specs.declared.yacc.kind.YaccKind.{YaccKind}
+
+pub record Parsed : Type 0 where
+  pub kind : YaccKind
+  pub syntax : Syntax
+  pub errors : List GrammarError

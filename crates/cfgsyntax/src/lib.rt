@@ -1,0 +1,4 @@
+//! Yacc grammars as written: the text of a Yacc file, its syntax, and what is wrong with it.
+#![tactic(auto)]
+
+pub mod yacc;

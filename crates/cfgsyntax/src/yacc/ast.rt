@@ -1,0 +1,84 @@
+//! The syntax of a Yacc file, and whether it is valid.
+
+mod check;
+
+ghost use Rattle.std.specs.Prelude.{◌≡◌, ◌↔◌, [], List, Option, IsTrue, IfOk};
+ghost use Rattle.cfgwords.specs.declared.fault.Fault.{Fault};
+ghost use Rattle.cfgast.specs.Items.{Item};
+ghost use Rattle.cfgast.specs.Syntax.{syntax_of};
+ghost use Rattle.cfgast.specs.View.{syntax};
+ghost use Rattle.cfgsyntax.specs.Faults.{errors_of};
+ghost use Rattle.cfgsyntax.specs.Reads.{Reads, HasOneReading};
+
+use crate::yacc::kind::YaccKind;
+use crate::yacc::parser::{YaccGrammarError, read};
+use check::errors_found;
+use std::alloc::{AllocError, Global};
+use std::marker::Model;
+
+pub use cfgast::{GrammarAST, Production, Rule, Symbol};
+
+/// The syntax of a Yacc file, of whatever was read of it, and the errors of the file.
+#[derive(Drop)]
+pub struct ASTWithValidityInfo {
+    kind: YaccKind,
+    ast: GrammarAST,
+    errors: Vec<YaccGrammarError>,
+}
+
+impl Model for ASTWithValidityInfo {
+    ghost use Rattle.cfgast.specs.View.{syntax};
+    ghost use Rattle.cfgsyntax.specs.Parsed.{Parsed};
+
+    ghost Value = { Parsed };
+
+    ghost view = { λ x. record { kind = x.kind; syntax = syntax x.ast; errors = x.errors.items } };
+}
+
+impl ASTWithValidityInfo {
+    /// Reads the text as a Yacc file of the kind, and validates what was read.
+    ///
+    /// The text has exactly one reading: the items that count as read, and what stopped the reading, if anything
+    /// did. The syntax is what these items say. The errors are the fault that stopped the reading, if there is
+    /// one, and then the first check that the syntax fails, if it fails one.
+    pub fn new(alloc: Global, kind: YaccKind, text: &str) -> Result<Self, AllocError>
+        ensures one { HasOneReading kind text.now }
+        ensures kind { IfOk result (λ parsed. parsed.kind ≡ kind) }
+        ensures syntax { IfOk result (λ parsed. (items : List Item) (stop : Option Fault) → Reads kind text.now items stop
+            → parsed.syntax ≡ syntax_of items) }
+        ensures errors { IfOk result (λ parsed. (items : List Item) (stop : Option Fault) → Reads kind text.now items stop
+            → parsed.errors ≡ errors_of items stop) }
+    {
+        let (ast, stop) = read(alloc, kind, text)?;
+        let errors = errors_found(alloc, &ast, stop)?;
+        Ok(ASTWithValidityInfo { kind, ast, errors })
+    }
+
+    /// What was read of the file. It need not be valid.
+    pub fn ast(&self) -> &GrammarAST
+        ensures { syntax result.now ≡ self.now.syntax }
+    {
+        &self.ast
+    }
+
+    /// Whether the file has no errors.
+    pub fn is_valid(&self) -> bool
+        ensures { IsTrue result ↔ (self.now.errors ≡ []) }
+    {
+        self.errors.is_empty()
+    }
+
+    /// The kind that the file was read as.
+    pub fn yacc_kind(&self) -> YaccKind
+        ensures { result ≡ self.now.kind }
+    {
+        self.kind
+    }
+
+    /// The errors of the file, in order.
+    pub fn errors(&self) -> &[YaccGrammarError]
+        ensures { result.now ≡ self.now.errors }
+    {
+        self.errors.as_slice()
+    }
+}

@@ -1,0 +1,129 @@
+//! Declarations: what stands before the first `%%`.
+
+ghost use Rattle.std.specs.Prelude.{◌≡◌, is_some, codes};
+ghost use Rattle.reading.specs.Pieces.{strip};
+ghost use Rattle.reading.specs.Turns.{repeat};
+ghost use Rattle.cfgsyntax.specs.Grammar.{is_listed, is_declaration, separator_fault};
+ghost use Rattle.cfgsyntax.specs.Reading.{expect, listed_token, token_declaration, start_declaration, declaration, start_and_more, declarations};
+
+use super::reader::{ReadError, Reader};
+use cfgwords::fault::FaultKind;
+use reading::after_word;
+
+impl Reader<'_> {
+    ghost use Rattle.cfgsyntax.specs.Builds.{Builds};
+
+    /// Passes a token of a `%token` list and the blank behind it.
+    #[tactic(auto, unfolding(crate::specs::Reading::listed_token, cfgast::specs::Building::adds))]
+    fn listed_token(&mut self) -> Result<(), ReadError>
+        ensures { Builds (λ x. x) self.old self.new result (listed_token self.old.len self.old.rest.now) }
+    {
+        let token = self.token()?;
+        self.tree
+            .declare_token(self.alloc, token.name, token.span)?;
+        self.blank(true)
+    }
+
+    /// Whether a `%token` list goes on here: it ends at `%` and at the end.
+    fn is_listed(&self) -> bool
+        ensures { result ≡ is_listed self.now.rest.now }
+    {
+        match self.rest.as_bytes() {
+            [] => false,
+            [b, ..] => *b != b'%',
+        }
+    }
+
+    /// Passes the tokens of a `%token` list.
+    fn token_list(&mut self) -> Result<(), ReadError>
+        ensures { Builds (λ x. x) self.old self.new result (repeat is_listed (listed_token self.old.len) self.old.rest.now) }
+    {
+        while self.is_listed() {
+            self.listed_token()?;
+        }
+        Ok(())
+    }
+
+    /// Passes what follows `%token`.
+    #[tactic(auto, unfolding(crate::specs::Reading::token_declaration, cfgast::specs::Building::adds))]
+    fn token_declaration(&mut self) -> Result<(), ReadError>
+        ensures { Builds (λ x. x) self.old self.new result (token_declaration self.old.len self.old.rest.now) }
+    {
+        self.blank(false)?;
+        self.token_list()
+    }
+
+    /// Passes what follows `%start`.
+    #[tactic(auto, unfolding(crate::specs::Reading::start_declaration, cfgast::specs::Building::adds))]
+    fn start_declaration(&mut self) -> Result<(), ReadError>
+        ensures { Builds (λ x. x) self.old self.new result (start_declaration self.old.len self.old.rest.now) }
+    {
+        self.blank(false)?;
+        let name = self.name()?;
+        self.tree.declare_start(self.alloc, name.name, name.span)?;
+        self.blank(true)
+    }
+
+    /// Passes a declaration other than `%start`.
+    #[tactic(auto, unfolding(crate::specs::Reading::declaration, cfgast::specs::Building::adds))]
+    fn declaration(&mut self) -> Result<(), ReadError>
+        ensures { Builds (λ x. x) self.old self.new result (declaration self.old.len self.old.rest.now) }
+    {
+        if self.accept("%token") {
+            self.token_declaration()
+        } else {
+            Err(self.fault(FaultKind::UnknownDeclaration))
+        }
+    }
+
+    /// Whether a declaration other than `%start` stands here.
+    fn is_declaration(&self) -> bool
+        ensures { result ≡ is_declaration self.now.rest.now }
+    {
+        after_word(self.rest, "%token").is_some()
+    }
+
+    fn declaration_list(&mut self) -> Result<(), ReadError>
+        ensures { Builds (λ x. x) self.old self.new result (repeat is_declaration (declaration self.old.len) self.old.rest.now) }
+    {
+        while self.is_declaration() {
+            self.declaration()?;
+        }
+        Ok(())
+    }
+
+    #[tactic(auto, unfolding(crate::specs::Reading::start_and_more, cfgast::specs::Building::adds))]
+    fn start_and_more(&mut self) -> Result<(), ReadError>
+        ensures { Builds (λ x. x) self.old self.new result (start_and_more self.old.len self.old.rest.now) }
+    {
+        self.start_declaration()?;
+        self.declaration_list()
+    }
+
+    /// Passes all declarations. `%start` may stand once.
+    #[tactic(auto, unfolding(crate::specs::Reading::declarations, cfgast::specs::Building::adds))]
+    pub(super) fn declarations(&mut self) -> Result<(), ReadError>
+        ensures { Builds (λ x. x) self.old self.new result (declarations self.old.len self.old.rest.now) }
+    {
+        self.declaration_list()?;
+        if self.accept("%start") {
+            self.start_and_more()
+        } else {
+            Ok(())
+        }
+    }
+
+    /// Passes the `%%` behind the declarations.
+    #[tactic(auto, unfolding(cfgast::specs::Building::adds))]
+    pub(super) fn separator(&mut self) -> Result<(), ReadError>
+        ensures { Builds (λ x. x) self.old self.new result (expect (codes "%%") (separator_fault self.old.len) self.old.rest.now) }
+    {
+        if self.accept("%%") {
+            Ok(())
+        } else if self.rest.is_empty() {
+            Err(self.fault(FaultKind::PrematureEnd))
+        } else {
+            Err(self.fault(FaultKind::UnknownDeclaration))
+        }
+    }
+}

@@ -1,0 +1,13 @@
+//! Reading a Yacc file.
+mod declarations;
+mod error;
+mod fault;
+mod read;
+mod reader;
+mod rules;
+mod warning;
+
+pub use error::{YaccFault, YaccGrammarError, YaccGrammarErrorKind, YaccGrammarResult};
+pub(crate) use fault::error_of;
+pub(crate) use read::read;
+pub use warning::{YaccGrammarWarning, YaccGrammarWarningKind};

@@ -1,0 +1,173 @@
+//! The reader: a place in the text, and the tree of what was read so far.
+
+ghost use Rattle.std.specs.Prelude.{◌≡◌, ◌≤◌, length, [], Some, None, MatchBool, IfOk};
+ghost use Rattle.reading.specs.Pieces.{strip};
+ghost use Rattle.cfgwords.specs.Text.{place, fault_at};
+ghost use Rattle.cfgsyntax.specs.Reading.{blank_here, name_here, token_here};
+
+use cfgast::{AstBuilder, GrammarAST};
+use cfgbase::Span;
+use cfgwords::blank::Front;
+use cfgwords::fault::{Fault, FaultKind};
+use cfgwords::words::{Token, Word, leading_name, leading_token};
+use reading::after_word;
+use std::alloc::{AllocError, AllocFailed, Global};
+
+/// Why a reader stopped.
+#[derive(Drop)]
+pub(crate) enum ReadError {
+    OutOfMemory,
+    Fault(Fault),
+}
+
+impl From<Fault> for ReadError {
+    ghost use Rattle.cfgsyntax.specs.declared.yacc.parser.reader.ReadError.TheVariants as errors;
+    ghost from_gives = { λ fault e. e ≡ errors.Fault fault };
+
+    fn from(fault: Fault) -> ReadError {
+        ReadError::Fault(fault)
+    }
+}
+
+impl From<AllocError> for ReadError {
+    ghost use Rattle.cfgsyntax.specs.declared.yacc.parser.reader.ReadError.TheVariants.{OutOfMemory};
+    ghost from_gives = { λ _ e. e ≡ OutOfMemory };
+
+    fn from(_error: AllocError) -> ReadError {
+        ReadError::OutOfMemory
+    }
+}
+
+impl<T: Drop> From<AllocFailed<T>> for ReadError {
+    ghost use Rattle.cfgsyntax.specs.declared.yacc.parser.reader.ReadError.TheVariants.{OutOfMemory};
+    ghost from_gives = { λ _ e. e ≡ OutOfMemory };
+
+    fn from(_error: AllocFailed<T>) -> ReadError {
+        ReadError::OutOfMemory
+    }
+}
+
+/// Reads a text of `len` bytes from its front: `rest` is left of it, and `tree` holds what was read.
+#[derive(Drop)]
+pub(crate) struct Reader<'a> {
+    pub(crate) alloc: Global,
+    pub(crate) len: usize,
+    pub(crate) rest: &'a str,
+    pub(crate) tree: AstBuilder,
+    ghost within: { length rest.now ≤ len },
+}
+
+impl<'a> Reader<'a> {
+    ghost use Rattle.cfgsyntax.specs.Builds.{Builds, Grows, IsPartHere, word_view};
+    ghost use Rattle.cfgast.specs.View.{syntax, syntax_built, token_view};
+    ghost use Rattle.cfgast.specs.Syntax.{syntax_of};
+
+    /// At the front of the text, with nothing read.
+    pub(super) fn new(alloc: Global, text: &'a str) -> Self
+        ensures place { (result.rest.now ≡ text.now) × (result.len ≡ length text.now) }
+        ensures tree { syntax_built result.tree ≡ syntax_of [] }
+    {
+        Reader {
+            alloc,
+            len: text.len(),
+            rest: text,
+            tree: AstBuilder::new(alloc),
+        }
+    }
+
+    /// The tree of what was read.
+    pub(super) fn into_tree(self) -> GrammarAST
+        ensures { syntax result ≡ syntax_built self.entry.tree }
+    {
+        self.tree.finish()
+    }
+
+    /// The offset of what is left, in bytes.
+    pub(super) fn place(&self) -> usize
+        ensures { result ≡ place self.now.len self.now.rest.now }
+    {
+        self.len - self.rest.len()
+    }
+
+    /// A fault right here.
+    pub(super) fn fault(&self, kind: FaultKind) -> ReadError
+        ensures { result ≡ ReadError.Fault (fault_at self.now.len kind self.now.rest.now) }
+    {
+        let place = self.place();
+        ReadError::Fault(Fault {
+            kind,
+            span: Span::new(place, place),
+        })
+    }
+
+    /// Passes the word, where it stands here.
+    pub(super) fn accept(&mut self, word: &str) -> bool
+        ensures { MatchBool result
+            ((strip word.now self.old.rest.now ≡ Some self.new.rest.now) × (self.new.len ≡ self.old.len) × (self.new.tree ≡ self.old.tree))
+            ((strip word.now self.old.rest.now ≡ None) × (self.new ≡ self.old)) }
+    {
+        match after_word(self.rest, word) {
+            Some(rest) => {
+                self.rest = rest;
+                true
+            }
+            None => false,
+        }
+    }
+
+    /// The next part of a blank: what is left behind it, or None where the blank ends here.
+    fn part(&self, lines: bool) -> Result<Option<&'a str>, ReadError>
+        ensures { IsPartHere lines self.now result }
+    {
+        match Front::of(self.rest).part(lines) {
+            Ok(part) => Ok(part),
+            Err(kind) => Err(self.fault(kind)),
+        }
+    }
+
+    /// Passes the blank that begins here; where `lines` is false, it may not pass a line's end.
+    pub(super) fn blank(&mut self, lines: bool) -> Result<(), ReadError>
+        ensures { Builds (λ x. x) self.old self.new result (blank_here self.old.len lines self.old.rest.now) }
+    {
+        while let Some(rest) = self.part(lines)? {
+            self.rest = rest;
+        }
+        Ok(())
+    }
+
+    /// Passes the name that must stand here.
+    pub(super) fn name(&mut self) -> Result<Word<'a>, ReadError>
+        ensures { Builds word_view self.old self.new result (name_here self.old.len self.old.rest.now) }
+    {
+        match leading_name(self.rest) {
+            Some((name, rest)) => {
+                let start = self.place();
+                self.rest = rest;
+                let span = Span::new(start, start + name.len());
+                Ok(Word { name, span })
+            }
+            None => Err(self.fault(FaultKind::IllegalName)),
+        }
+    }
+
+    /// Passes the token that must stand here.
+    pub(super) fn token(&mut self) -> Result<Token<'a>, ReadError>
+        ensures read { Builds token_view self.old self.new result (token_here self.old.len self.old.rest.now) }
+        ensures after { IfOk result (λ token. place self.old.len self.old.rest.now ≤ token.end) }
+    {
+        match leading_token(self.rest) {
+            Some((name, quoted, rest)) => {
+                let place = self.place();
+                let start = if quoted { place + 1 } else { place };
+                self.rest = rest;
+                Ok(Token {
+                    name,
+                    span: Span::new(start, start + name.len()),
+                    quoted,
+                    end: self.place(),
+                })
+            }
+            None => Err(self.fault(FaultKind::IllegalString)),
+        }
+    }
+}

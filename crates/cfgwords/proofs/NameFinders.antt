@@ -1,0 +1,74 @@
+-- `name_of` and `identifier_of` find the names and the identifiers, and nothing else; each leaves less.
+use Rattle.std.proofs.Common.{◌≡◌, ℕ, ◌+◌, Bool, true, false, cond, List, [], ◌∷◌, length, Option, Some, None, refl, ap, subst, ◌∙◌, arith, length-append}
+use Rattle.std.proofs.lemmas.Bool.Decides.{nat_tests}
+use Rattle.reading.specs.Pieces.{starts, IsRun, run}
+use Rattle.reading.proofs.PiecesLemmas.{IsRun-run, run_only, run_shorter}
+use Rattle.reading.proofs.Graphs.{IsFinder}
+use Rattle.reading.proofs.Lengths.{IsShorter}
+use Rattle.cfgwords.specs.declared.bytes.ByteClass.{ByteClass}
+use Rattle.cfgwords.specs.declared.bytes.ByteClass.TheVariants as bytes
+use Rattle.cfgwords.specs.Bytes.{holds}
+use Rattle.cfgwords.specs.Words.{IsRunFrom, IsName, IsIdentifier, run_from, name_of, identifier_of}
+
+-- what a choice that gives something chose
+pub chosen : {A : Type 0} (t : Bool) (o : Option A) (x : A) → cond t o None ≡ Some x → (t ≡ true) × (o ≡ Some x)
+chosen true o x e = (refl, e)
+chosen false o x e = cc
+
+-- two equal finds
+pub found_same : {W : Type 0} {word word' : W} {rest rest' : List ℕ} → ◌≡◌ {A = Option (W × List ℕ)} (Some (word, rest)) (Some (word', rest'))
+    → (word ≡ word') × (rest ≡ rest')
+found_same {W = W} {word = word} {word' = word'} {rest = rest} {rest' = rest'} e =
+    let both : (word, rest) ≡ (word', rest') = cc in (ap (λ (x : W × List ℕ). x.0) both, ap (λ (x : W × List ℕ). x.1) both)
+
+-- a longest run that begins with a byte of another class
+pub run_from_finder : (first others : ByteClass) → IsFinder (IsRunFrom first others) (run_from first others)
+unfolding run_from
+run_from_finder first others = record {
+  sound = λ text word rest e.
+      let c = chosen (starts (holds first) text) (Some (run (holds others) text)) (word, rest) e in
+      let same = found_same c.1 in
+      record { begins = c.0; run = subst (λ x. IsRun (holds others) text x rest) same.0 (subst (IsRun (holds others) text _) same.1 (IsRun-run (holds others) text)) };
+  only = λ text word rest r.
+      ap (λ t. cond t (Some (run (holds others) text)) None) r.begins ∙ ap Some (run_only (holds others) text word rest r.run);
+}
+
+-- it leaves less where the first byte is also one of the others
+pub run_from_shorter : (first others : ByteClass) → ((b : ℕ) → holds first b ≡ true → holds others b ≡ true) → IsShorter (run_from first others)
+unfolding run_from
+run_from_shorter first others part = record {
+  less = λ text word rest e.
+      let c = chosen (starts (holds first) text) (Some (run (holds others) text)) (word, rest) e in
+      let same = found_same c.1 in
+      let less = run_shorter (holds others) text (begins text c.0) in omega (arith, ap length same.1);
+}
+  where
+    begins : (text : List ℕ) → starts (holds first) text ≡ true → starts (holds others) text ≡ true
+    begins [] e = e
+    begins (b ∷ text) e = part b e
+
+-- names
+pub name_finder : IsFinder IsName name_of
+name_finder = run_from_finder bytes.NameStart bytes.NameByte
+
+pub name_shorter : IsShorter name_of
+name_shorter = run_from_shorter bytes.NameStart bytes.NameByte (λ b h. grind (arith, nat_tests))
+
+-- identifiers
+pub identifier_finder : IsFinder IsIdentifier identifier_of
+identifier_finder = run_from_finder bytes.IdentifierStart bytes.IdentifierByte
+
+pub identifier_shorter : IsShorter identifier_of
+identifier_shorter = run_from_shorter bytes.IdentifierStart bytes.IdentifierByte (λ b h. grind (arith, nat_tests))
+
+-- what a run and what is left behind it make of the text
+run_from_length : (first others : ByteClass) (text word rest : List ℕ) → run_from first others text ≡ Some (word, rest)
+    → length text ≡ length word + length rest
+run_from_length first others text word rest e =
+    ap length ((run_from_finder first others).sound text word rest e).run.whole ∙ length-append word rest
+
+pub name_length : (text word rest : List ℕ) → name_of text ≡ Some (word, rest) → length text ≡ length word + length rest
+name_length = run_from_length bytes.NameStart bytes.NameByte
+
+pub identifier_length : (text word rest : List ℕ) → identifier_of text ≡ Some (word, rest) → length text ≡ length word + length rest
+identifier_length = run_from_length bytes.IdentifierStart bytes.IdentifierByte

@@ -1,0 +1,8 @@
+use Rattle.std.proofs.Common.{◌≡◌, ◌+◌, drop}
+use Rattle.std.specs.List.{prefix_len}
+use Rattle.cfgwords.specs.Words.{is_inside}
+use Rattle.cfgwords.proofs.words.inside_len.Given as goal
+
+-- what is counted so far, and what is left inside, make the whole
+abbrev pub invariant-loop-i : goal.invariant-loop-i
+invariant-loop-i l = l.i + prefix_len (is_inside l.quote) (drop l.i l.bytes) ≡ prefix_len (is_inside l.quote) l.bytes

@@ -1,0 +1,93 @@
+-- Blanks: spaces, tabs, CRs, LFs, line comments and block comments, in a row as long as possible.
+use Rattle.std.specs.Prelude.{◌≡◌, ◌≢◌, ℕ, Bool, true, false, List, [], ◌∷◌, ◌++◌, drop, Option, Some, None, Result, Ok, Err, ◌||◌, not, codes, if◌then◌else◌}
+use Rattle.std.specs.List.{list_any}
+use Rattle.reading.specs.Pieces.{starts, IsRun, run, strip, IsFirst, split_first}
+use Rattle.reading.specs.Turns.{Turn, again, ends, Turns, all_turns}
+use Rattle.cfgwords.specs.declared.fault.Fault.{Fault}
+use Rattle.cfgwords.specs.declared.fault.FaultKind.{FaultKind}
+use Rattle.cfgwords.specs.declared.fault.FaultKind.TheVariants.{ReachedEOL, IncompleteComment}
+use Rattle.cfgwords.specs.declared.bytes.ByteClass.TheVariants as bytes
+use denote.Ref.{Bor}
+use Rattle.cfgwords.specs.declared.blank.Front.{Front as CodeFront}
+use Rattle.cfgwords.specs.declared.blank.Front.TheVariants as fronts
+use Rattle.cfgwords.specs.Bytes.{holds}
+use Rattle.cfgwords.specs.Text.{fault_at}
+
+-- what stands at the front of a blank, and what is left behind it
+pub data Front : Type 0 where
+  Gap : ℕ → List ℕ → Front  -- a space, a tab, a CR or an LF
+  LineComment : List ℕ → Front  -- from `//` up to and with the next CR or LF, or to the end
+  BlockComment : List ℕ → List ℕ → Front  -- from `/*` to the first `*/` behind it: what stands between, and what is left
+  OpenComment : List ℕ → Front  -- a `/*` with no `*/` behind it, and what stands behind it
+  Bare : Front  -- no part of a blank
+
+abbrev pub IsFront : List ℕ → Front → Type 0
+IsFront text (Gap b rest) = (text ≡ b ∷ rest) × (holds bytes.Blank b ≡ true)
+IsFront text (LineComment rest) = (inside : List ℕ) × (line : List ℕ) × (tail : List ℕ) × (text ≡ codes "//" ++ inside) × IsRun (holds bytes.Line) inside line tail × (rest ≡ drop 1 tail)
+IsFront text (BlockComment body rest) = (inside : List ℕ) × (text ≡ codes "/*" ++ inside) × IsFirst (codes "*/") inside body rest
+IsFront text (OpenComment inside) = (text ≡ codes "/*" ++ inside) × ((x y : List ℕ) → inside ≢ x ++ codes "*/" ++ y)
+IsFront text Bare = (starts (holds bytes.Blank) text ≡ false) × ((x : List ℕ) → text ≢ codes "//" ++ x) × ((x : List ℕ) → text ≢ codes "/*" ++ x)
+
+-- Whether the front is part of a blank: what is left behind it, or None where the blank ends, or the fault. A
+-- blank within one line refuses a line's end, but for the one that ends a line comment.
+abbrev pub part_of : Bool → Front → Result (Option (List ℕ)) FaultKind
+part_of lines (Gap b rest) = if lines || not (holds bytes.LineEnd b) then Ok (Some rest) else Err ReachedEOL
+part_of lines (LineComment rest) = Ok (Some rest)
+part_of lines (BlockComment body rest) = if lines || not (list_any (holds bytes.LineEnd) body) then Ok (Some rest) else Err ReachedEOL
+part_of lines (OpenComment inside) = if lines || not (list_any (holds bytes.LineEnd) inside) then Err IncompleteComment else Err ReachedEOL
+part_of lines Bare = Ok None
+
+-- the blank goes on behind its part, ends, or stops with a fault at the front
+abbrev pub turn_of : ℕ → List ℕ → Result (Option (List ℕ)) FaultKind → Turn (Result (Unit {0} × List ℕ) Fault)
+turn_of len text (Ok (Some rest)) = again (λ r. r) rest
+turn_of len text (Ok None) = ends (Ok (tt, text))
+turn_of len text (Err kind) = ends (Err (fault_at len kind text))
+
+pub record IsPart (len : ℕ) (lines : Bool) (text : List ℕ) (turn : Turn (Result (Unit {0} × List ℕ) Fault)) : Type 0 where
+  pub front : Front
+  pub here : IsFront text front
+  pub turns_to : turn_of len text (part_of lines front) ≡ turn
+
+-- a blank in a text of len bytes; lines tells whether it may pass a line's end
+abbrev pub Blank : ℕ → Bool → List ℕ → Result (Unit {0} × List ℕ) Fault → Type 0
+Blank len lines = Turns (IsPart len lines)
+
+-- The same by functions.
+
+abbrev pub comment_front : List ℕ → Option (List ℕ × List ℕ) → Front
+comment_front inside (Some (body, rest)) = BlockComment body rest
+comment_front inside None = OpenComment inside
+
+abbrev pub other_front : List ℕ → Front
+other_front [] = Bare
+other_front (b ∷ rest) = if holds bytes.Blank b then Gap b rest else Bare
+
+abbrev pub block_front : List ℕ → Option (List ℕ) → Front
+block_front text (Some inside) = comment_front inside (split_first (codes "*/") inside)
+block_front text None = other_front text
+
+abbrev pub line_front : List ℕ → Option (List ℕ) → Front
+line_front text (Some inside) = LineComment (drop 1 (run (holds bytes.Line) inside).1)
+line_front text None = block_front text (strip (codes "/*") text)
+
+unfoldable pub front_of : List ℕ → Front
+front_of text = line_front text (strip (codes "//") text)
+
+unfoldable pub blank_step : ℕ → Bool → List ℕ → Turn (Result (Unit {0} × List ℕ) Fault)
+blank_step len lines text = turn_of len text (part_of lines (front_of text))
+
+unfoldable pub blank : ℕ → Bool → List ℕ → Result (Unit {0} × List ℕ) Fault
+blank len lines text = all_turns (blank_step len lines) (Ok (tt, [])) text
+
+-- what the code's front stands for
+abbrev pub front_view : CodeFront → Front
+front_view (fronts.Gap b rest) = Gap b rest.now
+front_view (fronts.LineComment rest) = LineComment rest.now
+front_view (fronts.BlockComment body rest) = BlockComment body.now rest.now
+front_view (fronts.OpenComment inside) = OpenComment inside.now
+front_view fronts.Bare = Bare
+
+abbrev pub part_view : Result (Option (Bor (List ℕ))) FaultKind → Result (Option (List ℕ)) FaultKind
+part_view (Ok (Some rest)) = Ok (Some rest.now)
+part_view (Ok None) = Ok None
+part_view (Err kind) = Err kind

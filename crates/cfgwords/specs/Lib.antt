@@ -1,0 +1,4 @@
+pub mod Text
+pub mod Bytes
+pub mod Blank
+pub mod Words

@@ -1,0 +1,113 @@
+-- Words of a grammar file: names, identifiers, quoted tokens and tokens. `P text word rest` says that the text
+-- begins with the word and that rest is left.
+use Rattle.std.specs.Prelude.{◌≡◌, ℕ, Bool, true, false, List, [], ◌∷◌, ◌++◌, length, ◌+◌, ◌==◌, ◌&&◌, not, take, drop, ◌≤◌, ◌<◌, slice_index, Option, Some, None, MatchBool, if◌then◌else◌}
+use Rattle.std.specs.List.{list_all}
+use Rattle.cfgbase.specs.declared.span.Span.{Span}
+use Rattle.reading.specs.Pieces.{starts, IsRun, run}
+use Rattle.cfgwords.specs.declared.bytes.ByteClass.{ByteClass}
+use Rattle.cfgwords.specs.declared.bytes.ByteClass.TheVariants as bytes
+use Rattle.cfgwords.specs.Bytes.{holds}
+use Rattle.cfgwords.specs.Text.{place, span_of}
+
+-- a longest run of one class that begins with a byte of another
+pub record IsRunFrom (first others : ByteClass) (text word rest : List ℕ) : Type 0 where
+  pub begins : starts (holds first) text ≡ true
+  pub run : IsRun (holds others) text word rest
+
+-- a name: longest `[a-zA-Z_.][a-zA-Z0-9_.]*`
+abbrev pub IsName : List ℕ → List ℕ → List ℕ → Type 0
+IsName = IsRunFrom bytes.NameStart bytes.NameByte
+
+-- an identifier: longest `[a-zA-Z_][a-zA-Z_0-9]*`
+abbrev pub IsIdentifier : List ℕ → List ℕ → List ℕ → Type 0
+IsIdentifier = IsRunFrom bytes.IdentifierStart bytes.IdentifierByte
+
+-- what may stand inside the quotes: anything but the quote itself and an LF
+abbrev pub is_inside : ℕ → ℕ → Bool
+is_inside quote b = not (b == quote) && not (b == 10)
+
+-- A quote, at least one character, and the next same quote, within one line. The first character may be that
+-- quote. The word is what stands between the quotes.
+pub record IsQuoted (text word rest : List ℕ) : Type 0 where
+  pub quote : ℕ
+  pub first : ℕ
+  pub others : List ℕ
+  pub is_quote : holds bytes.Quote quote ≡ true
+  pub line : first == 10 ≡ false
+  pub inside : list_all (is_inside quote) others ≡ true
+  pub word_is : word ≡ first ∷ others
+  pub whole : text ≡ quote ∷ first ∷ (others ++ quote ∷ rest)
+
+-- a token's text, and whether quotes stand round it
+pub record TokenText : Type 0 where
+  pub name : List ℕ
+  pub quoted : Bool
+
+-- a token: a quoted token, or an identifier
+abbrev pub IsToken : List ℕ → TokenText → List ℕ → Type 0
+IsToken text token rest = MatchBool token.quoted (IsQuoted text token.name rest) (IsIdentifier text token.name rest)
+
+-- a name with the span of its bytes
+pub record Word : Type 0 where
+  pub name : List ℕ
+  pub span : Span
+
+-- a token with the span of its name (without the quotes), and the offset where it ends (behind a closing quote)
+pub record Token : Type 0 where
+  pub name : List ℕ
+  pub span : Span
+  pub quoted : Bool
+  pub end : ℕ
+
+abbrev pub word_at : ℕ → List ℕ → List ℕ → List ℕ → Word
+word_at len text name rest = record { name = name; span = span_of (place len text) name }
+
+abbrev pub token_at : ℕ → List ℕ → TokenText → List ℕ → Token
+token_at len text token rest = record {
+  name = token.name;
+  span = span_of (if token.quoted then place len text + 1 else place len text) token.name;
+  quoted = token.quoted;
+  end = place len rest;
+}
+
+-- a token's name and span
+abbrev pub word_of : Token → Word
+word_of token = record { name = token.name; span = token.span }
+
+-- The same by functions.
+
+unfoldable pub run_from : ByteClass → ByteClass → List ℕ → Option (List ℕ × List ℕ)
+run_from first others text = if starts (holds first) text then Some (run (holds others) text) else None
+
+abbrev pub name_of : List ℕ → Option (List ℕ × List ℕ)
+name_of = run_from bytes.NameStart bytes.NameByte
+
+abbrev pub identifier_of : List ℕ → Option (List ℕ × List ℕ)
+identifier_of = run_from bytes.IdentifierStart bytes.IdentifierByte
+
+abbrev pub closed : ℕ → ℕ → List ℕ × List ℕ → Option (List ℕ × List ℕ)
+closed quote first (others, []) = None
+closed quote first (others, b ∷ rest) = if b == quote then Some (first ∷ others, rest) else None
+
+abbrev pub opened : ℕ → ℕ → List ℕ → Option (List ℕ × List ℕ)
+opened quote first text =
+    if holds bytes.Quote quote && not (first == 10) then closed quote first (run (is_inside quote) text) else None
+
+unfoldable pub quoted_of : List ℕ → Option (List ℕ × List ℕ)
+quoted_of [] = None
+quoted_of (quote ∷ []) = None
+quoted_of (quote ∷ first ∷ text) = opened quote first text
+
+-- the name of the quoted token at the front has n bytes; ASCII quotes stand round it
+pub record IsQuotedLen (text : List ℕ) (n : ℕ) : Type 0 where
+  pub is : quoted_of text ≡ Some (take n (drop 1 text), drop 1 (drop n (drop 1 text)))
+  pub opens : slice_index text 0 < 128
+  pub closes : slice_index text (1 + n) < 128
+  pub within : 2 + n ≤ length text
+
+abbrev pub token_text : Bool → Option (List ℕ × List ℕ) → Option (TokenText × List ℕ)
+token_text quoted None = None
+token_text quoted (Some (name, rest)) = Some (record { name = name; quoted = quoted }, rest)
+
+unfoldable pub token_of : List ℕ → Option (TokenText × List ℕ)
+token_of text = if starts (holds bytes.Quote) text then token_text true (quoted_of text) else token_text false (identifier_of text)

@@ -1,0 +1,127 @@
+//! Blanks: spaces, tabs, CRs, LFs, and comments.
+
+ghost use Rattle.std.specs.Prelude.{◌≡◌, drop, true, false, length, ◌≤◌};
+ghost use Rattle.std.specs.List.{list_any};
+ghost use Rattle.reading.specs.Pieces.{starts};
+ghost use Rattle.cfgwords.specs.Bytes.{holds};
+
+use crate::bytes::ByteClass;
+use crate::fault::FaultKind;
+use crate::run::run;
+use reading::{after_word, split_at_first};
+
+/// What stands at the front of a blank, and what is left behind it.
+#[derive(Clone, Copy, Debug)]
+pub enum Front<'a> {
+    /// A space, a tab, a CR or an LF.
+    Gap(u8, &'a str),
+    /// A line comment, with the line's end.
+    LineComment(&'a str),
+    /// A closed block comment: what stands between `/*` and `*/`, and what is left.
+    BlockComment(&'a str, &'a str),
+    /// A block comment that no `*/` closes: what stands behind its `/*`.
+    OpenComment(&'a str),
+    /// No part of a blank.
+    Bare,
+}
+
+/// What is left behind the CR or LF at the front of a text, or behind nothing where the text is empty.
+fn behind_line_end(text: &str) -> &str
+    requires { starts (holds ByteClass.Line) text.now ≡ false }
+    ensures { result.now ≡ drop 1 text.now }
+{
+    if text.is_empty() {
+        return text;
+    }
+    text.split_at(1).1
+}
+
+/// Whether a CR or an LF stands in the text.
+fn has_line_end(text: &str) -> bool
+    ensures { result ≡ list_any (holds ByteClass.LineEnd) text.now }
+{
+    text.as_bytes().iter().any(|b| ByteClass::LineEnd.holds(*b))
+}
+
+impl<'a> Front<'a> {
+    ghost use Rattle.cfgwords.specs.Blank.{front_of, front_view, other_front, part_of, part_view};
+
+    /// The front of a text that opens no comment.
+    fn without_comment(text: &'a str) -> Front<'a>
+        ensures { front_view result ≡ other_front text.now }
+    {
+        match text.as_bytes() {
+            [b, ..] if ByteClass::Blank.holds(*b) => Front::Gap(*b, text.split_at(1).1),
+            _ => Front::Bare,
+        }
+    }
+
+    /// What the text begins with.
+    #[tactic(auto, unfolding(crate::specs::Blank::front_of))]
+    pub fn of(text: &'a str) -> Front<'a>
+        ensures { front_view result ≡ front_of text.now }
+    {
+        if let Some(inside) = after_word(text, "//") {
+            let (_, tail) = run(inside, ByteClass::Line);
+            return Front::LineComment(behind_line_end(tail));
+        }
+        if let Some(inside) = after_word(text, "/*") {
+            return match split_at_first(inside, "*/") {
+                Some((body, rest)) => Front::BlockComment(body, rest),
+                None => Front::OpenComment(inside),
+            };
+        }
+        Front::without_comment(text)
+    }
+
+    /// What is left behind the front where it is part of a blank; `None` where the blank ends before it. A blank
+    /// within one line (`lines` is false) refuses a CR or LF with `ReachedEOL`, but for the one that ends a line
+    /// comment; any other unclosed block comment is `IncompleteComment`.
+    pub fn part(self, lines: bool) -> Result<Option<&'a str>, FaultKind>
+        ensures { part_view result ≡ part_of lines (front_view self.entry) }
+    {
+        match self {
+            Front::Gap(b, rest) if lines || !ByteClass::LineEnd.holds(b) => Ok(Some(rest)),
+            Front::LineComment(rest) => Ok(Some(rest)),
+            Front::BlockComment(body, rest) if lines || !has_line_end(body) => Ok(Some(rest)),
+            Front::OpenComment(inside) if lines || !has_line_end(inside) => {
+                Err(FaultKind::IncompleteComment)
+            }
+            Front::Bare => Ok(None),
+            _ => Err(FaultKind::ReachedEOL),
+        }
+    }
+}
+
+#[cfg(test)]
+mod tests {
+    use super::*;
+
+    #[test]
+    fn passes_parts(rt: HostRuntime) {
+        for (text, rest) in [
+            ("\t a", Some(" a")),
+            ("\r\na", Some("\na")),
+            ("// a */ é\r\nb", Some("\nb")),
+            ("//", Some("")),
+            ("/*/\n*/*/", Some("*/")),
+            ("/ a", None),
+            ("", None),
+        ] {
+            assert_eq!(rt; Front::of(text).part(true), Ok(rest), "at {text}");
+        }
+    }
+
+    #[test]
+    fn refuses_line_ends_and_open_comments(rt: HostRuntime) {
+        for (text, lines, kind) in [
+            ("\na", false, FaultKind::ReachedEOL),
+            ("/*\n*/", false, FaultKind::ReachedEOL),
+            ("/*\r", false, FaultKind::ReachedEOL),
+            ("/*/", false, FaultKind::IncompleteComment),
+            ("/*\n", true, FaultKind::IncompleteComment),
+        ] {
+            assert_eq!(rt; Front::of(text).part(lines), Err(kind), "at {text}");
+        }
+    }
+}

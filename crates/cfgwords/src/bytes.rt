@@ -1,0 +1,42 @@
+ghost use Rattle.std.specs.Prelude.{◌≡◌};
+
+/// A class of bytes, each told by its ASCII bytes.
+#[derive(Clone, Copy, Debug, PartialEq, Eq)]
+pub enum ByteClass {
+    /// A space, a tab, a CR or an LF.
+    Blank,
+    /// A CR or an LF.
+    LineEnd,
+    /// Any byte but a CR and an LF.
+    Line,
+    /// A double or a single quote.
+    Quote,
+    /// What a name begins with: a letter, `_` or `.`.
+    NameStart,
+    /// What a name goes on with: also a digit.
+    NameByte,
+    /// What an identifier begins with: a letter or `_`.
+    IdentifierStart,
+    /// What an identifier goes on with: also a digit.
+    IdentifierByte,
+}
+
+impl ByteClass {
+    ghost use Rattle.cfgwords.specs.Bytes.{holds};
+
+    /// Whether the byte is of this class.
+    pub fn holds(self, b: u8) -> bool
+        ensures { result ≡ holds self b }
+    {
+        match self {
+            ByteClass::Blank => matches!(b, b' ' | b'\t' | b'\n' | b'\r'),
+            ByteClass::LineEnd => matches!(b, b'\n' | b'\r'),
+            ByteClass::Line => !matches!(b, b'\n' | b'\r'),
+            ByteClass::Quote => matches!(b, b'"' | b'\''),
+            ByteClass::NameStart => b.is_ascii_alphabetic() || b == b'_' || b == b'.',
+            ByteClass::NameByte => b.is_ascii_alphanumeric() || b == b'_' || b == b'.',
+            ByteClass::IdentifierStart => b.is_ascii_alphabetic() || b == b'_',
+            ByteClass::IdentifierByte => b.is_ascii_alphanumeric() || b == b'_',
+        }
+    }
+}

@@ -1,0 +1,21 @@
+use cfgbase::Span;
+
+/// What stops the reading of a grammar file. The names are those of the errors that a reader answers for them.
+#[derive(Clone, Copy, Debug, PartialEq, Eq)]
+pub enum FaultKind {
+    IllegalName,
+    IllegalString,
+    IncompleteRule,
+    IncompleteComment,
+    MissingColon,
+    PrematureEnd,
+    UnknownDeclaration,
+    ReachedEOL,
+}
+
+/// What stopped a reading, and where.
+#[derive(Clone, Copy, Debug, PartialEq, Eq)]
+pub struct Fault {
+    pub kind: FaultKind,
+    pub span: Span,
+}

@@ -1,0 +1,46 @@
+//! Laws of blanks and words: what the functions of specs/ find is just what its relations say.
+
+ghost use Rattle.std.specs.Prelude.{◌≡◌, ℕ, Bool, List};
+ghost use Rattle.reading.specs.Graph.{IsGraph};
+ghost use Rattle.cfgwords.specs.Blank.{IsFront, front_of, Blank, blank};
+ghost use Rattle.cfgwords.specs.Words.{IsName, name_of, IsIdentifier, identifier_of, IsQuoted, quoted_of, TokenText, IsToken, token_of};
+
+/// What stands at the front of a text is one thing, the one that `Front::of` tells.
+#[tactic(auto, using(crate::proofs::Blanks::front_graph))]
+pub fn front_is_graph()
+    ensures { IsGraph IsFront front_of }
+{}
+
+/// A blank is read in exactly one way, whatever the text.
+#[tactic(auto, using(crate::proofs::Blanks::blank_graph))]
+pub fn blank_is_graph()
+    ensures { (len : ℕ) (lines : Bool) → IsGraph (Blank len lines) (blank len lines) }
+{}
+
+/// Every name is found, and only names are.
+#[tactic(auto, using(crate::proofs::Finders::name_finder))]
+pub fn names_found()
+    ensures sound { (text word rest : List ℕ) → name_of text ≡ Some (word, rest) → IsName text word rest }
+    ensures only { (text word rest : List ℕ) → IsName text word rest → name_of text ≡ Some (word, rest) }
+{}
+
+/// Every identifier is found, and only identifiers are.
+#[tactic(auto, using(crate::proofs::Finders::identifier_finder))]
+pub fn identifiers_found()
+    ensures sound { (text word rest : List ℕ) → identifier_of text ≡ Some (word, rest) → IsIdentifier text word rest }
+    ensures only { (text word rest : List ℕ) → IsIdentifier text word rest → identifier_of text ≡ Some (word, rest) }
+{}
+
+/// Every quoted token is found, and only quoted tokens are.
+#[tactic(auto, using(crate::proofs::Finders::quoted_finder))]
+pub fn quoted_tokens_found()
+    ensures sound { (text word rest : List ℕ) → quoted_of text ≡ Some (word, rest) → IsQuoted text word rest }
+    ensures only { (text word rest : List ℕ) → IsQuoted text word rest → quoted_of text ≡ Some (word, rest) }
+{}
+
+/// Every token is found, and only tokens are.
+#[tactic(auto, using(crate::proofs::Finders::token_finder))]
+pub fn tokens_found()
+    ensures sound { (text : List ℕ) (token : TokenText) (rest : List ℕ) → token_of text ≡ Some (token, rest) → IsToken text token rest }
+    ensures only { (text : List ℕ) (token : TokenText) (rest : List ℕ) → IsToken text token rest → token_of text ≡ Some (token, rest) }
+{}

@@ -1,0 +1,148 @@
+//! Names, identifiers, quoted tokens and tokens.
+
+ghost use Rattle.std.specs.Prelude.{◌≡◌, ◌+◌, length, None, IfSome, MatchOption, option_map, if◌then◌else◌};
+ghost use Rattle.std.specs.List.{prefix_len};
+ghost use Rattle.cfgwords.specs.Words.{name_of, identifier_of, quoted_of, token_of, run_from, is_inside, IsQuotedLen};
+
+use crate::bytes::ByteClass;
+use crate::run::{run, starts};
+use cfgbase::Span;
+
+/// A name in a text, and the span of its bytes.
+#[derive(Clone, Copy, Debug)]
+pub struct Word<'a> {
+    pub name: &'a str,
+    pub span: Span,
+}
+
+/// A token in a text: its name, the span of the name's bytes (quotes are outside), whether it was quoted, and
+/// the offset in bytes where it ends (behind a closing quote).
+#[derive(Clone, Copy, Debug)]
+pub struct Token<'a> {
+    pub name: &'a str,
+    pub span: Span,
+    pub quoted: bool,
+    pub end: usize,
+}
+
+#[tactic(auto, unfolding(crate::specs::Words::run_from))]
+fn run_from(text: &str, first: ByteClass, others: ByteClass) -> Option<(&str, &str)>
+    ensures exact { option_map (λ x. (x.0.now, x.1.now)) result ≡ run_from first others text.now }
+    ensures lengths { IfSome result (λ x. length x.0.now + length x.1.now ≡ length text.now) }
+{
+    if !starts(text, first) {
+        return None;
+    }
+    Some(run(text, others))
+}
+
+/// The name at the front of the text, and what is left behind it: the longest
+/// `[a-zA-Z_.][a-zA-Z0-9_.]*`.
+pub fn leading_name(text: &str) -> Option<(&str, &str)>
+    ensures exact { option_map (λ x. (x.0.now, x.1.now)) result ≡ name_of text.now }
+    ensures lengths { IfSome result (λ x. length x.0.now + length x.1.now ≡ length text.now) }
+{
+    run_from(text, ByteClass::NameStart, ByteClass::NameByte)
+}
+
+/// The identifier at the front of the text, and what is left behind it: the longest
+/// `[a-zA-Z_][a-zA-Z_0-9]*`.
+pub fn leading_identifier(text: &str) -> Option<(&str, &str)>
+    ensures exact { option_map (λ x. (x.0.now, x.1.now)) result ≡ identifier_of text.now }
+    ensures lengths { IfSome result (λ x. length x.0.now + length x.1.now ≡ length text.now) }
+{
+    run_from(text, ByteClass::IdentifierStart, ByteClass::IdentifierByte)
+}
+
+/// How many bytes stand before the quote, an LF or the end.
+fn inside_len(bytes: &[u8], quote: u8) -> usize
+    ensures { result ≡ prefix_len (is_inside quote) bytes.now }
+{
+    for (i, b) in bytes.iter().enumerate() {
+        if *b == quote || *b == b'\n' {
+            return i;
+        }
+    }
+    bytes.len()
+}
+
+/// How many bytes the name of the quoted token at the front has, if one stands there.
+fn quoted_len(bytes: &[u8]) -> Option<usize>
+    ensures { MatchOption result (quoted_of bytes.now ≡ None) (λ n. IsQuotedLen bytes.now n) }
+{
+    if bytes.len() < 2 || !ByteClass::Quote.holds(bytes[0]) || bytes[1] == b'\n' {
+        return None;
+    }
+    let len = inside_len(&bytes[2..], bytes[0]);
+    if 2 + len < bytes.len() && bytes[2 + len] == bytes[0] {
+        return Some(1 + len);
+    }
+    None
+}
+
+/// The name of the quoted token at the front of the text, and what is left behind the closing quote: a quote,
+/// at least one character, and the next same quote, within one line.
+pub fn leading_quoted(text: &str) -> Option<(&str, &str)>
+    ensures exact { option_map (λ x. (x.0.now, x.1.now)) result ≡ quoted_of text.now }
+    ensures lengths { IfSome result (λ x. 2 + length x.0.now + length x.1.now ≡ length text.now) }
+{
+    let len = quoted_len(text.as_bytes())?;
+    let (_, opened) = text.split_at(1);
+    let (name, closed) = opened.split_at(len);
+    let (_, rest) = closed.split_at(1);
+    Some((name, rest))
+}
+
+/// The name of the token at the front of the text, whether it is quoted, and what is left behind it: a quoted
+/// token or an identifier.
+#[tactic(auto, unfolding(crate::specs::Words::token_of))]
+pub fn leading_token(text: &str) -> Option<(&str, bool, &str)>
+    ensures exact { option_map (λ x. (record { name = x.0.now; quoted = x.1 }, x.2.now)) result ≡ token_of text.now }
+    ensures lengths { IfSome result (λ x. (if x.1 then 2 else 0) + length x.0.now + length x.2.now ≡ length text.now) }
+{
+    if starts(text, ByteClass::Quote) {
+        let (name, rest) = leading_quoted(text)?;
+        return Some((name, true, rest));
+    }
+    let (name, rest) = leading_identifier(text)?;
+    Some((name, false, rest))
+}
+
+#[cfg(test)]
+mod tests {
+    use super::*;
+
+    #[test]
+    fn finds_names(rt: HostRuntime) {
+        assert_eq!(rt; leading_name("a.b_1-c"), Some(("a.b_1", "-c")));
+        assert_eq!(rt; leading_name(".5%"), Some((".5", "%")));
+        assert_eq!(rt; leading_name("5a"), None);
+    }
+
+    #[test]
+    fn finds_identifiers(rt: HostRuntime) {
+        assert_eq!(rt; leading_identifier("_b1.c"), Some(("_b1", ".c")));
+        assert_eq!(rt; leading_identifier("é"), None);
+    }
+
+    #[test]
+    fn finds_quoted_tokens(rt: HostRuntime) {
+        for (text, want) in [
+            ("\"a 'é'\" b", Some(("a 'é'", " b"))),
+            ("'''c", Some(("'", "c"))),
+            ("''c'", Some(("'c", ""))),
+            ("''", None),
+            ("'a\n'", None),
+            ("a'b'", None),
+        ] {
+            assert_eq!(rt; leading_quoted(text), want, "at {text}");
+        }
+    }
+
+    #[test]
+    fn finds_tokens(rt: HostRuntime) {
+        assert_eq!(rt; leading_token("'+'b"), Some(("+", true, "b")));
+        assert_eq!(rt; leading_token("a'+'"), Some(("a", false, "'+'")));
+        assert_eq!(rt; leading_token(".a"), None);
+    }
+}

@@ -1,0 +1,184 @@
+-- The function of each combinator gives just what the combinator's relation allows.
+use Rattle.std.proofs.Common.{◌≡◌, ℕ, zero, suc, ◌<◌, Bool, true, false, cond, List, [], ◌++◌, length, Option, Some, None, Result, Ok, Err, refl, ap, ◌∙◌, arith}
+use Rattle.reading.specs.Graph.{IsGraph}
+use Rattle.reading.specs.Pieces.{strip, IsFirst, split_first}
+use Rattle.reading.specs.Read.{Read, gives, prefixed, fails, Exactly, Then, on, off, Case, begins, other, WordHere, found, missing, follow, follow_outcome, behind_word, case_of, found_word, word_here}
+use Rattle.reading.specs.Turns.{Turn, again, ends, Turns, last, next, after, turns, all_turns, OneOf, done, one, stopped, Many, Repeat, one_outcome, one_of, many, repeat}
+use Rattle.reading.proofs.PiecesLemmas.{strip_sound, strip_only, strip_none, split_first_sound, split_first_only}
+use Rattle.reading.proofs.Lengths.{IsStrict}
+
+-- a function of the text
+pub exactly_graph : {I F A : Type 0} (f : List ℕ → Read I F A) → IsGraph (Exactly f) f
+exactly_graph f = record { sound = λ text. refl; only = λ text r e. e }
+
+module _ {I F A B : Type 0} {G : List ℕ → Read I F A → Type 0} {H : A → List ℕ → Read I F B → Type 0}
+    {g : List ℕ → Read I F A} {h : A → List ℕ → Read I F B} where
+  -- what a sequence's function gives is allowed
+  pub then_sound : IsGraph G g → ((a : A) → IsGraph (H a) (h a)) → (text : List ℕ) → Then G H text (follow g h text)
+  then_sound p q text = go (g text).items (g text).outcome (p.sound text)
+    where
+      go : (items : List I) (o : Result (A × List ℕ) F) → G text (record { items = items; outcome = o }) → Then G H text (follow_outcome items o h)
+      go items (Ok (a, rest)) e = on items a rest (h a rest) e ((q a).sound rest)
+      go items (Err fault) e = off items fault e
+
+  -- and nothing else is
+  pub then_only : IsGraph G g → ((a : A) → IsGraph (H a) (h a)) → (text : List ℕ) (r : Read I F B) → Then G H text r → follow g h text ≡ r
+  then_only p q text r (on items a rest r' e1 e2) =
+      ap (λ x. follow_outcome x.items x.outcome h) (p.only text _ e1) ∙ ap (prefixed items) ((q a).only rest r' e2)
+  then_only p q text r (off items fault e) = ap (λ x. follow_outcome x.items x.outcome h) (p.only text _ e)
+
+  -- sequence
+  pub then_graph : IsGraph G g → ((a : A) → IsGraph (H a) (h a)) → IsGraph (Then G H) (follow g h)
+  then_graph p q = record { sound = then_sound p q; only = then_only p q }
+
+module _ {I F A : Type 0} {G H : List ℕ → Read I F A → Type 0} {g h : List ℕ → Read I F A} where
+  -- choice by a word
+  pub case_graph : (word : List ℕ) → IsGraph G g → IsGraph H h → IsGraph (Case word G H) (case_of word g h)
+  case_graph word p q = record { sound = λ text. sound text (strip word text) refl; only = only }
+    where
+      sound : (text : List ℕ) (s : Option (List ℕ)) → strip word text ≡ s → Case word G H text (behind_word g (h text) s)
+      sound text (Some rest) e = begins rest (strip_sound word text rest e) (p.sound rest)
+      sound text None e = other (strip_none word text e) (q.sound text)
+
+      stands : (text : List ℕ) (r : Read I F A) → ((rest : List ℕ) → text ≡ word ++ rest → ⊥) → H text r
+          → (s : Option (List ℕ)) → strip word text ≡ s → behind_word g (h text) s ≡ r
+      stands text r apart e (Some rest) e1 = absurd (apart rest (strip_sound word text rest e1))
+      stands text r apart e None e1 = q.only text r e
+
+      only : (text : List ℕ) (r : Read I F A) → Case word G H text r → case_of word g h text ≡ r
+      only text r (begins rest e1 e2) = ap (behind_word g (h text)) (strip_only word text rest e1) ∙ p.only rest r e2
+      only text r (other apart e) = stands text r apart e (strip word text) refl
+
+-- p finds the words of the kind P
+pub record IsFinder {W : Type 0} (P : List ℕ → W → List ℕ → Type 0) (p : List ℕ → Option (W × List ℕ)) : Type 0 where
+  pub sound : (text : List ℕ) (word : W) (rest : List ℕ) → p text ≡ Some (word, rest) → P text word rest
+  pub only : (text : List ℕ) (word : W) (rest : List ℕ) → P text word rest → p text ≡ Some (word, rest)
+
+-- what stands before the first needle is a word
+pub split_first_finder : (needle : List ℕ) → IsFinder (IsFirst needle) (split_first needle)
+split_first_finder needle = record { sound = split_first_sound needle; only = split_first_only needle }
+
+-- a word, or a fault
+pub word_here_graph : {I F W A : Type 0} {P : List ℕ → W → List ℕ → Type 0} {p : List ℕ → Option (W × List ℕ)} → IsFinder P p
+    → (value : List ℕ → W → List ℕ → A) (fault : List ℕ → F) → IsGraph (WordHere {I = I} P value fault) (word_here p value fault)
+word_here_graph {I = I} {F = F} {W = W} {A = A} {P = P} {p = p} f value fault = record { sound = λ text. sound text (p text) refl; only = only }
+  where
+    sound : (text : List ℕ) (o : Option (W × List ℕ)) → p text ≡ o → WordHere {I = I} P value fault text (found_word (value text) (fault text) o)
+    sound text (Some (word, rest)) e = found word rest (f.sound text word rest e)
+    sound text None e = missing (λ word rest h. let there : p text ≡ Some (word, rest) = f.only text word rest h in cc)
+
+    lacks : (text : List ℕ) → ((word : W) (rest : List ℕ) → P text word rest → ⊥) → (o : Option (W × List ℕ)) → p text ≡ o
+        → found_word {I = I} (value text) (fault text) o ≡ fails (fault text)
+    lacks text none (Some (word, rest)) e = absurd (none word rest (f.sound text word rest e))
+    lacks text none None e = refl
+
+    only : (text : List ℕ) (r : Read I F A) → WordHere P value fault text r → word_here p value fault text ≡ r
+    only text r (found word rest e) = ap (found_word (value text) (fault text)) (f.only text word rest e)
+    only text r (missing none) = lacks text none (p text) refl
+
+-- each further step has less text
+pub record Shrinks {R : Type 0} (step : List ℕ → Turn R) : Type 0 where
+  pub less : (text rest : List ℕ) (complete : R → R) → step text ≡ again complete rest → length rest < length text
+
+-- any two numbers of steps above the text's length are enough
+pub turns_enough : {R : Type 0} {step : List ℕ → Turn R} → Shrinks step → (none : R) (n m : ℕ) (text : List ℕ)
+    → length text < n → length text < m → turns step none n text ≡ turns step none m text
+unfolding turns
+turns_enough s none zero m text h1 h2 = absurd (omega arith)
+turns_enough s none (suc n) zero text h1 h2 = absurd (omega arith)
+turns_enough {R = R} {step = step} s none (suc n) (suc m) text h1 h2 = go (turns_enough s none n m) (step text) refl
+  where
+    go : ((rest : List ℕ) → length rest < n → length rest < m → turns step none n rest ≡ turns step none m rest)
+        → (t : Turn R) → step text ≡ t → after (turns step none n) t ≡ after (turns step none m) t
+    go ih (again complete rest) e = let less = s.less text rest complete e in ap complete (ih rest (omega arith) (omega arith))
+    go ih (ends r) e = refl
+
+-- repetition is one step, and repetition from where that leaves off
+pub turns_next : {R : Type 0} {step : List ℕ → Turn R} → Shrinks step → (none : R) (text : List ℕ)
+    → all_turns step none text ≡ after (all_turns step none) (step text)
+unfolding turns
+turns_next {R = R} {step = step} s none text = go (step text) refl
+  where
+    go : (t : Turn R) → step text ≡ t → after (turns step none (length text)) t ≡ after (all_turns step none) t
+    go (again complete rest) e = let less = s.less text rest complete e in
+        ap complete (turns_enough s none (length text) (suc (length rest)) rest less (omega arith))
+    go (ends r) e = refl
+
+module _ {R : Type 0} {Step : List ℕ → Turn R → Type 0} {step : List ℕ → Turn R} where
+  -- what enough steps give is allowed
+  pub turns_sound : IsGraph Step step → Shrinks step → (none : R) (n : ℕ) (text : List ℕ) → length text < n → Turns Step text (turns step none n text)
+  unfolding turns
+  turns_sound g s none zero text h = absurd (omega arith)
+  turns_sound g s none (suc n) text h = go (turns_sound g s none n) (step text) refl (g.sound text)
+    where
+      go : ((rest : List ℕ) → length rest < n → Turns Step rest (turns step none n rest))
+          → (t : Turn R) → step text ≡ t → Step text t → Turns Step text (after (turns step none n) t)
+      go ih (again complete rest) e there = let less = s.less text rest complete e in next there (ih rest (omega arith))
+      go ih (ends r) e there = last there
+
+  -- and nothing else is
+  pub turns_only : IsGraph Step step → Shrinks step → (none : R) (text : List ℕ) (r : R) → Turns Step text r → all_turns step none text ≡ r
+  turns_only g s none text r (last there) = turns_next s none text ∙ ap (after (all_turns step none)) (g.only text _ there)
+  turns_only g s none text r (next {rest = rest} {complete = complete} {r = r'} there further) =
+      turns_next s none text ∙ ap (after (all_turns step none)) (g.only text _ there) ∙ ap complete (turns_only g s none rest r' further)
+
+  -- repetition of steps
+  pub turns_graph : IsGraph Step step → Shrinks step → (none : R) → IsGraph (Turns Step) (all_turns step none)
+  turns_graph g s none = record {
+    sound = λ text. turns_sound g s none (suc (length text)) text (omega arith);
+    only = turns_only g s none;
+  }
+
+-- a step where the text passes the test
+pub one_of_on : {I F A : Type 0} (more : List ℕ → Bool) (g : List ℕ → Read I F A) (text : List ℕ)
+    → more text ≡ true → one_of more g text ≡ one_outcome (g text).items (g text).outcome
+one_of_on more g text e = ap (λ b. cond b (one_outcome (g text).items (g text).outcome) (ends (gives [] text))) e
+
+-- a step where it doesn't
+pub one_of_off : {I F A : Type 0} (more : List ℕ → Bool) (g : List ℕ → Read I F A) (text : List ℕ)
+    → more text ≡ false → one_of more g text ≡ ends (gives [] text)
+one_of_off more g text e = ap (λ b. cond b (one_outcome (g text).items (g text).outcome) (ends (gives [] text))) e
+
+-- a strict reading's repetition goes on with less text
+pub one_of_shrinks : {I F A : Type 0} {g : List ℕ → Read I F A} → IsStrict g → (more : List ℕ → Bool) → Shrinks (one_of more g)
+one_of_shrinks {I = I} {F = F} {A = A} {g = g} s more = record { less = λ text rest complete e. go text rest complete (more text) e }
+  where
+    step : (text rest : List ℕ) (complete : Read I F (List A) → Read I F (List A)) (o : Result (A × List ℕ) F) → (g text).outcome ≡ o
+        → one_outcome (g text).items o ≡ again complete rest → length rest < length text
+    step text rest complete (Ok (a, mid)) e1 e2 = let same : mid ≡ rest = cc in omega (arith, s.less text a mid e1, ap length same)
+    step text rest complete (Err fault) e1 e2 = cc
+
+    go : (text rest : List ℕ) (complete : Read I F (List A) → Read I F (List A)) (t : Bool)
+        → cond t (one_outcome (g text).items (g text).outcome) (ends (gives [] text)) ≡ again complete rest → length rest < length text
+    go text rest complete true e = step text rest complete (g text).outcome refl e
+    go text rest complete false e = cc
+
+module _ {I F A : Type 0} {G : List ℕ → Read I F A → Type 0} {g : List ℕ → Read I F A} where
+  -- one step of a repetition
+  pub one_of_graph : IsGraph G g → (more : List ℕ → Bool) → IsGraph (OneOf more G) (one_of more g)
+  one_of_graph p more = record { sound = λ text. sound text (more text) refl; only = only }
+    where
+      outcome : (text : List ℕ) → more text ≡ true → (items : List I) (o : Result (A × List ℕ) F) → G text (record { items = items; outcome = o })
+          → OneOf more G text (one_outcome items o)
+      outcome text e items (Ok (a, rest)) there = one items a rest e there
+      outcome text e items (Err fault) there = stopped items fault e there
+
+      sound : (text : List ℕ) (t : Bool) → more text ≡ t
+          → OneOf more G text (cond t (one_outcome (g text).items (g text).outcome) (ends (gives [] text)))
+      sound text true e = outcome text e (g text).items (g text).outcome (p.sound text)
+      sound text false e = done e
+
+      only : (text : List ℕ) (t : Turn (Read I F (List A))) → OneOf more G text t → one_of more g text ≡ t
+      only text t (done e) = one_of_off more g text e
+      only text t (one items a rest e there) = one_of_on more g text e ∙ ap (λ r. one_outcome r.items r.outcome) (p.only text _ there)
+      only text t (stopped items fault e there) = one_of_on more g text e ∙ ap (λ r. one_outcome r.items r.outcome) (p.only text _ there)
+
+  -- repetition while a test passes
+  pub many_graph : IsGraph G g → IsStrict g → (more : List ℕ → Bool) → IsGraph (Many more G) (many more g)
+  unfolding many
+  many_graph p s more = turns_graph (one_of_graph p more) (one_of_shrinks s more) (gives [] [])
+
+  -- repetition whose values don't matter
+  pub repeat_graph : IsGraph G g → IsStrict g → (more : List ℕ → Bool) → IsGraph (Repeat more G) (repeat more g)
+  unfolding repeat
+  repeat_graph p s more = then_graph (many_graph p s more) (λ values. exactly_graph (gives tt))

@@ -1,0 +1,16 @@
+-- Pieces in which nothing counts as read.
+use Rattle.std.proofs.Common.{◌≡◌, ℕ, ◌≤◌, List, length, Result, Ok, refl, sym, ap₂}
+use Rattle.reading.specs.Graph.{IsGraph}
+use Rattle.reading.specs.Silent.{Silently, silently}
+use Rattle.reading.proofs.Lengths.{IsLax}
+
+module _ {I F A : Type 0} {P : List ℕ → Result (A × List ℕ) F → Type 0} {p : List ℕ → Result (A × List ℕ) F} where
+  pub silently_graph : IsGraph P p → IsGraph (Silently {I = I} P) (silently p)
+  silently_graph h = record {
+    sound = λ text. record { silent = refl; outcome = h.sound text };
+    only = λ text r s. ap₂ (λ (items : List I) (outcome : Result (A × List ℕ) F). record { items = items; outcome = outcome }) (sym s.silent) (h.only text r.outcome s.outcome);
+  }
+
+pub silently_lax : {I F A : Type 0} {p : List ℕ → Result (A × List ℕ) F}
+    → ((text : List ℕ) (a : A) (rest : List ℕ) → p text ≡ Ok (a, rest) → length rest ≤ length text) → IsLax (silently {I = I} p)
+silently_lax h = record { less = h }

@@ -1,0 +1,6 @@
+-- A function that gives just what a relation allows: for each x there is one y in the relation, the function's.
+use Rattle.std.specs.Prelude.{◌≡◌}
+
+pub record IsGraph {X Y : Type 0} (R : X → Y → Type 0) (f : X → Y) : Type 0 where
+  pub sound : (x : X) → R x (f x)
+  pub only : (x : X) (y : Y) → R x y → f x ≡ y

@@ -1,0 +1,5 @@
+pub mod Graph
+pub mod Pieces
+pub mod Read
+pub mod Silent
+pub mod Turns

@@ -1,0 +1,82 @@
+-- What reading a piece of a text gives, and how pieces stand one behind another.
+--
+-- A kind of piece is a relation between a text and what reading it there gives. `>>=` is sequence, so a grammar
+-- is written as a `do` block. Item is the type of the parts that count as read, Fault that of what stops a
+-- reading.
+use Rattle.std.specs.Prelude.{◌≡◌, ◌≢◌, ℕ, List, [], ◌∷◌, ◌++◌, Option, Some, None, Result, Ok, Err}
+use Rattle.reading.specs.Pieces.{strip}
+
+-- the items that count as read, in order; then the piece's value and what is left, or what stopped the reading
+pub record Read (Item Fault A : Type 0) : Type 0 where
+  pub items : List Item
+  pub outcome : Result (A × List ℕ) Fault
+
+-- a value, and nothing read that counts
+abbrev pub gives : {I F A : Type 0} → A → List ℕ → Read I F A
+gives a rest = record { items = []; outcome = Ok (a, rest) }
+
+-- an item that counts as read from here on
+abbrev pub emits : {I F : Type 0} → I → List ℕ → Read I F (Unit {0})
+emits item rest = record { items = item ∷ []; outcome = Ok (tt, rest) }
+
+abbrev pub fails : {I F A : Type 0} → F → Read I F A
+fails fault = record { items = []; outcome = Err fault }
+
+-- r behind earlier items
+abbrev pub prefixed : {I F A : Type 0} → List I → Read I F A → Read I F A
+prefixed items r = record { items = items ++ r.items; outcome = r.outcome }
+
+-- the fault that stopped the reading, if one did
+abbrev pub stop_of : {F A : Type 0} → Result (A × List ℕ) F → Option F
+stop_of (Ok x) = None
+stop_of (Err fault) = Some fault
+
+-- what a function of the text gives
+abbrev pub Exactly : {I F A : Type 0} → (List ℕ → Read I F A) → List ℕ → Read I F A → Type 0
+Exactly f text r = f text ≡ r
+
+-- sequence: G, and behind it what H makes of its value
+pub data Then {I F A B : Type 0} (G : List ℕ → Read I F A → Type 0) (H : A → List ℕ → Read I F B → Type 0) (text : List ℕ) : Read I F B → Type 0 where
+  on : (items : List I) (a : A) (rest : List ℕ) (r : Read I F B)
+      → G text (record { items = items; outcome = Ok (a, rest) }) → H a rest r → Then G H text (prefixed items r)
+  off : (items : List I) (fault : F)
+      → G text (record { items = items; outcome = Err fault }) → Then G H text (record { items = items; outcome = Err fault })
+
+abbrev pub ◌>>=◌ : {I F A B : Type 0} → (List ℕ → Read I F A → Type 0) → (A → List ℕ → Read I F B → Type 0) → List ℕ → Read I F B → Type 0
+◌>>=◌ G H = Then G H
+
+abbrev pub ◌>>◌ : {I F A B : Type 0} → (List ℕ → Read I F A → Type 0) → (List ℕ → Read I F B → Type 0) → List ℕ → Read I F B → Type 0
+◌>>◌ G H = Then G (λ _. H)
+
+-- choice: G behind a word, H where another thing stands
+pub data Case {I F A : Type 0} (word : List ℕ) (G H : List ℕ → Read I F A → Type 0) (text : List ℕ) (r : Read I F A) : Type 0 where
+  begins : (rest : List ℕ) → text ≡ word ++ rest → G rest r → Case word G H text r
+  other : ((rest : List ℕ) → text ≢ word ++ rest) → H text r → Case word G H text r
+
+-- a piece of the kind P with the value that it stands for, or a fault where none stands
+pub data WordHere {I F W A : Type 0} (P : List ℕ → W → List ℕ → Type 0) (value : List ℕ → W → List ℕ → A) (fault : List ℕ → F) (text : List ℕ) : Read I F A → Type 0 where
+  found : (word : W) (rest : List ℕ) → P text word rest → WordHere P value fault text (gives (value text word rest) rest)
+  missing : ((word : W) (rest : List ℕ) → P text word rest → ⊥) → WordHere P value fault text (fails (fault text))
+
+-- The same by functions: the plain slow program.
+
+abbrev pub follow_outcome : {I F A B : Type 0} → List I → Result (A × List ℕ) F → (A → List ℕ → Read I F B) → Read I F B
+follow_outcome items (Ok (a, rest)) h = prefixed items (h a rest)
+follow_outcome items (Err fault) h = record { items = items; outcome = Err fault }
+
+abbrev pub follow : {I F A B : Type 0} → (List ℕ → Read I F A) → (A → List ℕ → Read I F B) → List ℕ → Read I F B
+follow g h text = follow_outcome (g text).items (g text).outcome h
+
+abbrev pub behind_word : {I F A : Type 0} → (List ℕ → Read I F A) → Read I F A → Option (List ℕ) → Read I F A
+behind_word g otherwise (Some rest) = g rest
+behind_word g otherwise None = otherwise
+
+abbrev pub case_of : {I F A : Type 0} → List ℕ → (List ℕ → Read I F A) → (List ℕ → Read I F A) → List ℕ → Read I F A
+case_of word g h text = behind_word g (h text) (strip word text)
+
+abbrev pub found_word : {I F W A : Type 0} → (W → List ℕ → A) → F → Option (W × List ℕ) → Read I F A
+found_word value fault (Some (word, rest)) = gives (value word rest) rest
+found_word value fault None = fails fault
+
+abbrev pub word_here : {I F W A : Type 0} → (List ℕ → Option (W × List ℕ)) → (List ℕ → W → List ℕ → A) → (List ℕ → F) → List ℕ → Read I F A
+word_here p value fault text = found_word (value text) (fault text) (p text)

@@ -1,0 +1,46 @@
+//! Words and needles in a text.
+
+ghost use Rattle.std.specs.Prelude.{◌≡◌, ◌+◌, length, IfSome};
+ghost use Rattle.std.specs.Option.{option_map};
+ghost use Rattle.reading.specs.Pieces.{strip, split_first};
+
+/// What is left of a text behind a word at its front; `None` where another thing stands there.
+#[tactic(auto, using(crate::proofs::TextLemmas::strip_prefix_strip))]
+pub fn after_word<'a>(text: &'a str, word: &str) -> Option<&'a str>
+    ensures rest { option_map (λ x. x.now) result ≡ strip word.now text.now }
+    ensures shorter { IfSome result (λ x. length x.now + length word.now ≡ length text.now) }
+{
+    text.strip_prefix(word)
+}
+
+/// What stands before the first needle of a text, and what is left behind that needle; `None` where there is no needle.
+pub fn split_at_first<'a>(text: &'a str, needle: &str) -> Option<(&'a str, &'a str)>
+    ensures parts { option_map (λ x. (x.0.now, x.1.now)) result ≡ split_first needle.now text.now }
+    ensures shorter { IfSome result (λ x. length x.0.now + length needle.now + length x.1.now ≡ length text.now) }
+{
+    text.split_once(needle)
+}
+
+#[cfg(test)]
+mod tests {
+    use super::*;
+
+    #[test]
+    fn strips_a_word(rt: HostRuntime) {
+        assert_eq!(rt; after_word("%token A", "%token"), Some(" A"));
+        assert_eq!(rt; after_word("%%", "%%"), Some(""));
+        assert_eq!(rt; after_word("%tok", "%token"), None);
+        assert_eq!(rt; after_word(" %token", "%token"), None);
+    }
+
+    #[test]
+    fn splits_at_the_first_needle(rt: HostRuntime) {
+        assert_eq!(rt;
+            split_at_first(" one */ two */", "*/"),
+            Some((" one ", " two */"))
+        );
+        assert_eq!(rt; split_at_first("**//", "*/"), Some(("*", "/")));
+        assert_eq!(rt; split_at_first("* /", "*/"), None);
+        assert_eq!(rt; split_at_first("é*/", "*/"), Some(("é", "")));
+    }
+}
