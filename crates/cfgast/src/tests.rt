@@ -1,4 +1,4 @@
-use crate::{AstBuilder, Token, GrammarAST, Symbol};
+use crate::{AstBuilder, GrammarAST, Symbol, Token};
 use cfgbase::Span;
 use std::alloc::{AllocError, Global};
 use std::test::Fail;

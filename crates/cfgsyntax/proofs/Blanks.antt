@@ -1,12 +1,8 @@
 -- The reader's loop over a blank.
-use Rattle.std.proofs.Common.{◌≡◌, ℕ, ◌<◌, ◌≤◌, Bool, List, [], length, Option, Some, None, option_map, Result, Ok, Err, refl, sym, ◌∙◌, ap, arith}
-use denote.Ref.{Bor}
-use Rattle.cfgwords.specs.declared.fault.FaultKind.{FaultKind}
-use Rattle.cfgwords.specs.Text.{fault_at}
+use Rattle.std.proofs.Common.{◌≡◌, ℕ, Bool, List, [], Some, None, Ok, Err, sym, ◌∙◌, ap}
 use Rattle.cfgwords.specs.Blank.{blank, part_of, front_of}
-use Rattle.cfgwords.proofs.Blanks.{blank_next, blank_ends, blank_stops, part_shorter}
+use Rattle.cfgwords.proofs.Blanks.{blank_next, blank_ends, blank_stops}
 use Rattle.cfgast.specs.View.{syntax_built}
-use Rattle.cfgast.specs.Building.{adds}
 use Rattle.cfgsyntax.specs.declared.yacc.parser.reader.Reader.{Reader}
 use Rattle.cfgsyntax.specs.declared.yacc.parser.reader.ReadError.{ReadError}
 use Rattle.cfgsyntax.specs.declared.yacc.parser.reader.ReadError.TheVariants as errors

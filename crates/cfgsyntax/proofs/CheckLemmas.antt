@@ -1,5 +1,5 @@
 -- Names that are there, and the first error of a list.
-use Rattle.std.proofs.Common.{◌≡◌, ◌↔◌, ℕ, Bool, true, false, IsTrue, List, [], ◌∷◌, map, drop, length, get_or, ◌<◌, ◌+◌, Contains, Option, Some, None, option_map, is_some, refl, sym, ◌∙◌, ap, cond, ◌||◌, slice_get, zero, add-one, drop-cons, suc, ◌≤◌, arith}
+use Rattle.std.proofs.Common.{◌≡◌, ◌↔◌, ℕ, Bool, true, false, IsTrue, List, [], ◌∷◌, drop, length, ◌+◌, Contains, Option, Some, None, option_map, is_some, refl, sym, ◌∙◌, ap, cond, ◌||◌, slice_get, zero, suc, ◌≤◌, arith}
 use Rattle.std.proofs.lemmas.List.{drop_all}
 use Rattle.std.specs.Map.{lookup}
 use Rattle.std.specs.List.{list_any}

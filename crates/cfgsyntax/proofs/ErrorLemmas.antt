@@ -1,5 +1,5 @@
 -- Two errors are told apart by `==` exactly where callers see two.
-use Rattle.std.proofs.Common.{◌≡◌, ◌↔◌, ◌∙◌, refl, sym, ap, rules, IsTrue, true, ℕ, List, ◌∷◌, ◌==◌}
+use Rattle.std.proofs.Common.{◌≡◌, ◌↔◌, refl, ap, rules, IsTrue, true, ℕ, List, ◌∷◌, ◌==◌}
 use Rattle.std.specs.Str.{bytes_eq}
 use Rattle.std.proofs.lemmas.Bool.{false≢true, and_from, and_parts, eq-eqb, eqb-true}
 use lib.Pointwise.{bytes_decides, pointwise_decides}
@@ -115,6 +115,7 @@ same_error-true a b h =
     λ i. record { kind = kind i; spans = spans i }
 
 pub same_error_iff : (a b : GrammarError) → IsTrue (same_error a b) ↔ (a ≡ b)
-same_error_iff a b =
-    (same_error-true a b,
-     λ e. and_from _ _ ((same_kind_iff _ _).1 (ap (λ x. x.kind) e)) ((same_spans_iff _ _).1 (ap (λ x. x.spans) e)))
+same_error_iff a b = (
+  same_error-true a b,
+  λ e. and_from _ _ ((same_kind_iff _ _).1 (ap (λ x. x.kind) e)) ((same_spans_iff _ _).1 (ap (λ x. x.spans) e)),
+)

@@ -1,15 +1,15 @@
 -- What each construct leaves is no longer than what it began with; what a loop repeats leaves less.
 use Rattle.std.proofs.Common.{◌≡◌, ℕ, Bool, true, false, List, Result, Ok, Err, codes, refl, ap, length, arith, if◌then◌else◌}
-use Rattle.reading.specs.Read.{Read, gives, emits, fails}
-use Rattle.reading.proofs.Lengths.{IsLax, IsStrict, lax_from_strict, follow_lax, follow_strict_lax, follow_lax_strict, case_lax, case_strict, gives_lax, emits_lax, fails_strict, choice_lax, word_here_strict, many_lax, repeat_lax}
+use Rattle.reading.specs.Read.{gives, emits}
+use Rattle.reading.proofs.Lengths.{IsLax, IsStrict, lax_from_strict, follow_lax, follow_strict_lax, case_lax, case_strict, gives_lax, emits_lax, fails_strict, choice_lax, word_here_strict, many_lax, repeat_lax}
 use Rattle.reading.proofs.SilentLemmas.{silently_lax}
 use Rattle.cfgwords.specs.declared.fault.Fault.{Fault}
 use Rattle.cfgwords.specs.declared.fault.FaultKind.TheVariants.{IllegalName, IllegalString, UnknownDeclaration, MissingColon}
 use Rattle.cfgwords.specs.Text.{place, fault_at}
 use Rattle.cfgwords.specs.Words.{Word, Token, word_at, token_at, word_of}
-use Rattle.cfgast.specs.Items.{Item, TokenDeclared, StartDeclared, RuleNamed, TokenQuoted, Alternative}
-use Rattle.cfgsyntax.specs.Grammar.{is_listed, is_declaration, is_symbol, is_finish, quoted_use, body_fault, end_of, finish, is_alternative, separator_fault, is_open}
-use Rattle.cfgsyntax.specs.Reading.{blank_here, name_here, token_here, expect, listed_token, token_declaration, declaration, symbol, production_from, production, next_production, body, rule}
+use Rattle.cfgast.specs.Items.{Item, TokenDeclared, RuleNamed, TokenQuoted, Alternative}
+use Rattle.cfgsyntax.specs.Grammar.{is_listed, is_symbol, is_finish, quoted_use, body_fault, end_of, finish, is_alternative}
+use Rattle.cfgsyntax.specs.Reading.{blank_here, name_here, token_here, listed_token, token_declaration, declaration, symbol, production_from, production, next_production, body, rule}
 use Rattle.cfgwords.proofs.Blanks.{blank_no_longer}
 use Rattle.cfgwords.proofs.Finders.{name_shorter, token_shorter}
 

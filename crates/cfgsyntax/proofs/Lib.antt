@@ -5,6 +5,7 @@ pub mod Lengths
 pub mod Loops
 pub mod OneReading
 pub mod Readings
+pub mod SoundLemmas
 pub mod Steps
 pub mod Symbols
 pub mod WarningLemmas

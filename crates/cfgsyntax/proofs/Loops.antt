@@ -1,5 +1,5 @@
 -- The reader's loops: what is left to read, from the tree as it is, leads to the same end.
-use Rattle.std.proofs.Common.{◌≡◌, ℕ, Bool, true, false, List, [], ◌∷◌, ◌++◌, Result, Ok, Err, refl, sym, ◌∙◌, ap}
+use Rattle.std.proofs.Common.{◌≡◌, ℕ, Bool, true, false, List, [], ◌∷◌, ◌++◌, Ok, refl, sym, ◌∙◌, ap}
 use Rattle.reading.specs.Read.{Read, prefixed}
 use Rattle.reading.specs.Turns.{many, repeat}
 use Rattle.reading.proofs.Lengths.{IsStrict}
@@ -37,7 +37,7 @@ keeps_on more g strict view start now next x keeps here builds =
       len = read.1 ∙ refl;
       items = keeps.items ++ (g start.len now.rest.now).items;
       on = repeat_front_one (strict start.len) more start.rest.now now.rest.now keeps.items keeps.on here (view x) next.rest.now read.0;
-      grown = grows_then start now next keeps.items (g start.len now.rest.now).items keeps.grown read.2
+      grown = grows_then start now next keeps.items (g start.len now.rest.now).items keeps.grown read.2;
     }
 
 pub keeps_fails : {A : Type 0} (more : List ℕ → Bool) (g : ℕ → List ℕ → Read Item Fault A) (start now next : Reader) (e : ReadError)
@@ -45,18 +45,20 @@ pub keeps_fails : {A : Type 0} (more : List ℕ → Bool) (g : ℕ → List ℕ 
 keeps_fails more g start now next errors.OutOfMemory keeps here fails = tt
 keeps_fails {A = A} more g start now next (errors.Fault fault) keeps here fails =
     let read = rw keeps.len at fails in
-    let stopped = repeat_front_stopped more (g start.len) start.rest.now now.rest.now keeps.items keeps.on here fault read.0 in
-    ( ap (λ (r : Read Item Fault (Unit {0})). r.outcome) stopped
-    , grows_then start now next keeps.items (g start.len now.rest.now).items keeps.grown read.1
-        ∙ ap (adds (syntax_built start.tree)) (sym (ap (λ (r : Read Item Fault (Unit {0})). r.items) stopped)) )
+    let stopped = repeat_front_stopped more (g start.len) start.rest.now now.rest.now keeps.items keeps.on here fault read.0 in (
+      ap (λ (r : Read Item Fault (Unit {0})). r.outcome) stopped,
+      grows_then start now next keeps.items (g start.len now.rest.now).items keeps.grown read.1
+          ∙ ap (adds (syntax_built start.tree)) (sym (ap (λ (r : Read Item Fault (Unit {0})). r.items) stopped)),
+    )
 
 pub keeps_done : {A : Type 0} (more : List ℕ → Bool) (g : ℕ → List ℕ → Read Item Fault A) (start now : Reader)
     → KeepsOn more g start now → more now.rest.now ≡ false → Builds (λ x. x) start now (Ok tt) (repeat more (g start.len) start.rest.now)
 keeps_done more g start now keeps here =
-    let done = repeat_front_done more (g start.len) start.rest.now now.rest.now keeps.items keeps.on here in
-    ( ap (λ (r : Read Item Fault (Unit {0})). r.outcome) done
-    , keeps.len
-    , keeps.grown ∙ ap (adds (syntax_built start.tree)) (sym (ap (λ (r : Read Item Fault (Unit {0})). r.items) done)) )
+    let done = repeat_front_done more (g start.len) start.rest.now now.rest.now keeps.items keeps.on here in (
+      ap (λ (r : Read Item Fault (Unit {0})). r.outcome) done,
+      keeps.len,
+      keeps.grown ∙ ap (adds (syntax_built start.tree)) (sym (ap (λ (r : Read Item Fault (Unit {0})). r.items) done)),
+    )
 
 -- a loop that gathers the values of G
 pub record Gathers {A : Type 0} (more : List ℕ → Bool) (g : ℕ → List ℕ → Read Item Fault A) (start now : Reader) (values : List A) : Type 0 where
@@ -76,7 +78,7 @@ gathers_on more g strict view start now next values x keeps here builds =
       len = read.1;
       items = keeps.items ++ (g start.len now.rest.now).items;
       on = front_one (strict start.len) more start.rest.now now.rest.now keeps.items values keeps.on here (view x) next.rest.now read.0;
-      grown = grows_then start now next keeps.items (g start.len now.rest.now).items keeps.grown read.2
+      grown = grows_then start now next keeps.items (g start.len now.rest.now).items keeps.grown read.2;
     }
 
 pub gathers_fails : {A : Type 0} (more : List ℕ → Bool) (g : ℕ → List ℕ → Read Item Fault A) (start now next : Reader) (values : List A) (e : ReadError)
@@ -84,15 +86,17 @@ pub gathers_fails : {A : Type 0} (more : List ℕ → Bool) (g : ℕ → List �
 gathers_fails more g start now next values errors.OutOfMemory keeps here fails = tt
 gathers_fails {A = A} more g start now next values (errors.Fault fault) keeps here fails =
     let read = rw keeps.len at fails in
-    let stopped = front_stopped more (g start.len) start.rest.now now.rest.now keeps.items values keeps.on here fault read.0 in
-    ( ap (λ (r : Read Item Fault (List A)). r.outcome) stopped
-    , grows_then start now next keeps.items (g start.len now.rest.now).items keeps.grown read.1
-        ∙ ap (adds (syntax_built start.tree)) (sym (ap (λ (r : Read Item Fault (List A)). r.items) stopped)) )
+    let stopped = front_stopped more (g start.len) start.rest.now now.rest.now keeps.items values keeps.on here fault read.0 in (
+      ap (λ (r : Read Item Fault (List A)). r.outcome) stopped,
+      grows_then start now next keeps.items (g start.len now.rest.now).items keeps.grown read.1
+          ∙ ap (adds (syntax_built start.tree)) (sym (ap (λ (r : Read Item Fault (List A)). r.items) stopped)),
+    )
 
 pub gathers_done : {A X : Type 0} (more : List ℕ → Bool) (g : ℕ → List ℕ → Read Item Fault A) (view : X → List A) (start now : Reader) (x : X)
     → Gathers more g start now (view x) → more now.rest.now ≡ false → Builds view start now (Ok x) (many more (g start.len) start.rest.now)
 gathers_done {A = A} more g view start now x keeps here =
-    let done = front_done more (g start.len) start.rest.now now.rest.now keeps.items (view x) keeps.on here in
-    ( ap (λ (r : Read Item Fault (List A)). r.outcome) done
-    , keeps.len
-    , keeps.grown ∙ ap (adds (syntax_built start.tree)) (sym (ap (λ (r : Read Item Fault (List A)). r.items) done)) )
+    let done = front_done more (g start.len) start.rest.now now.rest.now keeps.items (view x) keeps.on here in (
+      ap (λ (r : Read Item Fault (List A)). r.outcome) done,
+      keeps.len,
+      keeps.grown ∙ ap (adds (syntax_built start.tree)) (sym (ap (λ (r : Read Item Fault (List A)). r.items) done)),
+    )

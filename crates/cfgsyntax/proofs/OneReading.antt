@@ -1,6 +1,5 @@
 -- A text has exactly one reading: the one that the functions on lists compute.
-use Rattle.std.proofs.Common.{◌≡◌, ℕ, List, [], length, Option, Some, None, Result, Ok, Err, refl, sym, ◌∙◌, ap}
-use Rattle.reading.specs.Graph.{IsGraph}
+use Rattle.std.proofs.Common.{◌≡◌, ℕ, List, [], length, Option, refl, sym, ◌∙◌, ap}
 use Rattle.reading.specs.Read.{Read, stop_of}
 use Rattle.cfgwords.specs.declared.fault.Fault.{Fault}
 use Rattle.cfgast.specs.Items.{Item}
@@ -18,22 +17,23 @@ use Rattle.cfgsyntax.proofs.Readings.{file_graph}
 pub read_is : (kind : YaccKind) (text : List ℕ) (items : List Item) (stop : Option Fault) → Reads kind text items stop
     → ((file kind (length text) text).items ≡ items) × (stop_of (file kind (length text) text).outcome ≡ stop)
 read_is kind text items stop reads =
-    let same = (file_graph kind (length text)).only text reads.read reads.file in
-    ( ap (λ (r : Read Item Fault (Unit {0})). r.items) same ∙ reads.items_are
-    , ap (λ (r : Read Item Fault (Unit {0})). stop_of r.outcome) same ∙ reads.stop_is )
+    let same = (file_graph kind (length text)).only text reads.read reads.file in (
+      ap (λ (r : Read Item Fault (Unit {0})). r.items) same ∙ reads.items_are,
+      ap (λ (r : Read Item Fault (Unit {0})). stop_of r.outcome) same ∙ reads.stop_is,
+    )
 
 pub one_reading : (kind : YaccKind) (text : List ℕ) → HasOneReading kind text
 one_reading kind text = record {
-    items = (file kind (length text) text).items;
-    stop = stop_of (file kind (length text) text).outcome;
-    reads = record {
-      read = file kind (length text) text;
-      file = (file_graph kind (length text)).sound text;
-      items_are = refl;
-      stop_is = refl
-    };
-    only = λ xs s reads. let is = read_is kind text xs s reads in (sym is.0, sym is.1)
-  }
+  items = (file kind (length text) text).items;
+  stop = stop_of (file kind (length text) text).outcome;
+  reads = record {
+    read = file kind (length text) text;
+    file = (file_graph kind (length text)).sound text;
+    items_are = refl;
+    stop_is = refl;
+  };
+  only = λ xs s reads. let is = read_is kind text xs s reads in (sym is.0, sym is.1);
+}
 
 -- what the reader built and where it stopped, against any reading of the text
 pub read_result : (kind : YaccKind) (text : List ℕ) (old new : Reader) (found : Option Fault) (made : Syntax)
@@ -42,8 +42,9 @@ pub read_result : (kind : YaccKind) (text : List ℕ) (old new : Reader) (found 
     → (items : List Item) (stop : Option Fault) → Reads kind text items stop → (made ≡ syntax_of items) × (found ≡ stop)
 read_result kind text old new found made whole len tree is stops grown items stop reads =
     let same = read_is kind text items stop reads in
-    let all : (file kind old.len old.rest.now) ≡ file kind (length text) text = ap (λ n. file kind n old.rest.now) len ∙ ap (file kind (length text)) whole in
-    ( is ∙ grown ∙ ap (λ s. adds s (file kind old.len old.rest.now).items) tree
-        ∙ ap (λ (r : Read Item Fault (Unit {0})). adds (syntax_of []) r.items) all
-        ∙ ap (adds (syntax_of [])) same.0 ∙ adds_syntax_of items
-    , sym stops ∙ ap (λ (r : Read Item Fault (Unit {0})). stop_of r.outcome) all ∙ same.1 )
+    let all : (file kind old.len old.rest.now) ≡ file kind (length text) text = ap (λ n. file kind n old.rest.now) len ∙ ap (file kind (length text)) whole in (
+      is ∙ grown ∙ ap (λ s. adds s (file kind old.len old.rest.now).items) tree
+          ∙ ap (λ (r : Read Item Fault (Unit {0})). adds (syntax_of []) r.items) all
+          ∙ ap (adds (syntax_of [])) same.0 ∙ adds_syntax_of items,
+      sym stops ∙ ap (λ (r : Read Item Fault (Unit {0})). stop_of r.outcome) all ∙ same.1,
+    )

@@ -1,14 +1,14 @@
 -- Each construct's function gives just what its relation relates: so a text has one reading.
-use Rattle.std.proofs.Common.{◌≡◌, ℕ, Bool, true, false, List, Result, Ok, Err, codes, refl}
+use Rattle.std.proofs.Common.{ℕ, Bool, true, false, List, codes}
 use Rattle.reading.specs.Graph.{IsGraph}
-use Rattle.reading.specs.Read.{Read, gives, emits, fails}
+use Rattle.reading.specs.Read.{gives, emits, fails}
 use Rattle.reading.proofs.Graphs.{exactly_graph, then_graph, case_graph, word_here_graph, many_graph, repeat_graph}
 use Rattle.reading.proofs.SilentLemmas.{silently_graph}
 use Rattle.cfgwords.specs.declared.fault.Fault.{Fault}
 use Rattle.cfgwords.specs.declared.fault.FaultKind.TheVariants.{IllegalName, IllegalString, UnknownDeclaration, MissingColon}
 use Rattle.cfgwords.specs.Text.{place, fault_at}
-use Rattle.cfgwords.specs.Words.{Word, Token, word_at, token_at, word_of}
-use Rattle.cfgast.specs.Items.{Item, TokenDeclared, StartDeclared, RuleNamed, TokenQuoted, Alternative}
+use Rattle.cfgwords.specs.Words.{Word, word_at, token_at, word_of}
+use Rattle.cfgast.specs.Items.{TokenDeclared, StartDeclared, RuleNamed}
 use Rattle.cfgsyntax.specs.declared.yacc.kind.YaccKind.{YaccKind}
 use Rattle.cfgsyntax.specs.Grammar.{BlankHere, NameHere, TokenHere, Expect, ListedToken, TokenDeclaration, StartDeclaration, Declaration, StartAndMore, Declarations, Symbol, ProductionFrom, Production, NextProduction, Body, Rule, File, is_listed, is_declaration, is_symbol, quoted_use, body_fault, finish, is_alternative, separator_fault, is_open}
 use Rattle.cfgsyntax.specs.Reading.{blank_here, name_here, token_here, expect, listed_token, token_declaration, start_declaration, declaration, start_and_more, declarations, symbol, production_from, production, next_production, body, rule, file}
@@ -82,9 +82,9 @@ production_from_graph len rule start =
 pub production_graph : (len : ℕ) (rule : Word) → IsGraph (Production len rule) (production len rule)
 unfolding production
 production_graph len rule = record {
-    sound = λ text. (production_from_graph len rule (place len text)).sound text;
-    only = λ text. (production_from_graph len rule (place len text)).only text
-  }
+  sound = λ text. (production_from_graph len rule (place len text)).sound text;
+  only = λ text. (production_from_graph len rule (place len text)).only text;
+}
 
 pub next_production_graph : (len : ℕ) (rule : Word) → IsGraph (NextProduction len rule) (next_production len rule)
 unfolding next_production

@@ -1,15 +1,11 @@
 -- Single steps of the reader: what is read with no item, and what an item adds.
-use Rattle.std.proofs.Common.{◌≡◌, ℕ, List, [], ◌∷◌, ◌++◌, Result, Ok, Err, Option, Some, None, refl, sym, ◌∙◌, ap, fold}
+use Rattle.std.proofs.Common.{◌≡◌, ℕ, List, [], ◌++◌, Ok, Err, Option, Some, None, refl, sym, ap}
 use Rattle.std.proofs.lemmas.List.Sums.{fold-append}
-use Rattle.reading.specs.Read.{Read, gives, fails, word_here}
+use Rattle.reading.specs.Read.{word_here}
 use Rattle.cfgwords.specs.declared.fault.Fault.{Fault}
 use Rattle.cfgast.specs.Items.{Item}
 use Rattle.cfgast.specs.Syntax.{Syntax}
 use Rattle.cfgast.specs.Building.{add, adds}
-use Rattle.cfgast.specs.View.{syntax_built}
-use Rattle.cfgsyntax.specs.declared.yacc.parser.reader.Reader.{Reader}
-use Rattle.cfgsyntax.specs.declared.yacc.parser.reader.ReadError.TheVariants as errors
-use Rattle.cfgsyntax.specs.Builds.{Builds, Grows, Fails}
 
 pub adds_none : (s : Syntax) → adds s [] ≡ s
 unfolding adds

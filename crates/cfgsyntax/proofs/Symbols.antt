@@ -1,5 +1,5 @@
 -- The loop over the symbols of a production.
-use Rattle.std.proofs.Common.{◌≡◌, ℕ, ◌≤◌, ◌<◌, Bool, true, List, [], ◌∷◌, ◌++◌, length, map, All, Ok, refl, sym, subst, arith}
+use Rattle.std.proofs.Common.{◌≡◌, ◌≤◌, ◌<◌, true, List, [], ◌∷◌, ◌++◌, length, map, All, Ok, arith}
 use Rattle.std.proofs.lemmas.List.{map-append}
 use Rattle.std.proofs.lemmas.List.Elements.{All-push, All-nil}
 use Rattle.cfgwords.specs.Text.{place}
@@ -31,5 +31,5 @@ symbols_on start now next symbols more x keeps here builds after e =
     rw e (record {
       gathers = rw map-append (gathers_on is_symbol symbol symbol_strict token_view start now next (map token_view symbols) x keeps.gathers here builds);
       ends = All-push (λ (symbol : CodeToken). place start.len start.rest.now ≤ symbol.end) symbols x keeps.ends behind;
-      shorter = shorter
+      shorter = shorter;
     })

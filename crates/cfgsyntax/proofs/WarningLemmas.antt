@@ -20,6 +20,7 @@ same_warning-true a b h =
     λ i. record { kind = kind i; spans = spans i }
 
 pub same_warning_iff : (a b : GrammarWarning) → IsTrue (same_warning a b) ↔ (a ≡ b)
-same_warning_iff a b =
-    (same_warning-true a b,
-     λ e. and_from _ _ (eq-eqb _ _ (ap (λ x. warning_number x.kind) e)) ((same_spans_iff _ _).1 (ap (λ x. x.spans) e)))
+same_warning_iff a b = (
+  same_warning-true a b,
+  λ e. and_from _ _ (eq-eqb _ _ (ap (λ x. warning_number x.kind) e)) ((same_spans_iff _ _).1 (ap (λ x. x.spans) e)),
+)

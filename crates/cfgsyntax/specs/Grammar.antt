@@ -1,8 +1,8 @@
 -- The grammar of a grammar file: what reading each construct gives, construct by construct. `do` is sequence.
-use Rattle.std.specs.Prelude.{◌≡◌, ℕ, Bool, true, false, List, [], ◌∷◌, length, ◌-◌, ◌==◌, ◌||◌, not, is_some, codes, slice_get, if◌then◌else◌}
+use Rattle.std.specs.Prelude.{ℕ, Bool, true, false, List, [], ◌∷◌, length, ◌-◌, ◌==◌, ◌||◌, not, is_some, codes, slice_get, if◌then◌else◌}
 use Rattle.std.specs.Option.{option_map_or}
 use Rattle.reading.specs.Pieces.{starts, strip}
-use Rattle.reading.specs.Read.{Read, ◌>>=◌, ◌>>◌, Then, Exactly, Case, WordHere, gives, emits, fails}
+use Rattle.reading.specs.Read.{Read, ◌>>=◌, ◌>>◌, Exactly, Case, WordHere, gives, emits, fails}
 use Rattle.reading.specs.Silent.{Silently}
 use Rattle.reading.specs.Turns.{Many, Repeat}
 use Rattle.cfgwords.specs.declared.bytes.ByteClass.TheVariants as bytes

@@ -6,5 +6,6 @@ pub mod Grammar
 pub mod Parsed
 pub mod Reading
 pub mod Reads
+pub mod Sound
 pub mod Texts
 pub mod Warnings

@@ -1,7 +1,7 @@
 -- The same construct by construct, by functions on lists of bytes: the plain slow program that computes a
 -- reading. `do` is sequence here too.
-use Rattle.std.specs.Prelude.{ℕ, Bool, true, false, List, codes, Option, None, Some}
-use Rattle.reading.specs.Read.{Read, follow, case_of, word_here, gives, emits, fails, stop_of}
+use Rattle.std.specs.Prelude.{ℕ, Bool, true, false, List, codes}
+use Rattle.reading.specs.Read.{Read, follow, case_of, word_here, gives, emits, fails}
 use Rattle.reading.specs.Silent.{silently}
 use Rattle.reading.specs.Turns.{many, repeat}
 use Rattle.cfgwords.specs.declared.fault.Fault.{Fault}

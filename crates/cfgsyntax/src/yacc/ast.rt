@@ -9,14 +9,14 @@ ghost use Rattle.cfgast.specs.Syntax.{syntax_of};
 ghost use Rattle.cfgast.specs.View.{syntax};
 ghost use Rattle.cfgsyntax.specs.Faults.{errors_of};
 ghost use Rattle.cfgsyntax.specs.Reads.{Reads, HasOneReading};
+ghost use Rattle.cfgsyntax.specs.Sound.{IsSound};
 
 use crate::yacc::kind::YaccKind;
 use crate::yacc::parser::{YaccGrammarError, read};
+pub use cfgast::{GrammarAST, Production, Rule, Symbol};
 use check::errors_found;
 use std::alloc::{AllocError, Global};
 use std::marker::Model;
-
-pub use cfgast::{GrammarAST, Production, Rule, Symbol};
 
 /// The syntax of a Yacc file, of whatever was read of it, and the errors of the file.
 #[derive(Drop)]
@@ -29,10 +29,13 @@ pub struct ASTWithValidityInfo {
 impl Model for ASTWithValidityInfo {
     ghost use Rattle.cfgast.specs.View.{syntax};
     ghost use Rattle.cfgsyntax.specs.Parsed.{Parsed};
+    ghost use Rattle.cfgsyntax.specs.Sound.{IsSound};
 
     ghost Value = { Parsed };
 
     ghost view = { λ x. record { kind = x.kind; syntax = syntax x.ast; errors = x.errors.items } };
+
+    ghost invariant = { λ x. IsSound (syntax x.ast) x.errors.items };
 }
 
 impl ASTWithValidityInfo {
@@ -56,7 +59,8 @@ impl ASTWithValidityInfo {
 
     /// What was read of the file. It need not be valid.
     pub fn ast(&self) -> &GrammarAST
-        ensures { syntax result.now ≡ self.now.syntax }
+        ensures value { syntax result.now ≡ self.now.syntax }
+        ensures sound { IsSound self.now.syntax self.now.errors }
     {
         &self.ast
     }

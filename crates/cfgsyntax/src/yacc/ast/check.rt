@@ -204,10 +204,7 @@ fn check(alloc: Global, ast: &GrammarAST) -> Result<Option<YaccGrammarError>, Al
 }
 
 /// The error for what stopped the reading, if anything did.
-fn stop_error(
-    alloc: Global,
-    stop: Option<Fault>,
-) -> Result<Option<YaccGrammarError>, AllocError>
+fn stop_error(alloc: Global, stop: Option<Fault>) -> Result<Option<YaccGrammarError>, AllocError>
     ensures { IfOk result (λ error. error ≡ option_map error_of stop) }
 {
     match stop {

@@ -19,8 +19,7 @@ impl Reader<'_> {
         ensures { Builds (λ x. x) self.old self.new result (listed_token self.old.len self.old.rest.now) }
     {
         let token = self.token()?;
-        self.tree
-            .declare_token(self.alloc, token.name, token.span)?;
+        self.tree.declare_token(self.alloc, token.name, token.span)?;
         self.blank(true)
     }
 

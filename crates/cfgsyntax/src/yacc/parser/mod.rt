@@ -2,6 +2,7 @@
 mod declarations;
 mod error;
 mod fault;
+mod laws;
 mod read;
 mod reader;
 mod rules;
@@ -9,5 +10,6 @@ mod warning;
 
 pub use error::{YaccFault, YaccGrammarError, YaccGrammarErrorKind, YaccGrammarResult};
 pub(crate) use fault::error_of;
+pub use laws::file_is_graph;
 pub(crate) use read::read;
 pub use warning::{YaccGrammarWarning, YaccGrammarWarningKind};

@@ -22,6 +22,7 @@ pub(crate) enum ReadError {
 
 impl From<Fault> for ReadError {
     ghost use Rattle.cfgsyntax.specs.declared.yacc.parser.reader.ReadError.TheVariants as errors;
+
     ghost from_gives = { λ fault e. e ≡ errors.Fault fault };
 
     fn from(fault: Fault) -> ReadError {
@@ -31,6 +32,7 @@ impl From<Fault> for ReadError {
 
 impl From<AllocError> for ReadError {
     ghost use Rattle.cfgsyntax.specs.declared.yacc.parser.reader.ReadError.TheVariants.{OutOfMemory};
+
     ghost from_gives = { λ _ e. e ≡ OutOfMemory };
 
     fn from(_error: AllocError) -> ReadError {
@@ -40,6 +42,7 @@ impl From<AllocError> for ReadError {
 
 impl<T: Drop> From<AllocFailed<T>> for ReadError {
     ghost use Rattle.cfgsyntax.specs.declared.yacc.parser.reader.ReadError.TheVariants.{OutOfMemory};
+
     ghost from_gives = { λ _ e. e ≡ OutOfMemory };
 
     fn from(_error: AllocFailed<T>) -> ReadError {

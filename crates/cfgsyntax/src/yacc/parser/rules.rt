@@ -103,7 +103,12 @@ impl<'a> Reader<'a> {
 
     /// Notes the production that began at `start`, where it ends here.
     #[tactic(auto, unfolding(cfgast::specs::Building::adds))]
-    fn finish(&mut self, rule: Word<'a>, start: usize, symbols: &[Token<'a>]) -> Result<(), ReadError>
+    fn finish(
+        &mut self,
+        rule: Word<'a>,
+        start: usize,
+        symbols: &[Token<'a>],
+    ) -> Result<(), ReadError>
         requires here { start ≤ place self.old.len self.old.rest.now }
         requires ends { All (λ symbol. start ≤ symbol.end) symbols.now }
         ensures { Builds (λ x. x) self.old self.new result

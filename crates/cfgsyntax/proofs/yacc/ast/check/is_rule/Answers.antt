@@ -1,5 +1,4 @@
 use Rattle.std.proofs.Common.{sym, ◌∙◌, ap, is_some, bytes_eq}
-use Rattle.cfgast.specs.Syntax.{Rule}
 use Rattle.cfgast.specs.View.{syntax}
 use Rattle.cfgsyntax.proofs.CheckLemmas.{is_some-option_map, is_some-lookup}
 use Rattle.cfgsyntax.proofs.yacc.ast.check.is_rule.Goals as goal

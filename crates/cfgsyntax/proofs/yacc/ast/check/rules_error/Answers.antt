@@ -9,7 +9,7 @@ returns-then-is_some c =
     let s = syntax c.args.ast.now in
     c.in_ok-error.ensures
     ∙ sym (walk_here (rule_error s) (first_error (rule_error s) s.rules) s.rules c.loop-place.place c.loop-place.invariant
-        (ap is_some (sym c.in_ok-error.ensures) ∙ sym c.is_some.ensures ∙ c.if-is_some.true))
+    (ap is_some (sym c.in_ok-error.ensures) ∙ sym c.is_some.ensures ∙ c.if-is_some.true))
 
 pub loop-place-preserved : goal.loop-place-preserved
 loop-place-preserved c =

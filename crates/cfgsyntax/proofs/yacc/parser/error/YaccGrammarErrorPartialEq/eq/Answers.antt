@@ -1,5 +1,5 @@
-use Rattle.std.proofs.Common.{◌≡◌, ◌∙◌, sym, ap, Bool, ◌&&◌}
-use Rattle.cfgsyntax.specs.Errors.{same_kind, same_spans, kind_view}
+use Rattle.std.proofs.Common.{◌∙◌, sym, ap, Bool, ◌&&◌}
+use Rattle.cfgsyntax.specs.Errors.{same_spans}
 use Rattle.cfgsyntax.proofs.ErrorLemmas.{eq_kind_view, same_error_iff}
 use Rattle.cfgsyntax.proofs.yacc.parser.error.YaccGrammarErrorPartialEq.eq.Goals as goal
 
@@ -7,6 +7,6 @@ pub returns-then-eq : goal.returns-then-eq
 returns-then-eq c =
     let same = sym (eq_kind_view c.self.inside.kind c.other.inside.kind) ∙ sym c.eq.ensures ∙ c.if-eq.true in
     let value =
-        c.eq-then-eq.ensures ∙ ap (λ (b : Bool). b && same_spans c.self.inside.spans.items c.other.inside.spans.items) (sym same)
+    c.eq-then-eq.ensures ∙ ap (λ (b : Bool). b && same_spans c.self.inside.spans.items c.other.inside.spans.items) (sym same)
     in
     rw (← c.self.view_is, ← c.other.view_is) (record { value = value; same = rw value (same_error_iff _ _) })

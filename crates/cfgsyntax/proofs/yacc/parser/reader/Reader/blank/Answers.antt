@@ -1,6 +1,5 @@
-use Rattle.std.proofs.Common.{refl, sym, ◌∙◌, ◌≡◌, ◌<◌, length, Ok, Some, None, arith}
+use Rattle.std.proofs.Common.{refl, ◌<◌, length, arith}
 use Rattle.std.proofs.lemmas.Result.{err_from_is_err_and}
-use Rattle.cfgwords.specs.Blank.{part_of, front_of}
 use Rattle.cfgwords.proofs.Blanks.{part_shorter}
 use Rattle.cfgsyntax.proofs.Blanks.{blank_fails, blank_done, blank_on}
 use Rattle.cfgsyntax.proofs.yacc.parser.reader.Reader.blank.Goals as goal
@@ -30,7 +29,7 @@ loop-rest-preserved c =
     record {
       len = c.loop-rest.invariant.len;
       tree = c.loop-rest.invariant.tree;
-      ends = blank_on c.loop-rest.self.len c.args.lines c.args.self.now.rest.now c.loop-rest.self.rest.now c.in-Some.rest.now c.loop-rest.invariant.ends part
+      ends = blank_on c.loop-rest.self.len c.args.lines c.args.self.now.rest.now c.loop-rest.self.rest.now c.in-Some.rest.now c.loop-rest.invariant.ends part;
     }
 
 pub returns : goal.returns

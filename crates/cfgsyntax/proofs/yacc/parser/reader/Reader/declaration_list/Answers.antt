@@ -20,7 +20,7 @@ pub returns-in_err-declaration : goal.returns-in_err-declaration
 returns-in_err-declaration c =
     let p = err_from_is_err_and c.from_residual.result c.from_residual.ensures.1 in
     rw (p.1, p.2) (keeps_fails is_declaration declaration c.args.self.now c.loop-self.self c.declaration.new.self _
-        c.loop-self.invariant (sym c.is_declaration.ensures ∙ c.loop-self-test.true) c.in_err-declaration.ensures)
+    c.loop-self.invariant (sym c.is_declaration.ensures ∙ c.loop-self-test.true) c.in_err-declaration.ensures)
 
 pub returns : goal.returns
 returns c = keeps_done is_declaration declaration c.args.self.now c.loop-self.self c.loop-self.invariant (sym c.is_declaration.ensures ∙ c.loop-self-test.false)

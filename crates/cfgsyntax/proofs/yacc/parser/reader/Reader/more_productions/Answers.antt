@@ -21,7 +21,7 @@ pub returns-in_err-next_production : goal.returns-in_err-next_production
 returns-in_err-next_production c =
     let p = err_from_is_err_and c.from_residual.result c.from_residual.ensures.1 in
     rw (p.1, p.2) (keeps_fails is_alternative (λ len. next_production len (word_view c.args.rule)) c.args.self.now c.loop-self.self c.next_production.new.self _
-        c.loop-self.invariant (sym c.is_alternative.ensures ∙ c.loop-self-test.true) c.in_err-next_production.ensures)
+    c.loop-self.invariant (sym c.is_alternative.ensures ∙ c.loop-self-test.true) c.in_err-next_production.ensures)
 
 pub returns : goal.returns
 returns c = keeps_done is_alternative (λ len. next_production len (word_view c.args.rule)) c.args.self.now c.loop-self.self c.loop-self.invariant (sym c.is_alternative.ensures ∙ c.loop-self-test.false)

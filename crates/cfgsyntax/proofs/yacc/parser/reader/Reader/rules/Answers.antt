@@ -20,7 +20,7 @@ pub returns-in_err-rule : goal.returns-in_err-rule
 returns-in_err-rule c =
     let p = err_from_is_err_and c.from_residual.result c.from_residual.ensures.1 in
     rw (p.1, p.2) (keeps_fails is_open rule c.args.self.now c.loop-self.self c.rule.new.self _
-        c.loop-self.invariant (sym c.is_open.ensures ∙ c.loop-self-test.true) c.in_err-rule.ensures)
+    c.loop-self.invariant (sym c.is_open.ensures ∙ c.loop-self-test.true) c.in_err-rule.ensures)
 
 pub returns : goal.returns
 returns c = keeps_done is_open rule c.args.self.now c.loop-self.self c.loop-self.invariant (sym c.is_open.ensures ∙ c.loop-self-test.false)

@@ -23,7 +23,7 @@ pub returns-in_err-symbol-clause-read : goal.returns-in_err-symbol-clause-read
 returns-in_err-symbol-clause-read c =
     let p = err_from_is_err_and c.from_residual.result c.from_residual.ensures.1 in
     rw (p.1, p.2) (gathers_fails is_symbol symbol c.args.self.now c.loop-self.self c.symbol.new.self (map token_view c.loop-self.symbols.items) _
-        c.loop-self.invariant.gathers (sym c.is_symbol.ensures ∙ c.loop-self-test.true) c.in_err-symbol.ensures.read)
+    c.loop-self.invariant.gathers (sym c.is_symbol.ensures ∙ c.loop-self-test.true) c.in_err-symbol.ensures.read)
 
 pub returns-clause-read : goal.returns-clause-read
 returns-clause-read c = gathers_done is_symbol symbol tokens_view c.args.self.now c.loop-self.self c.loop-self.symbols c.loop-self.invariant.gathers (sym c.is_symbol.ensures ∙ c.loop-self-test.false)

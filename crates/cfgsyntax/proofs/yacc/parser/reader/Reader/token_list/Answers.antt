@@ -20,7 +20,7 @@ pub returns-in_err-listed_token : goal.returns-in_err-listed_token
 returns-in_err-listed_token c =
     let p = err_from_is_err_and c.from_residual.result c.from_residual.ensures.1 in
     rw (p.1, p.2) (keeps_fails is_listed listed_token c.args.self.now c.loop-self.self c.listed_token.new.self _
-        c.loop-self.invariant (sym c.is_listed.ensures ∙ c.loop-self-test.true) c.in_err-listed_token.ensures)
+    c.loop-self.invariant (sym c.is_listed.ensures ∙ c.loop-self-test.true) c.in_err-listed_token.ensures)
 
 pub returns : goal.returns
 returns c = keeps_done is_listed listed_token c.args.self.now c.loop-self.self c.loop-self.invariant (sym c.is_listed.ensures ∙ c.loop-self-test.false)
