@@ -1,5 +1,5 @@
-//! The values that every part of cfgrammar speaks of: spans of a text, indices of rules, productions, symbols
-//! and tokens, and the numbers that store them.
+//! The values that every part of cfgrammar speaks of: spans of a text, its lines and columns, indices of rules,
+//! productions, symbols and tokens, and the numbers that store them.
 #![tactic(auto)]
 
 pub mod idxnewtype;

@@ -1,0 +1,4 @@
+pub mod Counting
+pub mod Numbered
+pub mod Shown
+pub mod View

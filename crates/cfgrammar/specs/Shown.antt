@@ -1,0 +1,29 @@
+-- What the accessors of a grammar read in its tables, and its printed productions.
+use Rattle.std.specs.Prelude.{◌≡◌, ℕ, suc, ◌+◌, ◌<◌, List, [], ◌∷◌, ◌++◌, map, length, All, Option, Some, None, option_map, unwrap_or, slice_get, position, codes, Bool, false}
+use Rattle.std.specs.List.{concat}
+use Rattle.std.specs.Option.{option_map_or}
+use Rattle.std.specs.Str.{bytes_eq}
+use Rattle.cfgbase.specs.declared.span.Span.{Span}
+use Rattle.cfgrammar.specs.Numbered.{Numbered, NumberedRule, NumberedToken, NumberedProduction, Sym, Rule, Token}
+
+abbrev pub rule_at : {A : Type 0} → (NumberedRule → A) → Numbered → ℕ → Option A
+rule_at part g r = option_map part (slice_get g.rules r)
+
+abbrev pub token_at : {A : Type 0} → (NumberedToken → A) → Numbered → ℕ → Option A
+token_at part g t = option_map part (slice_get g.tokens t)
+
+abbrev pub production_at : {A : Type 0} → (NumberedProduction → A) → Numbered → ℕ → Option A
+production_at part g p = option_map part (slice_get g.productions p)
+
+abbrev pub sym_name : Numbered → Sym → List ℕ
+sym_name g (Rule r) = unwrap_or (rule_at (λ rule. rule.name) g r) []
+sym_name g (Token t) = option_map_or (λ token. unwrap_or token.name []) (slice_get g.tokens t) []
+
+-- ` "NAME"`
+abbrev pub sym_text : Numbered → Sym → List ℕ
+sym_text g sym = codes " \"" ++ (sym_name g sym ++ codes "\"")
+
+-- `RULE: "NAME" "NAME"`
+abbrev pub production_text : Numbered → NumberedProduction → List ℕ
+production_text g production =
+    sym_name g (Rule production.rule) ++ (codes ":" ++ concat (map (sym_text g) production.symbols))

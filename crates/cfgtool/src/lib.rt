@@ -1,0 +1,13 @@
+//! The program `cfgtool`, as a library: a grammar's productions, or what is wrong with its text, as lines.
+#![tactic(auto)]
+
+pub mod engine;
+pub mod lines;
+pub mod program;
+pub mod source;
+pub mod words;
+
+pub use engine::{Outcome, report};
+pub use program::run;
+pub use source::{Input, Source};
+pub use words::{Command, KindArg};

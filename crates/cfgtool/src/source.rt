@@ -1,0 +1,18 @@
+//! What the program reads from.
+
+/// Where the program gets a file's bytes.
+pub trait Source {
+    /// The bytes of the file of this name, where `-` stands for standard input.
+    fn fetch(&mut self, name: &str) -> Input;
+}
+
+/// What a source answers.
+#[derive(Debug, Drop)]
+pub enum Input {
+    /// The file's bytes.
+    Bytes(Vec<u8>),
+    /// The file could not be read, for another cause than memory.
+    Unreadable,
+    /// No memory was left to read it.
+    OutOfMemory,
+}

@@ -1,0 +1,76 @@
+//! Rows on what is wrong with a text, and on the places in a syntax.
+
+use crate::help::{KIND, errors, refusal};
+use cfgrammar::Span;
+use cfgrammar::yacc::ast::{ASTWithValidityInfo, Symbol};
+use std::test::Fail;
+
+#[test]
+fn empty_text(rt: HostRuntime) -> Result<(), Fail> {
+    assert_eq!(rt;
+        errors(rt.alloc(), "")?.as_str(),
+        "File ends prematurely (0,0)\nNo start rule specified (0,0)\n"
+    );
+    assert_eq!(rt;
+        errors(rt.alloc(), "%% S: a.b ; a.b: ;")?.as_str(),
+        "Illegal string (7,7)\n"
+    );
+    Ok(())
+}
+
+#[test]
+fn missing_rules(rt: HostRuntime) -> Result<(), Fail> {
+    let rows = [
+        (
+            "%start B %% A: C;",
+            "Start rule 'B' does not appear in grammar (7,8)\n",
+        ),
+        (
+            "%start A %% A: C;",
+            "Unknown reference to rule 'C' (15,16)\n",
+        ),
+        ("%% A: 'x'", "Incomplete rule (9,9)\n"),
+    ];
+    for (text, wrong) in rows {
+        assert_eq!(rt; errors(rt.alloc(), text)?.as_str(), wrong, "of {text}");
+        let told = refusal::<u8>(rt.alloc(), text)?.ok_or("a refusal")?;
+        assert_eq!(rt; told.as_str(), wrong, "of {text}");
+    }
+    Ok(())
+}
+
+#[test]
+fn indented_spans(rt: HostRuntime) -> Result<(), Fail> {
+    let text =
+        "\n        %start start\n        %token a\n        %%\n        start: \"a\" a;\n        ";
+    let parsed = ASTWithValidityInfo::new(rt.alloc(), KIND, text)?;
+    assert!(rt; parsed.is_valid());
+    assert_eq!(rt; parsed.yacc_kind(), KIND);
+    let first = parsed.ast().prods().first().ok_or("a production")?;
+    let a = String::from_str(rt.alloc(), "a")?;
+    assert_eq!(rt;
+        first.symbols.as_slice(),
+        [
+            Symbol::Token(a.clone()?, Span::new(66, 67)),
+            Symbol::Token(a, Span::new(69, 70))
+        ]
+        .as_slice()
+    );
+    Ok(())
+}
+
+#[test]
+fn action_and_quotes(rt: HostRuntime) -> Result<(), Fail> {
+    let parsed = ASTWithValidityInfo::new(rt.alloc(), KIND, "%% A: \"\"x\" ;")?;
+    assert!(rt; parsed.is_valid());
+    let ast = parsed.ast();
+    let first = ast.prods().first().ok_or("a production")?;
+    let name = String::from_str(rt.alloc(), "\"x")?;
+    assert_eq!(rt; first.prod_span, Span::new(6, 10));
+    assert_eq!(rt;
+        first.symbols.as_slice(),
+        [Symbol::Token(name, Span::new(7, 9))].as_slice()
+    );
+    assert_eq!(rt; ast.spans(), [Span::new(7, 9)].as_slice());
+    Ok(())
+}
