@@ -1,5 +1,5 @@
 -- The places of the declared tokens among all tokens.
-use Rattle.std.proofs.Common.{◌≡◌, ℕ, Bool, true, false, cond, ◌||◌, ◌==◌, nat_lt, List, ◌++◌, map, length, filter_map, position, Option, Some, None, if◌then◌else◌, refl, sym, ap, ◌∙◌, true≢false}
+use Rattle.std.proofs.Common.{◌≡◌, ℕ, Bool, true, false, cond, ◌||◌, ◌==◌, List, map, filter_map, position, Option, Some, None, if◌then◌else◌, refl, sym, ap, ◌∙◌, true≢false}
 use Rattle.std.specs.List.{list_any}
 use Rattle.std.specs.Option.{option_map_or}
 use Rattle.std.specs.Str.{bytes_eq}
@@ -7,10 +7,10 @@ use Rattle.std.proofs.lemmas.List.{map-append}
 use Rattle.std.proofs.lemmas.Bool.{false_from_ne_true}
 use Rattle.cfgwords.specs.Words.{Word, Token, word_of}
 use Rattle.cfgast.specs.Items.{Item}
-use Rattle.cfgast.specs.Syntax.{Symbol, RuleSymbol, TokenSymbol, is_named, token_declared, symbol_behind, token_words, declared_words, index_of, syntax_of}
+use Rattle.cfgast.specs.Syntax.{RuleSymbol, TokenSymbol, is_named, token_declared, symbol_behind, token_words, declared_words, index_of, syntax_of}
 use Rattle.cfgast.specs.Building.{pushed_unless, is_declared, symbol_in}
 use Rattle.cfgast.proofs.Lists.{list_any-map, position_or_len-append, found-position}
-use Rattle.cfgast.proofs.Names.{is_named-firsts, map-named, has_name, same_index}
+use Rattle.cfgast.proofs.Names.{is_named-firsts, map-named, same_index}
 use Rattle.cfgast.proofs.Pushes.{names, has_name-names, declared_token}
 
 -- the place of a word's name among the tokens

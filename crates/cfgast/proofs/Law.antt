@@ -1,5 +1,5 @@
 -- Adding items one after the other gives what the list of them says.
-use Rattle.std.proofs.Common.{◌≡◌, ℕ, ◌==◌, Bool, true, false, if◌then◌else◌, List, [], ◌∷◌, ◌++◌, map, fold, length, filter_map, slice_get, Option, Some, None, refl, sym, ap, ◌∙◌}
+use Rattle.std.proofs.Common.{◌≡◌, ℕ, ◌==◌, Bool, true, false, List, [], ◌∷◌, ◌++◌, map, length, filter_map, slice_get, Some, None, refl, sym, ap, ◌∙◌}
 use Rattle.std.specs.Str.{bytes_eq}
 use Rattle.std.specs.List.{list_any}
 use Rattle.std.specs.Cmp.Lexicographic.{nat_list_eq_equiv}
@@ -11,7 +11,7 @@ use Rattle.cfgbase.specs.declared.span.Span.{Span}
 use Rattle.cfgwords.specs.Words.{Word, Token}
 use Rattle.cfgast.specs.Items.{Item, TokenDeclared, StartDeclared, RuleNamed, TokenQuoted, Alternative}
 use Rattle.cfgast.specs.Syntax.{Syntax, Production, is_named, token_named, token_declared, start_named, rule_named, alternative, alternatives, symbol_behind, token_words, declared_words, rule_words, index_of, rule_of, syntax_of}
-use Rattle.cfgast.specs.Building.{pushed_unless, first_of, with_start, with_token, with_directive, with_rule, with_production, new_rule, listed, symbol_in, production_in, add, adds}
+use Rattle.cfgast.specs.Building.{pushed_unless, first_of, with_start, with_token, with_directive, with_rule, with_production, listed, production_in, add, adds}
 use Rattle.cfgast.proofs.Lists.{from_pushes, pushed, map-pushed_unless}
 use Rattle.cfgast.proofs.Names.{put_first, has_name}
 use Rattle.cfgast.proofs.Pushes.{names, has_name-names, declared_token, start_behind, start-push, token_words-push, declared_words-push, rule_words-push, alternatives-push}

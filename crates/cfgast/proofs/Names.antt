@@ -1,5 +1,5 @@
 -- First occurrences of names, and their places.
-use Rattle.std.proofs.Common.{◌≡◌, ℕ, ◌<◌, Bool, true, false, cond, not, ◌||◌, ◌==◌, List, [], ◌∷◌, ◌++◌, map, length, get_or, filter, filter_map, Option, Some, None, refl, sym, ap, ◌∙◌, append-nil, Decides, eqb-true, eq-eqb, ltb-true}
+use Rattle.std.proofs.Common.{◌≡◌, ℕ, Bool, true, false, cond, not, ◌||◌, ◌==◌, List, [], ◌∷◌, ◌++◌, map, get_or, filter, filter_map, Option, Some, None, refl, sym, ap, ◌∙◌, append-nil, eqb-true, eq-eqb, ltb-true}
 use Rattle.std.specs.List.{list_any}
 use Rattle.std.specs.Str.{bytes_eq}
 use Rattle.std.specs.Cmp.Lexicographic.{bytes_decides, nat_list_eq_equiv}
@@ -12,7 +12,7 @@ use Rattle.std.proofs.lemmas.Bool.Decides.{same_from_decides}
 use Rattle.cfgwords.specs.Words.{Word}
 use Rattle.cfgast.specs.Syntax.{is_named, is_first, firsts, with_fronts, index_of}
 use Rattle.cfgast.specs.Building.{pushed_unless}
-use Rattle.cfgast.proofs.Lists.{from_pushes, pushed, filter_map-push, with_fronts-push, found-position, list_any-map}
+use Rattle.cfgast.proofs.Lists.{from_pushes, pushed, filter_map-push, with_fronts-push, found-position}
 
 pub firsts-push : (words : List Word) (word : Word) → firsts (words ++ word ∷ []) ≡ pushed_unless (is_named word.name words) (firsts words) word
 unfolding firsts

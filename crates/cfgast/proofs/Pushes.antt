@@ -1,19 +1,15 @@
 -- What one more item adds to each part of the syntax.
-use Rattle.std.proofs.Common.{◌≡◌, ℕ, Bool, true, false, cond, ◌||◌, ◌==◌, nat_lt, List, [], ◌∷◌, ◌++◌, map, length, filter_map, slice_get, position, Option, Some, None, if◌then◌else◌, refl, sym, ap, ◌∙◌, true≢false}
-use Rattle.std.specs.List.{list_any, position_or_len}
+use Rattle.std.proofs.Common.{◌≡◌, ℕ, Bool, true, false, List, [], ◌∷◌, ◌++◌, map, filter_map, slice_get, Option, Some, None, refl, sym, ap, ◌∙◌, true≢false}
+use Rattle.std.specs.List.{list_any}
 use Rattle.std.specs.Option.{option_map_or}
 use Rattle.std.specs.Str.{bytes_eq}
-use Rattle.std.specs.Cmp.Lexicographic.{nat_list_eq_equiv}
-use Rattle.std.proofs.lemmas.List.{map-append, length-map}
-use Rattle.std.proofs.lemmas.Simd.{map-map}
 use Rattle.std.proofs.lemmas.Bool.{false_from_ne_true}
-use Rattle.cfgbase.specs.declared.span.Span.{Span}
-use Rattle.cfgwords.specs.Words.{Word, Token, word_of}
+use Rattle.cfgwords.specs.Words.{Word}
 use Rattle.cfgast.specs.Items.{Item, TokenDeclared, StartDeclared, RuleNamed, TokenQuoted, Alternative}
-use Rattle.cfgast.specs.Syntax.{Syntax, Rule, Production, with_fronts, places, is_named, token_named, token_declared, start_named, rule_named, alternative, alternatives, symbol_behind, token_words, declared_words, rule_words, index_of, rule_of, syntax_of}
-use Rattle.cfgast.specs.Building.{pushed_unless, first_of, new_rule, listed, is_declared}
-use Rattle.cfgast.proofs.Lists.{pushed, filter_map-push, list_any-map, list_any-filter_map, list_any_weaker, list_any-with_fronts, with_fronts-push, places-push, places-none, position_or_len-append, found-position, slice_get-push, map-pushed_unless}
-use Rattle.cfgast.proofs.Names.{is_named-firsts, put_first, firsts-filter_map-push, map-named, has_name, same_index}
+use Rattle.cfgast.specs.Syntax.{Production, with_fronts, places, is_named, token_named, token_declared, start_named, rule_named, alternative, alternatives, token_words, declared_words, rule_words}
+use Rattle.cfgast.specs.Building.{first_of}
+use Rattle.cfgast.proofs.Lists.{pushed, filter_map-push, list_any-map, list_any-filter_map, list_any_weaker, list_any-with_fronts, with_fronts-push, places-none, slice_get-push}
+use Rattle.cfgast.proofs.Names.{is_named-firsts, put_first, firsts-filter_map-push, has_name}
 
 module _ (items : List Item) (item : Item) where
   pub token_words-push : token_words (items ++ item ∷ []) ≡ put_first (token_words items) (token_named item)

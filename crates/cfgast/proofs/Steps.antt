@@ -1,9 +1,9 @@
 -- What the builder writes, as plain data.
-use Rattle.std.proofs.Common.{◌≡◌, ℕ, Bool, true, false, nat_eq, List, [], ◌∷◌, ◌++◌, map, length, refl, sym, ap, ◌∙◌}
+use Rattle.std.proofs.Common.{◌≡◌, ℕ, true, false, nat_eq, List, [], ◌∷◌, ◌++◌, sym, ap, ◌∙◌}
 use Rattle.cfgbase.specs.declared.span.Span.{Span}
 use Rattle.cfgwords.specs.Words.{Word}
-use Rattle.cfgast.specs.Syntax.{Syntax, Rule, Production, index_of}
-use Rattle.cfgast.specs.Building.{pushed_unless, new_rule, listed, with_token, with_directive, with_rule, with_production}
+use Rattle.cfgast.specs.Syntax.{Syntax, Rule, index_of}
+use Rattle.cfgast.specs.Building.{pushed_unless, new_rule, with_token, with_directive, with_rule}
 use Rattle.cfgast.proofs.Names.{has_name}
 use Rattle.cfgast.proofs.Rules.{has_rule}
 use Rattle.indexmap.specs.IndexSet.{insert_key}

@@ -1,5 +1,5 @@
 -- The syntax of a list of items is well formed.
-use Rattle.std.proofs.Common.{◌≡◌, ℕ, zero, suc, ◌+◌, ◌<◌, ◌≤◌, ◌==◌, Bool, true, false, cond, List, [], ◌∷◌, ◌++◌, map, length, get_or, All, Any, Contains, Some, None, filter_map, refl, sym, ap, subst, ◌∙◌, arith, add-zero, zero-add, ltb-true, eq-eqb, eqb-true}
+use Rattle.std.proofs.Common.{◌≡◌, ℕ, zero, suc, ◌+◌, ◌<◌, ◌≤◌, ◌==◌, Bool, true, false, cond, List, [], ◌∷◌, ◌++◌, map, length, get_or, All, Any, Contains, None, filter_map, refl, sym, ap, subst, ◌∙◌, arith, add-zero, zero-add, ltb-true, eq-eqb, eqb-true}
 use Rattle.std.specs.List.{list_any, IsDistinct}
 use Rattle.std.specs.Str.{bytes_eq}
 use Rattle.std.specs.Cmp.Lexicographic.{nat_list_eq_equiv}
@@ -12,7 +12,7 @@ use Rattle.std.proofs.lemmas.Map.Keys.{IsDistinct-push}
 use Rattle.std.proofs.lemmas.Simd.{map-map}
 use Rattle.cfgwords.specs.Words.{Word}
 use Rattle.cfgast.specs.Items.{Item}
-use Rattle.cfgast.specs.Syntax.{Rule, Production, is_named, firsts, places, places_from, token_declared, token_named, rule_named, alternatives, token_words, declared_words, rule_words, rule_of, syntax_of}
+use Rattle.cfgast.specs.Syntax.{Rule, Production, is_named, firsts, places, places_from, token_named, rule_named, alternatives, token_words, declared_words, rule_words, rule_of, syntax_of}
 use Rattle.cfgast.specs.Building.{pushed_unless}
 use Rattle.cfgast.specs.WellFormed.{IsWellFormed}
 use Rattle.cfgast.proofs.Lists.{from_pushes, found-position, list_any-map, list_any_weaker}

@@ -1,5 +1,5 @@
 -- What a list of items says: rules, tokens and productions, by first occurrences in the list.
-use Rattle.std.specs.Prelude.{ℕ, Bool, true, false, List, [], ◌∷◌, ◌++◌, map, filter, length, ◌+◌, ◌||◌, not, Option, Some, None, slice_get, if◌then◌else◌}
+use Rattle.std.specs.Prelude.{ℕ, Bool, List, [], ◌∷◌, ◌++◌, map, filter, ◌+◌, ◌||◌, not, Option, Some, None, slice_get, if◌then◌else◌}
 use Rattle.std.specs.List.{list_any, filter_map, position_or_len}
 use Rattle.std.specs.Str.{bytes_eq}
 use Rattle.cfgbase.specs.declared.span.Span.{Span}

@@ -1,5 +1,5 @@
 -- What the types of the tree show, as plain data.
-use Rattle.std.specs.Prelude.{ℕ, List, String, map, Option, option_map}
+use Rattle.std.specs.Prelude.{ℕ, List, String, map, option_map}
 use Rattle.std.specs.String.{string_bytes}
 use Rattle.std.specs.declared.alloc.Global.{Global}
 use Rattle.cfgbase.specs.declared.span.Span.{Span}

@@ -1,5 +1,5 @@
 -- What holds of the syntax of any list of items.
-use Rattle.std.specs.Prelude.{◌≡◌, ℕ, ◌<◌, List, map, length, All, Any, Contains}
+use Rattle.std.specs.Prelude.{◌≡◌, ℕ, ◌<◌, map, length, All, Any, Contains}
 use Rattle.std.specs.List.{IsDistinct}
 use Rattle.std.specs.Str.{bytes_eq}
 use Rattle.cfgast.specs.Syntax.{Syntax}

@@ -69,7 +69,8 @@ impl GrammarAST {
 
     /// The rule of this name.
     pub fn get_rule(&self, name: &str) -> Option<&Rule>
-        ensures { option_map (λ rule. rule_view rule.now) result ≡ lookup (bytes_eq name.now) (syntax self.now).rules }
+        ensures { option_map (λ rule. rule_view rule.now) result
+            ≡ lookup (bytes_eq name.now) (syntax self.now).rules }
     {
         self.rules.get(name)
     }

@@ -25,8 +25,7 @@ pub struct AstBuilder {
 impl AstBuilder {
     ghost use Rattle.cfgast.specs.View.{syntax, syntax_built, symbol_view, token_view};
 
-    /// The tree that no item has added to.
-    #[tactic(auto, unfolding(crate::specs::View::syntax_built, crate::specs::View::syntax, crate::specs::Syntax::syntax_of, crate::specs::Syntax::alternatives, crate::specs::Syntax::firsts, crate::specs::Syntax::token_words, crate::specs::Syntax::declared_words, crate::specs::Syntax::rule_words))]
+    /// A builder that no item was added to.
     pub fn new(alloc: Global) -> Self
         ensures { syntax_built result ≡ syntax_of [] }
     {
@@ -49,7 +48,7 @@ impl AstBuilder {
         &self.ast
     }
 
-    /// The tree.
+    /// The tree of the items that were added.
     pub fn finish(self) -> GrammarAST
         ensures { syntax result ≡ syntax_built self }
     {
@@ -58,7 +57,8 @@ impl AstBuilder {
 
     /// Adds a token of a `%token` list.
     pub fn declare_token(&mut self, alloc: Global, name: &str, span: Span) -> Result<(), AllocError>
-        ensures { OnOk result (syntax_built self.new ≡ add (syntax_built self.old) (TokenDeclared (record { name = name.now; span = span }))) }
+        ensures { OnOk result (syntax_built self.new
+            ≡ add (syntax_built self.old) (TokenDeclared (record { name = name.now; span = span }))) }
     {
         let index = self.put_token(alloc, name, span)?;
         self.ast.token_directives.insert(index)?;
@@ -67,15 +67,17 @@ impl AstBuilder {
 
     /// Adds a quoted token of a rule's body.
     pub fn quote_token(&mut self, alloc: Global, name: &str, span: Span) -> Result<(), AllocError>
-        ensures { OnOk result (syntax_built self.new ≡ add (syntax_built self.old) (TokenQuoted (record { name = name.now; span = span }))) }
+        ensures { OnOk result (syntax_built self.new
+            ≡ add (syntax_built self.old) (TokenQuoted (record { name = name.now; span = span }))) }
     {
         self.put_token(alloc, name, span)?;
         Ok(())
     }
 
-    /// Adds the rule that a `%start` names.
+    /// Adds the rule that a `%start` names: it is the start where no rule was named before.
     pub fn declare_start(&mut self, alloc: Global, name: &str, span: Span) -> Result<(), AllocError>
-        ensures { OnOk result (syntax_built self.new ≡ add (syntax_built self.old) (StartDeclared (record { name = name.now; span = span }))) }
+        ensures { OnOk result (syntax_built self.new
+            ≡ add (syntax_built self.old) (StartDeclared (record { name = name.now; span = span }))) }
     {
         if self.ast.start.is_none() {
             self.ast.start = Some((String::from_str(alloc, name)?, span));
@@ -83,9 +85,10 @@ impl AstBuilder {
         Ok(())
     }
 
-    /// Adds a rule, at its name.
+    /// Adds a rule, at its name: it is the start where none was named before.
     pub fn name_rule(&mut self, alloc: Global, name: &str, span: Span) -> Result<(), AllocError>
-        ensures { OnOk result (syntax_built self.new ≡ add (syntax_built self.old) (RuleNamed (record { name = name.now; span = span }))) }
+        ensures { OnOk result (syntax_built self.new
+            ≡ add (syntax_built self.old) (RuleNamed (record { name = name.now; span = span }))) }
     {
         self.declare_start(alloc, name, span)?;
         if !self.ast.rules.contains_key(name) {
@@ -99,7 +102,8 @@ impl AstBuilder {
         Ok(())
     }
 
-    /// Adds a finished production of the rule of the name `rule`, which is added where it is new.
+    /// Adds a finished production of the rule of the name `rule`, which is named as by `name_rule`.
+    /// Of `symbols`, those are tokens that are quoted or declared so far.
     pub fn add_production(
         &mut self,
         alloc: Global,
@@ -108,7 +112,9 @@ impl AstBuilder {
         symbols: &[Token<'_>],
         span: Span,
     ) -> Result<(), AllocError>
-        ensures { OnOk result (syntax_built self.new ≡ add (syntax_built self.old) (Alternative (record { name = rule.now; span = rule_span }) (map token_view symbols.now) span)) }
+        ensures { OnOk result (syntax_built self.new
+            ≡ add (syntax_built self.old)
+            (Alternative (record { name = rule.now; span = rule_span }) (map token_view symbols.now) span)) }
     {
         let symbols = self.symbols_of(alloc, symbols)?;
         self.name_rule(alloc, rule, rule_span)?;
@@ -125,7 +131,8 @@ impl AstBuilder {
 
     // The index of the token of this name, which is added where it is new.
     fn put_token(&mut self, alloc: Global, name: &str, span: Span) -> Result<usize, AllocError>
-        ensures added { OnOk result (syntax_built self.new ≡ with_token (record { name = name.now; span = span }) (syntax_built self.old)) }
+        ensures added { OnOk result (syntax_built self.new
+            ≡ with_token (record { name = name.now; span = span }) (syntax_built self.old)) }
         ensures index { IfOk result (λ index. index ≡ index_of name.now (syntax_built self.new).tokens) }
     {
         if let Some(index) = self.ast.tokens.get_index_of(name) {
@@ -138,7 +145,9 @@ impl AstBuilder {
 
     // Lists the production of this index with the rule of this name.
     fn list_production(&mut self, rule: &str, index: usize) -> Result<(), AllocError>
-        ensures { OnOk result (syntax_built self.new ≡ record (syntax_built self.old) { rules = map (listed rule.now index) (syntax_built self.old).rules }) }
+        ensures { OnOk result (syntax_built self.new ≡ record (syntax_built self.old) {
+          rules = map (listed rule.now index) (syntax_built self.old).rules;
+        }) }
     {
         if let Some(rule) = self.ast.rules.get_mut(rule) {
             rule.pidxs.push(index)?;
@@ -147,7 +156,8 @@ impl AstBuilder {
     }
 
     fn symbols_of(&self, alloc: Global, body: &[Token<'_>]) -> Result<Vec<Symbol>, AllocError>
-        ensures { IfOk result (λ symbols. map symbol_view symbols.items ≡ map (symbol_in (syntax_built self.now)) (map token_view body.now)) }
+        ensures { IfOk result (λ symbols. map symbol_view symbols.items
+            ≡ map (symbol_in (syntax_built self.now)) (map token_view body.now)) }
     {
         let mut symbols = Vec::with_capacity(alloc, body.len())?;
         for symbol in body {
@@ -157,7 +167,8 @@ impl AstBuilder {
     }
 
     fn symbol_of(&self, alloc: Global, symbol: &Token<'_>) -> Result<Symbol, AllocError>
-        ensures { IfOk result (λ made. symbol_view made ≡ symbol_in (syntax_built self.now) (token_view symbol.now)) }
+        ensures { IfOk result (λ made. symbol_view made
+            ≡ symbol_in (syntax_built self.now) (token_view symbol.now)) }
     {
         let name = String::from_str(alloc, symbol.name)?;
         if symbol.quoted || self.is_declared(symbol.name) {

@@ -1,5 +1,4 @@
-use Rattle.std.proofs.Common.{rules, arith, ◌≡◌, map, option_map, Option, Some, None, String, Global, string_bytes, refl, ap}
-use Rattle.std.proofs.lemmas.Grind.{common_steps}
+use Rattle.std.proofs.Common.{rules, ◌≡◌, map, option_map, string_bytes}
 use Rattle.std.proofs.lemmas.List.Elements.{same_from_all_zip}
 use Rattle.cfgast.specs.View.{syntax, production_view, named_view, rule_entry}
 use Rattle.cfgast.proofs.Views.{map-copies, option_map-copies}

@@ -1,6 +1,4 @@
-use Rattle.std.proofs.Common.{◌≡◌, List, map, Some, string_bytes, sym, ap, ◌∙◌}
-use Rattle.cfgast.specs.Syntax as plain
-use Rattle.cfgast.specs.Building.{listed}
+use Rattle.std.proofs.Common.{◌≡◌, map, sym, ap, ◌∙◌}
 use Rattle.cfgast.specs.View.{syntax, syntax_built, rule_entry, rule_view}
 use Rattle.cfgast.specs.declared.rule.Rule.{Rule}
 use Rattle.cfgast.proofs.Views.{longer, listed-absent, listed-set_value}

@@ -1,5 +1,4 @@
-use Rattle.std.proofs.Common.{◌≡◌, Bool, true, false, List, [], ◌∷◌, ◌++◌, map, bytes_eq, string_bytes, refl, sym, ap, ◌∙◌}
-use Rattle.std.specs.Cmp.Lexicographic.{nat_list_eq_equiv}
+use Rattle.std.proofs.Common.{◌≡◌, false, [], ◌∷◌, ◌++◌, map, string_bytes, sym, ap, ◌∙◌}
 use Rattle.cfgast.specs.Syntax.{index_of}
 use Rattle.cfgast.specs.Building.{pushed_unless}
 use Rattle.cfgast.specs.View.{syntax, syntax_built}

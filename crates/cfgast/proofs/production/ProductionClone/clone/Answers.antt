@@ -1,4 +1,4 @@
-use Rattle.std.proofs.Common.{rules, arith, ◌≡◌, map}
+use Rattle.std.proofs.Common.{arith, ◌≡◌, map}
 use Rattle.std.proofs.lemmas.Grind.{common_steps}
 use Rattle.cfgast.specs.View.{symbol_view}
 use Rattle.cfgast.proofs.Views.{map-copies}
