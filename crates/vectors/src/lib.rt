@@ -7,11 +7,3 @@ mod cuts;
 mod errors;
 #[cfg(test)]
 mod help;
-#[cfg(test)]
-mod limits;
-#[cfg(test)]
-mod lines;
-#[cfg(test)]
-mod program;
-#[cfg(test)]
-mod tables;
