@@ -7,3 +7,5 @@ mod cuts;
 mod errors;
 #[cfg(test)]
 mod help;
+#[cfg(test)]
+mod program;

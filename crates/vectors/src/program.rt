@@ -1,0 +1,97 @@
+//! Rows on the program.
+
+use cfgtool::{Input, Source, run};
+use std::alloc::{AllocError, Global};
+use std::test::Fail;
+
+/// One file, under every name.
+#[derive(Drop)]
+struct OneFile {
+    input: Option<Input>,
+}
+
+impl Source for OneFile {
+    fn fetch(&mut self, _name: &str) -> Input {
+        self.input.take().unwrap_or(Input::Unreadable)
+    }
+}
+
+/// The status, the output and the errors of a run on a file, told as one text.
+fn told(alloc: Global, args: &[&str], input: Input) -> Result<String, AllocError> {
+    let mut out = String::new(alloc);
+    let mut err = String::new(alloc);
+    let mut source = OneFile { input: Some(input) };
+    let status = run(alloc, args, &mut source, &mut out, &mut err);
+    format!(in alloc; "{status}\n{out}{err}")
+}
+
+fn told_of_text(alloc: Global, text: &str) -> Result<String, AllocError> {
+    let bytes = text.as_bytes().to_vec(alloc)?;
+    let args = ["original-genericparsetree", "grammar", "-"];
+    told(alloc, &args, Input::Bytes(bytes))
+}
+
+#[test]
+fn productions_and_errors(rt: HostRuntime) -> Result<(), Fail> {
+    let rows = [
+        (
+            "%start R %token T %% R: 'T';",
+            "0\n0 R: \"T\"\n1 ^: \"R\"\n",
+        ),
+        ("%startA%%A:;", "0\n0 A:\n1 ^: \"A\"\n"),
+        (
+            "",
+            "1\n1:1: File ends prematurely\n1:1: No start rule specified\n",
+        ),
+        (
+            "%start A %% A: C;",
+            "1\n1:16: Unknown reference to rule 'C'\n",
+        ),
+        ("%% A: 'x'", "1\n1:10: Incomplete rule\n"),
+        ("/*é*/%% A: C;", "1\n1:12: Unknown reference to rule 'C'\n"),
+    ];
+    for (text, lines) in rows {
+        assert_eq!(rt;
+            told_of_text(rt.alloc(), text)?.as_str(),
+            lines,
+            "of {text}"
+        );
+    }
+    Ok(())
+}
+
+#[test]
+fn words_that_are_wrong(rt: HostRuntime) -> Result<(), Fail> {
+    let usage = "2\nusage: cfgtool KIND COMMAND FILE\n";
+    let words: [&[&str]; 5] = [
+        &[],
+        &["original-noaction", "grammar"],
+        &["original-noaction", "grammar", "-", "-"],
+        &["Original-noaction", "grammar", "-"],
+        &["original-noaction", "grammars", "-"],
+    ];
+    for args in words {
+        let told = told(rt.alloc(), args, Input::Unreadable)?;
+        assert_eq!(rt; told.as_str(), usage);
+    }
+    Ok(())
+}
+
+#[test]
+fn files_that_are_not_read(rt: HostRuntime) -> Result<(), Fail> {
+    let args = ["original-useraction", "grammar", "a.y"];
+    assert_eq!(rt;
+        told(rt.alloc(), &args, Input::Unreadable)?.as_str(),
+        "2\ncfgtool: cannot read a.y\n"
+    );
+    assert_eq!(rt;
+        told(rt.alloc(), &args, Input::OutOfMemory)?.as_str(),
+        "3\ncfgtool: out of memory\n"
+    );
+    let bytes = [0xff].to_vec(rt.alloc())?;
+    assert_eq!(rt;
+        told(rt.alloc(), &args, Input::Bytes(bytes))?.as_str(),
+        "2\ncfgtool: a.y is not UTF-8\n"
+    );
+    Ok(())
+}
