@@ -4,6 +4,8 @@ pub mod Pushes
 pub mod Directives
 pub mod Rules
 pub mod Law
+pub mod ListedOnce
+pub mod Keeps
 pub mod WellFormedLemmas
 pub mod Steps
 pub mod Views

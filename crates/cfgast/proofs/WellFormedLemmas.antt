@@ -19,6 +19,7 @@ use Rattle.cfgast.proofs.Lists.{from_pushes, found-position, list_any-map, list_
 use Rattle.cfgast.proofs.Names.{firsts-push, is_named-firsts}
 use Rattle.cfgast.proofs.Pushes.{names, has_name-names, declared_token, alternative_named}
 use Rattle.cfgast.proofs.Directives.{place_in}
+use Rattle.cfgast.proofs.ListedOnce.{listed_once}
 
 places_from-below : {A : Type 0} (test : A → Bool) (n i : ℕ) (xs : List A) → i + length xs ≤ n → All (λ j. j < n) (places_from i test xs)
 places_from-below test n i [] within = All-nil (λ j. j < n)
@@ -40,6 +41,16 @@ places_from-has {A} test first (suc i) (x ∷ xs) d within passes = go (test x) 
     go true rest = or_right _ _ rest
     go false rest = rest
 
+-- the name of a production's rule is that of a rule
+rule_named_of : (items : List Item) (i : ℕ) (d : List ℕ × Production) → i < length (alternatives items) → is_named (get_or (alternatives items) i d).0 (rule_words items) ≡ true
+rule_named_of items i d within =
+    let name : List ℕ = (get_or (alternatives items) i d).0 in
+    alternative_named name items (list_any_at (λ a. bytes_eq name a.0) (alternatives items) i d within (nat_list_eq_equiv.refl name))
+
+-- a production to stand where there is none
+no_production : List ℕ × Production
+no_production = ([], record { symbols = []; precedence = None; action = None; span = record { start = 0; end = 0 } })
+
 -- the rule of a production lists it
 listed : (items : List Item) (i : ℕ) → i < length (alternatives items) → Any (λ rule. Contains rule.1.productions i) (map (rule_of (alternatives items)) (rule_words items))
 listed items i within = (at.0, at.1, at.2, at.3, Contains-from_any eqb-true i at.1.1.productions at.4)
@@ -48,7 +59,7 @@ listed items i within = (at.0, at.1, at.2, at.3, Contains-from_any eqb-true i at
     done = alternatives items
 
     production : List ℕ × Production
-    production = get_or done i ([], record { symbols = []; precedence = None; action = None; span = record { start = 0; end = 0 } })
+    production = get_or done i no_production
 
     lists : List ℕ × Rule → Bool
     lists rule = list_any (λ j. i == j) rule.1.productions
@@ -59,7 +70,7 @@ listed items i within = (at.0, at.1, at.2, at.3, Contains-from_any eqb-true i at
         ∙ places_from-has (λ a. bytes_eq word.name a.0) 0 i done _ within (nat_list_eq_equiv.symm word.name production.0 ∙ same)
 
     named : is_named production.0 (rule_words items) ≡ true
-    named = alternative_named production.0 items (list_any_at (λ a. bytes_eq production.0 a.0) done i _ within (nat_list_eq_equiv.refl production.0))
+    named = rule_named_of items i no_production within
 
     at : Any (λ rule. lists rule ≡ true) (map (rule_of done) (rule_words items))
     at = Any-from_list_any lists (map (rule_of done) (rule_words items))
@@ -92,6 +103,9 @@ syntax_of-IsWellFormed items = record {
   rules_distinct = subst (IsDistinct bytes_eq) (sym (map-map (λ (rule : List ℕ × Rule). rule.0) (rule_of done) (rule_words items))) (firsts-distinct (filter_map rule_named items));
   tokens_distinct = firsts-distinct (filter_map token_named items);
   productions_listed = λ i h. listed items i (omega (arith, length-map done (λ (a : List ℕ × Production). a.1)));
+  productions_once = λ i h.
+      let within : i < length done = omega (arith, length-map done (λ (a : List ℕ × Production). a.1)) in
+      listed_once done (rule_words items) i no_production within (firsts-distinct (filter_map rule_named items)) (rule_named_of items i no_production within);
   spans_as_long = length-map tokens (λ (w : Word). w.span) ∙ sym (length-map tokens (λ (w : Word). w.name));
   directives_within = All-map (λ i. i < length (names tokens)) (place_in tokens) (declared_words items) (λ k d h. within (get_or (declared_words items) k d) (named-itself (declared_words items) k d h));
 }

@@ -1,11 +1,16 @@
 pub mod Blanks
 pub mod CheckLemmas
 pub mod ErrorLemmas
+pub mod ErrorPlaces
+pub mod Kept
 pub mod Lengths
 pub mod Loops
+pub mod NamesRead
 pub mod OneReading
+pub mod PlacesRead
 pub mod Readings
 pub mod SoundLemmas
 pub mod Steps
 pub mod Symbols
+pub mod SyntaxPlaces
 pub mod WarningLemmas

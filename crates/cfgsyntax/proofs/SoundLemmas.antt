@@ -1,12 +1,11 @@
 -- What was read is well formed, and without errors it passes validation.
-use Rattle.std.proofs.Common.{◌≡◌, ℕ, List, [], ◌∷◌, ◌++◌, Option, Some, None, refl, sym, ◌∙◌, subst}
+use Rattle.std.proofs.Common.{◌≡◌, ℕ, List, [], ◌∷◌, ◌++◌, Option, Some, None, option_map, refl, ap, sym, ◌∙◌, subst}
 use Rattle.std.specs.Option.{option_to_list}
 use Rattle.cfgast.specs.Syntax.{Syntax, syntax_of}
-use Rattle.cfgast.specs.WellFormed.{IsWellFormed}
-use Rattle.cfgast.proofs.WellFormedLemmas.{syntax_of-IsWellFormed}
 use Rattle.cfgsyntax.specs.declared.yacc.kind.YaccKind.{YaccKind}
 use Rattle.cfgsyntax.specs.Check.{check_of}
 use Rattle.cfgsyntax.specs.Errors.{GrammarError}
+use Rattle.cfgsyntax.specs.Faults.{error_of, errors_of}
 use Rattle.cfgsyntax.specs.Reads.{Reads, HasOneReading}
 use Rattle.cfgwords.specs.declared.fault.Fault.{Fault}
 use Rattle.cfgast.specs.Items.{Item}
@@ -20,6 +19,15 @@ none_second (x ∷ first) (Some error) e = let no : [] ≡ x ∷ (first ++ error
 pub checked : (errors first : List GrammarError) (second : Option GrammarError) → errors ≡ first ++ option_to_list second → errors ≡ [] → second ≡ None
 checked errors first second e none = none_second first second (sym none ∙ e)
 
-pub well_formed : (kind : YaccKind) (text : List ℕ) (s : Syntax) → HasOneReading kind text
-    → ((items : List Item) (stop : Option Fault) → Reads kind text items stop → s ≡ syntax_of items) → IsWellFormed s
-well_formed kind text s one same = subst IsWellFormed (sym (same one.items one.stop one.reads)) (syntax_of-IsWellFormed one.items)
+-- what holds of the syntax of every reading
+pub of_reading : (kind : YaccKind) (text : List ℕ) (s : Syntax) (P : Syntax → Type 0) → HasOneReading kind text
+    → ((items : List Item) (stop : Option Fault) → Reads kind text items stop → s ≡ syntax_of items)
+    → ((items : List Item) (stop : Option Fault) → Reads kind text items stop → P (syntax_of items)) → P s
+of_reading kind text s P one same holds = subst P (sym (same one.items one.stop one.reads)) (holds one.items one.stop one.reads)
+
+-- the errors that were found, by any reading of the text
+pub errors_read : (errors : List GrammarError) (made : Syntax) (found : Option Fault) (items : List Item) (stop : Option Fault)
+    → errors ≡ option_to_list (option_map error_of found) ++ option_to_list (check_of made) → (made ≡ syntax_of items) × (found ≡ stop) → errors ≡ errors_of items stop
+errors_read errors made found items stop e same =
+    e ∙ ap (λ s. option_to_list (option_map error_of found) ++ option_to_list (check_of s)) same.0
+    ∙ ap (λ f. option_to_list (option_map error_of f) ++ option_to_list (check_of (syntax_of items))) same.1

@@ -4,6 +4,7 @@ pub mod Errors
 pub mod Faults
 pub mod Grammar
 pub mod Parsed
+pub mod Places
 pub mod Reading
 pub mod Reads
 pub mod Sound

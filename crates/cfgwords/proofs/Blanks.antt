@@ -26,7 +26,7 @@ blank_step_graph len lines = record {
 }
 
 -- what stands behind a part, whichever test let it pass
-passed : (t : Bool) (kind : FaultKind) (mid rest : List ℕ) → cond t (Ok (Some mid)) (Err kind) ≡ Ok (Some rest) → mid ≡ rest
+pub passed : (t : Bool) (kind : FaultKind) (mid rest : List ℕ) → cond t (Ok (Some mid)) (Err kind) ≡ Ok (Some rest) → mid ≡ rest
 passed true kind mid rest e = cc
 passed false kind mid rest e = cc
 

@@ -1,5 +1,7 @@
+pub mod BlankCuts
 pub mod Blanks
 pub mod Boundaries
+pub mod Cuts
 pub mod Finders
 pub mod Fronts
 pub mod NameFinders

@@ -4,3 +4,4 @@ pub mod Loops
 pub mod PiecesLemmas
 pub mod TextLemmas
 pub mod SilentLemmas
+pub mod Yields

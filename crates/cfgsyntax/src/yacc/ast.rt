@@ -2,12 +2,13 @@
 
 mod check;
 
-ghost use Rattle.std.specs.Prelude.{◌≡◌, ◌↔◌, [], List, Option, IsTrue, IfOk};
+ghost use Rattle.std.specs.Prelude.{◌≡◌, ◌↔◌, [], List, Option, IsTrue, IfOk, All};
 ghost use Rattle.cfgwords.specs.declared.fault.Fault.{Fault};
 ghost use Rattle.cfgast.specs.Items.{Item};
 ghost use Rattle.cfgast.specs.Syntax.{syntax_of};
 ghost use Rattle.cfgast.specs.View.{syntax};
 ghost use Rattle.cfgsyntax.specs.Faults.{errors_of};
+ghost use Rattle.cfgsyntax.specs.Places.{IsPiece, AreAtPlaces};
 ghost use Rattle.cfgsyntax.specs.Reads.{Reads, HasOneReading};
 ghost use Rattle.cfgsyntax.specs.Sound.{IsSound};
 
@@ -43,7 +44,8 @@ impl ASTWithValidityInfo {
     ///
     /// The text has exactly one reading: the items that count as read, and what stopped the reading, if anything
     /// did. The syntax is what these items say. The errors are the fault that stopped the reading, if there is
-    /// one, and then the first check that the syntax fails, if it fails one.
+    /// one, and then the first check that the syntax fails, if it fails one. Each span of the syntax and of an error
+    /// begins where a character of the text begins, or at the text's end, and so does what follows it.
     pub fn new(alloc: Global, kind: YaccKind, text: &str) -> Result<Self, AllocError>
         ensures one { HasOneReading kind text.now }
         ensures kind { IfOk result (λ parsed. parsed.kind ≡ kind) }
@@ -51,6 +53,8 @@ impl ASTWithValidityInfo {
             → parsed.syntax ≡ syntax_of items) }
         ensures errors { IfOk result (λ parsed. (items : List Item) (stop : Option Fault) → Reads kind text.now items stop
             → parsed.errors ≡ errors_of items stop) }
+        ensures places { IfOk result (λ parsed. All (λ error. All (IsPiece text.now) error.spans) parsed.errors) }
+        ensures syntax_places { IfOk result (λ parsed. AreAtPlaces text.now parsed.syntax) }
     {
         let (ast, stop) = read(alloc, kind, text)?;
         let errors = errors_found(alloc, &ast, stop)?;

@@ -1,10 +1,11 @@
-use Rattle.std.proofs.Common.{◌++◌, ◌∙◌, ap, option_map, Option}
-use Rattle.std.specs.Option.{option_to_list}
-use Rattle.cfgwords.specs.declared.fault.Fault.{Fault}
-use Rattle.cfgast.specs.Syntax.{Syntax, syntax_of}
+use Rattle.std.proofs.Common.{All, sym, subst}
 use Rattle.cfgsyntax.specs.Check.{check_of}
-use Rattle.cfgsyntax.specs.Faults.{error_of}
-use Rattle.cfgsyntax.proofs.SoundLemmas.{well_formed, checked}
+use Rattle.cfgast.specs.WellFormed.{IsWellFormed}
+use Rattle.cfgast.proofs.WellFormedLemmas.{syntax_of-IsWellFormed}
+use Rattle.cfgsyntax.proofs.NamesRead.{begins_as_name, rules_are_names}
+use Rattle.cfgsyntax.specs.Places.{AreAtPlaces}
+use Rattle.cfgsyntax.proofs.ErrorPlaces.{IsErrorAt, read_syntax_at, read_errors_at}
+use Rattle.cfgsyntax.proofs.SoundLemmas.{of_reading, checked, errors_read}
 use Rattle.cfgsyntax.proofs.yacc.ast.ASTWithValidityInfo.new.Goals as goal
 
 pub returns-clause-syntax : goal.returns-clause-syntax
@@ -12,13 +13,26 @@ returns-clause-syntax c = λ items stop reads. (c.in_ok-ast.ensures.read items s
 
 pub returns-clause-errors : goal.returns-clause-errors
 returns-clause-errors c = λ items stop reads.
-    let same = c.in_ok-ast.ensures.read items stop reads in
-    c.in_ok-errors.ensures
-    ∙ ap (λ (s : Syntax). option_to_list (option_map error_of c.in_ok-ast.stop) ++ option_to_list (check_of s)) same.0
-    ∙ ap (λ (s : Option Fault). option_to_list (option_map error_of s) ++ option_to_list (check_of (syntax_of items))) same.1
+    errors_read c.in_ok-errors.errors.items _ c.in_ok-ast.stop items stop c.in_ok-errors.ensures (c.in_ok-ast.ensures.read items stop reads)
+
+pub returns-clause-places : goal.returns-clause-places
+returns-clause-places c =
+    let one = c.in_ok-ast.ensures.one in
+    let errors = errors_read c.in_ok-errors.errors.items _ c.in_ok-ast.stop one.items one.stop c.in_ok-errors.ensures (c.in_ok-ast.ensures.read one.items one.stop one.reads) in
+    subst (All (IsErrorAt c.args.text.now)) (sym errors) (read_errors_at c.args.kind c.args.text.now c.utf8.text one.items one.stop one.reads)
+
+pub returns-clause-syntax_places : goal.returns-clause-syntax_places
+returns-clause-syntax_places c =
+    of_reading c.args.kind c.args.text.now _ (AreAtPlaces c.args.text.now) c.in_ok-ast.ensures.one
+    (λ items stop reads. (c.in_ok-ast.ensures.read items stop reads).0) (read_syntax_at c.args.kind c.args.text.now c.utf8.text)
 
 pub invariant_of-result : goal.invariant_of-result
-invariant_of-result c = record {
-  well_formed = well_formed c.args.kind c.args.text.now _ c.in_ok-ast.ensures.one (λ items stop reads. (c.in_ok-ast.ensures.read items stop reads).0);
-  checked = checked c.in_ok-errors.errors.items _ (check_of _) c.in_ok-errors.ensures;
-}
+invariant_of-result c =
+    let read = of_reading c.args.kind c.args.text.now _ (λ s. IsWellFormed s × All (λ rule. begins_as_name rule.0) s.rules)
+    c.in_ok-ast.ensures.one (λ items stop reads. (c.in_ok-ast.ensures.read items stop reads).0)
+    (λ items stop reads. (syntax_of-IsWellFormed items, rules_are_names c.args.kind c.args.text.now items stop reads)) in
+    record {
+      well_formed = read.0;
+      rules_are_names = read.1;
+      checked = checked c.in_ok-errors.errors.items _ (check_of _) c.in_ok-errors.ensures;
+    }

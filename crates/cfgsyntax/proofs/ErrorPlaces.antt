@@ -1,0 +1,119 @@
+-- The spans of a text's errors begin and end at places of the text.
+use Rattle.std.proofs.Common.{ℕ, Bool, true, false, List, [], ◌∷◌, All, get_or, slice_get, option_map, Option, Some, None, Ok, Err, Result, subst, arith, if◌then◌else◌}
+use Rattle.std.specs.Prelude.{IfSome}
+use Rattle.std.specs.Option.{option_to_list}
+use Rattle.std.specs.Str.{IsUtf8, IsCharBoundary}
+use Rattle.std.proofs.lemmas.Str.{IsCharBoundary-start}
+use Rattle.std.proofs.lemmas.List.Elements.{All-nil, All-cons, All-head, All-tail, All-append}
+use Rattle.cfgbase.specs.declared.span.Span.{Span}
+use Rattle.reading.specs.Read.{stop_of}
+use Rattle.reading.proofs.Yields.{EndsIn}
+use Rattle.cfgwords.specs.declared.fault.Fault.{Fault}
+use Rattle.cfgwords.specs.Words.{Word}
+use Rattle.cfgwords.proofs.Cuts.{cut_here}
+use Rattle.cfgast.specs.Items.{Item}
+use Rattle.cfgast.specs.Syntax.{Symbol, RuleSymbol, TokenSymbol, Production, Rule, Syntax, syntax_of}
+use Rattle.cfgsyntax.specs.declared.yacc.kind.YaccKind.{YaccKind}
+use Rattle.cfgsyntax.specs.Errors.{ErrorKind, GrammarError, NoStartRule, InvalidStartRule, UnknownRuleRef, UnknownToken}
+use Rattle.cfgsyntax.specs.Check.{is_rule, is_token, error_at, or_else, first_error, error_there, start_error, symbol_error, production_error, place_error, rule_error, check_of}
+use Rattle.cfgsyntax.specs.Faults.{error_of, errors_of}
+use Rattle.cfgsyntax.specs.Places.{IsPiece, word_in, IsWordAt, IsProductionAt, AreAtPlaces}
+use Rattle.cfgsyntax.specs.Reads.{Reads}
+use Rattle.cfgsyntax.proofs.Kept.{file_kept}
+use Rattle.cfgsyntax.proofs.PlacesRead.{IsItemAt, IsReached, places_kept}
+use Rattle.cfgsyntax.proofs.SyntaxPlaces.{All-slice_get, syntax_at}
+
+-- an error's spans are pieces of the text
+abbrev pub IsErrorAt : List ℕ → GrammarError → Type 0
+IsErrorAt text error = All (IsPiece text) error.spans
+
+-- The first error of several.
+
+first_of_two : (P : GrammarError → Type 0) (first second : Option GrammarError) → IfSome first P → IfSome second P → IfSome (or_else first second) P
+first_of_two P (Some error) second h k = h
+first_of_two P None second h k = k
+
+first_of_all : {A : Type 0} (P : GrammarError → Type 0) (f : A → Option GrammarError) (xs : List A) → All (λ x. IfSome (f x) P) xs → IfSome (first_error f xs) P
+first_of_all P f [] all = tt
+first_of_all P f (x ∷ xs) all =
+    first_of_two P (f x) (first_error f xs) (All-head (λ y. IfSome (f y) P) x xs all) (first_of_all P f xs (All-tail (λ y. IfSome (f y) P) x xs all))
+
+first_there : {A : Type 0} (P : GrammarError → Type 0) (f : A → Option GrammarError) (o : Option A) → IfSome o (λ x. IfSome (f x) P) → IfSome (error_there f o) P
+first_there P f None h = tt
+first_there P f (Some x) h = h
+
+listed : {A : Type 0} (P : A → Type 0) (o : Option A) → IfSome o P → All P (option_to_list o)
+listed P None h = All-nil P
+listed P (Some x) h = All-cons P x [] h (All-nil P)
+
+module _ (text : List ℕ) where
+  one_span : (kind : ErrorKind) (span : Span) → IsPiece text span → IsErrorAt text (error_at kind span)
+  one_span kind span piece = All-cons (IsPiece text) span [] piece (All-nil (IsPiece text))
+
+  unless_known : (known : Bool) (kind : ErrorKind) (span : Span) → IsPiece text span → IfSome (if known then None else Some (error_at kind span)) (IsErrorAt text)
+  unless_known true kind span piece = tt
+  unless_known false kind span piece = one_span kind span piece
+
+  start_error_at : IsUtf8 text → (s : Syntax) (start : Option Word) → IfSome start (IsWordAt text) → IfSome (start_error s start) (IsErrorAt text)
+  start_error_at utf8 s None h =
+      let first : IsCharBoundary text 0 = IsCharBoundary-start text utf8 in
+      one_span NoStartRule (record { start = 0; end = 0 }) (record { ordered = omega arith; begins_at = first; ends_at = first })
+  start_error_at utf8 s (Some word) h = unless_known (is_rule s word.name) (InvalidStartRule word.name) word.span h
+
+  symbol_error_at : (s : Syntax) (symbol : Symbol) → IsWordAt text (word_in symbol) → IfSome (symbol_error s symbol) (IsErrorAt text)
+  symbol_error_at s (RuleSymbol word) h = unless_known (is_rule s word.name) (UnknownRuleRef word.name) word.span h
+  symbol_error_at s (TokenSymbol word) h = unless_known (is_token s word.name) (UnknownToken word.name) word.span h
+
+  production_error_at : (s : Syntax) (production : Production) → IsProductionAt text production → IfSome (production_error s production) (IsErrorAt text)
+  production_error_at s production h =
+      first_of_all (IsErrorAt text) (symbol_error s) production.symbols (λ k d lt. symbol_error_at s (get_or production.symbols k d) (h.symbols k d lt))
+
+  place_error_at : (s : Syntax) → AreAtPlaces text s → (place : ℕ) → IfSome (place_error s place) (IsErrorAt text)
+  place_error_at s at place = first_there (IsErrorAt text) (production_error s) (slice_get s.productions place)
+      (All-slice_get (λ production. IfSome (production_error s production) (IsErrorAt text)) s.productions place (λ k d lt. production_error_at s (get_or s.productions k d) (at.productions k d lt)))
+
+  rule_error_at : (s : Syntax) → AreAtPlaces text s → (rule : List ℕ × Rule) → IfSome (rule_error s rule) (IsErrorAt text)
+  rule_error_at s at rule = first_of_all (IsErrorAt text) (place_error s) rule.1.productions (λ k d lt. place_error_at s at (get_or rule.1.productions k d))
+
+  check_at : IsUtf8 text → (s : Syntax) → AreAtPlaces text s → IfSome (check_of s) (IsErrorAt text)
+  unfolding check_of
+  check_at utf8 s at = first_of_two (IsErrorAt text) (start_error s s.start) (first_error (rule_error s) s.rules)
+      (start_error_at utf8 s s.start at.start)
+      (first_of_all (IsErrorAt text) (rule_error s) s.rules (λ k d lt. rule_error_at s at (get_or s.rules k d)))
+
+  stop_error_at : (stop : Option Fault) → IfSome stop (λ fault. IsPiece text fault.span) → IfSome (option_map error_of stop) (IsErrorAt text)
+  stop_error_at None h = tt
+  stop_error_at (Some fault) h = All-cons (IsPiece text) fault.span [] h (All-nil (IsPiece text))
+
+  ended_at : {A : Type 0} (T : List ℕ → Type 0) (S : Fault → Type 0) (Q : A → Type 0) (o : Result (A × List ℕ) Fault) → EndsIn T S Q o → IfSome (stop_of o) S
+  ended_at T S Q (Ok (a, rest)) h = tt
+  ended_at T S Q (Err fault) h = h
+
+-- what a reading of a text gives
+pub record IsReadAt (text : List ℕ) (items : List Item) (stop : Option Fault) : Type 0 where
+  pub items_at : All (IsItemAt text) items
+  pub stop_at : IfSome stop (λ fault. IsPiece text fault.span)
+
+read_at : (kind : YaccKind) (text : List ℕ) → IsUtf8 text → (items : List Item) (stop : Option Fault) → Reads kind text items stop → IsReadAt text items stop
+read_at kind text utf8 items stop reads =
+    let start : IsReached text text text = record { origin = cut_here text; further = cut_here text } in
+    let kept = (file_kept (places_kept text utf8) text kind).passes text reads.read start reads.file in
+    record {
+      items_at = subst (All (IsItemAt text)) reads.items_are kept.items;
+      stop_at = subst (λ s. IfSome s (λ fault. IsPiece text fault.span)) reads.stop_is (ended_at text (IsReached text text) (λ fault. IsPiece text fault.span) (λ _. Unit {0}) reads.read.outcome kept.outcome);
+    }
+
+-- of the syntax of every reading
+pub read_syntax_at : (kind : YaccKind) (text : List ℕ) → IsUtf8 text → (items : List Item) (stop : Option Fault) → Reads kind text items stop
+    → AreAtPlaces text (syntax_of items)
+read_syntax_at kind text utf8 items stop reads = syntax_at text items (read_at kind text utf8 items stop reads).items_at
+
+-- of the errors of every reading
+pub read_errors_at : (kind : YaccKind) (text : List ℕ) → IsUtf8 text → (items : List Item) (stop : Option Fault) → Reads kind text items stop
+    → All (IsErrorAt text) (errors_of items stop)
+read_errors_at kind text utf8 items stop reads =
+    let read = read_at kind text utf8 items stop reads in
+    let second : Option GrammarError = check_of (syntax_of items) in
+    All-append (IsErrorAt text) (option_to_list (option_map error_of stop)) (option_to_list second)
+    (listed (IsErrorAt text) (option_map error_of stop) (stop_error_at text stop read.stop_at))
+    (listed (IsErrorAt text) second (check_at text utf8 (syntax_of items) (syntax_at text items read.items_at)))

@@ -1,0 +1,92 @@
+-- Behind each word and each part of a blank, what is left of a text in UTF-8 is in UTF-8 too.
+use Rattle.std.proofs.Common.{◌≡◌, ℕ, ◌+◌, ◌<◌, Bool, true, List, [], ◌∷◌, ◌++◌, length, refl, sym, ap, subst, ◌∙◌, arith, append_assoc, length-append, drop_at}
+use Rattle.std.specs.List.{list_all}
+use Rattle.std.specs.Str.{IsUtf8, IsCharBoundary}
+use Rattle.std.proofs.Math.Seq.{get_or-append_seam}
+use Rattle.std.proofs.lemmas.Bool.{and_parts}
+use Rattle.std.proofs.lemmas.Bool.Decides.{nat_tests}
+use Rattle.std.proofs.lemmas.Str.{IsUtf8-drop, IsUtf8-past_char, IsCharBoundary-at_seam, IsCharBoundary-before_ascii, encode_ascii}
+use Rattle.reading.specs.Pieces.{IsRun}
+use Rattle.cfgwords.specs.declared.bytes.ByteClass.TheVariants as bytes
+use Rattle.cfgwords.specs.Bytes.{holds}
+use Rattle.cfgwords.specs.Text.{place}
+use Rattle.cfgwords.specs.Words.{IsName, IsIdentifier, IsQuoted}
+
+-- A text that may be cut where rest is left.
+pub record IsCut (text rest : List ℕ) : Type 0 where
+  pub piece : List ℕ
+  pub whole : text ≡ piece ++ rest
+  pub utf8 : IsUtf8 text → IsUtf8 rest
+
+pub cut_here : (text : List ℕ) → IsCut text text
+cut_here text = record { piece = []; whole = refl; utf8 = λ u. u }
+
+pub cut_on : (text mid rest : List ℕ) → IsCut text mid → IsCut mid rest → IsCut text rest
+cut_on text mid rest a b = record {
+  piece = a.piece ++ b.piece;
+  whole = a.whole ∙ ap (λ t. a.piece ++ t) b.whole ∙ sym (append_assoc a.piece b.piece rest);
+  utf8 = λ u. b.utf8 (a.utf8 u);
+}
+
+pub cut_same : (text same rest : List ℕ) → text ≡ same → IsCut same rest → IsCut text rest
+cut_same text same rest e = subst (λ t. IsCut t rest) (sym e)
+
+-- behind an ASCII byte, and behind a word of such bytes
+pub cut_byte : (b : ℕ) (rest : List ℕ) → b < 128 → IsCut (b ∷ rest) rest
+cut_byte b rest ascii = record {
+  piece = b ∷ [];
+  whole = refl;
+  utf8 = λ u. IsUtf8-past_char (b ∷ rest) rest b u (ap (λ c. c ++ rest) (sym (encode_ascii b ascii)));
+}
+
+pub cut_word : (test : ℕ → Bool) → ((b : ℕ) → test b ≡ true → b < 128) → (word rest : List ℕ) → list_all test word ≡ true → IsCut (word ++ rest) rest
+cut_word test ascii [] rest passes = cut_here rest
+cut_word test ascii (b ∷ word) rest passes =
+    let parts = and_parts (test b) (list_all test word) passes in
+    cut_on (b ∷ (word ++ rest)) (word ++ rest) rest (cut_byte b (word ++ rest) (ascii b parts.0)) (cut_word test ascii word rest parts.1)
+
+-- before an ASCII byte, whatever stands before it
+pub cut_before : (front : List ℕ) (b : ℕ) (rest : List ℕ) → b < 128 → IsCut (front ++ b ∷ rest) (b ∷ rest)
+cut_before front b rest ascii = record {
+  piece = front;
+  whole = refl;
+  utf8 = λ u.
+      let seam = get_or-append_seam front b rest 0 in
+      let long = length-append front (b ∷ rest) in
+      subst IsUtf8 (drop_at front (b ∷ rest) (length front) refl)
+      (IsUtf8-drop (front ++ b ∷ rest) (length front) u (IsCharBoundary-before_ascii (front ++ b ∷ rest) (length front) (omega arith) (omega arith)));
+}
+
+-- behind a name, an identifier and a quoted token
+run_cut : (test : ℕ → Bool) → ((b : ℕ) → test b ≡ true → b < 128) → (text word rest : List ℕ) → IsRun test text word rest → IsCut text rest
+run_cut test ascii text word rest run = cut_same text (word ++ rest) rest run.whole (cut_word test ascii word rest run.passes)
+
+pub name_cut : (text word rest : List ℕ) → IsName text word rest → IsCut text rest
+name_cut text word rest is = run_cut (holds bytes.NameByte) (λ b h. grind (arith, nat_tests)) text word rest is.run
+
+pub identifier_cut : (text word rest : List ℕ) → IsIdentifier text word rest → IsCut text rest
+identifier_cut text word rest is = run_cut (holds bytes.IdentifierByte) (λ b h. grind (arith, nat_tests)) text word rest is.run
+
+-- behind the quote that opens, before the one that closes, and behind that
+quote_ascii : (b : ℕ) → holds bytes.Quote b ≡ true → b < 128
+quote_ascii b h = grind (arith, nat_tests)
+
+pub opened_cut : (text word rest : List ℕ) (is : IsQuoted text word rest) → IsCut text (word ++ is.quote ∷ rest)
+opened_cut text word rest is =
+    cut_same text (is.quote ∷ (word ++ is.quote ∷ rest)) _ (is.whole ∙ ap (λ w. is.quote ∷ (w ++ is.quote ∷ rest)) (sym is.word_is))
+    (cut_byte is.quote (word ++ is.quote ∷ rest) (quote_ascii is.quote is.is_quote))
+
+pub inside_cut : (text word rest : List ℕ) (is : IsQuoted text word rest) → IsCut (word ++ is.quote ∷ rest) (is.quote ∷ rest)
+inside_cut text word rest is = cut_before word is.quote rest (quote_ascii is.quote is.is_quote)
+
+pub closed_cut : (text word rest : List ℕ) (is : IsQuoted text word rest) → IsCut (is.quote ∷ rest) rest
+closed_cut text word rest is = cut_byte is.quote rest (quote_ascii is.quote is.is_quote)
+
+-- the offset of what is left
+pub place_cut : (text rest : List ℕ) → IsCut text rest → place (length text) rest + length rest ≡ length text
+place_cut text rest cut = omega (arith, ap length cut.whole, length-append cut.piece rest)
+
+pub boundary_cut : (text rest : List ℕ) → IsUtf8 text → IsCut text rest → IsCharBoundary text (place (length text) rest)
+boundary_cut text rest u cut =
+    let at : length cut.piece ≡ place (length text) rest = omega (arith, ap length cut.whole, length-append cut.piece rest) in
+    subst (IsCharBoundary text) at (IsCharBoundary-at_seam text cut.piece rest cut.whole (cut.utf8 u))
