@@ -1,0 +1,12 @@
+pub mod Built
+pub mod Found
+pub mod Listed
+pub mod Lookups
+pub mod NewKeys
+pub mod Owners
+pub mod Room
+pub mod Rows
+pub mod Shows
+pub mod Turns
+pub mod Valid
+pub mod Whole

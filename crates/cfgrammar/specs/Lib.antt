@@ -1,4 +1,9 @@
+pub mod Answer
 pub mod Counting
+pub mod Fits
 pub mod Numbered
+pub mod Numbering
+pub mod Owned
+pub mod Resolved
 pub mod Shown
 pub mod View

@@ -1,13 +1,12 @@
--- A syntax in numbers: its rules, productions and tokens by their indices.
-use Rattle.std.specs.Prelude.{◌≡◌, ℕ, suc, ◌+◌, ◌≤◌, Bool, false, ◌==◌, List, [], ◌∷◌, ◌++◌, map, length, All, Option, Some, None, option_map, codes, if◌then◌else◌}
+-- A grammar in numbers, and the one that a syntax makes: its rules, productions and tokens by their indices.
+use Rattle.std.specs.Prelude.{ℕ, suc, ◌==◌, Bool, false, List, [], ◌∷◌, ◌++◌, map, length, Option, Some, None, option_map, codes}
 use Rattle.std.specs.List.{list_any, zip, enumerate_from, position_or_len}
+use Rattle.std.specs.Option.{option_to_list}
 use Rattle.std.specs.Str.{bytes_eq}
 use Rattle.cfgbase.specs.declared.span.Span.{Span}
-use Rattle.cfgwords.specs.Words.{Word}
 use Rattle.cfgast.specs.Syntax as file
 use Rattle.cfgast.specs.Syntax.{Syntax, RuleSymbol, TokenSymbol, index_of}
 use Rattle.cfgsyntax.specs.declared.yacc.kind.YaccKind.{YaccKind}
-use Rattle.cfgsyntax.specs.declared.yacc.kind.YaccKind.TheVariants.{Original}
 
 -- a symbol of a production
 pub data Sym : Type 0 where
@@ -50,8 +49,6 @@ pub record Numbered : Type 0 where
   pub tokens : List NumberedToken
   pub productions : List NumberedProduction
   pub start_production : ℕ  -- the one production of rule 0, which is the start rule
-  pub rule_numbers : List (List ℕ × ℕ)
-  pub token_numbers : List (List ℕ × ℕ)
   pub implicit_rule : Option ℕ
   pub parse_param : Option (List ℕ × List ℕ)
   pub parse_generics : Option (List ℕ)
@@ -59,8 +56,79 @@ pub record Numbered : Type 0 where
   pub expect : Option ℕ
   pub expect_reduce_reduce : Option ℕ
 
-abbrev pub named_token : List ℕ × Span → NumberedToken
-named_token (name, span) = record { name = Some name; span = Some span; precedence = None; printed = None; avoid_insert = false }
+-- The name of rule 0, which is added. It is no name that a file can give.
+abbrev pub start_name : List ℕ
+start_name = codes "^"
+
+-- the span of what the file doesn't have
+abbrev pub nowhere : Span
+nowhere = record { start = 0; end = 0 }
+
+-- A rule's index is its place in the file and one more, for rule 0. A token's is its place.
+abbrev pub rule_index : Syntax → List ℕ → ℕ
+rule_index s name = suc (position_or_len (λ rule. bytes_eq name rule.0) s.rules)
+
+abbrev pub token_index : Syntax → List ℕ → ℕ
+token_index s name = index_of name s.tokens
+
+abbrev pub sym_of : Syntax → file.Symbol → Sym
+sym_of s (RuleSymbol word) = Rule (rule_index s word.name)
+sym_of s (TokenSymbol word) = Token (token_index s word.name)
+
+-- whether a rule lists the production at the place
+abbrev pub lists : ℕ → List ℕ × file.Rule → Bool
+lists place rule = list_any (λ i. place == i) rule.1.productions
+
+-- the rule of the production at the place
+abbrev pub rule_listing : Syntax → ℕ → ℕ
+rule_listing s place = suc (position_or_len (lists place) s.rules)
+
+-- the start rule, with one production: behind those of the file
+abbrev pub start_rule : Syntax → NumberedRule
+start_rule s = record { name = start_name; span = nowhere; productions = length s.productions ∷ []; action_type = None }
+
+abbrev pub file_rule : List ℕ × file.Rule → NumberedRule
+file_rule rule = record { name = rule.0; span = rule.1.name.span; productions = rule.1.productions; action_type = rule.1.action_type }
+
+abbrev pub file_production : Syntax → ℕ × file.Production → NumberedProduction
+file_production s production = record {
+  rule = rule_listing s production.0;
+  symbols = map (sym_of s) production.1.symbols;
+  span = production.1.span;
+  precedence = None;
+  action = option_map (λ action. action.0) production.1.action;
+  action_span = option_map (λ action. action.1) production.1.action;
+}
+
+-- the production of the start rule: the rule that the file starts from
+abbrev pub start_production : Syntax → NumberedProduction
+start_production s = record {
+  rule = 0;
+  symbols = option_to_list (option_map (λ word. Rule (rule_index s word.name)) s.start);
+  span = nowhere;
+  precedence = None;
+  action = None;
+  action_span = None;
+}
+
+abbrev pub file_token : List ℕ × Span → NumberedToken
+file_token token = record { name = Some token.0; span = Some token.1; precedence = None; printed = Some token.0; avoid_insert = false }
 
 abbrev pub end_token : NumberedToken
 end_token = record { name = None; span = None; precedence = None; printed = None; avoid_insert = false }
+
+-- The grammar of a file's syntax: the start rule and the file's rules; the file's productions and that of the start
+-- rule; the file's tokens and the end token.
+unfoldable pub numbered : YaccKind → Syntax → Numbered
+numbered kind s = record {
+  rules = start_rule s ∷ map file_rule s.rules;
+  tokens = map file_token (zip s.tokens s.spans) ++ end_token ∷ [];
+  productions = map (file_production s) (enumerate_from 0 s.productions) ++ start_production s ∷ [];
+  start_production = length s.productions;
+  implicit_rule = None;
+  parse_param = None;
+  parse_generics = None;
+  programs = None;
+  expect = None;
+  expect_reduce_reduce = None;
+}

@@ -1,9 +1,8 @@
 -- What the accessors of a grammar read in its tables, and its printed productions.
-use Rattle.std.specs.Prelude.{◌≡◌, ℕ, suc, ◌+◌, ◌<◌, List, [], ◌∷◌, ◌++◌, map, length, All, Option, Some, None, option_map, unwrap_or, slice_get, position, codes, Bool, false}
+use Rattle.std.specs.Prelude.{ℕ, List, [], ◌++◌, map, Option, option_map, unwrap_or, slice_get, codes, Bool, false}
 use Rattle.std.specs.List.{concat}
 use Rattle.std.specs.Option.{option_map_or}
 use Rattle.std.specs.Str.{bytes_eq}
-use Rattle.cfgbase.specs.declared.span.Span.{Span}
 use Rattle.cfgrammar.specs.Numbered.{Numbered, NumberedRule, NumberedToken, NumberedProduction, Sym, Rule, Token}
 
 abbrev pub rule_at : {A : Type 0} → (NumberedRule → A) → Numbered → ℕ → Option A
@@ -14,6 +13,10 @@ token_at part g t = option_map part (slice_get g.tokens t)
 
 abbrev pub production_at : {A : Type 0} → (NumberedProduction → A) → Numbered → ℕ → Option A
 production_at part g p = option_map part (slice_get g.productions p)
+
+-- the end token has no name
+abbrev pub has_token_name : List ℕ → NumberedToken → Bool
+has_token_name name token = option_map_or (bytes_eq name) token.name false
 
 abbrev pub sym_name : Numbered → Sym → List ℕ
 sym_name g (Rule r) = unwrap_or (rule_at (λ rule. rule.name) g r) []

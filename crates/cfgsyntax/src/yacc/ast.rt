@@ -44,8 +44,10 @@ impl ASTWithValidityInfo {
     ///
     /// The text has exactly one reading: the items that count as read, and what stopped the reading, if anything
     /// did. The syntax is what these items say. The errors are the fault that stopped the reading, if there is
-    /// one, and then the first check that the syntax fails, if it fails one. Each span of the syntax and of an error
-    /// begins where a character of the text begins, or at the text's end, and so does what follows it.
+    /// one, and then the first check that the syntax fails, if it fails one.
+    ///
+    /// Each span of the syntax and of an error begins and ends at a place of the text: where a character begins, or
+    /// where the text ends.
     pub fn new(alloc: Global, kind: YaccKind, text: &str) -> Result<Self, AllocError>
         ensures one { HasOneReading kind text.now }
         ensures kind { IfOk result (λ parsed. parsed.kind ≡ kind) }

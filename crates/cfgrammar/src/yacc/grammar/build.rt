@@ -1,13 +1,24 @@
-//! The numbering of a file's syntax.
+//! The numbering of a file's syntax that passed validation.
 
-ghost use Rattle.std.specs.Prelude.{◌≡◌, length, All, IfOk};
+ghost use Rattle.std.specs.Prelude.{◌≡◌, ◌↔◌, ◌<◌, ◌≤◌, ◌∷◌, ◌++◌, [], ℕ, List, true, false, All, None, length, map, get_or, option_map, string_bytes, IfOk, IsTrue, OnOk};
+ghost use Rattle.std.specs.List.{enumerate_from, list_any, zip};
+ghost use Rattle.std.specs.Str.{bytes_eq};
+ghost use Rattle.cfgbase.specs.declared.span.Span.{Span};
+ghost use Rattle.cfgast.specs.Syntax.{Rule as SyntaxRule, Production as SyntaxProduction};
+ghost use Rattle.cfgast.specs.View.{syntax, symbol_view};
+ghost use Rattle.cfgsyntax.specs.Check.{is_rule, is_token, symbol_error};
+ghost use Rattle.cfgsyntax.specs.Sound.{IsSound};
+ghost use Rattle.cfgrammar.specs.Numbered.{rule_index, token_index, sym_of, rule_listing, start_rule, file_rule, start_production, file_production, file_token};
+ghost use Rattle.cfgrammar.specs.Fits.{LeavesRoom};
+ghost use Rattle.cfgrammar.specs.Owned.{Hands};
+ghost use Rattle.cfgrammar.specs.Resolved.{IsResolved, Resolves};
+ghost use Rattle.cfgrammar.specs.View.{names, sym, rule_view, production_view, token_view};
 
-use super::fault::{numbered, storage_too_small, unknown_rule, unknown_token};
 use super::rows::{ProductionRow, RuleRow, TokenRow};
-use cfgbase::{PIdx, RIdx, SIdx, Span, Storage, Symbol, TIdx};
+use super::stored::stored;
+use cfgbase::{PIdx, RIdx, Span, Storage, Symbol, TIdx};
 use cfgsyntax::yacc::ast;
 use cfgsyntax::yacc::ast::{GrammarAST, Production, Rule};
-use cfgsyntax::yacc::parser::YaccGrammarResult;
 use indexmap::IndexMap;
 use std::alloc::{AllocError, Global};
 
@@ -16,49 +27,103 @@ const START_RULE: &str = "^";
 
 /// Whether the index type counts all that the grammar of this syntax will have: the file's rules and the start rule,
 /// its tokens and the end token, its productions and that of the start rule, and the symbols of each production.
-pub(super) fn fits<S: Storage>(ast: &GrammarAST) -> bool {
-    ast.rules().len() < S::MAX
-        && ast.tokens().len() < S::MAX
-        && ast.prods().len() < S::MAX
-        && ast
-            .prods()
-            .iter()
-            .all(|production| production.symbols.len() <= S::MAX)
+pub(super) fn fits<S: Storage>(ast: &GrammarAST) -> bool
+    ensures { IsTrue result ↔ LeavesRoom S.MAX (syntax ast.now) }
+{
+    counts_fit::<S>(ast.rules().len(), ast.tokens().len(), ast.prods().len())
+        && symbols_fit::<S>(ast.prods())
+}
+
+/// Whether the index type counts one more than each of these.
+fn counts_fit<S: Storage>(rules: usize, tokens: usize, productions: usize) -> bool
+    ensures { IsTrue result ↔ ((rules < S.MAX) × (tokens < S.MAX) × (productions < S.MAX)) }
+{
+    rules < S::MAX && tokens < S::MAX && productions < S::MAX
+}
+
+/// Whether the index type counts the symbols of each of these productions.
+fn symbols_fit<S: Storage>(productions: &[Production]) -> bool
+    ensures { IsTrue result ↔ All (λ production. length production.symbols.items ≤ S.MAX) productions.now }
+{
+    for production in productions {
+        if production.symbols.len() > S::MAX {
+            return false;
+        }
+    }
+    true
 }
 
 /// The rules: the start rule, and then the file's.
 pub(super) fn rule_rows<S: Storage>(
     alloc: Global,
     ast: &GrammarAST,
-) -> YaccGrammarResult<Vec<RuleRow<S>>> {
-    let mut rows = Vec::new(alloc);
-    rows.push(start_rule_row(alloc, ast)?)?;
-    for rule in ast.rules().values() {
-        rows.push(rule_row(alloc, rule)?)?;
+) -> Result<IndexMap<String, RuleRow<S>>, AllocError>
+    requires sound { IsSound (syntax ast.now) [] }
+    requires room { LeavesRoom S.MAX (syntax ast.now) }
+    ensures { IfOk result (λ rows. map (rule_view S.number) rows.entries
+        ≡ start_rule (syntax ast.now) ∷ map file_rule (syntax ast.now).rules) }
+{
+    let mut rows = IndexMap::new(alloc);
+    rows.insert(
+        String::from_str(alloc, START_RULE)?,
+        start_rule_row(alloc, ast)?,
+    )?;
+    for place in 0..ast.rules().len() {
+        put_rule(alloc, &mut rows, ast, place)?;
     }
     Ok(rows)
 }
 
-fn start_rule_row<S: Storage>(alloc: Global, ast: &GrammarAST) -> YaccGrammarResult<RuleRow<S>> {
+/// Puts the rule at this place of the file behind the rows.
+fn put_rule<S: Storage>(
+    alloc: Global,
+    rows: &mut IndexMap<String, RuleRow<S>>,
+    ast: &GrammarAST,
+    place: usize,
+) -> Result<(), AllocError>
+    requires within { place < length (syntax ast.now).rules }
+    requires new { (d : List ℕ × SyntaxRule) → list_any (bytes_eq (get_or (syntax ast.now).rules place d).0) (names rows.old.entries) ≡ false }
+    requires places { (d : List ℕ × SyntaxRule) → All (λ i. i ≤ S.MAX) (get_or (syntax ast.now).rules place d).1.productions }
+    ensures { OnOk result ((d : List ℕ × SyntaxRule) → map (rule_view S.number) rows.new.entries
+        ≡ map (rule_view S.number) rows.old.entries ++ file_rule (get_or (syntax ast.now).rules place d) ∷ []) }
+{
+    let (name, rule) = ast.rules().get_index(place).unwrap();
+    rows.insert(name.clone()?, rule_row(alloc, rule)?)?;
+    Ok(())
+}
+
+/// The start rule, which has the production behind those of the file.
+fn start_rule_row<S: Storage>(alloc: Global, ast: &GrammarAST) -> Result<RuleRow<S>, AllocError>
+    requires room { LeavesRoom S.MAX (syntax ast.now) }
+    ensures span { IfOk result (λ row. row.span ≡ record { start = 0; end = 0 }) }
+    ensures productions { IfOk result (λ row. map (λ p. S.number p.0) row.prods.items ≡ length (syntax ast.now).productions ∷ []) }
+    ensures action_type { IfOk result (λ row. row.actiont ≡ None) }
+{
     let mut prods = Vec::new(alloc);
-    prods.push(PIdx(numbered(alloc, ast.prods().len())?))?;
+    prods.push(PIdx(stored(ast.prods().len())))?;
     Ok(RuleRow {
-        name: String::from_str(alloc, START_RULE)?,
         span: Span::new(0, 0),
         prods,
+        actiont: None,
     })
 }
 
-fn rule_row<S: Storage>(alloc: Global, rule: &Rule) -> YaccGrammarResult<RuleRow<S>> {
-    let mut prods = Vec::new(alloc);
-    for index in &rule.pidxs {
-        prods.push(PIdx(numbered(alloc, *index)?))?;
+/// A rule of the file.
+fn rule_row<S: Storage>(alloc: Global, rule: &Rule) -> Result<RuleRow<S>, AllocError>
+    requires { All (λ place. place ≤ S.MAX) rule.now.pidxs.items }
+    ensures span { IfOk result (λ row. row.span ≡ rule.now.name.1) }
+    ensures productions { IfOk result (λ row. map (λ p. S.number p.0) row.prods.items ≡ rule.now.pidxs.items) }
+    ensures action_type { IfOk result (λ row. option_map string_bytes row.actiont ≡ option_map string_bytes rule.now.actiont) }
+{
+    let mut prods = Vec::with_capacity(alloc, rule.pidxs.len())?;
+    for place in &rule.pidxs {
+        prods.push(PIdx(stored(*place)))?;
     }
-    let (name, span) = &rule.name;
+    let (_, span) = &rule.name;
     Ok(RuleRow {
-        name: name.clone()?,
         span: *span,
         prods,
+        actiont: rule.actiont.clone()?,
     })
 }
 
@@ -66,156 +131,186 @@ fn rule_row<S: Storage>(alloc: Global, rule: &Rule) -> YaccGrammarResult<RuleRow
 pub(super) fn production_rows<S: Storage>(
     alloc: Global,
     ast: &GrammarAST,
-    rules: &[RuleRow<S>],
-) -> YaccGrammarResult<Vec<ProductionRow<S>>>
-    ensures { IfOk result (λ rows. All (λ row. S.number row.len.0 ≡ length row.symbols.items) rows.items) }
+) -> Result<Vec<ProductionRow<S>>, AllocError>
+    requires sound { IsSound (syntax ast.now) [] }
+    requires resolved { IsResolved (syntax ast.now) }
+    requires room { LeavesRoom S.MAX (syntax ast.now) }
+    ensures { IfOk result (λ rows. map (production_view S.number) rows.items
+        ≡ map (file_production (syntax ast.now)) (enumerate_from 0 (syntax ast.now).productions) ++ start_production (syntax ast.now) ∷ []) }
 {
-    let owners = owners(alloc, ast.prods().len(), rules)?;
+    let owners = owners(alloc, ast)?;
     let mut rows = Vec::new(alloc);
-    for (production, owner) in ast.prods().iter().zip(owners.iter()) {
-        rows.push(production_row(alloc, ast, production, *owner)?)?;
+    for place in 0..ast.prods().len() {
+        rows.push(production_row(alloc, ast, place, owners[place])?)?;
     }
     rows.push(start_production_row(alloc, ast)?)?;
     Ok(rows)
 }
 
 /// The rule of each production of the file.
-fn owners<S: Storage>(
-    alloc: Global,
-    len: usize,
-    rules: &[RuleRow<S>],
-) -> YaccGrammarResult<Vec<RIdx<S>>> {
-    let mut owners = Vec::new(alloc);
-    let start = RIdx(numbered(alloc, 0)?);
-    for _ in 0..len {
-        owners.push(start)?;
-    }
-    for (index, rule) in rules.iter().enumerate() {
-        own(&mut owners, &rule.prods, RIdx(numbered(alloc, index)?));
+fn owners<S: Storage>(alloc: Global, ast: &GrammarAST) -> Result<Vec<RIdx<S>>, AllocError>
+    requires sound { IsSound (syntax ast.now) [] }
+    requires room { LeavesRoom S.MAX (syntax ast.now) }
+    ensures as_long { IfOk result (λ owners. length owners.items ≡ length (syntax ast.now).productions) }
+    ensures owner { IfOk result (λ owners. (i : ℕ) (d : RIdx S) → i < length (syntax ast.now).productions
+        → S.number (get_or owners.items i d).0 ≡ rule_listing (syntax ast.now) i) }
+{
+    let mut owners = vec![in alloc; RIdx(stored(0)); ast.prods().len()]?;
+    for place in 0..ast.rules().len() {
+        let (_, rule) = ast.rules().get_index(place).unwrap();
+        hand(&mut owners, &rule.pidxs, RIdx(stored(place + 1)));
     }
     Ok(owners)
 }
 
-/// Notes the owner of these productions, of those that are the file's.
-fn own<S: Storage>(owners: &mut [RIdx<S>], prods: &[PIdx<S>], owner: RIdx<S>) {
-    for pidx in prods {
-        if let Some(slot) = owners.get_mut(usize::from(*pidx)) {
-            *slot = owner;
-        }
+/// Hands the productions at these places to the owner.
+fn hand<S: Storage>(owners: &mut Vec<RIdx<S>>, places: &[usize], owner: RIdx<S>)
+    requires { All (λ place. place < length owners.old.items) places.now }
+    ensures { Hands places.now owner owners.old.items owners.new.items }
+{
+    for place in places {
+        owners[*place] = owner;
     }
 }
 
+/// The production at this place of the file, of this rule.
 fn production_row<S: Storage>(
     alloc: Global,
     ast: &GrammarAST,
-    production: &Production,
+    place: usize,
     rule: RIdx<S>,
-) -> YaccGrammarResult<ProductionRow<S>>
-    ensures { IfOk result (λ row. S.number row.len.0 ≡ length row.symbols.items) }
+) -> Result<ProductionRow<S>, AllocError>
+    requires within { place < length (syntax ast.now).productions }
+    requires resolved { All (Resolves (syntax ast.now)) (syntax ast.now).productions }
+    requires room { LeavesRoom S.MAX (syntax ast.now) }
+    requires owner { S.number rule.0 ≡ rule_listing (syntax ast.now) place }
+    ensures { IfOk result (λ row. (d : SyntaxProduction) → production_view S.number row
+        ≡ file_production (syntax ast.now) (place, get_or (syntax ast.now).productions place d)) }
 {
-    let mut symbols = Vec::new(alloc);
-    for symbol in &production.symbols {
-        symbols.push(numbered_symbol(alloc, ast, symbol)?)?;
-    }
+    let production = &ast.prods()[place];
+    let symbols = numbered_symbols(alloc, ast, &production.symbols)?;
+    let (action, action_span) = action_parts(production)?;
     Ok(ProductionRow {
         rule,
-        len: SIdx(numbered(alloc, symbols.len())?),
         symbols,
         span: production.prod_span,
+        action,
+        action_span,
     })
 }
 
+/// The symbols of a production.
+fn numbered_symbols<S: Storage>(
+    alloc: Global,
+    ast: &GrammarAST,
+    symbols: &[ast::Symbol],
+) -> Result<Vec<Symbol<S>>, AllocError>
+    requires known { All (λ symbol. symbol_error (syntax ast.now) symbol ≡ None) (map symbol_view symbols.now) }
+    requires room { LeavesRoom S.MAX (syntax ast.now) }
+    ensures { IfOk result (λ numbered. map (sym S.number) numbered.items ≡ map (sym_of (syntax ast.now)) (map symbol_view symbols.now)) }
+{
+    let mut numbered = Vec::with_capacity(alloc, symbols.len())?;
+    for symbol in symbols {
+        numbered.push(numbered_symbol(ast, symbol))?;
+    }
+    Ok(numbered)
+}
+
+/// The text of a production's action, and its place.
+fn action_parts(production: &Production) -> Result<(Option<String>, Option<Span>), AllocError>
+    ensures text { IfOk result (λ parts. option_map string_bytes parts.0 ≡ option_map (λ action. string_bytes action.0) production.now.action) }
+    ensures span { IfOk result (λ parts. parts.1 ≡ option_map (λ action. action.1) production.now.action) }
+{
+    match &production.action {
+        Some((text, span)) => Ok((Some(text.clone()?), Some(*span))),
+        None => Ok((None, None)),
+    }
+}
+
+/// The production of the start rule: the rule that the file starts from.
 fn start_production_row<S: Storage>(
     alloc: Global,
     ast: &GrammarAST,
-) -> YaccGrammarResult<ProductionRow<S>>
-    ensures { IfOk result (λ row. S.number row.len.0 ≡ length row.symbols.items) }
+) -> Result<ProductionRow<S>, AllocError>
+    requires resolved { IsResolved (syntax ast.now) }
+    requires room { LeavesRoom S.MAX (syntax ast.now) }
+    ensures { IfOk result (λ row. production_view S.number row ≡ start_production (syntax ast.now)) }
 {
     let mut symbols = Vec::new(alloc);
-    if let Some((name, span)) = ast.start() {
-        symbols.push(Symbol::Rule(rule_of(alloc, ast, name.as_str(), *span)?))?;
+    if let Some((name, _)) = ast.start() {
+        symbols.push(Symbol::Rule(rule_of(ast, name.as_str())))?;
     }
     Ok(ProductionRow {
-        rule: RIdx(numbered(alloc, 0)?),
-        len: SIdx(numbered(alloc, symbols.len())?),
+        rule: RIdx(stored(0)),
         symbols,
         span: Span::new(0, 0),
+        action: None,
+        action_span: None,
     })
 }
 
-fn numbered_symbol<S: Storage>(
-    alloc: Global,
-    ast: &GrammarAST,
-    symbol: &ast::Symbol,
-) -> YaccGrammarResult<Symbol<S>> {
+fn numbered_symbol<S: Storage>(ast: &GrammarAST, symbol: &ast::Symbol) -> Symbol<S>
+    requires known { symbol_error (syntax ast.now) (symbol_view symbol.now) ≡ None }
+    requires room { LeavesRoom S.MAX (syntax ast.now) }
+    ensures { sym S.number result ≡ sym_of (syntax ast.now) (symbol_view symbol.now) }
+{
     match symbol {
-        ast::Symbol::Rule(name, span) => {
-            Ok(Symbol::Rule(rule_of(alloc, ast, name.as_str(), *span)?))
-        }
-        ast::Symbol::Token(name, span) => {
-            Ok(Symbol::Token(token_of(alloc, ast, name.as_str(), *span)?))
-        }
+        ast::Symbol::Rule(name, _) => Symbol::Rule(rule_of(ast, name.as_str())),
+        ast::Symbol::Token(name, _) => Symbol::Token(token_of(ast, name.as_str())),
     }
 }
 
 /// The rule of this name.
-fn rule_of<S: Storage>(
-    alloc: Global,
-    ast: &GrammarAST,
-    name: &str,
-    span: Span,
-) -> YaccGrammarResult<RIdx<S>> {
-    match ast.rules().get_index_of(name) {
-        Some(index) => Ok(RIdx(numbered(alloc, index.saturating_add(1))?)),
-        None => Err(unknown_rule(alloc, name, span)?),
-    }
+fn rule_of<S: Storage>(ast: &GrammarAST, name: &str) -> RIdx<S>
+    requires known { is_rule (syntax ast.now) name.now ≡ true }
+    requires room { LeavesRoom S.MAX (syntax ast.now) }
+    ensures { S.number result.0 ≡ rule_index (syntax ast.now) name.now }
+{
+    let place = ast.rules().get_index_of(name).unwrap();
+    prove!(place < S::MAX);
+    RIdx(stored(place + 1))
 }
 
 /// The token of this name.
-fn token_of<S: Storage>(
-    alloc: Global,
-    ast: &GrammarAST,
-    name: &str,
-    span: Span,
-) -> YaccGrammarResult<TIdx<S>> {
-    match ast.tokens().get_index_of(name) {
-        Some(index) => Ok(TIdx(numbered(alloc, index)?)),
-        None => Err(unknown_token(alloc, name, span)?),
-    }
+fn token_of<S: Storage>(ast: &GrammarAST, name: &str) -> TIdx<S>
+    requires known { is_token (syntax ast.now) name.now ≡ true }
+    requires room { LeavesRoom S.MAX (syntax ast.now) }
+    ensures { S.number result.0 ≡ token_index (syntax ast.now) name.now }
+{
+    let place = ast.tokens().get_index_of(name).unwrap();
+    TIdx(stored(place))
 }
 
 /// The tokens that have a name.
-pub(super) fn token_rows(alloc: Global, ast: &GrammarAST) -> Result<Vec<TokenRow>, AllocError> {
-    let mut rows = Vec::new(alloc);
-    for (name, span) in ast.tokens().iter().zip(ast.spans()) {
-        rows.push(TokenRow {
-            name: name.clone()?,
-            span: *span,
-        })?;
+pub(super) fn token_rows(
+    alloc: Global,
+    ast: &GrammarAST,
+) -> Result<IndexMap<String, TokenRow>, AllocError>
+    requires sound { IsSound (syntax ast.now) [] }
+    ensures { IfOk result (λ rows. map token_view rows.entries
+        ≡ map file_token (zip (syntax ast.now).tokens (syntax ast.now).spans)) }
+{
+    let mut rows = IndexMap::new(alloc);
+    for place in 0..ast.tokens().len() {
+        put_token(&mut rows, ast, place)?;
     }
     Ok(rows)
 }
 
-/// The rules' numbers by their names.
-pub(super) fn rule_numbers<S: Storage>(
-    alloc: Global,
-    rows: &[RuleRow<S>],
-) -> YaccGrammarResult<IndexMap<String, S>> {
-    let mut numbers = IndexMap::new(alloc);
-    for (index, row) in rows.iter().enumerate() {
-        numbers.insert(row.name.clone()?, numbered(alloc, index)?)?;
-    }
-    Ok(numbers)
-}
-
-/// The tokens' numbers by their names.
-pub(super) fn token_numbers<S: Storage>(
-    alloc: Global,
-    rows: &[TokenRow],
-) -> YaccGrammarResult<IndexMap<String, S>> {
-    let mut numbers = IndexMap::new(alloc);
-    for (index, row) in rows.iter().enumerate() {
-        numbers.insert(row.name.clone()?, numbered(alloc, index)?)?;
-    }
-    Ok(numbers)
+/// Puts the token at this place behind the rows.
+fn put_token(
+    rows: &mut IndexMap<String, TokenRow>,
+    ast: &GrammarAST,
+    place: usize,
+) -> Result<(), AllocError>
+    requires within { place < length (syntax ast.now).tokens }
+    requires as_long { length (syntax ast.now).spans ≡ length (syntax ast.now).tokens }
+    requires new { (d : List ℕ) → list_any (bytes_eq (get_or (syntax ast.now).tokens place d)) (names rows.old.entries) ≡ false }
+    ensures { OnOk result ((d : List ℕ × Span) → map token_view rows.new.entries
+        ≡ map token_view rows.old.entries ++ file_token (get_or (zip (syntax ast.now).tokens (syntax ast.now).spans) place d) ∷ []) }
+{
+    let name = ast.tokens().get_index(place).unwrap();
+    let span = ast.spans()[place];
+    rows.insert(name.clone()?, TokenRow { span })?;
+    Ok(())
 }

@@ -1,59 +1,20 @@
-//! What keeps a syntax from being numbered.
+//! The error for a grammar that is too large.
 
-ghost use Rattle.std.specs.Prelude.{◌≡◌, ◌<◌, ◌≤◌, ◌∷◌, [], IfOk, OnOk};
-ghost use Rattle.cfgsyntax.specs.Errors.{StorageTooSmall, UnknownRuleRef, UnknownToken};
-ghost use Rattle.cfgsyntax.specs.declared.yacc.parser.error.YaccFault.{YaccFault};
+ghost use Rattle.std.specs.Prelude.{IfOk};
+ghost use Rattle.cfgrammar.specs.Answer.{IsTooSmall};
 
-use cfgbase::{Span, Storage};
+use cfgbase::Span;
 use cfgsyntax::yacc::YaccGrammarErrorKind;
-use cfgsyntax::yacc::parser::{YaccFault, YaccGrammarError, YaccGrammarResult};
+use cfgsyntax::yacc::parser::{YaccFault, YaccGrammarError};
 use std::alloc::{AllocError, Global};
 
-/// One error, at one span.
-fn error_alone(
-    alloc: Global,
-    kind: YaccGrammarErrorKind,
-    span: Span,
-) -> Result<YaccFault, AllocError> {
-    let mut spans = Vec::new(alloc);
-    spans.push(span)?;
-    let mut errors = Vec::new(alloc);
-    errors.push(YaccGrammarError::new(kind, spans))?;
-    Ok(YaccFault::Errors(errors))
-}
-
 /// The index type cannot count the grammar.
-pub(super) fn storage_too_small(alloc: Global) -> Result<YaccFault, AllocError> {
-    error_alone(
-        alloc,
-        YaccGrammarErrorKind::StorageTooSmall,
-        Span::new(0, 0),
-    )
-}
-
-/// A name that is no rule's. Validation has reported it before.
-pub(super) fn unknown_rule(alloc: Global, name: &str, span: Span) -> Result<YaccFault, AllocError> {
-    let name = String::from_str(alloc, name)?;
-    error_alone(alloc, YaccGrammarErrorKind::UnknownRuleRef(name), span)
-}
-
-/// A name that is no token's. Validation has reported it before.
-pub(super) fn unknown_token(
-    alloc: Global,
-    name: &str,
-    span: Span,
-) -> Result<YaccFault, AllocError> {
-    let name = String::from_str(alloc, name)?;
-    error_alone(alloc, YaccGrammarErrorKind::UnknownToken(name), span)
-}
-
-/// The value that stores `n`.
-pub(super) fn numbered<S: Storage>(alloc: Global, n: usize) -> YaccGrammarResult<S>
-    ensures value { IfOk result (λ x. S.number x ≡ n) }
-    ensures range { OnOk result (n ≤ S.MAX) }
+pub(super) fn storage_too_small(alloc: Global) -> Result<YaccFault, AllocError>
+    ensures { IfOk result IsTooSmall }
 {
-    match S::from_usize(n) {
-        Some(value) => Ok(value),
-        None => Err(storage_too_small(alloc)?),
-    }
+    let mut spans = Vec::new(alloc);
+    spans.push(Span::new(0, 0))?;
+    let mut errors = Vec::new(alloc);
+    errors.push(YaccGrammarError::new(YaccGrammarErrorKind::StorageTooSmall, spans))?;
+    Ok(YaccFault::Errors(errors))
 }

@@ -3,7 +3,9 @@
 mod build;
 mod fault;
 mod iter;
+pub mod laws;
 mod rows;
+mod stored;
 mod tables;
 
 pub use iter::{PIdxIter, RIdxIter, TIdxIter};

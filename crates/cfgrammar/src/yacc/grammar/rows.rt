@@ -1,13 +1,13 @@
 //! The rows of a grammar's tables.
 
-use cfgbase::{PIdx, RIdx, SIdx, Span, Symbol};
+use cfgbase::{PIdx, RIdx, Span, Symbol};
 
-/// A rule.
+/// A rule, which stands under its name.
 #[derive(Drop)]
 pub(super) struct RuleRow<S> {
-    pub(super) name: String,
     pub(super) span: Span,
     pub(super) prods: Vec<PIdx<S>>,
+    pub(super) actiont: Option<String>,
 }
 
 /// A production.
@@ -15,13 +15,13 @@ pub(super) struct RuleRow<S> {
 pub(super) struct ProductionRow<S> {
     pub(super) rule: RIdx<S>,
     pub(super) symbols: Vec<Symbol<S>>,
-    pub(super) len: SIdx<S>,
     pub(super) span: Span,
+    pub(super) action: Option<String>,
+    pub(super) action_span: Option<Span>,
 }
 
-/// A token that has a name.
+/// A token that has a name, under which it stands.
 #[derive(Drop)]
 pub(super) struct TokenRow {
-    pub(super) name: String,
     pub(super) span: Span,
 }

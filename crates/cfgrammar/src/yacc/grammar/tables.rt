@@ -1,16 +1,27 @@
 //! The tables of a grammar.
 
-ghost use Rattle.std.specs.Prelude.{◌≡◌, ◌+◌, ◌++◌, ◌<◌, map, length, OnOk, None, option_map};
-ghost use Rattle.std.specs.Map.{lookup};
+ghost use Rattle.std.specs.Prelude.{◌≡◌, ◌+◌, ◌++◌, ◌<◌, List, [], Option, None, Some, map, length, position, option_map, IfOk, OnOk};
+ghost use Rattle.std.specs.List.{concat};
 ghost use Rattle.std.specs.Str.{bytes_eq};
 ghost use Rattle.std.specs.String.{string_bytes};
-ghost use Rattle.cfgrammar.specs.Numbered.{Rule};
-ghost use Rattle.cfgrammar.specs.Shown.{production_at, rule_at, sym_name, sym_text, token_at};
+ghost use Rattle.cfgwords.specs.declared.fault.Fault.{Fault};
+ghost use Rattle.cfgast.specs.Items.{Item};
+ghost use Rattle.cfgast.specs.Syntax.{syntax_of};
+ghost use Rattle.cfgast.specs.View.{syntax};
+ghost use Rattle.cfgsyntax.specs.Faults.{errors_of};
+ghost use Rattle.cfgsyntax.specs.Reads.{Reads, HasOneReading};
+ghost use Rattle.cfgsyntax.specs.Sound.{IsSound};
+ghost use Rattle.cfgsyntax.specs.declared.yacc.kind.YaccKind.{YaccKind};
+ghost use Rattle.cfgrammar.specs.Answer.{IsAnswer};
+ghost use Rattle.cfgrammar.specs.Fits.{LeavesRoom};
+ghost use Rattle.cfgrammar.specs.Numbered.{Rule, numbered};
+ghost use Rattle.cfgrammar.specs.Shown.{has_token_name, production_at, production_text, rule_at, sym_name, sym_text, token_at};
 
 use super::build;
-use super::fault::{numbered, storage_too_small};
+use super::fault::storage_too_small;
 use super::iter::{PIdxIter, RIdxIter, TIdxIter};
 use super::rows::{ProductionRow, RuleRow, TokenRow};
+use super::stored::stored;
 use cfgbase::{PIdx, RIdx, SIdx, Span, Storage, Symbol, TIdx};
 use cfgsyntax::yacc::YaccKind;
 use cfgsyntax::yacc::ast::{ASTWithValidityInfo, GrammarAST};
@@ -25,31 +36,21 @@ use std::marker::Model;
 /// token is the end token, which has no name and stands in no production.
 #[derive(Drop)]
 pub struct YaccGrammar<S: Storage> {
-    rules: Vec<RuleRow<S>>,
+    rules: IndexMap<String, RuleRow<S>>,
     prods: Vec<ProductionRow<S>>,
-    tokens: Vec<TokenRow>,
-    rules_len: RIdx<S>,
-    prods_len: PIdx<S>,
-    tokens_len: TIdx<S>,
-    eof_token: TIdx<S>,
-    start_rule: RIdx<S>,
+    tokens: IndexMap<String, TokenRow>,
     start_prod: PIdx<S>,
-    rule_numbers: IndexMap<String, S>,
-    token_numbers: IndexMap<String, S>,
 }
 
 impl<S: Storage> Model for YaccGrammar<S> {
-    ghost use Rattle.std.specs.Prelude.{map};
     ghost use Rattle.cfgrammar.specs.Numbered.{Numbered};
+    ghost use Rattle.cfgrammar.specs.View.{tables, IsTable};
 
     ghost Value = { Numbered };
 
-    ghost use Rattle.cfgrammar.specs.View.{tables, number_view, IsCounted};
+    ghost view = { λ x. tables S.number x.rules.entries x.prods.items x.tokens.entries x.start_prod };
 
-    ghost view = { λ x. tables S.number x.rules.items x.prods.items x.tokens.items x.start_prod
-        (map (number_view S.number) x.rule_numbers.entries) (map (number_view S.number) x.token_numbers.entries) };
-
-    ghost invariant = { λ x. IsCounted S.number x.rules.items x.prods.items x.tokens.items x.rules_len x.prods_len x.tokens_len x.eof_token x.start_rule };
+    ghost invariant = { λ x. IsTable S.MAX (tables S.number x.rules.entries x.prods.items x.tokens.entries x.start_prod) };
 }
 
 impl YaccGrammar<u32> {
@@ -58,7 +59,11 @@ impl YaccGrammar<u32> {
     /// # Errors
     ///
     /// As of [`new_with_storaget`](YaccGrammar::new_with_storaget).
-    pub fn new(alloc: Global, kind: YaccKind, text: &str) -> YaccGrammarResult<Self> {
+    pub fn new(alloc: Global, kind: YaccKind, text: &str) -> YaccGrammarResult<Self>
+        ensures one { HasOneReading kind text.now }
+        ensures answer { (items : List Item) (stop : Option Fault) → Reads kind text.now items stop
+            → IsAnswer 4294967295 (errors_of items stop) (numbered kind (syntax_of items)) result }
+    {
         YaccGrammar::new_with_storaget(alloc, kind, text)
     }
 }
@@ -66,11 +71,18 @@ impl YaccGrammar<u32> {
 impl<S: Storage> YaccGrammar<S> {
     /// Reads a Yacc file of the kind as a grammar.
     ///
+    /// The text has exactly one reading. Where that has no errors, and `S` can count the grammar, the answer is the
+    /// grammar of what was read.
+    ///
     /// # Errors
     ///
     /// The errors of the text; for a valid text `StorageTooSmall`, alone, where `S` cannot count the grammar's rules,
-    /// tokens, productions or the symbols of a production; and want of memory.
-    pub fn new_with_storaget(alloc: Global, kind: YaccKind, text: &str) -> YaccGrammarResult<Self> {
+    /// tokens, productions or the symbols of a production, those that are added counted in; and want of memory.
+    pub fn new_with_storaget(alloc: Global, kind: YaccKind, text: &str) -> YaccGrammarResult<Self>
+        ensures one { HasOneReading kind text.now }
+        ensures answer { (items : List Item) (stop : Option Fault) → Reads kind text.now items stop
+            → IsAnswer S.MAX (errors_of items stop) (numbered kind (syntax_of items)) result }
+    {
         let parsed = ASTWithValidityInfo::new(alloc, kind, text)?;
         YaccGrammar::new_from_ast_with_validity_info(alloc, &parsed)
     }
@@ -84,7 +96,9 @@ impl<S: Storage> YaccGrammar<S> {
     pub fn new_from_ast_with_validity_info(
         alloc: Global,
         parsed: &ASTWithValidityInfo,
-    ) -> YaccGrammarResult<Self> {
+    ) -> YaccGrammarResult<Self>
+        ensures { IsAnswer S.MAX parsed.now.errors (numbered parsed.now.kind parsed.now.syntax) result }
+    {
         if !parsed.is_valid() {
             return Err(YaccFault::Errors(parsed.errors().to_vec(alloc)?));
         }
@@ -92,28 +106,20 @@ impl<S: Storage> YaccGrammar<S> {
         if !build::fits::<S>(ast) {
             return Err(storage_too_small(alloc)?);
         }
-        YaccGrammar::from_valid(alloc, ast)
+        Ok(YaccGrammar::from_valid(alloc, ast)?)
     }
 
-    /// The tables of a syntax that passed validation.
-    fn from_valid(alloc: Global, ast: &GrammarAST) -> YaccGrammarResult<Self> {
-        let rules = build::rule_rows(alloc, ast)?;
-        let prods = build::production_rows(alloc, ast, &rules)?;
-        let tokens = build::token_rows(alloc, ast)?;
-        let eof_token = TIdx(numbered(alloc, tokens.len())?);
-        let tokens_len = TIdx(numbered(alloc, tokens.len() + 1)?);
+    /// The grammar of a syntax that was read without errors. All kinds that are read so far number it alike.
+    fn from_valid(alloc: Global, ast: &GrammarAST) -> Result<Self, AllocError>
+        requires sound { IsSound (syntax ast.now) [] }
+        requires room { LeavesRoom S.MAX (syntax ast.now) }
+        ensures { IfOk result (λ grammar. (kind : YaccKind) → grammar ≡ numbered kind (syntax ast.now)) }
+    {
         Ok(YaccGrammar {
-            rule_numbers: build::rule_numbers(alloc, &rules)?,
-            token_numbers: build::token_numbers(alloc, &tokens)?,
-            rules_len: RIdx(numbered(alloc, rules.len())?),
-            prods_len: PIdx(numbered(alloc, prods.len())?),
-            tokens_len,
-            eof_token,
-            start_rule: RIdx(numbered(alloc, 0)?),
-            start_prod: PIdx(numbered(alloc, ast.prods().len())?),
-            rules,
-            prods,
-            tokens,
+            rules: build::rule_rows(alloc, ast)?,
+            prods: build::production_rows(alloc, ast)?,
+            tokens: build::token_rows(alloc, ast)?,
+            start_prod: PIdx(stored(ast.prods().len())),
         })
     }
 }
@@ -126,14 +132,14 @@ impl<S: Storage> YaccGrammar<S> {
     pub fn prods_len(&self) -> PIdx<S>
         ensures { S.number result.0 ≡ length self.now.productions }
     {
-        self.prods_len
+        PIdx(stored(self.prods.len()))
     }
 
     /// The productions' indices, in order.
     pub fn iter_pidxs(&self) -> PIdxIter<S>
         ensures { result ≡ record { next = 0; end = length self.now.productions } }
     {
-        PIdxIter::new(self.prods_len.0.to_usize())
+        PIdxIter::new(self.prods.len())
     }
 
     /// The symbols of a production.
@@ -149,7 +155,7 @@ impl<S: Storage> YaccGrammar<S> {
         requires { S.number pidx.0 < length self.now.productions }
         ensures { production_at (λ x. length x.symbols) self.now (S.number pidx.0) ≡ Some (S.number result.0) }
     {
-        self.prods[usize::from(pidx)].len
+        SIdx(stored(self.prods[usize::from(pidx)].symbols.len()))
     }
 
     /// The rule that a production belongs to.
@@ -168,6 +174,22 @@ impl<S: Storage> YaccGrammar<S> {
         self.prods[usize::from(pidx)].span
     }
 
+    /// The text of a production's action.
+    pub fn action(&self, pidx: PIdx<S>) -> &Option<String>
+        requires { S.number pidx.0 < length self.now.productions }
+        ensures { production_at (λ x. x.action) self.now (S.number pidx.0) ≡ Some (option_map string_bytes result.now) }
+    {
+        &self.prods[usize::from(pidx)].action
+    }
+
+    /// The place of a production's action in the file.
+    pub fn action_span(&self, pidx: PIdx<S>) -> Option<Span>
+        requires { S.number pidx.0 < length self.now.productions }
+        ensures { production_at (λ x. x.action_span) self.now (S.number pidx.0) ≡ Some result }
+    {
+        self.prods[usize::from(pidx)].action_span
+    }
+
     /// The production of the start rule.
     pub fn start_prod(&self) -> PIdx<S>
         ensures { S.number result.0 ≡ self.now.start_production }
@@ -179,14 +201,14 @@ impl<S: Storage> YaccGrammar<S> {
     pub fn rules_len(&self) -> RIdx<S>
         ensures { S.number result.0 ≡ length self.now.rules }
     {
-        self.rules_len
+        RIdx(stored(self.rules.len()))
     }
 
     /// The rules' indices, in order.
     pub fn iter_rules(&self) -> RIdxIter<S>
         ensures { result ≡ record { next = 0; end = length self.now.rules } }
     {
-        RIdxIter::new(self.rules_len.0.to_usize())
+        RIdxIter::new(self.rules.len())
     }
 
     /// The productions of a rule.
@@ -211,7 +233,8 @@ impl<S: Storage> YaccGrammar<S> {
         requires { S.number ridx.0 < length self.now.rules }
         ensures { rule_at (λ x. x.name) self.now (S.number ridx.0) ≡ Some result.now }
     {
-        self.rules[usize::from(ridx)].name.as_str()
+        let (name, _) = self.rules.get_index(usize::from(ridx)).unwrap();
+        name.as_str()
     }
 
     /// The place of a rule's name in the file, (0,0) for a rule that the file does not have.
@@ -222,19 +245,28 @@ impl<S: Storage> YaccGrammar<S> {
         self.rules[usize::from(ridx)].span
     }
 
+    /// The type of what a rule's actions answer.
+    pub fn actiontype(&self, ridx: RIdx<S>) -> &Option<String>
+        requires { S.number ridx.0 < length self.now.rules }
+        ensures { rule_at (λ x. x.action_type) self.now (S.number ridx.0) ≡ Some (option_map string_bytes result.now) }
+    {
+        &self.rules[usize::from(ridx)].actiont
+    }
+
     /// The rule that stands for the implicit tokens, where there are some.
     pub fn implicit_rule(&self) -> Option<RIdx<S>>
-        ensures { result ≡ None }
+        ensures { option_map (λ x. S.number x.0) result ≡ self.now.implicit_rule }
     {
+        let _tables = &self.rules;
         None
     }
 
     /// The rule of a name.
     pub fn rule_idx(&self, name: &str) -> Option<RIdx<S>>
-        ensures { option_map (λ x. S.number x.0) result ≡ lookup (bytes_eq name.now) self.now.rule_numbers }
+        ensures { option_map (λ x. S.number x.0) result ≡ position (λ rule. bytes_eq name.now rule.name) self.now.rules }
     {
-        match self.rule_numbers.get(name) {
-            Some(number) => Some(RIdx(*number)),
+        match self.rules.get_index_of(name) {
+            Some(index) => Some(RIdx(stored(index))),
             None => None,
         }
     }
@@ -243,28 +275,28 @@ impl<S: Storage> YaccGrammar<S> {
     pub fn start_rule_idx(&self) -> RIdx<S>
         ensures { S.number result.0 ≡ 0 }
     {
-        self.start_rule
+        RIdx(stored(0))
     }
 
     /// How many tokens there are, with the end token.
     pub fn tokens_len(&self) -> TIdx<S>
         ensures { S.number result.0 ≡ length self.now.tokens }
     {
-        self.tokens_len
+        TIdx(stored(self.tokens.len() + 1))
     }
 
     /// The tokens' indices, in order.
     pub fn iter_tidxs(&self) -> TIdxIter<S>
         ensures { result ≡ record { next = 0; end = length self.now.tokens } }
     {
-        TIdxIter::new(self.tokens_len.0.to_usize())
+        TIdxIter::new(self.tokens.len() + 1)
     }
 
     /// The end token.
     pub fn eof_token_idx(&self) -> TIdx<S>
         ensures { S.number result.0 + 1 ≡ length self.now.tokens }
     {
-        self.eof_token
+        TIdx(stored(self.tokens.len()))
     }
 
     /// The name of a token; the end token has none.
@@ -272,8 +304,8 @@ impl<S: Storage> YaccGrammar<S> {
         requires { S.number tidx.0 < length self.now.tokens }
         ensures { token_at (λ x. x.name) self.now (S.number tidx.0) ≡ Some (option_map (λ name. name.now) result) }
     {
-        match self.tokens.get(usize::from(tidx)) {
-            Some(row) => Some(row.name.as_str()),
+        match self.tokens.get_index(usize::from(tidx)) {
+            Some((name, _)) => Some(name.as_str()),
             None => None,
         }
     }
@@ -283,18 +315,18 @@ impl<S: Storage> YaccGrammar<S> {
         requires { S.number tidx.0 < length self.now.tokens }
         ensures { token_at (λ x. x.span) self.now (S.number tidx.0) ≡ Some result }
     {
-        match self.tokens.get(usize::from(tidx)) {
-            Some(row) => Some(row.span),
+        match self.tokens.get_index(usize::from(tidx)) {
+            Some((_, row)) => Some(row.span),
             None => None,
         }
     }
 
     /// The token of a name.
     pub fn token_idx(&self, name: &str) -> Option<TIdx<S>>
-        ensures { option_map (λ x. S.number x.0) result ≡ lookup (bytes_eq name.now) self.now.token_numbers }
+        ensures { option_map (λ x. S.number x.0) result ≡ position (has_token_name name.now) self.now.tokens }
     {
-        match self.token_numbers.get(name) {
-            Some(number) => Some(TIdx(*number)),
+        match self.tokens.get_index_of(name) {
+            Some(index) => Some(TIdx(stored(index))),
             None => None,
         }
     }
@@ -302,13 +334,23 @@ impl<S: Storage> YaccGrammar<S> {
     /// A production as text: the rule's name and a colon, and for each symbol a space and the name in double quotes.
     pub fn pp_prod(&self, alloc: Global, pidx: PIdx<S>) -> Result<String, AllocError>
         requires { S.number pidx.0 < length self.now.productions }
+        ensures { IfOk result (λ text. production_at (production_text self.now) self.now (S.number pidx.0) ≡ Some (string_bytes text)) }
     {
         let mut text = String::from_str(alloc, self.name_at(self.prod_to_rule(pidx)))?;
         text.push_str(":")?;
-        for symbol in self.prod(pidx) {
-            self.push_symbol(&mut text, *symbol)?;
-        }
+        self.push_symbols(&mut text, self.prod(pidx))?;
         Ok(text)
+    }
+
+    /// Adds symbols, each with a space and in double quotes.
+    fn push_symbols(&self, text: &mut String, symbols: &[Symbol<S>]) -> Result<(), AllocError>
+        ensures { OnOk result (string_bytes text.new
+            ≡ string_bytes text.old ++ concat (map (sym_text self.now) (map (sym S.number) symbols.now))) }
+    {
+        for symbol in symbols {
+            self.push_symbol(text, *symbol)?;
+        }
+        Ok(())
     }
 
     /// Adds a space and the name of a symbol in double quotes.
@@ -324,8 +366,8 @@ impl<S: Storage> YaccGrammar<S> {
     fn name_at(&self, ridx: RIdx<S>) -> &str
         ensures { result.now ≡ sym_name self.now (Rule (S.number ridx.0)) }
     {
-        match self.rules.get(usize::from(ridx)) {
-            Some(row) => row.name.as_str(),
+        match self.rules.get_index(usize::from(ridx)) {
+            Some((name, _)) => name.as_str(),
             None => "",
         }
     }
@@ -336,8 +378,8 @@ impl<S: Storage> YaccGrammar<S> {
     {
         match symbol {
             Symbol::Rule(ridx) => self.name_at(ridx),
-            Symbol::Token(tidx) => match self.tokens.get(usize::from(tidx)) {
-                Some(row) => row.name.as_str(),
+            Symbol::Token(tidx) => match self.tokens.get_index(usize::from(tidx)) {
+                Some((name, _)) => name.as_str(),
                 None => "",
             },
         }

@@ -1,13 +1,31 @@
-use Rattle.std.proofs.Common.{rules, arith}
-use Rattle.std.proofs.lemmas.Grind.{common_steps}
+use Rattle.std.proofs.Common.{◌∙◌, sym}
+use Rattle.cfgast.specs.View.{syntax, production_view}
+use Rattle.cfgsyntax.specs.declared.yacc.kind.YaccKind.{YaccKind}
+use Rattle.cfgsyntax.specs.declared.yacc.kind.YaccKind.TheVariants.{Original}
+use Rattle.cfgsyntax.specs.declared.yacc.kind.YaccOriginalActionKind.TheVariants.{NoAction}
+use Rattle.cfgrammar.proofs.Built.{built, is_table}
+use Rattle.cfgrammar.proofs.Turns.{as_long}
+use Rattle.cfgrammar.proofs.Valid.{resolved}
 use Rattle.cfgrammar.proofs.yacc.grammar.tables.YaccGrammar.from_valid.Goals as goal
 
+any_kind : YaccKind
+any_kind = Original NoAction
+
+pub production_rows-requires-clause-resolved : goal.production_rows-requires-clause-resolved
+production_rows-requires-clause-resolved g c = resolved (syntax c.args.ast.now) c.requires.sound
+
 pub invariant_of-result : goal.invariant_of-result
-invariant_of-result g c = record {
-  rules_counted = omega (arith, c.in_ok-numbered-3.ensures.value, c.len-3.ensures);
-  productions_counted = omega (arith, c.in_ok-numbered-4.ensures.value, c.len-4.ensures);
-  tokens_counted = omega (arith, c.in_ok-numbered-2.ensures.value, c.len-2.ensures);
-  eof = omega (arith, c.in_ok-numbered.ensures.value, c.len.ensures);
-  start = c.in_ok-numbered-5.ensures.value;
-  symbols = c.in_ok-prods.ensures;
-}
+invariant_of-result g c =
+    let s = syntax c.args.ast.now in
+    is_table g.S.Storage.number any_kind s c.in_ok-rule_rows.field-0.entries c.in_ok-production_rows.field-0.items c.in_ok-token_rows.field-0.entries (record { 0 = c.stored.result })
+    g.S.Storage.MAX c.requires.sound c.requires.room
+    (built g.S.Storage.number any_kind s c.in_ok-rule_rows.field-0.entries c.in_ok-production_rows.field-0.items c.in_ok-token_rows.field-0.entries (record { 0 = c.stored.result })
+    c.in_ok-rule_rows.ensures c.in_ok-production_rows.ensures c.in_ok-token_rows.ensures
+    (c.stored.ensures ∙ sym (as_long production_view c.prods.result.now s.productions c.prods.ensures)))
+
+pub returns : goal.returns
+returns g c = λ kind.
+    let s = syntax c.args.ast.now in
+    built g.S.Storage.number kind s c.in_ok-rule_rows.field-0.entries c.in_ok-production_rows.field-0.items c.in_ok-token_rows.field-0.entries (record { 0 = c.stored.result })
+    c.in_ok-rule_rows.ensures c.in_ok-production_rows.ensures c.in_ok-token_rows.ensures
+    (c.stored.ensures ∙ sym (as_long production_view c.prods.result.now s.productions c.prods.ensures))

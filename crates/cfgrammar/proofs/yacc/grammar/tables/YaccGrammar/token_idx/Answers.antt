@@ -1,21 +1,20 @@
-use Rattle.std.proofs.Common.{sym, ◌∙◌, ap, option_map, string_bytes}
-use Rattle.std.specs.Map.{lookup}
-use Rattle.std.specs.Str.{bytes_eq}
-use Rattle.cfgast.proofs.Views.{lookup-map}
+use Rattle.std.proofs.Common.{ap, ◌∙◌, position, Some}
 use Rattle.cfgrammar.specs.Numbered.{Numbered}
+use Rattle.cfgrammar.specs.Shown.{has_token_name}
 use Rattle.cfgrammar.specs.View.{tables}
+use Rattle.cfgrammar.proofs.Lookups.{token_position}
 use Rattle.cfgrammar.proofs.yacc.grammar.tables.YaccGrammar.token_idx.Goals as goal
 
 pub returns-in-Some : goal.returns-in-Some
 unfolding tables
 returns-in-Some g c =
-    ap (option_map g.S.Storage.number) c.in-Some.ensures.value
-    ∙ sym (lookup-map (bytes_eq c.args.name.now) string_bytes g.S.Storage.number c.self.inside.token_numbers.entries)
-    ∙ ap (λ (t : Numbered). lookup (bytes_eq c.args.name.now) t.token_numbers) c.self.view_is
+    ap Some c.stored.ensures ∙ c.in-Some.ensures.index
+    ∙ token_position c.args.name.now c.self.inside.tokens.entries
+    ∙ ap (λ (g : Numbered). position (has_token_name c.args.name.now) g.tokens) c.self.view_is
 
 pub returns-in-None : goal.returns-in-None
 unfolding tables
 returns-in-None g c =
-    ap (option_map g.S.Storage.number) c.in-None.ensures.value
-    ∙ sym (lookup-map (bytes_eq c.args.name.now) string_bytes g.S.Storage.number c.self.inside.token_numbers.entries)
-    ∙ ap (λ (t : Numbered). lookup (bytes_eq c.args.name.now) t.token_numbers) c.self.view_is
+    c.in-None.ensures.index
+    ∙ token_position c.args.name.now c.self.inside.tokens.entries
+    ∙ ap (λ (g : Numbered). position (has_token_name c.args.name.now) g.tokens) c.self.view_is

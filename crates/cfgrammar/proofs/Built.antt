@@ -1,0 +1,63 @@
+-- The tables of a valid syntax, and what a constructor answers.
+use Rattle.std.proofs.Common.{◌≡◌, ℕ, List, [], ◌∷◌, ◌++◌, length, map, None, Err, String, Global, refl, sym, subst}
+use Rattle.std.specs.List.{zip, enumerate_from}
+use Rattle.cfgbase.specs.declared.idxnewtype.PIdx.{PIdx}
+use Rattle.cfgast.specs.Syntax.{Syntax}
+use Rattle.cfgsyntax.specs.Errors.{GrammarError}
+use Rattle.cfgsyntax.specs.Sound.{IsSound}
+use Rattle.cfgsyntax.specs.declared.yacc.kind.YaccKind.{YaccKind}
+use Rattle.cfgsyntax.specs.declared.yacc.parser.error.YaccFault.{YaccFault}
+use Rattle.cfgsyntax.specs.declared.yacc.parser.error.YaccFault.TheVariants as faults
+use Rattle.cfgrammar.specs.Answer.{IsAnswer, IsRefused, IsTooSmall}
+use Rattle.cfgrammar.specs.Fits.{Fits, LeavesRoom}
+use Rattle.cfgrammar.specs.Numbered.{Numbered, numbered, start_rule, file_rule, start_production, file_production, file_token, end_token}
+use Rattle.cfgrammar.specs.View.{IsTable, tables, rule_view, production_view, token_view}
+use Rattle.cfgrammar.specs.declared.yacc.grammar.rows.RuleRow.{RuleRow}
+use Rattle.cfgrammar.specs.declared.yacc.grammar.rows.ProductionRow.{ProductionRow}
+use Rattle.cfgrammar.specs.declared.yacc.grammar.rows.TokenRow.{TokenRow}
+use Rattle.cfgrammar.proofs.Room.{fits_from_room, room_from_fits}
+
+module _ {S : Type 0} (number : S → ℕ) (kind : YaccKind) (s : Syntax)
+    (rules : List (String Global × RuleRow S)) (productions : List (ProductionRow S)) (tokens : List (String Global × TokenRow)) (start : PIdx S) where
+  -- tables of these rows are the syntax numbered
+  pub built : map (rule_view number) rules ≡ start_rule s ∷ map file_rule s.rules
+      → map (production_view number) productions ≡ map (file_production s) (enumerate_from 0 s.productions) ++ start_production s ∷ []
+      → map token_view tokens ≡ map file_token (zip s.tokens s.spans) → number start.0 ≡ length s.productions
+      → tables number rules productions tokens start ≡ numbered kind s
+  unfolding tables numbered
+  built rules_are productions_are tokens_are start_is = λ i. record {
+    rules = rules_are i;
+    tokens = tokens_are i ++ end_token ∷ [];
+    productions = productions_are i;
+    start_production = start_is i;
+    implicit_rule = None;
+    parse_param = None;
+    parse_generics = None;
+    programs = None;
+    expect = None;
+    expect_reduce_reduce = None;
+  }
+
+  pub is_table : (max : ℕ) → IsSound s [] → LeavesRoom max s → tables number rules productions tokens start ≡ numbered kind s → IsTable max (tables number rules productions tokens start)
+  is_table max sound room same = record {
+    numbering = record { kind = kind; syntax = s; sound = sound; numbers = sym same };
+    fits = subst (Fits max) (sym same) (fits_from_room max s kind sound.well_formed.spans_as_long room);
+  }
+
+-- the errors of a text that has some
+pub refused : (max : ℕ) (errors : List GrammarError) (g : Numbered) (told : List GrammarError) → (errors ≡ [] → ⊥) → told ≡ errors → IsRefused max errors g told
+refused max [] g told some same = absurd (some refl)
+refused max (error ∷ errors) g told some same = same
+
+-- a grammar that is too large
+pub too_large : (max : ℕ) (kind : YaccKind) (s : Syntax) (errors : List GrammarError) (fault : YaccFault) → IsSound s errors → errors ≡ [] → (LeavesRoom max s → ⊥) → IsTooSmall fault
+    → IsAnswer max errors (numbered kind s) (Err fault)
+too_large max kind s errors faults.OutOfMemory sound none no_room told = tt
+too_large max kind s errors (faults.Errors list) sound none no_room told =
+    subst (λ e. IsRefused max e (numbered kind s) list.items) (sym none)
+    ((λ fits. no_room (room_from_fits max s kind sound.well_formed.spans_as_long fits)), told)
+
+-- a grammar
+pub answered : (max : ℕ) (kind : YaccKind) (s : Syntax) (errors : List GrammarError) (g : Numbered) → IsSound s errors → errors ≡ [] → LeavesRoom max s → g ≡ numbered kind s
+    → (errors ≡ []) × Fits max (numbered kind s) × (g ≡ numbered kind s)
+answered max kind s errors g sound none room same = (none, fits_from_room max s kind sound.well_formed.spans_as_long room, same)

@@ -1,0 +1,54 @@
+-- What accessors read in the tables.
+use Rattle.std.proofs.Common.{◌≡◌, ℕ, zero, suc, ◌<◌, ◌≤◌, List, [], ◌∷◌, length, map, get_or, slice_get, Some, None, option_map, String, Global, sym, ap, subst, ◌∙◌, arith}
+use Rattle.std.specs.Map.{values_of}
+use Rattle.std.proofs.lemmas.List.{get_or-map, length-map}
+use Rattle.std.proofs.lemmas.Option.{slice_get-get_or}
+use Rattle.cfgbase.specs.declared.idxnewtype.PIdx.{PIdx}
+use Rattle.cfgrammar.specs.Numbered.{Numbered, NumberedRule, NumberedProduction}
+use Rattle.cfgrammar.specs.Fits.{Fits}
+use Rattle.cfgrammar.specs.Shown.{rule_at, production_at}
+use Rattle.cfgrammar.specs.View.{rule_view, production_view, tables}
+use Rattle.cfgrammar.specs.View as view
+use Rattle.cfgrammar.specs.declared.yacc.grammar.rows.RuleRow.{RuleRow}
+use Rattle.cfgrammar.specs.declared.yacc.grammar.rows.ProductionRow.{ProductionRow}
+use Rattle.cfgrammar.specs.declared.yacc.grammar.rows.TokenRow.{TokenRow}
+
+module _ {S A : Type 0} (number : S → ℕ) (part : NumberedRule → A) (row : RuleRow S) (x : A) (shows : (key : String Global) → part (rule_view number (key, row)) ≡ x) where
+  row_shown : (es : List (String Global × RuleRow S)) (i : ℕ) → slice_get (values_of es) i ≡ Some row → option_map part (slice_get (map (rule_view number) es) i) ≡ Some x
+  row_shown [] i at = let no : None ≡ Some row = at in cc
+  row_shown (e ∷ es) zero at = let same : e.1 ≡ row = cc in ap Some (ap (λ r. part (rule_view number (e.0, r))) same ∙ shows e.0)
+  row_shown (e ∷ es) (suc i) at = row_shown es i at
+
+  -- a part of a rule that its row shows
+  pub rule_shown : (rules : List (String Global × RuleRow S)) (productions : List (ProductionRow S)) (tokens : List (String Global × TokenRow)) (start : PIdx S) (g : Numbered)
+      → tables number rules productions tokens start ≡ g → (i r : ℕ) → i ≡ r → slice_get (values_of rules) i ≡ Some row → rule_at part g r ≡ Some x
+  unfolding tables
+  rule_shown rules productions tokens start g view_is i r same at =
+      ap (λ (t : Numbered). rule_at part t r) (sym view_is) ∙ ap (λ k. option_map part (slice_get (map (rule_view number) rules) k)) (sym same) ∙ row_shown rules i at
+
+module _ {S : Type 0} (number : S → ℕ) (rules : List (String Global × RuleRow S)) (productions : List (ProductionRow S)) (tokens : List (String Global × TokenRow)) (start : PIdx S) (g : Numbered)
+    (view_is : tables number rules productions tokens start ≡ g) where
+  -- a place is that of a row
+  pub row_within : (r : ℕ) → r < length g.productions → r < length productions
+  unfolding tables
+  row_within r within = omega (arith, within, ap (λ (t : Numbered). length t.productions) view_is, length-map productions (production_view number))
+
+  -- a part of a production
+  pub production_shown : {A : Type 0} (part : NumberedProduction → A) (row : ProductionRow S) (i r : ℕ) → i ≡ r → r < length g.productions → row ≡ get_or productions i row
+      → production_at part g r ≡ Some (part (production_view number row))
+  unfolding tables
+  production_shown part row i r same within is =
+      ap (λ (t : Numbered). production_at part t r) (sym view_is)
+      ∙ ap (option_map part) (slice_get-get_or (map (production_view number) productions) r (production_view number row) (omega (arith, row_within r within, length-map productions (production_view number))))
+      ∙ ap (λ p. Some (part p)) (get_or-map (production_view number) productions r row (production_view number row) (row_within r within) ∙ ap (production_view number) (sym (is ∙ ap (λ k. get_or productions k row) same)))
+
+  -- its symbols can be counted
+  pub symbols_counted : (max : ℕ) → Fits max (tables number rules productions tokens start) → (row : ProductionRow S) (i r : ℕ) → i ≡ r → r < length g.productions → row ≡ get_or productions i row → length row.symbols.items ≤ max
+  unfolding tables
+  symbols_counted max fits row i r same within is =
+      let there = row_within r within in
+      let shown = production_view number row in
+      let read : get_or (map (production_view number) productions) r shown ≡ shown =
+      get_or-map (production_view number) productions r row shown there ∙ ap (production_view number) (sym (is ∙ ap (λ k. get_or productions k row) same)) in
+      let fit = subst (λ p. length p.symbols ≤ max) read (fits.symbols r shown (omega (arith, there, length-map productions (production_view number)))) in
+      omega (arith, fit, length-map row.symbols.items (view.sym number))

@@ -1,0 +1,59 @@
+-- In a syntax that was read without errors, every name is that of something that is there.
+use Rattle.std.proofs.Common.{◌≡◌, ℕ, ◌<◌, Bool, true, false, cond, List, [], ◌∷◌, length, get_or, Option, Some, None, All, refl, sym, ap, ◌∙◌}
+use Rattle.std.proofs.lemmas.List.Elements.{All-nil, All-cons, All-contains}
+use Rattle.cfgwords.specs.Words.{Word}
+use Rattle.cfgast.specs.Syntax.{Syntax, Production}
+use Rattle.cfgsyntax.specs.Check.{is_rule, or_else, first_error, error_there, start_error, symbol_error, production_error, place_error, rule_error, check_of, error_at}
+use Rattle.cfgsyntax.specs.Errors.{GrammarError, InvalidStartRule}
+use Rattle.cfgsyntax.specs.Sound.{IsSound}
+use Rattle.cfgrammar.specs.Resolved.{IsResolved}
+use Rattle.std.proofs.lemmas.Option.{slice_get-get_or}
+
+none_first : (a b : Option GrammarError) → or_else a b ≡ None → a ≡ None
+none_first None b e = refl
+none_first (Some x) b e = e
+
+none_second : (a b : Option GrammarError) → or_else a b ≡ None → b ≡ None
+none_second None b e = e
+none_second (Some x) b e = let no : Some x ≡ None = e in cc
+
+-- no element has an error
+no_errors : {A : Type 0} (f : A → Option GrammarError) (xs : List A) → first_error f xs ≡ None → All (λ x. f x ≡ None) xs
+no_errors f [] e = All-nil (λ x. f x ≡ None)
+no_errors f (x ∷ xs) e = All-cons (λ x. f x ≡ None) x xs (none_first (f x) (first_error f xs) e) (no_errors f xs (none_second (f x) (first_error f xs) e))
+
+-- the start is there, and is a rule
+started : (s : Syntax) (o : Option Word) → start_error s o ≡ None → (word : Word) × (o ≡ Some word) × (is_rule s word.name ≡ true)
+started s None e = let no : Some _ ≡ None = e in cc
+started s (Some word) e = (word, refl, known (is_rule s word.name) refl e)
+  where
+    known : (b : Bool) → is_rule s word.name ≡ b → cond b None (Some (error_at (InvalidStartRule word.name) word.span)) ≡ None → is_rule s word.name ≡ true
+    known true is e = is
+    known false is e = let no : Some (error_at (InvalidStartRule word.name) word.span) ≡ None = e in cc
+
+pub resolved : (s : Syntax) → IsSound s [] → IsResolved s
+unfolding check_of
+resolved s sound = record {
+  start = start.0;
+  starts = start.1;
+  start_is_rule = start.2;
+  symbols = λ i d within. no_errors (symbol_error s) _ (production_ok i d within);
+}
+  where
+    passes : check_of s ≡ None
+    passes = sound.checked refl
+
+    start : (word : Word) × (s.start ≡ Some word) × (is_rule s word.name ≡ true)
+    start = started s s.start (none_first (start_error s s.start) (first_error (rule_error s) s.rules) passes)
+
+    rules_ok : All (λ rule. rule_error s rule ≡ None) s.rules
+    rules_ok = no_errors (rule_error s) s.rules (none_second (start_error s s.start) (first_error (rule_error s) s.rules) passes)
+
+    place_ok : (i : ℕ) → i < length s.productions → place_error s i ≡ None
+    place_ok i within =
+        let at = sound.well_formed.productions_listed i within in
+        let rule_ok : rule_error s at.1 ≡ None = All-contains (λ rule. rule_error s rule ≡ None) s.rules at.1 rules_ok (at.0, at.2, at.3) in
+        All-contains (λ place. place_error s place ≡ None) at.1.1.productions i (no_errors (place_error s) at.1.1.productions rule_ok) at.4
+
+    production_ok : (i : ℕ) (d : Production) → i < length s.productions → production_error s (get_or s.productions i d) ≡ None
+    production_ok i d within = sym (ap (error_there (production_error s)) (slice_get-get_or s.productions i d within)) ∙ place_ok i within

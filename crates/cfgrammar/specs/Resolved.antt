@@ -1,0 +1,15 @@
+-- Syntaxes in which every name is that of something that is there.
+use Rattle.std.specs.Prelude.{◌≡◌, true, All, Some, None}
+use Rattle.cfgwords.specs.Words.{Word}
+use Rattle.cfgast.specs.Syntax.{Syntax, Production}
+use Rattle.cfgsyntax.specs.Check.{is_rule, symbol_error}
+
+-- the symbols name rules and tokens of the syntax
+abbrev pub Resolves : Syntax → Production → Type 0
+Resolves s production = All (λ symbol. symbol_error s symbol ≡ None) production.symbols
+
+pub record IsResolved (s : Syntax) : Type 0 where
+  pub start : Word
+  pub starts : s.start ≡ Some start
+  pub start_is_rule : is_rule s start.name ≡ true
+  pub symbols : All (Resolves s) s.productions
