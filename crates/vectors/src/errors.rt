@@ -1,41 +1,69 @@
 //! Rows on what is wrong with a text, and on the places in a syntax.
 
-use crate::help::{KIND, errors, refusal};
+use crate::described::assert_told;
+use crate::help::{KIND, errors};
 use cfgrammar::Span;
 use cfgrammar::yacc::ast::{ASTWithValidityInfo, Symbol};
 use std::test::Fail;
 
+const MISSING_RULES: [(&str, &str); 3] = [
+    (
+        "%start B %% A: C;",
+        "Start rule 'B' does not appear in grammar (7,8)\n",
+    ),
+    (
+        "%start A %% A: C;",
+        "Unknown reference to rule 'C' (15,16)\n",
+    ),
+    ("%% A: 'x'", "Incomplete rule (9,9)\n"),
+];
+
+const EMPTY_TEXT: [(&str, &str); 2] = [
+    (
+        "",
+        "File ends prematurely (0,0)\nNo start rule specified (0,0)\n",
+    ),
+    ("%% S: a.b ; a.b: ;", "Illegal string (7,7)\n"),
+];
+
 #[test]
 fn empty_text(rt: HostRuntime) -> Result<(), Fail> {
-    assert_eq!(rt;
-        errors(rt.alloc(), "")?.as_str(),
-        "File ends prematurely (0,0)\nNo start rule specified (0,0)\n"
-    );
-    assert_eq!(rt;
-        errors(rt.alloc(), "%% S: a.b ; a.b: ;")?.as_str(),
-        "Illegal string (7,7)\n"
-    );
+    for (text, wrong) in EMPTY_TEXT {
+        assert_eq!(rt; errors(rt.alloc(), text)?.as_str(), wrong, "of {text}");
+    }
     Ok(())
 }
 
 #[test]
 fn missing_rules(rt: HostRuntime) -> Result<(), Fail> {
-    let rows = [
-        (
-            "%start B %% A: C;",
-            "Start rule 'B' does not appear in grammar (7,8)\n",
-        ),
-        (
-            "%start A %% A: C;",
-            "Unknown reference to rule 'C' (15,16)\n",
-        ),
-        ("%% A: 'x'", "Incomplete rule (9,9)\n"),
-    ];
-    for (text, wrong) in rows {
+    for (text, wrong) in MISSING_RULES {
         assert_eq!(rt; errors(rt.alloc(), text)?.as_str(), wrong, "of {text}");
-        let told = refusal::<u8>(rt.alloc(), text)?.ok_or("a refusal")?;
-        assert_eq!(rt; told.as_str(), wrong, "of {text}");
     }
+    Ok(())
+}
+
+#[test]
+fn empty_text_is_no_grammar(rt: HostRuntime) -> Result<(), Fail> {
+    for (text, wrong) in EMPTY_TEXT {
+        assert_told(&rt, rt.alloc(), text, wrong)?;
+    }
+    Ok(())
+}
+
+#[test]
+fn missing_rules_make_no_grammar(rt: HostRuntime) -> Result<(), Fail> {
+    for (text, wrong) in MISSING_RULES {
+        assert_told(&rt, rt.alloc(), text, wrong)?;
+    }
+    Ok(())
+}
+
+#[test]
+fn lines_and_columns(rt: HostRuntime) -> Result<(), Fail> {
+    assert_eq!(rt;
+        errors(rt.alloc(), "/*é*/%% A: C;")?.as_str(),
+        "Unknown reference to rule 'C' (12,13)\n"
+    );
     Ok(())
 }
 

@@ -1,9 +1,8 @@
 //! What the rows share.
 
 use cfgrammar::yacc::ast::ASTWithValidityInfo;
-use cfgrammar::yacc::parser::YaccFault;
-use cfgrammar::yacc::{YaccGrammar, YaccGrammarError, YaccKind, YaccOriginalActionKind};
-use cfgrammar::{Spanned, Storage};
+use cfgrammar::yacc::{YaccGrammarError, YaccKind, YaccOriginalActionKind};
+use cfgrammar::{Span, Spanned};
 use std::alloc::{AllocError, Global};
 
 /// The kind of the rows that name none.
@@ -17,22 +16,18 @@ pub(crate) fn errors(alloc: Global, text: &str) -> Result<String, AllocError> {
 
 /// Errors as text: each as a line of its text and its spans.
 pub(crate) fn shown(alloc: Global, errors: &[YaccGrammarError]) -> Result<String, AllocError> {
-    let mut text = String::new(alloc);
+    let mut lines = String::new(alloc);
     for error in errors {
-        write!(text, "{error}")?;
+        write!(lines, "{error}")?;
         for span in error.spans() {
-            write!(text, " ({},{})", span.start(), span.end())?;
+            write_span(&mut lines, *span)?;
         }
-        writeln!(text)?;
+        writeln!(lines)?;
     }
-    Ok(text)
+    Ok(lines)
 }
 
-/// What a constructor of the grammar finds wrong with the text, for an index type.
-pub(crate) fn refusal<S: Storage>(alloc: Global, text: &str) -> Result<Option<String>, AllocError> {
-    match YaccGrammar::<S>::new_with_storaget(alloc, KIND, text) {
-        Ok(_) => Ok(None),
-        Err(YaccFault::Errors(errors)) => Ok(Some(shown(alloc, &errors)?)),
-        Err(YaccFault::OutOfMemory) => Err(AllocError),
-    }
+/// Writes a space and the bytes of a span.
+pub(crate) fn write_span(lines: &mut String, span: Span) -> Result<(), AllocError> {
+    write!(lines, " ({},{})", span.start(), span.end())
 }

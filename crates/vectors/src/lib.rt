@@ -4,8 +4,18 @@
 #[cfg(test)]
 mod cuts;
 #[cfg(test)]
+mod described;
+#[cfg(test)]
 mod errors;
 #[cfg(test)]
 mod help;
 #[cfg(test)]
+mod limits;
+#[cfg(test)]
+mod lines;
+#[cfg(test)]
 mod program;
+#[cfg(test)]
+mod syntax;
+#[cfg(test)]
+mod tables;
