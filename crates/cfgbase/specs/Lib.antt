@@ -1,1 +1,7 @@
 pub mod Lines
+pub mod MarkEntry
+pub mod MarkLends
+pub mod MarkWord
+pub mod Marks
+pub mod MergeFaults
+pub mod Merging

@@ -1,8 +1,9 @@
 //! The values that every part of cfgrammar speaks of: spans of a text, its lines and columns, indices of rules,
-//! productions, symbols and tokens, and the numbers that store them.
+//! productions, symbols and tokens, the numbers that store them, and maps whose keys carry marks.
 #![tactic(auto)]
 
 pub mod idxnewtype;
+pub mod markmap;
 pub mod newlinecache;
 pub mod span;
 pub mod storage;

@@ -1,0 +1,34 @@
+//! Why merging stopped.
+use std::error::Error;
+use std::fmt;
+use std::fmt::Debug;
+
+/// A conflict of two values.
+#[derive(Debug, Drop)]
+pub enum MergeError<K, V> {
+    /// Both maps hold a value at the key, and only one may. The value is the other map's.
+    Exclusivity(K, V),
+}
+
+impl<K: Debug, V> fmt::Display for MergeError<K, V> {
+    fn fmt<W: fmt::Write>(&self, f: &mut fmt::Formatter<W>) -> fmt::Result {
+        match self {
+            MergeError::Exclusivity(key, _) => {
+                write!(f, "Merge behavior forbids overriding key: {key:?}")
+            }
+        }
+    }
+}
+
+impl<K: Debug + Drop, V: Debug + Drop> Error for MergeError<K, V> {}
+
+/// Why merging stopped at a key.
+#[derive(Debug, Drop)]
+pub enum MergeFault<K, V, E> {
+    /// The key holds two values, and only one may be.
+    Conflict(MergeError<K, Box<V>>),
+    /// The other map's value wasn't converted.
+    Convert(K, E),
+    /// No memory is left.
+    OutOfMemory,
+}
