@@ -7,3 +7,4 @@ pub mod MarkEntries
 pub mod MarkLists
 pub mod MergeSteps
 pub mod StoredKeys
+pub mod Bits

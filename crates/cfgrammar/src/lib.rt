@@ -5,5 +5,5 @@ pub mod yacc;
 
 pub use cfgbase::{
     FeedError, Location, NewlineCache, PIdx, RIdx, SIdx, Span, Spanned, SpansKind, Storage, Symbol,
-    TIdx, idxnewtype, markmap, newlinecache, span, storage,
+    TIdx, Vob, idxnewtype, markmap, newlinecache, span, storage,
 };

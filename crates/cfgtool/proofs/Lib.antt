@@ -1,0 +1,4 @@
+pub mod Beginnings
+pub mod Handled
+pub mod Refusals
+pub mod Told

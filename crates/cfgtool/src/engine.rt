@@ -1,11 +1,20 @@
 //! The report of a text.
 
-ghost use Rattle.std.specs.Prelude.{◌≡◌, ◌++◌, ℕ, List, OnOk, OnErr, string_bytes};
+ghost use Rattle.std.specs.Prelude.{◌≡◌, ◌+◌, ◌-◌, ◌^◌, ◌<◌, List, Option, Some, IfOk, IsErrOf, string_bytes};
+ghost use Rattle.cfgwords.specs.declared.fault.Fault.{Fault};
+ghost use Rattle.cfgast.specs.Items.{Item};
+ghost use Rattle.cfgast.specs.Syntax.{syntax_of};
+ghost use Rattle.cfgsyntax.specs.Faults.{errors_of};
+ghost use Rattle.cfgsyntax.specs.Reads.{HasOneReading, Reads};
+ghost use Rattle.cfgrammar.specs.Numbered.{numbered};
+ghost use Rattle.cfgtool.specs.Report.{IsReport, Tells, faults_met, kind_read};
+ghost use Rattle.cfgtool.specs.declared.engine.ReportFault.TheVariants as variants;
 
 use crate::lines::{error_lines, production_lines};
+use crate::sink::{Sink, SinkFault, write_whole};
 use crate::words::{Command, KindArg};
-use cfgrammar::yacc::YaccGrammar;
 use cfgrammar::yacc::parser::YaccFault;
+use cfgrammar::yacc::{YaccGrammar, YaccKind};
 use std::alloc::{AllocError, Global};
 
 /// How a report ended.
@@ -17,35 +26,70 @@ pub enum Outcome {
     Refused,
 }
 
-/// Adds to `out` what the command tells of the text's grammar, whose indices have 32 bits, or else the errors of the
-/// text.
+/// Why a report was not told.
+#[derive(Clone, Copy, Debug, PartialEq, Eq)]
+pub enum ReportFault {
+    /// The sink did not take it whole.
+    Write,
+    /// No memory is left.
+    OutOfMemory,
+}
+
+impl From<AllocError> for ReportFault {
+    ghost from_gives = { λ _ fault. fault ≡ variants.OutOfMemory };
+
+    fn from(_: AllocError) -> Self {
+        ReportFault::OutOfMemory
+    }
+}
+
+impl From<SinkFault> for ReportFault {
+    ghost from_gives = { λ _ fault. fault ≡ variants.Write };
+
+    fn from(_: SinkFault) -> Self {
+        ReportFault::Write
+    }
+}
+
+/// Writes what the command tells of the text's grammar, whose indices have 32 bits, or else the errors of the text,
+/// each as a line.
 ///
 /// # Errors
 ///
-/// Want of memory; `out` is then as it was.
-pub fn report(
+/// Want of memory; nothing is then written. A fault of `out`, which then has a beginning of the lines.
+pub fn report<W: Sink>(
     alloc: Global,
     kind: KindArg,
     command: Command,
     text: &str,
-    out: &mut String,
-) -> Result<Outcome, AllocError>
-    ensures told { OnOk result ((lines : List ℕ) × (string_bytes out.new ≡ string_bytes out.old ++ lines)) }
-    ensures err { OnErr result (string_bytes out.new ≡ string_bytes out.old) }
+    out: &mut W,
+) -> Result<Outcome, ReportFault>
+    requires { W.faults_counted out.old < 2 ^ 64 - 1 }
+    ensures one { HasOneReading (kind_read kind) text.now }
+    ensures told { (items : List Item) (stop : Option Fault) → Reads (kind_read kind) text.now items stop
+        → Tells command text.now (errors_of items stop) (numbered (kind_read kind) (syntax_of items))
+        (W.written out.old) (W.written out.new) result }
+    ensures faults { W.faults_counted out.new ≡ W.faults_counted out.old + faults_met result }
+    ensures untouched { IsErrOf result variants.OutOfMemory → out.new ≡ out.old }
 {
-    let (outcome, lines) = report_text(alloc, kind, command, text)?;
-    out.push_str(lines.as_str())?;
+    let (outcome, lines) = report_text(alloc, kind.yacc_kind(), command, text)?;
+    write_whole(out, lines.as_bytes())?;
     Ok(outcome)
 }
 
 /// The whole report, before any of it is written.
 fn report_text(
     alloc: Global,
-    kind: KindArg,
+    kind: YaccKind,
     command: Command,
     text: &str,
-) -> Result<(Outcome, String), AllocError> {
-    let KindArg::Named(kind) = kind;
+) -> Result<(Outcome, String), AllocError>
+    ensures one { HasOneReading kind text.now }
+    ensures told { IfOk result (λ told. (items : List Item) (stop : Option Fault)
+        → Reads kind text.now items stop
+        → IsReport command text.now (errors_of items stop) (numbered kind (syntax_of items))
+        told.0 (string_bytes told.1)) }
+{
     match YaccGrammar::new(alloc, kind, text) {
         Ok(grammar) => match command {
             Command::Grammar => Ok((Outcome::Done, production_lines(alloc, &grammar)?)),

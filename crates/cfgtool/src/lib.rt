@@ -4,10 +4,12 @@
 pub mod engine;
 pub mod lines;
 pub mod program;
+pub mod sink;
 pub mod source;
 pub mod words;
 
-pub use engine::{Outcome, report};
+pub use engine::{Outcome, ReportFault, report};
 pub use program::run;
+pub use sink::{Counted, Sink, SinkFault};
 pub use source::{Input, Source};
 pub use words::{Command, KindArg};

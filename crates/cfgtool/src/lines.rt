@@ -1,13 +1,18 @@
 //! The lines of a report.
 
+ghost use Rattle.std.specs.Prelude.{◌≡◌, ◌++◌, All, IfOk, OnOk, string_bytes};
 ghost use Rattle.cfgbase.specs.Lines.{StandsFor};
+ghost use Rattle.cfgsyntax.specs.Places.{IsPiece};
+ghost use Rattle.cfgtool.specs.Report.{error_line, error_lines, error_place, production_lines};
 
 use cfgrammar::yacc::{YaccGrammar, YaccGrammarError};
 use cfgrammar::{FeedError, NewlineCache, Spanned};
 use std::alloc::{AllocError, Global};
 
 /// The productions of a grammar, each as a line: its index, a space and its text.
-pub fn production_lines(alloc: Global, grammar: &YaccGrammar<u32>) -> Result<String, AllocError> {
+pub fn production_lines(alloc: Global, grammar: &YaccGrammar<u32>) -> Result<String, AllocError>
+    ensures { IfOk result (λ lines. string_bytes lines ≡ production_lines grammar.now) }
+{
     let mut lines = String::new(alloc);
     for pidx in grammar.iter_pidxs() {
         let text = grammar.pp_prod(alloc, pidx)?;
@@ -21,7 +26,10 @@ pub fn error_lines(
     alloc: Global,
     text: &str,
     errors: &[YaccGrammarError],
-) -> Result<String, AllocError> {
+) -> Result<String, AllocError>
+    requires { All (λ error. All (IsPiece text.now) error.spans) errors.now }
+    ensures { IfOk result (λ lines. string_bytes lines ≡ error_lines text.now errors.now) }
+{
     let places = match NewlineCache::from_str(alloc, text) {
         Ok(places) => places,
         Err(FeedError::OutOfMemory) => return Err(AllocError),
@@ -29,10 +37,24 @@ pub fn error_lines(
     };
     let mut lines = String::new(alloc);
     for error in errors {
-        write_place(&mut lines, &places, text, error)?;
-        writeln!(lines, "{error}")?;
+        write_error(&mut lines, &places, text, error)?;
     }
     Ok(lines)
+}
+
+/// Writes the line of an error.
+fn write_error(
+    lines: &mut String,
+    places: &NewlineCache,
+    text: &str,
+    error: &YaccGrammarError,
+) -> Result<(), AllocError>
+    requires cached { StandsFor places.now text.now }
+    requires placed { All (IsPiece text.now) error.now.spans }
+    ensures { OnOk result (string_bytes lines.new ≡ string_bytes lines.old ++ error_line text.now error.now) }
+{
+    write_place(lines, places, text, error)?;
+    writeln!(lines, "{error}")
 }
 
 /// Writes the line and the column of an error's first span, and a colon behind each.
@@ -42,12 +64,15 @@ fn write_place(
     text: &str,
     error: &YaccGrammarError,
 ) -> Result<(), AllocError>
-    requires { StandsFor places.now text.now }
+    requires cached { StandsFor places.now text.now }
+    requires placed { All (IsPiece text.now) error.now.spans }
+    ensures { OnOk result (string_bytes lines.new ≡ string_bytes lines.old ++ error_place text.now error.now) }
 {
-    if let Some(span) = error.spans().first() {
-        if let Some((line, column)) = places.byte_to_line_num_and_col_num(text, span.start()) {
-            write!(lines, "{line}:{column}: ")?;
-        }
-    }
-    Ok(())
+    let Some(span) = error.spans().first() else {
+        return Ok(());
+    };
+    let Some((line, column)) = places.byte_to_line_num_and_col_num(text, span.start()) else {
+        return Ok(());
+    };
+    write!(lines, "{line}:{column}: ")
 }

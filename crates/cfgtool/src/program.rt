@@ -1,12 +1,15 @@
 //! A run of the program.
 
-ghost use Rattle.std.specs.Prelude.{◌≤◌};
+ghost use Rattle.std.specs.Prelude.{◌≡◌, ◌++◌, ◌+◌, ◌-◌, ◌^◌, ◌<◌, ◌≤◌, Err, OnErr, OnOk, map};
+ghost use Rattle.std.specs.Io.KnownBytes.{Appends};
+ghost use Rattle.cfgtool.specs.Run.{Ending, HandlesWords, ending_in, ending_of, ending_with, faults_at, line_of, status_of};
+ghost use Rattle.cfgtool.specs.Sinks.{AppendsBeginning, AppendsOrFaults};
 
-use crate::engine::{Outcome, report};
+use crate::engine::{Outcome, ReportFault, report};
+use crate::sink::{Sink, SinkFault, write_whole};
 use crate::source::{Input, Source};
 use crate::words::{command_of, kind_of};
-use std::alloc::{AllocError, Global};
-use std::fmt;
+use std::alloc::Global;
 
 /// Why a run told nothing.
 #[derive(Clone, Copy)]
@@ -14,65 +17,101 @@ enum RunFault<'a> {
     Usage,
     Unreadable(&'a str),
     NotUtf8(&'a str),
+    Write,
     OutOfMemory,
 }
 
 impl RunFault<'_> {
     /// The status that the program ends with.
     fn status(&self) -> u8
-        ensures { result ≤ 3 }
+        ensures { result ≡ status_of (ending_with self.now) }
     {
         match self {
-            RunFault::Usage | RunFault::Unreadable(_) | RunFault::NotUtf8(_) => 2,
+            RunFault::Usage | RunFault::Unreadable(_) | RunFault::NotUtf8(_) | RunFault::Write => 2,
             RunFault::OutOfMemory => 3,
         }
     }
-}
 
-impl fmt::Display for RunFault<'_> {
-    fn fmt<W: fmt::Write>(&self, f: &mut fmt::Formatter<W>) -> fmt::Result {
-        match self {
-            RunFault::Usage => f.write_str("usage: cfgtool KIND COMMAND FILE"),
-            RunFault::Unreadable(file) => write!(f, "cfgtool: cannot read {file}"),
-            RunFault::NotUtf8(file) => write!(f, "cfgtool: {file} is not UTF-8"),
-            RunFault::OutOfMemory => f.write_str("cfgtool: out of memory"),
+    /// The line that tells it, in three parts: the file's name, as it was given, stands in the middle.
+    fn line(&self) -> (&str, &str, &str)
+        ensures { result.0.now ++ (result.1.now ++ result.2.now) ≡ line_of (ending_with self.now) }
+    {
+        match *self {
+            RunFault::Usage => ("usage: cfgtool KIND COMMAND FILE\n", "", ""),
+            RunFault::Unreadable(file) => ("cfgtool: cannot read ", file, "\n"),
+            RunFault::NotUtf8(file) => ("cfgtool: ", file, " is not UTF-8\n"),
+            RunFault::Write => ("cfgtool: cannot write\n", "", ""),
+            RunFault::OutOfMemory => ("cfgtool: out of memory\n", "", ""),
         }
     }
 }
 
-impl From<AllocError> for RunFault<'_> {
-    fn from(_: AllocError) -> Self {
-        RunFault::OutOfMemory
+impl From<ReportFault> for RunFault<'_> {
+    ghost from_gives = { λ fault made. ending_with made ≡ ending_of (Err fault) };
+
+    fn from(fault: ReportFault) -> Self {
+        match fault {
+            ReportFault::Write => RunFault::Write,
+            ReportFault::OutOfMemory => RunFault::OutOfMemory,
+        }
     }
 }
 
-/// Runs the program on the words after its name, and answers its status. What it tells is added to `out`, and a line
-/// on what went wrong to `err`, as far as memory allows.
-pub fn run(
+/// Runs the program on the words after its name, and answers its status. What it tells is written to `out`, and a line
+/// on what went wrong to `err`, as far as `err` takes it.
+pub fn run<S: Source, O: Sink, E: Sink>(
     alloc: Global,
     args: &[&str],
-    source: &mut impl Source,
-    out: &mut String,
-    err: &mut String,
+    source: &mut S,
+    out: &mut O,
+    err: &mut E,
 ) -> u8
-    ensures { result ≤ 3 }
+    requires out_counts { O.faults_counted out.old < 2 ^ 64 - 1 }
+    requires err_counts { E.faults_counted err.old < 2 ^ 64 - 1 }
+    ensures small { result ≤ 3 }
+    ensures ends { (ending : Ending) × (result ≡ status_of ending)
+        × HandlesWords (map (λ word. word.now) args.now)
+        (λ file answer. S.fetches source.old file answer source.new)
+        (O.written out.old) (O.written out.new) ending
+        × (O.faults_counted out.new ≡ O.faults_counted out.old + faults_at ending)
+        × AppendsOrFaults (E.written err.old) (E.written err.new)
+        (E.faults_counted err.old) (E.faults_counted err.new) (line_of ending) }
 {
     match outcome(alloc, args, source, out) {
         Ok(Outcome::Done) => 0,
         Ok(Outcome::Refused) => 1,
         Err(fault) => {
-            let _ = writeln!(err, "{fault}");
+            let _ = tell(&fault, err);
             fault.status()
         }
     }
 }
 
-fn outcome<'a>(
+/// Writes the line of a fault.
+fn tell<E: Sink>(fault: &RunFault<'_>, err: &mut E) -> Result<(), SinkFault>
+    requires { E.faults_counted err.old < 2 ^ 64 - 1 }
+    ensures { AppendsOrFaults (E.written err.old) (E.written err.new)
+        (E.faults_counted err.old) (E.faults_counted err.new) (line_of (ending_with fault.now)) }
+{
+    let (front, file, back) = fault.line();
+    write_whole(err, front.as_bytes())?;
+    write_whole(err, file.as_bytes())?;
+    write_whole(err, back.as_bytes())
+}
+
+/// How the report of the file that the words name ended.
+fn outcome<'a, S: Source, O: Sink>(
     alloc: Global,
     args: &[&'a str],
-    source: &mut impl Source,
-    out: &mut String,
-) -> Result<Outcome, RunFault<'a>> {
+    source: &mut S,
+    out: &mut O,
+) -> Result<Outcome, RunFault<'a>>
+    requires { O.faults_counted out.old < 2 ^ 64 - 1 }
+    ensures ends { HandlesWords (map (λ word. word.now) args.now)
+        (λ file answer. S.fetches source.old file answer source.new)
+        (O.written out.old) (O.written out.new) (ending_in result) }
+    ensures faults { O.faults_counted out.new ≡ O.faults_counted out.old + faults_at (ending_in result) }
+{
     let [kind, command, file] = args else {
         return Err(RunFault::Usage);
     };

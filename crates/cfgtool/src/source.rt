@@ -2,8 +2,14 @@
 
 /// Where the program gets a file's bytes.
 pub trait Source {
+    ghost use Rattle.std.specs.Prelude.{ℕ, List};
+    ghost use Rattle.cfgtool.specs.declared.source.Input.{Input};
+
+    ghost fetches: { Self → List ℕ → Input → Self → Type 0 } = { λ old name input new. Unit {0} };
+
     /// The bytes of the file of this name, where `-` stands for standard input.
-    fn fetch(&mut self, name: &str) -> Input;
+    fn fetch(&mut self, name: &str) -> Input
+        ensures { fetches self.old name.now result self.new };
 }
 
 /// What a source answers.

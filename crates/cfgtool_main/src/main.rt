@@ -1,7 +1,7 @@
 //! The program `cfgtool`, which prints what the library of that name tells.
 #![tactic(auto)]
 
-use cfgtool::{Input, Source, run};
+use cfgtool::{Counted, Input, Source, run};
 use std::io::{self, Read};
 use std::process::ExitCode;
 use std::{env, fs};
@@ -34,16 +34,12 @@ impl Source for System<'_> {
 fn main(rt: HostRuntime) -> io::Result<ExitCode> {
     let words: Vec<String> = env::args(&rt)?.skip(1).collect(rt.alloc())?;
     let args: Vec<&str> = words.iter().map(|word| word.as_str()).collect(rt.alloc())?;
-    let mut out = String::new(rt.alloc());
-    let mut err = String::new(rt.alloc());
     let status = run(
         rt.alloc(),
         &args,
         &mut System { rt: &rt },
-        &mut out,
-        &mut err,
+        &mut Counted::new(rt.stdout()),
+        &mut Counted::new(rt.stderr()),
     );
-    print!(rt; "{out}")?;
-    eprint!(rt; "{err}")?;
     Ok(ExitCode::from(status))
 }

@@ -16,6 +16,8 @@ mod lines;
 #[cfg(test)]
 mod program;
 #[cfg(test)]
+mod report;
+#[cfg(test)]
 mod syntax;
 #[cfg(test)]
 mod tables;

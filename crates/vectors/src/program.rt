@@ -1,7 +1,8 @@
 //! Rows on the program.
 
-use cfgtool::{Input, Source, run};
-use std::alloc::{AllocError, Global};
+use crate::help::Narrow;
+use cfgtool::{Counted, Input, Source, run};
+use std::alloc::Global;
 use std::test::Fail;
 
 /// One file, under every name.
@@ -16,16 +17,27 @@ impl Source for OneFile {
     }
 }
 
-/// The status, the output and the errors of a run on a file, told as one text.
-fn told(alloc: Global, args: &[&str], input: Input) -> Result<String, AllocError> {
-    let mut out = String::new(alloc);
-    let mut err = String::new(alloc);
+/// The status, the output and the errors of a run on a file, told as one text. Where the output takes at most `room`
+/// bytes, it then fails.
+fn told_in(alloc: Global, args: &[&str], input: Input, room: usize) -> Result<String, Fail> {
+    let mut out = Narrow::new(alloc, usize::MAX, room);
+    let mut err = Narrow::new(alloc, usize::MAX, usize::MAX);
     let mut source = OneFile { input: Some(input) };
-    let status = run(alloc, args, &mut source, &mut out, &mut err);
-    format!(in alloc; "{status}\n{out}{err}")
+    let status = run(
+        alloc,
+        args,
+        &mut source,
+        &mut Counted::new(&mut out),
+        &mut Counted::new(&mut err),
+    );
+    Ok(format!(in alloc; "{status}\n{}{}", out.text()?, err.text()?)?)
 }
 
-fn told_of_text(alloc: Global, text: &str) -> Result<String, AllocError> {
+fn told(alloc: Global, args: &[&str], input: Input) -> Result<String, Fail> {
+    told_in(alloc, args, input, usize::MAX)
+}
+
+fn told_of_text(alloc: Global, text: &str) -> Result<String, Fail> {
     let bytes = text.as_bytes().to_vec(alloc)?;
     let args = ["original-genericparsetree", "grammar", "-"];
     told(alloc, &args, Input::Bytes(bytes))
@@ -94,4 +106,39 @@ fn files_that_are_not_read(rt: HostRuntime) -> Result<(), Fail> {
         "2\ncfgtool: a.y is not UTF-8\n"
     );
     Ok(())
+}
+
+#[test]
+fn outputs_that_fail(rt: HostRuntime) -> Result<(), Fail> {
+    let args = ["original-genericparsetree", "grammar", "-"];
+    let rows = [
+        (0, "2\ncfgtool: cannot write\n"),
+        (5, "2\n0 R: cfgtool: cannot write\n"),
+        (9, "2\n0 R: \"T\"\ncfgtool: cannot write\n"),
+        (18, "0\n0 R: \"T\"\n1 ^: \"R\"\n"),
+    ];
+    for (room, lines) in rows {
+        let bytes = "%start R %token T %% R: 'T';"
+            .as_bytes()
+            .to_vec(rt.alloc())?;
+        let told = told_in(rt.alloc(), &args, Input::Bytes(bytes), room)?;
+        assert_eq!(rt; told.as_str(), lines, "in {room} bytes");
+    }
+    Ok(())
+}
+
+#[test]
+fn a_fault_of_the_errors_output_is_dropped(rt: HostRuntime) {
+    let mut source = OneFile { input: None };
+    let mut out = Narrow::new(rt.alloc(), usize::MAX, usize::MAX);
+    let mut err = Narrow::new(rt.alloc(), usize::MAX, 3);
+    let status = run(
+        rt.alloc(),
+        &["eco"],
+        &mut source,
+        &mut Counted::new(&mut out),
+        &mut Counted::new(&mut err),
+    );
+    assert_eq!(rt; status, 2);
+    assert_eq!(rt; err.bytes(), b"usa".as_slice());
 }

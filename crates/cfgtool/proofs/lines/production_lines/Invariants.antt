@@ -1,6 +1,12 @@
-use Rattle.std.proofs.Common.{◌≡◌, length}
+use Rattle.std.proofs.Common.{◌≡◌, ◌≤◌, length, take, string_bytes}
+use Rattle.std.specs.List.{flat_map, enumerate_from}
+use Rattle.cfgtool.specs.Report.{production_line}
 use Rattle.cfgtool.proofs.lines.production_lines.Given as goal
 
--- the indices that are left are those of productions
+-- the indices that are left are those of productions, and the lines of those before them are made
 abbrev pub invariant-loop-pidx : goal.invariant-loop-pidx
-invariant-loop-pidx l = l.pidx-iterator.end ≡ length l.grammar.productions
+invariant-loop-pidx l = record {
+  all : l.pidx-iterator.end ≡ length l.grammar.productions;
+  within : l.pidx-iterator.next ≤ l.pidx-iterator.end;
+  told : string_bytes l.lines ≡ flat_map (production_line l.grammar) (take l.pidx-iterator.next (enumerate_from 0 l.grammar.productions));
+}

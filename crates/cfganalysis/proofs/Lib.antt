@@ -1,0 +1,4 @@
+pub mod Settling
+pub mod OneBit
+pub mod FirstBits
+pub mod FirstVisits

@@ -1,0 +1,5 @@
+use Rattle.cfganalysis.proofs.FirstBits.{are_firsts}
+use Rattle.cfganalysis.proofs.firsts.firsts_over.Goals as goal
+
+pub returns-clause-firsts : goal.returns-clause-firsts
+returns-clause-firsts g c = are_firsts _ _ c.settle.ensures.holds c.settle.ensures.settled

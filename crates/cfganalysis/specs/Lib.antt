@@ -1,0 +1,6 @@
+pub mod Symbols
+pub mod Openings
+pub mod Table
+pub mod Rounds
+pub mod Firsts
+pub mod Bounds

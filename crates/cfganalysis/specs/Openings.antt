@@ -1,0 +1,19 @@
+-- Productions by their places, and how often each was opened.
+use Rattle.std.specs.Prelude.{◌≡◌, ◌≢◌, ℕ, ◌+◌, List, [], slice_index_or}
+use Rattle.derivation.specs.Grammar.{Grammar, Production}
+
+abbrev pub production_at : Grammar → ℕ → Production
+production_at g p = slice_index_or g.productions p (record { rule = 0; symbols = [] })
+
+-- a grammar, how often each of its productions was opened, and all of them together
+pub record Counts : Type 0 where
+  pub grammar : Grammar
+  pub opened : List ℕ
+  pub opened_all : ℕ
+
+-- production p was opened once more; nothing else changed
+pub record OpensOne (p : ℕ) (content content' : Grammar) (opened opened' : ℕ → ℕ) (all all' : ℕ) : Type 0 where
+  pub stays : content' ≡ content
+  pub more : opened' p ≡ opened p + 1
+  pub others : (q : ℕ) → q ≢ p → opened' q ≡ opened q
+  pub together : all' ≡ all + 1

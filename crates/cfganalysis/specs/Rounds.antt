@@ -1,0 +1,35 @@
+-- Sets that grow by what productions give, till none gives more.
+use Rattle.std.specs.Prelude.{◌≡◌, ℕ, ◌<◌, ◌≤◌, ◌+◌, ◌*◌, Bool, true, false, length, Contains}
+use Rattle.derivation.specs.Grammar.{Grammar, Production, IsGrammar}
+use Rattle.cfganalysis.specs.Openings.{production_at}
+
+-- of sets: what they say is so, they have all that a production gives, how many bits are on
+module _ {X : Type 0} (holds : Grammar → X → Type 0) (covers : X → Production → Type 0) (bits : X → ℕ) where
+  -- a production was taken in
+  pub record TakesIn (p : Production) (old new : X) (changed : Bool) : Type 0 where
+    pub sound : (g : Grammar) → IsGrammar g → Contains g.productions p → holds g old → holds g new
+    pub more : changed ≡ true → bits old < bits new
+    pub same : changed ≡ false → new ≡ old
+    pub closed : changed ≡ false → covers old p
+
+  -- the first n productions were taken in
+  pub record Sweeps (g : Grammar) (n : ℕ) (old new : X) (changed : Bool) : Type 0 where
+    pub sound : holds g old → holds g new
+    pub more : changed ≡ true → bits old < bits new
+    pub same : changed ≡ false → new ≡ old
+    pub closed : changed ≡ false → (q : ℕ) → q < n → covers old (production_at g q)
+
+-- no production gives more
+abbrev pub IsSettled : {X : Type 0} → (X → Production → Type 0) → Grammar → X → Type 0
+IsSettled covers g x = (q : ℕ) → q < length g.productions → covers x (production_at g q)
+
+-- the first n productions were opened once more each
+pub record OpensEach (n : ℕ) (g g' : Grammar) (opened opened' : ℕ → ℕ) (all all' : ℕ) : Type 0 where
+  pub stays : g' ≡ g
+  pub below : (q : ℕ) → q < n → opened' q ≡ opened q + 1
+  pub above : (q : ℕ) → n ≤ q → opened' q ≡ opened q
+  pub together : all' ≡ all + n
+
+-- a number of openings that is enough for each production
+abbrev pub most_openings : Grammar → ℕ
+most_openings g = g.rules * (g.tokens + 1) + 1

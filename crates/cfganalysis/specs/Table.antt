@@ -1,0 +1,37 @@
+-- Tables of bits.
+use Rattle.std.specs.Prelude.{◌≡◌, ℕ, Bool, false, true, List, [], length, All, IsTrue, sum_by, count_by, replicate, slice_index_or, slice_set}
+
+pub record Table : Type 0 where
+  pub columns : ℕ
+  pub rows : List (List Bool)
+
+-- so many rows of so many columns
+pub record IsTable (rows columns : ℕ) (x : Table) : Type 0 where
+  pub width : x.columns ≡ columns
+  pub height : length x.rows ≡ rows
+  pub all_wide : All (λ row. length row ≡ columns) x.rows
+
+abbrev pub row_of : Table → ℕ → List Bool
+row_of x row = slice_index_or x.rows row []
+
+-- whether the bit is on
+abbrev pub bit : Table → ℕ → ℕ → Bool
+bit x row column = slice_index_or (row_of x row) column false
+
+abbrev pub HasBit : Table → ℕ → ℕ → Type 0
+HasBit x row column = IsTrue (bit x row column)
+
+-- how many bits are on
+abbrev pub bits_on : List Bool → ℕ
+bits_on bits = count_by (λ b. b) bits
+
+abbrev pub count_of : Table → ℕ
+count_of x = sum_by bits_on x.rows
+
+-- with no bit on
+abbrev pub blank : ℕ → ℕ → Table
+blank rows columns = record { columns = columns; rows = replicate rows (replicate columns false) }
+
+-- with this bit on
+abbrev pub with_bit : Table → ℕ → ℕ → Table
+with_bit x row column = record { columns = x.columns; rows = slice_set x.rows row (slice_set (row_of x row) column true) }

@@ -1,0 +1,81 @@
+//! Tables of bits.
+
+ghost use Rattle.std.specs.Prelude.{◌≡◌, ◌<◌, false, true, length, IfOk, MatchBool};
+ghost use Rattle.cfganalysis.specs.Table.{bit, blank, row_of, with_bit};
+
+use cfgbase::Vob;
+use std::alloc::{AllocError, Global};
+use std::marker::Model;
+
+/// A table of bits, whose rows have one length.
+#[derive(Debug, Drop)]
+pub struct BitTable {
+    columns: usize,
+    rows: Vec<Vob>,
+}
+
+impl Model for BitTable {
+    ghost use Rattle.std.specs.Prelude.{◌≡◌, length, All};
+    ghost use Rattle.cfganalysis.specs.Table.{Table};
+
+    ghost Value = { Table };
+
+    ghost view = { λ x. record { columns = x.columns; rows = x.rows.items } };
+
+    ghost invariant = { λ x. All (λ row. length row ≡ x.columns) x.rows.items };
+}
+
+impl BitTable {
+    /// A table with no bit on.
+    ///
+    /// # Errors
+    ///
+    /// Want of memory.
+    pub fn new(alloc: Global, rows: usize, columns: usize) -> Result<Self, AllocError>
+        ensures { IfOk result (λ x. x ≡ blank rows columns) }
+    {
+        let mut table = Vec::new(alloc);
+        for _row in 0..rows {
+            table.push(Vob::from_elem(alloc, false, columns)?)?;
+        }
+        Ok(BitTable {
+            columns,
+            rows: table,
+        })
+    }
+
+    /// How many columns there are.
+    pub fn columns(&self) -> usize
+        ensures { result ≡ self.now.columns }
+    {
+        self.columns
+    }
+
+    /// The bits of a row.
+    pub fn row(&self, row: usize) -> &Vob
+        requires { row < length self.now.rows }
+        ensures { result.now ≡ row_of self.now row }
+    {
+        &self.rows[row]
+    }
+
+    /// Whether a bit is on; past the table's ends none is.
+    pub fn is_set(&self, row: usize, column: usize) -> bool
+        ensures { result ≡ bit self.now row column }
+    {
+        match self.rows.get(row) {
+            Some(bits) => bits.get(column).unwrap_or(false),
+            None => false,
+        }
+    }
+
+    /// Turns on a bit, and tells whether it was off.
+    pub fn set(&mut self, row: usize, column: usize) -> bool
+        requires row { row < length self.old.rows }
+        requires column { column < self.old.columns }
+        ensures bits { self.new ≡ with_bit self.old row column }
+        ensures changed { MatchBool result (bit self.old row column ≡ false) (bit self.old row column ≡ true) }
+    {
+        self.rows[row].set(column, true)
+    }
+}

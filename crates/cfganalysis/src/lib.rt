@@ -1,0 +1,14 @@
+//! Analyses of grammars: the sets of tokens that rules begin with.
+#![tactic(auto)]
+
+pub mod bits;
+pub mod counted;
+pub mod firsts;
+pub mod productions;
+pub mod rounds;
+
+pub use bits::BitTable;
+pub use counted::{Counted, Tables};
+pub use firsts::{YaccFirsts, firsts_over};
+pub use productions::Productions;
+pub use rounds::{Analysis, settle};

@@ -1,0 +1,44 @@
+-- How a run of three words ends.
+use Rattle.std.proofs.Common.{◌≡◌, ℕ, ◌<◌, ◌≤◌, List, [], ◌∷◌, length, map, get_or, Option, Some, Result, Ok, Err, Vec, Global, refl, sym, subst, ◌∙◌, arith}
+use Rattle.std.specs.Prelude.{IsErrAnd}
+use Rattle.std.specs.Borrow.{Bor}
+use Rattle.std.specs.Str.{IsUtf8}
+use Rattle.cfgtool.specs.declared.engine.Outcome.{Outcome}
+use Rattle.cfgtool.specs.declared.engine.ReportFault.{ReportFault}
+use Rattle.cfgtool.specs.declared.program.RunFault.{RunFault}
+use Rattle.cfgtool.specs.declared.source.Input.{Input}
+use Rattle.cfgtool.specs.declared.source.Input.TheVariants as input
+use Rattle.cfgtool.specs.declared.words.Command.{Command}
+use Rattle.cfgtool.specs.declared.words.KindArg.{KindArg}
+use Rattle.cfgtool.specs.Run.{Ending, HandlesWords, HandlesNames, HandlesInput, EndsReported, kind_named, command_named, ending_in, ending_of, ending_with}
+
+three_words : (words : List (Bor (List ℕ))) (d : Bor (List ℕ)) → 3 ≤ length words → length words < 4
+    → map (λ word. word.now) words ≡ (get_or words 0 d).now ∷ ((get_or words 1 d).now ∷ ((get_or words 2 d).now ∷ []))
+three_words [] d least below = absurd (omega (arith, least))
+three_words (x ∷ []) d least below = absurd (omega (arith, least))
+three_words (x ∷ (y ∷ [])) d least below = absurd (omega (arith, least))
+three_words (x ∷ (y ∷ (z ∷ []))) d least below = refl
+three_words (x ∷ (y ∷ (z ∷ (w ∷ rest)))) d least below = absurd (omega (arith, below))
+
+-- three words that name a kind and a command
+pub handled : (words : List (Bor (List ℕ))) (d : Bor (List ℕ)) → 3 ≤ length words → length words < 4
+    → (kind : KindArg) (command : Command) → Some kind ≡ kind_named (get_or words 0 d).now → Some command ≡ command_named (get_or words 1 d).now
+    → (Answers : List ℕ → Input → Type 0) (old new : Option (List ℕ)) (ending : Ending) (answer : Input) → Answers (get_or words 2 d).now answer
+    → HandlesInput kind command (get_or words 2 d).now answer old new ending
+    → HandlesWords (map (λ word. word.now) words) Answers old new ending
+handled words d least below kind command kind_is command_is Answers old new ending answer given handles =
+    let file = (get_or words 2 d).now in
+    subst (λ ws. HandlesWords ws Answers old new ending) (sym (three_words words d least below))
+    (subst (λ k. HandlesNames k (command_named (get_or words 1 d).now) file Answers old new ending) kind_is
+    (subst (λ m. HandlesNames (Some kind) m file Answers old new ending) command_is (answer, given, handles)))
+
+-- bytes that are text
+pub text_handled : (kind : KindArg) (command : Command) (file : List ℕ) (bytes : Vec ℕ Global) (handed text : List ℕ) → handed ≡ bytes.items → text ≡ handed → IsUtf8 handed
+    → (old new : Option (List ℕ)) (ending : Ending) → EndsReported kind command text old new ending → HandlesInput kind command file (input.Bytes bytes) old new ending
+text_handled kind command file bytes handed text handed_is text_is utf8 old new ending reported =
+    (λ _. subst (λ t. EndsReported kind command t old new ending) (text_is ∙ handed_is) reported, λ no. absurd (no (subst IsUtf8 handed_is utf8)))
+
+-- how a run ends where its report was not told
+pub ended_with : (r : Result Outcome RunFault) (fault : ReportFault) → IsErrAnd r (λ made. ending_with made ≡ ending_of (Err fault)) → ending_in r ≡ ending_of (Err fault)
+ended_with (Ok outcome) fault made = absurd made
+ended_with (Err run_fault) fault made = made

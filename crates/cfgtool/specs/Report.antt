@@ -1,0 +1,77 @@
+-- What the program writes of a text.
+use Rattle.std.specs.Prelude.{◌≡◌, ℕ, List, [], ◌++◌, Option, Result, Ok, Err, slice_get, codes}
+use Rattle.std.specs.List.{flat_map, enumerate_from}
+use Rattle.std.specs.Option.{option_map_or}
+use Rattle.std.specs.Fmt.{decimal}
+use Rattle.std.specs.Io.KnownBytes.{Appends, Keeps}
+use Rattle.cfgbase.specs.Lines.{line_number, column}
+use Rattle.cfgsyntax.specs.Errors.{GrammarError}
+use Rattle.cfgsyntax.specs.Texts.{error_text}
+use Rattle.cfgsyntax.specs.declared.yacc.kind.YaccKind.{YaccKind}
+use Rattle.cfgrammar.specs.Answer.{IsRefused}
+use Rattle.cfgrammar.specs.Fits.{Fits}
+use Rattle.cfgrammar.specs.Numbered.{Numbered, NumberedProduction}
+use Rattle.cfgrammar.specs.Shown.{production_text}
+use Rattle.cfgtool.specs.declared.engine.Outcome.{Outcome}
+use Rattle.cfgtool.specs.declared.engine.Outcome.TheVariants.{Done, Refused}
+use Rattle.cfgtool.specs.declared.engine.ReportFault.{ReportFault}
+use Rattle.cfgtool.specs.declared.engine.ReportFault.TheVariants as faults
+use Rattle.cfgtool.specs.declared.words.Command.{Command}
+use Rattle.cfgtool.specs.declared.words.Command.TheVariants.{Grammar}
+use Rattle.cfgtool.specs.declared.words.KindArg.{KindArg}
+use Rattle.cfgtool.specs.declared.words.KindArg.TheVariants.{Named}
+use Rattle.cfgtool.specs.Sinks.{AppendsBeginning}
+
+-- the kind that a text is read as
+abbrev pub kind_read : KindArg → YaccKind
+kind_read (Named kind) = kind
+
+-- the greatest index of the program's grammars
+abbrev pub greatest : ℕ
+greatest = 4294967295
+
+-- `LINE:COLUMN: ` of a place in the text
+abbrev pub place_text : List ℕ → ℕ → List ℕ
+place_text text b = decimal (line_number text b) ++ (codes ":" ++ (decimal (column text b) ++ codes ": "))
+
+-- the place where an error's first span starts, and nothing where it has no span
+abbrev pub error_place : List ℕ → GrammarError → List ℕ
+error_place text error = option_map_or (λ span. place_text text span.start) (slice_get error.spans 0) []
+
+-- an error's line: its place and its text
+abbrev pub error_line : List ℕ → GrammarError → List ℕ
+error_line text error = error_place text error ++ (error_text error.kind ++ codes "\n")
+
+abbrev pub error_lines : List ℕ → List GrammarError → List ℕ
+error_lines text errors = flat_map (error_line text) errors
+
+-- a production's line: its index, a space and its text
+abbrev pub production_line : Numbered → ℕ × NumberedProduction → List ℕ
+production_line g production = decimal production.0 ++ (codes " " ++ (production_text g production.1 ++ codes "\n"))
+
+abbrev pub production_lines : Numbered → List ℕ
+production_lines g = flat_map (production_line g) (enumerate_from 0 g.productions)
+
+-- what a command tells of a grammar
+abbrev pub command_lines : Command → Numbered → List ℕ
+command_lines Grammar g = production_lines g
+
+-- How a report of a text with these errors and this numbering ends, and its lines: the text is a grammar, and the
+-- command's lines are told, or it is refused, and its errors are.
+abbrev pub IsReport : Command → List ℕ → List GrammarError → Numbered → Outcome → List ℕ → Type 0
+IsReport command text errors g Done lines = (errors ≡ []) × Fits greatest g × (lines ≡ command_lines command g)
+IsReport command text errors g Refused lines = (told : List GrammarError) × IsRefused greatest errors g told × (lines ≡ error_lines text told)
+
+-- What a report adds to the known bytes of its sink: the lines of how it ended; nothing where memory ended; where the
+-- sink counted a fault, a beginning of the lines of how it would have ended.
+abbrev pub Tells : Command → List ℕ → List GrammarError → Numbered → Option (List ℕ) → Option (List ℕ) → Result Outcome ReportFault → Type 0
+Tells command text errors g old new (Ok outcome) = (lines : List ℕ) × IsReport command text errors g outcome lines × Appends old new lines
+Tells command text errors g old new (Err faults.Write) = (outcome : Outcome) × (lines : List ℕ)
+    × IsReport command text errors g outcome lines × AppendsBeginning old new lines
+Tells command text errors g old new (Err faults.OutOfMemory) = Keeps old new
+
+-- how many faults of its sink a report meets
+abbrev pub faults_met : Result Outcome ReportFault → ℕ
+faults_met (Ok outcome) = 0
+faults_met (Err faults.Write) = 1
+faults_met (Err faults.OutOfMemory) = 0

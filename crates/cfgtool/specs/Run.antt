@@ -1,0 +1,119 @@
+-- What a run of the program does: how it ends, with which status, and what its two outputs get.
+use Rattle.std.specs.Prelude.{◌≡◌, ℕ, List, [], ◌∷◌, ◌++◌, Option, Some, None, Result, Ok, Err, if◌then◌else◌, codes}
+use Rattle.std.specs.Str.{IsUtf8, bytes_eq}
+use Rattle.std.specs.Io.KnownBytes.{Keeps}
+use Rattle.cfgwords.specs.declared.fault.Fault.{Fault}
+use Rattle.cfgast.specs.Items.{Item}
+use Rattle.cfgast.specs.Syntax.{syntax_of}
+use Rattle.cfgsyntax.specs.Faults.{errors_of}
+use Rattle.cfgsyntax.specs.Reads.{Reads}
+use Rattle.cfgsyntax.specs.declared.yacc.kind.YaccKind.TheVariants.{Original}
+use Rattle.cfgsyntax.specs.declared.yacc.kind.YaccOriginalActionKind.TheVariants.{NoAction, UserAction, GenericParseTree}
+use Rattle.cfgrammar.specs.Numbered.{numbered}
+use Rattle.cfgtool.specs.declared.engine.Outcome.{Outcome}
+use Rattle.cfgtool.specs.declared.engine.Outcome.TheVariants.{Done, Refused}
+use Rattle.cfgtool.specs.declared.engine.ReportFault.{ReportFault}
+use Rattle.cfgtool.specs.declared.engine.ReportFault.TheVariants as faults
+use Rattle.cfgtool.specs.declared.program.RunFault.{RunFault}
+use Rattle.cfgtool.specs.declared.program.RunFault.TheVariants as why
+use Rattle.cfgtool.specs.declared.source.Input.{Input}
+use Rattle.cfgtool.specs.declared.source.Input.TheVariants as input
+use Rattle.cfgtool.specs.declared.words.Command.{Command}
+use Rattle.cfgtool.specs.declared.words.Command.TheVariants.{Grammar}
+use Rattle.cfgtool.specs.declared.words.KindArg.{KindArg}
+use Rattle.cfgtool.specs.declared.words.KindArg.TheVariants.{Named}
+use Rattle.cfgtool.specs.Report.{kind_read, Tells}
+
+-- the kind that a word names
+abbrev pub kind_named : List ℕ → Option KindArg
+kind_named word =
+    if bytes_eq word (codes "original-noaction") then Some (Named (Original NoAction))
+    else if bytes_eq word (codes "original-useraction") then Some (Named (Original UserAction))
+    else if bytes_eq word (codes "original-genericparsetree") then Some (Named (Original GenericParseTree))
+    else None
+
+-- the command that a word names
+abbrev pub command_named : List ℕ → Option Command
+command_named word = if bytes_eq word (codes "grammar") then Some Grammar else None
+
+-- how a run ends: with a report, or why there is none
+pub data Ending : Type 0 where
+  Told : Outcome → Ending
+  Usage : Ending
+  Unreadable : List ℕ → Ending
+  NotUtf8 : List ℕ → Ending
+  Unwritten : Ending
+  NoMemory : Ending
+
+abbrev pub status_of : Ending → ℕ
+status_of (Told Done) = 0
+status_of (Told Refused) = 1
+status_of Usage = 2
+status_of (Unreadable file) = 2
+status_of (NotUtf8 file) = 2
+status_of Unwritten = 2
+status_of NoMemory = 3
+
+-- the line on standard error, with FILE as it was given
+abbrev pub line_of : Ending → List ℕ
+line_of (Told outcome) = []
+line_of Usage = codes "usage: cfgtool KIND COMMAND FILE\n"
+line_of (Unreadable file) = codes "cfgtool: cannot read " ++ (file ++ codes "\n")
+line_of (NotUtf8 file) = codes "cfgtool: " ++ (file ++ codes " is not UTF-8\n")
+line_of Unwritten = codes "cfgtool: cannot write\n"
+line_of NoMemory = codes "cfgtool: out of memory\n"
+
+-- how a run ends that told nothing for this reason
+abbrev pub ending_with : RunFault → Ending
+ending_with why.Usage = Usage
+ending_with (why.Unreadable file) = Unreadable file.now
+ending_with (why.NotUtf8 file) = NotUtf8 file.now
+ending_with why.Write = Unwritten
+ending_with why.OutOfMemory = NoMemory
+
+abbrev pub ending_in : Result Outcome RunFault → Ending
+ending_in (Ok outcome) = Told outcome
+ending_in (Err fault) = ending_with fault
+
+-- how a run ends where this is what its report answers
+abbrev pub ending_of : Result Outcome ReportFault → Ending
+ending_of (Ok outcome) = Told outcome
+ending_of (Err faults.Write) = Unwritten
+ending_of (Err faults.OutOfMemory) = NoMemory
+
+-- how many faults of its output a run that ends so met
+abbrev pub faults_at : Ending → ℕ
+faults_at (Told outcome) = 0
+faults_at Usage = 0
+faults_at (Unreadable file) = 0
+faults_at (NotUtf8 file) = 0
+faults_at Unwritten = 1
+faults_at NoMemory = 0
+
+-- The run ends so, and nothing was written to its output.
+abbrev pub EndsUnwritten : Ending → Option (List ℕ) → Option (List ℕ) → Ending → Type 0
+EndsUnwritten why old new ending = (ending ≡ why) × Keeps old new
+
+-- The run ends as the report of these bytes, and tells what that tells.
+abbrev pub EndsReported : KindArg → Command → List ℕ → Option (List ℕ) → Option (List ℕ) → Ending → Type 0
+EndsReported kind command text old new ending = (answer : Result Outcome ReportFault) × (ending ≡ ending_of answer)
+    × ((items : List Item) (stop : Option Fault) → Reads (kind_read kind) text items stop
+    → Tells command text (errors_of items stop) (numbered (kind_read kind) (syntax_of items)) old new answer)
+
+-- what a run of a kind and a command does with what its source answers for a file
+abbrev pub HandlesInput : KindArg → Command → List ℕ → Input → Option (List ℕ) → Option (List ℕ) → Ending → Type 0
+HandlesInput kind command file input.Unreadable old new ending = EndsUnwritten (Unreadable file) old new ending
+HandlesInput kind command file input.OutOfMemory old new ending = EndsUnwritten NoMemory old new ending
+HandlesInput kind command file (input.Bytes bytes) old new ending =
+    (IsUtf8 bytes.items → EndsReported kind command bytes.items old new ending)
+    × ((IsUtf8 bytes.items → ⊥) → EndsUnwritten (NotUtf8 file) old new ending)
+
+-- what a run does with its words, where `Answers` says what its source may answer for a file
+abbrev pub HandlesNames : Option KindArg → Option Command → List ℕ → (List ℕ → Input → Type 0) → Option (List ℕ) → Option (List ℕ) → Ending → Type 0
+HandlesNames (Some kind) (Some command) file Answers old new ending =
+    (answer : Input) × Answers file answer × HandlesInput kind command file answer old new ending
+HandlesNames kind command file Answers old new ending = EndsUnwritten Usage old new ending
+
+abbrev pub HandlesWords : List (List ℕ) → (List ℕ → Input → Type 0) → Option (List ℕ) → Option (List ℕ) → Ending → Type 0
+HandlesWords (kind ∷ (command ∷ (file ∷ []))) Answers old new ending = HandlesNames (kind_named kind) (command_named command) file Answers old new ending
+HandlesWords words Answers old new ending = EndsUnwritten Usage old new ending

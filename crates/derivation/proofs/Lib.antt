@@ -1,0 +1,2 @@
+pub mod Concatenation
+pub mod Firsts

@@ -1,0 +1,24 @@
+-- Cycles by which a rule's sentences grow.
+use Rattle.std.specs.Prelude.{ℕ, ◌<◌, List, [], ◌∷◌, ◌++◌, map}
+use Rattle.derivation.specs.Grammar.{Sym, Rule, Token}
+use Rattle.derivation.specs.Derivation.{Step, Derives}
+use Rattle.derivation.specs.Sentence.{cost_of}
+
+-- by one or more steps x derives itself between u and v, which together derive tokens that cost something
+pub record GrowingCycle (P : ℕ → List Sym → Type 0) (cost : ℕ → ℕ) (x : ℕ) : Type 0 where
+  pub middle : List Sym
+  pub u : List Sym
+  pub v : List Sym
+  pub word : List ℕ
+  pub first : Step P (Rule x ∷ []) middle
+  pub around : Derives P middle (u ++ (Rule x ∷ v))
+  pub gives : Derives P (u ++ v) (map Token word)
+  pub grows : 0 < cost_of cost word
+
+-- r derives a list with x in it, which derives tokens alone
+pub record Meets (P : ℕ → List Sym → Type 0) (r x : ℕ) : Type 0 where
+  pub before : List Sym
+  pub after : List Sym
+  pub word : List ℕ
+  pub leads : Derives P (Rule r ∷ []) (before ++ (Rule x ∷ after))
+  pub gives : Derives P (before ++ (Rule x ∷ after)) (map Token word)

@@ -1,0 +1,12 @@
+-- What a rule's derivations begin with.
+use Rattle.std.specs.Prelude.{ℕ, List, [], ◌∷◌}
+use Rattle.derivation.specs.Grammar.{Sym, Rule, Token}
+use Rattle.derivation.specs.Derivation.{Derives}
+
+-- the rule derives a list of symbols that begins with the token
+abbrev pub First : (ℕ → List Sym → Type 0) → ℕ → ℕ → Type 0
+First P r t = (rest : List Sym) × Derives P (Rule r ∷ []) (Token t ∷ rest)
+
+-- the rule derives the empty list
+abbrev pub Empty : (ℕ → List Sym → Type 0) → ℕ → Type 0
+Empty P r = Derives P (Rule r ∷ []) []

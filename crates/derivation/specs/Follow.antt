@@ -1,0 +1,20 @@
+-- What stands right after a rule.
+use Rattle.std.specs.Prelude.{◌≡◌, ℕ, ◌+◌, List, [], ◌∷◌, ◌++◌, ◌⊎◌}
+use Rattle.derivation.specs.Grammar.{Sym, Grammar, Rule, Token, HasProduction}
+use Rattle.derivation.specs.Derivation.{Derives}
+
+-- some rule derives a list in which the token stands right after the rule
+pub record Follow (P : ℕ → List Sym → Type 0) (r t : ℕ) : Type 0 where
+  pub root : ℕ
+  pub before : List Sym
+  pub after : List Sym
+  pub derived : Derives P (Rule root ∷ []) (before ++ (Rule r ∷ Token t ∷ after))
+
+-- the start rule derives a list that ends in the rule
+pub record FollowEnd (P : ℕ → List Sym → Type 0) (r : ℕ) : Type 0 where
+  pub before : List Sym
+  pub derived : Derives P (Rule 0 ∷ []) (before ++ (Rule r ∷ []))
+
+-- the token follows the rule, or is the end token and the rule may come last
+abbrev pub MayFollow : Grammar → ℕ → ℕ → Type 0
+MayFollow g r t = Follow (HasProduction g) r t ⊎ ((t + 1 ≡ g.tokens) × FollowEnd (HasProduction g) r)

@@ -1,0 +1,9 @@
+pub mod Grammar
+pub mod Derivation
+pub mod Sentence
+pub mod First
+pub mod Follow
+pub mod Path
+pub mod Costs
+pub mod Cycles
+pub mod FirstSets
