@@ -41,12 +41,12 @@ module _ (E : ℕ → Type 0) (F : ℕ → ℕ → Type 0) where
   ]
 
   -- what holds after a step held before it
-  vanishes_before : (r : ℕ) (symbols : List Sym) → Covers E F r symbols → (x y : List Sym) → Vanishes E (x ++ (symbols ++ y)) → Vanishes E (x ++ (Rule r ∷ y))
+  pub vanishes_before : (r : ℕ) (symbols : List Sym) → Covers E F r symbols → (x y : List Sym) → Vanishes E (x ++ (symbols ++ y)) → Vanishes E (x ++ (Rule r ∷ y))
   vanishes_before r symbols c [] y h = let p = vanishes_parts E symbols y h in (c.empty p.0, p.1)
   vanishes_before r symbols c (Rule q ∷ x) y h = (h.0, vanishes_before r symbols c x y h.1)
   vanishes_before r symbols c (Token u ∷ x) y h = absurd h
 
-  begins_before : (r : ℕ) (symbols : List Sym) → Covers E F r symbols → (x y : List Sym) (t : ℕ) → Begins E F (x ++ (symbols ++ y)) t → Begins E F (x ++ (Rule r ∷ y)) t
+  pub begins_before : (r : ℕ) (symbols : List Sym) → Covers E F r symbols → (x y : List Sym) (t : ℕ) → Begins E F (x ++ (symbols ++ y)) t → Begins E F (x ++ (Rule r ∷ y)) t
   begins_before r symbols c [] y t h = elim (begins_parts symbols y t h) [
     | inl k ↦ inl (c.first t k)
     | inr k ↦ inr (c.empty k.0, k.1)
@@ -75,12 +75,12 @@ module _ (P : ℕ → List Sym → Type 0) (E : ℕ → Type 0) (F : ℕ → ℕ
   closed_first r t (rest, d) = elim (begins_derived t d refl) [ inl h ↦ h | inr h ↦ absurd h.1 ]
 
 module _ (P : ℕ → List Sym → Type 0) where
-  vanishes_derives : (a : List Sym) → Vanishes (Empty P) a → Derives P a []
+  pub vanishes_derives : (a : List Sym) → Vanishes (Empty P) a → Derives P a []
   vanishes_derives [] h = none
   vanishes_derives (Rule r ∷ a) h = derives_both P [] [] h.0 (vanishes_derives a h.1)
   vanishes_derives (Token u ∷ a) h = absurd h
 
-  begins_derives : (a : List Sym) (t : ℕ) → Begins (Empty P) (First P) a t → (rest : List Sym) × Derives P a (Token t ∷ rest)
+  pub begins_derives : (a : List Sym) (t : ℕ) → Begins (Empty P) (First P) a t → (rest : List Sym) × Derives P a (Token t ∷ rest)
   begins_derives [] t h = absurd h
   begins_derives (Token u ∷ a) t h = (a, subst (λ v. Derives P (Token u ∷ a) (Token v ∷ a)) h none)
   begins_derives (Rule r ∷ a) t (inl h) = (h.0 ++ a, derives_right P a h.1)

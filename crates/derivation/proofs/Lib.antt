@@ -1,2 +1,3 @@
 pub mod Concatenation
 pub mod Firsts
+pub mod Follows

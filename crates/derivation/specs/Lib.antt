@@ -7,3 +7,4 @@ pub mod Path
 pub mod Costs
 pub mod Cycles
 pub mod FirstSets
+pub mod FollowSets
