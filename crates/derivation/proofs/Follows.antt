@@ -14,20 +14,22 @@ module _ (E : ℕ → Type 0) (F : ℕ → ℕ → Type 0) (W : ℕ → ℕ → 
       → ((t : ℕ) → Begins E F y t → j t) → (Vanishes E y → (t : ℕ) → k t → j t) → Flows E F W (s ++ y) k
   flows_glue [] y j k h f b v = f
   flows_glue (Token u ∷ s) y j k h f b v = flows_glue s y j k h f b v
-  flows_glue (Rule q ∷ s) y j k h f b v =
-    ( (λ t on. elim (begins_parts E F s y t on) [ inl p ↦ h.0 t p | inr p ↦ h.1 p.0 t (b t p.1) ])
-    , (λ all t on. let p = vanishes_parts E s y all in h.1 p.0 t (v p.1 t on))
-    , flows_glue s y j k h.2 f b v )
+  flows_glue (Rule q ∷ s) y j k h f b v = (
+    (λ t on. elim (begins_parts E F s y t on) [ inl p ↦ h.0 t p | inr p ↦ h.1 p.0 t (b t p.1) ]),
+    (λ all t on. let p = vanishes_parts E s y all in h.1 p.0 t (v p.1 t on)),
+    flows_glue s y j k h.2 f b v,
+  )
 
   -- what flows before a step flows after it
   flows_after : (r : ℕ) (symbols : List Sym) → Covers E F r symbols → Flows E F W symbols (W r) → (x y : List Sym) (k : ℕ → Type 0)
       → Flows E F W (x ++ (Rule r ∷ y)) k → Flows E F W (x ++ (symbols ++ y)) k
   flows_after r symbols c f [] y k h = flows_glue symbols y (W r) k f h.2 h.0 h.1
   flows_after r symbols c f (Token u ∷ x) y k h = flows_after r symbols c f x y k h
-  flows_after r symbols c f (Rule q ∷ x) y k h =
-    ( (λ t on. h.0 t (begins_before E F r symbols c x y t on))
-    , (λ all t on. h.1 (vanishes_before E F r symbols c x y all) t on)
-    , flows_after r symbols c f x y k h.2 )
+  flows_after r symbols c f (Rule q ∷ x) y k h = (
+    (λ t on. h.0 t (begins_before E F r symbols c x y t on)),
+    (λ all t on. h.1 (vanishes_before E F r symbols c x y all) t on),
+    flows_after r symbols c f x y k h.2,
+  )
 
   flows_at : (x : List Sym) (r : ℕ) (y : List Sym) (k : ℕ → Type 0) → Flows E F W (x ++ (Rule r ∷ y)) k → Flows E F W (Rule r ∷ y) k
   flows_at [] r y k h = h
@@ -38,7 +40,7 @@ module _ (P : ℕ → List Sym → Type 0) (E : ℕ → Type 0) (F W : ℕ → �
   flows_along : {a b : List Sym} (k : ℕ → Type 0) → Derives P a b → Flows E F W a k → Flows E F W b k
   flows_along k none h = h
   flows_along k (next s d) h = flows_along k d (subst (λ l. Flows E F W l k) (sym s.target)
-    (flows_after E F W s.rule s.symbols (closed s.rule s.symbols s.has) (flows s.rule s.symbols s.has) s.before s.after k
+      (flows_after E F W s.rule s.symbols (closed s.rule s.symbols s.has) (flows s.rule s.symbols s.has) s.before s.after k
       (subst (λ l. Flows E F W l k) s.source h)))
 
   flows_from : (root : ℕ) → Flows E F W (Rule root ∷ []) (W root)
@@ -61,13 +63,15 @@ module _ (P : ℕ → List Sym → Type 0) (r : ℕ) (front : List Sym) (q : ℕ
   -- where the rest vanishes, a list with r in it derives the same list with the production's front and q in its place
   derives_last : (before rest : List Sym) → Vanishes (Empty P) a → Derives P (before ++ (Rule r ∷ rest)) ((before ++ front) ++ (Rule q ∷ rest))
   derives_last before rest h =
-    subst (λ l. Derives P (before ++ (Rule r ∷ rest)) l) (sym (append_assoc before front (Rule q ∷ rest)))
+      subst (λ l. Derives P (before ++ (Rule r ∷ rest)) l) (sym (append_assoc before front (Rule q ∷ rest)))
       (derives_left P before (subst (λ l. Derives P (Rule r ∷ rest) l) (append_assoc front (Rule q ∷ []) rest)
-        (derives_right P rest (derives_rest [] (vanishes_derives P a h)))))
+      (derives_right P rest (derives_rest [] (vanishes_derives P a h)))))
 
   follow_from_rule : (t : ℕ) → Vanishes (Empty P) a → Follow P r t → Follow P q t
   follow_from_rule t h f = record {
-    root = f.root; before = f.before ++ front; after = f.after;
+    root = f.root;
+    before = f.before ++ front;
+    after = f.after;
     derived = derives_trans P f.derived (derives_last f.before (Token t ∷ f.after) h);
   }
 
@@ -79,14 +83,15 @@ module _ (g : Grammar) where
       → Flows (Empty (HasProduction g)) (First (HasProduction g)) (MayFollow g) a (MayFollow g r)
   flows_derived r front [] has = tt
   flows_derived r front (Token u ∷ a) has =
-    flows_derived r (front ++ Token u ∷ []) a (subst (λ l. HasProduction g r l) (sym (append_assoc front (Token u ∷ []) a)) has)
-  flows_derived r front (Rule q ∷ a) has =
-    ( (λ t h. inl (follow_from_rest (HasProduction g) r front q a has t h))
-    , (λ all t h. elim h [
-          inl f ↦ inl (follow_from_rule (HasProduction g) r front q a has t all f)
-        | inr e ↦ inr (e.0, end_from_rule (HasProduction g) r front q a has all e.1)
-        ])
-    , flows_derived r (front ++ Rule q ∷ []) a (subst (λ l. HasProduction g r l) (sym (append_assoc front (Rule q ∷ []) a)) has) )
+      flows_derived r (front ++ Token u ∷ []) a (subst (λ l. HasProduction g r l) (sym (append_assoc front (Token u ∷ []) a)) has)
+  flows_derived r front (Rule q ∷ a) has = (
+    (λ t h. inl (follow_from_rest (HasProduction g) r front q a has t h)),
+    (λ all t h. elim h [
+      | inl f ↦ inl (follow_from_rule (HasProduction g) r front q a has t all f)
+      | inr e ↦ inr (e.0, end_from_rule (HasProduction g) r front q a has all e.1)
+    ]),
+    flows_derived r (front ++ Rule q ∷ []) a (subst (λ l. HasProduction g r l) (sym (append_assoc front (Rule q ∷ []) a)) has),
+  )
 
   -- what derivations show is closed, and the end token follows the start rule
   pub derived_flows : IsFollowClosed (HasProduction g) (Empty (HasProduction g)) (First (HasProduction g)) (MayFollow g)

@@ -32,8 +32,7 @@ pub fn closed_sets_hold_follow()
         → IsFollowClosed (HasProduction g) (λ r. IsTrue (empty r)) (λ r t. IsTrue (first r t)) (λ r t. IsTrue (follow r t))
         → ((t : ℕ) → t + 1 ≡ g.tokens → IsTrue (follow 0 t))
         → (r t : ℕ) → MayFollow g r t → IsTrue (follow r t) }
-{
-}
+{}
 
 /// What derivations show of the tokens that follow is closed under the productions, and the end token follows the
 /// start rule.
@@ -41,5 +40,4 @@ pub fn follow_is_closed()
     ensures closed { (g : Grammar)
         → IsFollowClosed (HasProduction g) (Empty (HasProduction g)) (First (HasProduction g)) (MayFollow g) }
     ensures end { (g : Grammar) (t : ℕ) → t + 1 ≡ g.tokens → MayFollow g 0 t }
-{
-}
+{}
