@@ -17,7 +17,7 @@ use std::alloc::{AllocError, Global};
 use std::marker::{Model, PhantomData};
 
 /// For each rule the tokens that begin a list of symbols which it derives, and whether it derives the empty list.
-#[derive(Drop)]
+#[derive(Debug, Drop)]
 pub struct YaccFirsts<S: Storage> {
     firsts: BitTable,
     epsilons: Vob,

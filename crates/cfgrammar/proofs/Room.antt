@@ -5,12 +5,13 @@ use Rattle.std.specs.Option.{option_to_list}
 use Rattle.std.proofs.lemmas.List.{get_or-map, length-map, length-append}
 use Rattle.std.proofs.lemmas.List.Elements.{All-nil, All-cons, All-append, All-head, All-tail, All-map}
 use Rattle.std.proofs.lemmas.List.FromFn.{length-enumerate_from}
+use Rattle.derivation.specs.Grammar.{Rule}
 use Rattle.cfgwords.specs.Words.{Word}
 use Rattle.cfgast.specs.Syntax.{Syntax, Production}
 use Rattle.cfgast.specs.View.{production_view, symbol_view}
 use Rattle.cfgast.specs.declared.production.Production as source
 use Rattle.cfgsyntax.specs.declared.yacc.kind.YaccKind.{YaccKind}
-use Rattle.cfgrammar.specs.Numbered.{NumberedProduction, Rule, rule_index, numbered, sym_of, file_production, start_production, file_token, file_rule, end_token, start_rule}
+use Rattle.cfgrammar.specs.Numbered.{NumberedProduction, rule_index, numbered, file_symbol, file_production, start_production, file_token, file_rule, end_token, start_rule}
 use Rattle.cfgrammar.specs.Fits.{Fits, LeavesRoom}
 use Rattle.cfgrammar.proofs.Turns.{length-pairs}
 
@@ -25,13 +26,13 @@ module _ (max : ℕ) (s : Syntax) where
   counted : (n : ℕ) (ps : List Production) → All (λ p. length p.symbols ≤ max) ps → All IsCounted (map (file_production s) (enumerate_from n ps))
   counted n [] h = All-nil IsCounted
   counted n (p ∷ ps) h =
-      All-cons IsCounted (file_production s (n, p)) _ (omega (arith, length-map p.symbols (sym_of s), All-head (λ p. length p.symbols ≤ max) p ps h))
+      All-cons IsCounted (file_production s (n, p)) _ (omega (arith, length-map p.symbols (file_symbol s), All-head (λ p. length p.symbols ≤ max) p ps h))
       (counted (n + 1) ps (All-tail (λ p. length p.symbols ≤ max) p ps h))
 
   uncounted : (n : ℕ) (ps : List Production) (rest : List NumberedProduction) → All IsCounted (map (file_production s) (enumerate_from n ps) ++ rest) → All (λ p. length p.symbols ≤ max) ps
   uncounted n [] rest h = All-nil (λ p. length p.symbols ≤ max)
   uncounted n (p ∷ ps) rest h =
-      All-cons (λ p. length p.symbols ≤ max) p ps (omega (arith, length-map p.symbols (sym_of s), All-head IsCounted (file_production s (n, p)) _ h))
+      All-cons (λ p. length p.symbols ≤ max) p ps (omega (arith, length-map p.symbols (file_symbol s), All-head IsCounted (file_production s (n, p)) _ h))
       (uncounted (n + 1) ps rest (All-tail IsCounted (file_production s (n, p)) _ h))
 
   rules_len : length (start_rule s ∷ map file_rule s.rules) ≡ suc (length s.rules)

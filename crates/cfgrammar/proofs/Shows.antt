@@ -8,7 +8,7 @@ use Rattle.cfgrammar.specs.Numbered.{Numbered, NumberedRule, NumberedProduction}
 use Rattle.cfgrammar.specs.Fits.{Fits}
 use Rattle.cfgrammar.specs.Shown.{rule_at, production_at}
 use Rattle.cfgrammar.specs.View.{rule_view, production_view, tables}
-use Rattle.cfgrammar.specs.View as view
+use Rattle.cfganalysis.specs.Symbols.{sym_of}
 use Rattle.cfgrammar.specs.declared.yacc.grammar.rows.RuleRow.{RuleRow}
 use Rattle.cfgrammar.specs.declared.yacc.grammar.rows.ProductionRow.{ProductionRow}
 use Rattle.cfgrammar.specs.declared.yacc.grammar.rows.TokenRow.{TokenRow}
@@ -51,4 +51,4 @@ module _ {S : Type 0} (number : S → ℕ) (rules : List (String Global × RuleR
       let read : get_or (map (production_view number) productions) r shown ≡ shown =
       get_or-map (production_view number) productions r row shown there ∙ ap (production_view number) (sym (is ∙ ap (λ k. get_or productions k row) same)) in
       let fit = subst (λ p. length p.symbols ≤ max) read (fits.symbols r shown (omega (arith, there, length-map productions (production_view number)))) in
-      omega (arith, fit, length-map row.symbols.items (view.sym number))
+      omega (arith, fit, length-map row.symbols.items (sym_of number))

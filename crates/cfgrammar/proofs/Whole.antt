@@ -10,6 +10,7 @@ use Rattle.std.proofs.lemmas.Simd.{map-map}
 use Rattle.std.proofs.lemmas.Slice.Zip.{firsts-zip}
 use Rattle.cfgbase.specs.declared.span.Span.{Span}
 use Rattle.cfgwords.specs.Words.{Word}
+use Rattle.derivation.specs.Grammar.{Rule, IsGrammar, IsSymbolOf}
 use Rattle.cfgast.specs.Syntax as file
 use Rattle.cfgast.specs.Syntax.{Syntax, Production, Symbol, RuleSymbol, TokenSymbol}
 use Rattle.cfgast.proofs.Lists.{found-position}
@@ -17,8 +18,8 @@ use Rattle.cfgsyntax.specs.Check.{is_rule, is_token, symbol_error, error_at}
 use Rattle.cfgsyntax.specs.Errors.{GrammarError, UnknownRuleRef, UnknownToken}
 use Rattle.cfgsyntax.specs.Sound.{IsSound}
 use Rattle.cfgsyntax.specs.declared.yacc.kind.YaccKind.{YaccKind}
-use Rattle.cfgrammar.specs.Numbered.{Numbered, NumberedProduction, Rule, numbered, sym_of, rule_index, rule_listing, start_rule, file_rule, start_production, file_production, file_token, end_token}
-use Rattle.cfgrammar.specs.Numbering.{IsNumbering, IsSymbolOf, IsWhole}
+use Rattle.cfgrammar.specs.Numbered.{Numbered, NumberedProduction, core, production_core, numbered, file_symbol, rule_index, rule_listing, start_rule, file_rule, start_production, file_production, file_token, end_token}
+use Rattle.cfgrammar.specs.Numbering.{IsNumbering, IsWhole}
 use Rattle.cfgrammar.specs.Shown.{token_at}
 use Rattle.cfgrammar.proofs.Found.{slice_get-map}
 use Rattle.cfgrammar.proofs.Owners.{first_lister}
@@ -73,17 +74,17 @@ module _ (kind : YaccKind) (s : Syntax) (sound : IsSound s []) where
       let place = ltb-true _ _ (found-position (λ (rule : List ℕ × file.Rule). bytes_eq name rule.0) s.rules ∙ known) in
       omega (arith, place, rules_len)
 
-  symbol_there : (symbol : Symbol) → symbol_error s symbol ≡ None → IsSymbolOf g (sym_of s symbol)
+  symbol_there : (symbol : Symbol) → symbol_error s symbol ≡ None → IsSymbolOf (core g) (file_symbol s symbol)
   symbol_there (RuleSymbol word) right = rule_there word.name (none_wrong (is_rule s word.name) (error_at (UnknownRuleRef word.name) word.span) right)
   symbol_there (TokenSymbol word) right =
       let known = none_wrong (is_token s word.name) (error_at (UnknownToken word.name) word.span) right in
       let place = ltb-true _ _ (found-position (bytes_eq word.name) s.tokens ∙ known) in
       omega (arith, place, tokens_len)
 
-  start_there : (o : Option Word) → o ≡ Some (resolved s sound).start → All (IsSymbolOf g) (option_to_list (option_map (λ word. Rule (rule_index s word.name)) o))
+  start_there : (o : Option Word) → o ≡ Some (resolved s sound).start → All (IsSymbolOf (core g)) (option_to_list (option_map (λ word. Rule (rule_index s word.name)) o))
   start_there o is =
-      subst (λ o. All (IsSymbolOf g) (option_to_list (option_map (λ word. Rule (rule_index s word.name)) o))) (sym is)
-      (All-cons (IsSymbolOf g) (Rule (rule_index s (resolved s sound).start.name)) [] (rule_there (resolved s sound).start.name (resolved s sound).start_is_rule) (All-nil (IsSymbolOf g)))
+      subst (λ o. All (IsSymbolOf (core g)) (option_to_list (option_map (λ word. Rule (rule_index s word.name)) o))) (sym is)
+      (All-cons (IsSymbolOf (core g)) (Rule (rule_index s (resolved s sound).start.name)) [] (rule_there (resolved s sound).start.name (resolved s sound).start_is_rule) (All-nil (IsSymbolOf (core g))))
 
   names_are : map name_shown (map file_token (zip s.tokens s.spans) ++ end_token ∷ []) ≡ map Some s.tokens ++ None ∷ []
   names_are =
@@ -99,6 +100,25 @@ module _ (kind : YaccKind) (s : Syntax) (sound : IsSound s []) where
         λ last. sym names ∙ last_of (map Some s.tokens) None t (omega (arith, last, tokens_len, length-map s.tokens some_name)),
       )
 
+  owner_there : (i : ℕ) → i < length s.productions → rule_listing s i < length g.rules
+  owner_there i within = omega (arith, (first_lister s sound.well_formed i within).0, rules_len)
+
+  owners : All (λ p. p.rule < length g.rules) g.productions
+  unfolding numbered
+  owners = All-append (λ p. p.rule < length g.rules) (map (file_production s) (enumerate_from 0 s.productions)) (start_production s ∷ [])
+      (All-map (λ p. p.rule < length g.rules) (file_production s) (enumerate_from 0 s.productions)
+      (enumerated (λ x. rule_listing s x.0 < length g.rules) 0 s.productions (λ i d within.
+      subst (λ n. rule_listing s n < length g.rules) (omega arith) (owner_there i within))))
+      (All-cons (λ p. p.rule < length g.rules) (start_production s) [] (omega (arith, rules_len)) (All-nil (λ p. p.rule < length g.rules)))
+
+  symbols : All (λ p. All (IsSymbolOf (core g)) p.symbols) g.productions
+  unfolding numbered
+  symbols = All-append (λ p. All (IsSymbolOf (core g)) p.symbols) (map (file_production s) (enumerate_from 0 s.productions)) (start_production s ∷ [])
+      (All-map (λ p. All (IsSymbolOf (core g)) p.symbols) (file_production s) (enumerate_from 0 s.productions)
+      (enumerated (λ x. All (IsSymbolOf (core g)) (map (file_symbol s) x.1.symbols)) 0 s.productions (λ i d within.
+      All-map (IsSymbolOf (core g)) (file_symbol s) (get_or s.productions i d).symbols (λ k e there. symbol_there (get_or (get_or s.productions i d).symbols k e) ((resolved s sound).symbols i d within k e there)))))
+      (All-cons (λ p. All (IsSymbolOf (core g)) p.symbols) (start_production s) [] (start_there s.start (resolved s sound).starts) (All-nil (λ p. All (IsSymbolOf (core g)) p.symbols)))
+
   whole_in : IsWhole g
   unfolding numbered
   whole_in = record {
@@ -106,24 +126,17 @@ module _ (kind : YaccKind) (s : Syntax) (sound : IsSound s []) where
     start_production = ap (option_map (λ (p : NumberedProduction). p.rule)) (last_of (map (file_production s) (enumerate_from 0 s.productions)) (start_production s) (length s.productions)
         (omega (arith, length-map (enumerate_from 0 s.productions) (file_production s), length-enumerate_from 0 s.productions)));
     end_token = end_at;
-    owners = All-append (λ p. p.rule < length g.rules) (map (file_production s) (enumerate_from 0 s.productions)) (start_production s ∷ [])
-        (All-map (λ p. p.rule < length g.rules) (file_production s) (enumerate_from 0 s.productions)
-        (enumerated (λ x. rule_listing s x.0 < length g.rules) 0 s.productions (λ i d within.
-        subst (λ n. rule_listing s n < length g.rules) (omega arith) (owner_there i within))))
-        (All-cons (λ p. p.rule < length g.rules) (start_production s) [] (omega (arith, rules_len)) (All-nil (λ p. p.rule < length g.rules)));
-    symbols = All-append (λ p. All (IsSymbolOf g) p.symbols) (map (file_production s) (enumerate_from 0 s.productions)) (start_production s ∷ [])
-        (All-map (λ p. All (IsSymbolOf g) p.symbols) (file_production s) (enumerate_from 0 s.productions)
-        (enumerated (λ x. All (IsSymbolOf g) (map (sym_of s) x.1.symbols)) 0 s.productions (λ i d within.
-        All-map (IsSymbolOf g) (sym_of s) (get_or s.productions i d).symbols (λ k e there. symbol_there (get_or (get_or s.productions i d).symbols k e) ((resolved s sound).symbols i d within k e there)))))
-        (All-cons (λ p. All (IsSymbolOf g) p.symbols) (start_production s) [] (start_there s.start (resolved s sound).starts) (All-nil (λ p. All (IsSymbolOf g) p.symbols)));
+    grammar = record {
+      start = omega (arith, rules_len);
+      finish = omega (arith, tokens_len);
+      owners = All-map (λ p. p.rule < length g.rules) production_core g.productions owners;
+      symbols = All-map (λ p. All (IsSymbolOf (core g)) p.symbols) production_core g.productions symbols;
+    };
     lists = All-cons (λ rule. All (λ p. p < length g.productions) rule.productions) (start_rule s) (map file_rule s.rules)
         (All-cons (λ p. p < length g.productions) (length s.productions) [] (omega (arith, productions_len)) (All-nil (λ p. p < length g.productions)))
         (All-map (λ rule. All (λ p. p < length g.productions) rule.productions) file_rule s.rules (λ k d within j e there.
         omega (arith, sound.well_formed.productions_within k d within j e there, productions_len)));
   }
-    where
-      owner_there : (i : ℕ) → i < length s.productions → rule_listing s i < length g.rules
-      owner_there i within = omega (arith, (first_lister s sound.well_formed i within).0, rules_len)
 
 pub whole : (g : Numbered) → IsNumbering g → IsWhole g
 whole g is = subst IsWhole is.numbers (whole_in is.kind is.syntax is.sound)

@@ -3,15 +3,11 @@ use Rattle.std.specs.Prelude.{ℕ, suc, ◌==◌, Bool, false, List, [], ◌∷�
 use Rattle.std.specs.List.{list_any, zip, enumerate_from, position_or_len}
 use Rattle.std.specs.Option.{option_to_list}
 use Rattle.std.specs.Str.{bytes_eq}
+use Rattle.derivation.specs.Grammar.{Sym, Rule, Token, Production, Grammar}
 use Rattle.cfgbase.specs.declared.span.Span.{Span}
 use Rattle.cfgast.specs.Syntax as file
 use Rattle.cfgast.specs.Syntax.{Syntax, RuleSymbol, TokenSymbol, index_of}
 use Rattle.cfgsyntax.specs.declared.yacc.kind.YaccKind.{YaccKind}
-
--- a symbol of a production
-pub data Sym : Type 0 where
-  Rule : ℕ → Sym
-  Token : ℕ → Sym
 
 pub data Associativity : Type 0 where
   LeftToRight : Associativity
@@ -56,6 +52,13 @@ pub record Numbered : Type 0 where
   pub expect : Option ℕ
   pub expect_reduce_reduce : Option ℕ
 
+-- what derivations go by: the symbols of productions
+abbrev pub production_core : NumberedProduction → Production
+production_core p = record { rule = p.rule; symbols = p.symbols }
+
+abbrev pub core : Numbered → Grammar
+core g = record { rules = length g.rules; tokens = length g.tokens; productions = map production_core g.productions }
+
 -- The name of rule 0, which is added. It is no name that a file can give.
 abbrev pub start_name : List ℕ
 start_name = codes "^"
@@ -71,9 +74,9 @@ rule_index s name = suc (position_or_len (λ rule. bytes_eq name rule.0) s.rules
 abbrev pub token_index : Syntax → List ℕ → ℕ
 token_index s name = index_of name s.tokens
 
-abbrev pub sym_of : Syntax → file.Symbol → Sym
-sym_of s (RuleSymbol word) = Rule (rule_index s word.name)
-sym_of s (TokenSymbol word) = Token (token_index s word.name)
+abbrev pub file_symbol : Syntax → file.Symbol → Sym
+file_symbol s (RuleSymbol word) = Rule (rule_index s word.name)
+file_symbol s (TokenSymbol word) = Token (token_index s word.name)
 
 -- whether a rule lists the production at the place
 abbrev pub lists : ℕ → List ℕ × file.Rule → Bool
@@ -93,7 +96,7 @@ file_rule rule = record { name = rule.0; span = rule.1.name.span; productions = 
 abbrev pub file_production : Syntax → ℕ × file.Production → NumberedProduction
 file_production s production = record {
   rule = rule_listing s production.0;
-  symbols = map (sym_of s) production.1.symbols;
+  symbols = map (file_symbol s) production.1.symbols;
   span = production.1.span;
   precedence = None;
   action = option_map (λ action. action.0) production.1.action;

@@ -1,9 +1,10 @@
 -- Which grammars there are: those of valid syntaxes.
 use Rattle.std.specs.Prelude.{◌≡◌, ◌↔◌, ℕ, ◌+◌, ◌<◌, [], ◌∷◌, length, All, Some, None}
+use Rattle.derivation.specs.Grammar.{IsGrammar}
 use Rattle.cfgast.specs.Syntax.{Syntax}
 use Rattle.cfgsyntax.specs.Sound.{IsSound}
 use Rattle.cfgsyntax.specs.declared.yacc.kind.YaccKind.{YaccKind}
-use Rattle.cfgrammar.specs.Numbered.{Numbered, Sym, Rule, Token, numbered}
+use Rattle.cfgrammar.specs.Numbered.{Numbered, core, numbered}
 use Rattle.cfgrammar.specs.Shown.{production_at, rule_at, token_at}
 
 -- the numbers of a syntax that was read without errors
@@ -13,18 +14,12 @@ pub record IsNumbering (g : Numbered) : Type 0 where
   pub sound : IsSound syntax []
   pub numbers : numbered kind syntax ≡ g
 
--- the index of a rule, or of a token other than the end token, which is the last
-abbrev pub IsSymbolOf : Numbered → Sym → Type 0
-IsSymbolOf g (Rule r) = r < length g.rules
-IsSymbolOf g (Token t) = t + 1 < length g.tokens
-
 pub record IsWhole (g : Numbered) : Type 0 where
   -- rule 0 is the start rule, and has one production
   pub start_rule : rule_at (λ rule. rule.productions) g 0 ≡ Some (g.start_production ∷ [])
   pub start_production : production_at (λ p. p.rule) g g.start_production ≡ Some 0
   -- the last token, and no other, is the end token
   pub end_token : (t : ℕ) → (token_at (λ token. token.name) g t ≡ Some None) ↔ (t + 1 ≡ length g.tokens)
-  -- all indices are those of something that is there
-  pub owners : All (λ p. p.rule < length g.rules) g.productions
-  pub symbols : All (λ p. All (IsSymbolOf g) p.symbols) g.productions
+  -- all indices are those of something that is there, and no production holds the end token
+  pub grammar : IsGrammar (core g)
   pub lists : All (λ rule. All (λ p. p < length g.productions) rule.productions) g.rules

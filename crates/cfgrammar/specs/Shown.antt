@@ -3,7 +3,8 @@ use Rattle.std.specs.Prelude.{ℕ, List, [], ◌++◌, map, Option, option_map, 
 use Rattle.std.specs.List.{concat}
 use Rattle.std.specs.Option.{option_map_or}
 use Rattle.std.specs.Str.{bytes_eq}
-use Rattle.cfgrammar.specs.Numbered.{Numbered, NumberedRule, NumberedToken, NumberedProduction, Sym, Rule, Token}
+use Rattle.derivation.specs.Grammar.{Sym, Rule, Token}
+use Rattle.cfgrammar.specs.Numbered.{Numbered, NumberedRule, NumberedToken, NumberedProduction}
 
 abbrev pub rule_at : {A : Type 0} → (NumberedRule → A) → Numbered → ℕ → Option A
 rule_at part g r = option_map part (slice_get g.rules r)

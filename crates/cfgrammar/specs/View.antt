@@ -2,9 +2,8 @@
 use Rattle.std.specs.Prelude.{ℕ, List, String, ◌∷◌, [], ◌++◌, map, None, option_map, string_bytes}
 use Rattle.std.specs.declared.alloc.Global.{Global}
 use Rattle.cfgbase.specs.declared.idxnewtype.PIdx.{PIdx}
-use Rattle.cfgbase.specs.declared.idxnewtype.Symbol.{Symbol}
-use Rattle.cfgbase.specs.declared.idxnewtype.Symbol.TheVariants as symbols
-use Rattle.cfgrammar.specs.Numbered.{Numbered, NumberedRule, NumberedToken, NumberedProduction, Sym, Rule, Token, file_token, end_token}
+use Rattle.cfganalysis.specs.Symbols.{sym_of}
+use Rattle.cfgrammar.specs.Numbered.{Numbered, NumberedRule, NumberedToken, NumberedProduction, file_token, end_token}
 use Rattle.cfgrammar.specs.Fits.{Fits}
 use Rattle.cfgrammar.specs.Numbering.{IsNumbering}
 use Rattle.cfgrammar.specs.declared.yacc.grammar.rows.RuleRow.{RuleRow}
@@ -14,10 +13,6 @@ use Rattle.cfgrammar.specs.declared.yacc.grammar.rows.TokenRow.{TokenRow}
 -- the names of the entries
 abbrev pub names : {V : Type 0} → List (String Global × V) → List (List ℕ)
 names entries = map (λ e. string_bytes e.0) entries
-
-abbrev pub sym : {S : Type 0} → (S → ℕ) → Symbol S → Sym
-sym number (symbols.Rule rule) = Rule (number rule.0)
-sym number (symbols.Token token) = Token (number token.0)
 
 abbrev pub rule_view : {S : Type 0} → (S → ℕ) → String Global × RuleRow S → NumberedRule
 rule_view number entry = record {
@@ -30,7 +25,7 @@ rule_view number entry = record {
 abbrev pub production_view : {S : Type 0} → (S → ℕ) → ProductionRow S → NumberedProduction
 production_view number row = record {
   rule = number row.rule.0;
-  symbols = map (sym number) row.symbols.items;
+  symbols = map (sym_of number) row.symbols.items;
   span = row.span;
   precedence = None;
   action = option_map string_bytes row.action;

@@ -1,3 +1,4 @@
+pub mod FirstLines
 pub mod Report
 pub mod Run
 pub mod Sinks

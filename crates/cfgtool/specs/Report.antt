@@ -17,9 +17,10 @@ use Rattle.cfgtool.specs.declared.engine.Outcome.TheVariants.{Done, Refused}
 use Rattle.cfgtool.specs.declared.engine.ReportFault.{ReportFault}
 use Rattle.cfgtool.specs.declared.engine.ReportFault.TheVariants as faults
 use Rattle.cfgtool.specs.declared.words.Command.{Command}
-use Rattle.cfgtool.specs.declared.words.Command.TheVariants.{Grammar}
+use Rattle.cfgtool.specs.declared.words.Command.TheVariants.{Grammar, Firsts}
 use Rattle.cfgtool.specs.declared.words.KindArg.{KindArg}
 use Rattle.cfgtool.specs.declared.words.KindArg.TheVariants.{Named}
+use Rattle.cfgtool.specs.FirstLines.{AreFirstLines}
 use Rattle.cfgtool.specs.Sinks.{AppendsBeginning}
 
 -- the kind that a text is read as
@@ -52,14 +53,15 @@ production_line g production = decimal production.0 ++ (codes " " ++ (production
 abbrev pub production_lines : Numbered → List ℕ
 production_lines g = flat_map (production_line g) (enumerate_from 0 g.productions)
 
--- what a command tells of a grammar
-abbrev pub command_lines : Command → Numbered → List ℕ
-command_lines Grammar g = production_lines g
+-- the lines that a command tells of a grammar
+abbrev pub AreLinesOf : Command → Numbered → List ℕ → Type 0
+AreLinesOf Grammar g lines = lines ≡ production_lines g
+AreLinesOf Firsts g lines = AreFirstLines g lines
 
 -- How a report of a text with these errors and this numbering ends, and its lines: the text is a grammar, and the
 -- command's lines are told, or it is refused, and its errors are.
 abbrev pub IsReport : Command → List ℕ → List GrammarError → Numbered → Outcome → List ℕ → Type 0
-IsReport command text errors g Done lines = (errors ≡ []) × Fits greatest g × (lines ≡ command_lines command g)
+IsReport command text errors g Done lines = (errors ≡ []) × Fits greatest g × AreLinesOf command g lines
 IsReport command text errors g Refused lines = (told : List GrammarError) × IsRefused greatest errors g told × (lines ≡ error_lines text told)
 
 -- What a report adds to the known bytes of its sink: the lines of how it ended; nothing where memory ended; where the

@@ -19,7 +19,7 @@ use Rattle.cfgtool.specs.declared.program.RunFault.TheVariants as why
 use Rattle.cfgtool.specs.declared.source.Input.{Input}
 use Rattle.cfgtool.specs.declared.source.Input.TheVariants as input
 use Rattle.cfgtool.specs.declared.words.Command.{Command}
-use Rattle.cfgtool.specs.declared.words.Command.TheVariants.{Grammar}
+use Rattle.cfgtool.specs.declared.words.Command.TheVariants.{Grammar, Firsts}
 use Rattle.cfgtool.specs.declared.words.KindArg.{KindArg}
 use Rattle.cfgtool.specs.declared.words.KindArg.TheVariants.{Named}
 use Rattle.cfgtool.specs.Report.{kind_read, Tells}
@@ -34,7 +34,10 @@ kind_named word =
 
 -- the command that a word names
 abbrev pub command_named : List ℕ → Option Command
-command_named word = if bytes_eq word (codes "grammar") then Some Grammar else None
+command_named word =
+    if bytes_eq word (codes "grammar") then Some Grammar
+    else if bytes_eq word (codes "firsts") then Some Firsts
+    else None
 
 -- how a run ends: with a report, or why there is none
 pub data Ending : Type 0 where

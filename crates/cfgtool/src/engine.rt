@@ -7,9 +7,10 @@ ghost use Rattle.cfgast.specs.Syntax.{syntax_of};
 ghost use Rattle.cfgsyntax.specs.Faults.{errors_of};
 ghost use Rattle.cfgsyntax.specs.Reads.{HasOneReading, Reads};
 ghost use Rattle.cfgrammar.specs.Numbered.{numbered};
-ghost use Rattle.cfgtool.specs.Report.{IsReport, Tells, faults_met, kind_read};
+ghost use Rattle.cfgtool.specs.Report.{AreLinesOf, IsReport, Tells, faults_met, kind_read};
 ghost use Rattle.cfgtool.specs.declared.engine.ReportFault.TheVariants as variants;
 
+use crate::first_lines::first_lines;
 use crate::lines::{error_lines, production_lines};
 use crate::sink::{Sink, SinkFault, write_whole};
 use crate::words::{Command, KindArg};
@@ -91,12 +92,24 @@ fn report_text(
         told.0 (string_bytes told.1)) }
 {
     match YaccGrammar::new(alloc, kind, text) {
-        Ok(grammar) => match command {
-            Command::Grammar => Ok((Outcome::Done, production_lines(alloc, &grammar)?)),
-        },
+        Ok(grammar) => Ok((Outcome::Done, command_lines(alloc, command, &grammar)?)),
         Err(YaccFault::Errors(errors)) => {
             Ok((Outcome::Refused, error_lines(alloc, text, &errors)?))
         }
         Err(YaccFault::OutOfMemory) => Err(AllocError),
+    }
+}
+
+/// The lines that a command tells of a grammar.
+fn command_lines(
+    alloc: Global,
+    command: Command,
+    grammar: &YaccGrammar<u32>,
+) -> Result<String, AllocError>
+    ensures { IfOk result (λ lines. AreLinesOf command grammar.now (string_bytes lines)) }
+{
+    match command {
+        Command::Grammar => production_lines(alloc, grammar),
+        Command::Firsts => first_lines(alloc, grammar, &grammar.firsts(alloc)?),
     }
 }

@@ -1,7 +1,8 @@
-//! The program `cfgtool`, as a library: a grammar's productions, or what is wrong with its text, as lines.
+//! The program `cfgtool`, as a library: what a grammar holds, or what is wrong with its text, as lines.
 #![tactic(auto)]
 
 pub mod engine;
+pub mod first_lines;
 pub mod lines;
 pub mod program;
 pub mod sink;

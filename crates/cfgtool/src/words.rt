@@ -28,6 +28,8 @@ impl KindArg {
 pub enum Command {
     /// Its productions.
     Grammar,
+    /// Its FIRST sets.
+    Firsts,
 }
 
 /// The kind that a word names, byte for byte.
@@ -49,6 +51,7 @@ pub fn command_of(word: &str) -> Option<Command>
 {
     match word {
         "grammar" => Some(Command::Grammar),
+        "firsts" => Some(Command::Firsts),
         _ => None,
     }
 }

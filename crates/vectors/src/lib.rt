@@ -1,4 +1,4 @@
-//! The worked rows of the documentation, each as a test, by the public calls alone.
+//! The worked rows of the documentation, each as a test, by the public calls of the library alone.
 #![tactic(auto)]
 
 #[cfg(test)]
@@ -11,12 +11,6 @@ mod errors;
 mod help;
 #[cfg(test)]
 mod limits;
-#[cfg(test)]
-mod lines;
-#[cfg(test)]
-mod program;
-#[cfg(test)]
-mod report;
 #[cfg(test)]
 mod syntax;
 #[cfg(test)]

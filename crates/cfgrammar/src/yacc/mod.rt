@@ -1,4 +1,5 @@
 //! Yacc files, and the grammars that they hold.
+pub mod firsts;
 pub mod grammar;
 
 pub use cfgsyntax::yacc::{

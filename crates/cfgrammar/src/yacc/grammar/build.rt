@@ -8,11 +8,12 @@ ghost use Rattle.cfgast.specs.Syntax.{Rule as SyntaxRule, Production as SyntaxPr
 ghost use Rattle.cfgast.specs.View.{syntax, symbol_view};
 ghost use Rattle.cfgsyntax.specs.Check.{is_rule, is_token, symbol_error};
 ghost use Rattle.cfgsyntax.specs.Sound.{IsSound};
-ghost use Rattle.cfgrammar.specs.Numbered.{rule_index, token_index, sym_of, rule_listing, start_rule, file_rule, start_production, file_production, file_token};
+ghost use Rattle.cfgrammar.specs.Numbered.{rule_index, token_index, file_symbol, rule_listing, start_rule, file_rule, start_production, file_production, file_token};
 ghost use Rattle.cfgrammar.specs.Fits.{LeavesRoom};
 ghost use Rattle.cfgrammar.specs.Owned.{Hands};
 ghost use Rattle.cfgrammar.specs.Resolved.{IsResolved, Resolves};
-ghost use Rattle.cfgrammar.specs.View.{names, sym, rule_view, production_view, token_view};
+ghost use Rattle.cfganalysis.specs.Symbols.{sym_of};
+ghost use Rattle.cfgrammar.specs.View.{names, rule_view, production_view, token_view};
 
 use super::rows::{ProductionRow, RuleRow, TokenRow};
 use super::stored::stored;
@@ -207,7 +208,7 @@ fn numbered_symbols<S: Storage>(
 ) -> Result<Vec<Symbol<S>>, AllocError>
     requires known { All (λ symbol. symbol_error (syntax ast.now) symbol ≡ None) (map symbol_view symbols.now) }
     requires room { LeavesRoom S.MAX (syntax ast.now) }
-    ensures { IfOk result (λ numbered. map (sym S.number) numbered.items ≡ map (sym_of (syntax ast.now)) (map symbol_view symbols.now)) }
+    ensures { IfOk result (λ numbered. map (sym_of S.number) numbered.items ≡ map (file_symbol (syntax ast.now)) (map symbol_view symbols.now)) }
 {
     let mut numbered = Vec::with_capacity(alloc, symbols.len())?;
     for symbol in symbols {
@@ -252,7 +253,7 @@ fn start_production_row<S: Storage>(
 fn numbered_symbol<S: Storage>(ast: &GrammarAST, symbol: &ast::Symbol) -> Symbol<S>
     requires known { symbol_error (syntax ast.now) (symbol_view symbol.now) ≡ None }
     requires room { LeavesRoom S.MAX (syntax ast.now) }
-    ensures { sym S.number result ≡ sym_of (syntax ast.now) (symbol_view symbol.now) }
+    ensures { sym_of S.number result ≡ file_symbol (syntax ast.now) (symbol_view symbol.now) }
 {
     match symbol {
         ast::Symbol::Rule(name, _) => Symbol::Rule(rule_of(ast, name.as_str())),

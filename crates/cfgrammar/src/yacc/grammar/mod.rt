@@ -1,5 +1,6 @@
 //! Grammars in numbers: rules, productions and tokens by their indices.
 
+mod analysed;
 mod build;
 mod fault;
 mod iter;
@@ -8,5 +9,6 @@ mod rows;
 mod stored;
 mod tables;
 
+pub use cfganalysis::{Counted, Productions, Tables};
 pub use iter::{PIdxIter, RIdxIter, TIdxIter};
 pub use tables::YaccGrammar;

@@ -4,6 +4,7 @@ ghost use Rattle.std.specs.Prelude.{◌≡◌, ◌+◌, ◌++◌, ◌<◌, List,
 ghost use Rattle.std.specs.List.{concat};
 ghost use Rattle.std.specs.Str.{bytes_eq};
 ghost use Rattle.std.specs.String.{string_bytes};
+ghost use Rattle.derivation.specs.Grammar.{Rule};
 ghost use Rattle.cfgwords.specs.declared.fault.Fault.{Fault};
 ghost use Rattle.cfgast.specs.Items.{Item};
 ghost use Rattle.cfgast.specs.Syntax.{syntax_of};
@@ -14,7 +15,8 @@ ghost use Rattle.cfgsyntax.specs.Sound.{IsSound};
 ghost use Rattle.cfgsyntax.specs.declared.yacc.kind.YaccKind.{YaccKind};
 ghost use Rattle.cfgrammar.specs.Answer.{IsAnswer};
 ghost use Rattle.cfgrammar.specs.Fits.{LeavesRoom};
-ghost use Rattle.cfgrammar.specs.Numbered.{Rule, numbered};
+ghost use Rattle.cfgrammar.specs.Numbered.{numbered};
+ghost use Rattle.cfgrammar.specs.Numbering.{IsNumbering};
 ghost use Rattle.cfgrammar.specs.Shown.{has_token_name, production_at, production_text, rule_at, sym_name, sym_text, token_at};
 
 use super::build;
@@ -126,7 +128,14 @@ impl<S: Storage> YaccGrammar<S> {
 
 #[tactic(auto, unfolding(crate::specs::View::tables))]
 impl<S: Storage> YaccGrammar<S> {
-    ghost use Rattle.cfgrammar.specs.View.{sym};
+    ghost use Rattle.cfganalysis.specs.Symbols.{sym_of};
+
+    /// A law, so the call does nothing: every grammar has the numbers of a syntax that was read without errors.
+    pub fn comes_from_syntax(&self)
+        ensures { IsNumbering self.now }
+    {
+        let _tables = &self.rules;
+    }
 
     /// How many productions there are.
     pub fn prods_len(&self) -> PIdx<S>
@@ -145,7 +154,7 @@ impl<S: Storage> YaccGrammar<S> {
     /// The symbols of a production.
     pub fn prod(&self, pidx: PIdx<S>) -> &[Symbol<S>]
         requires { S.number pidx.0 < length self.now.productions }
-        ensures { production_at (λ x. x.symbols) self.now (S.number pidx.0) ≡ Some (map (sym S.number) result.now) }
+        ensures { production_at (λ x. x.symbols) self.now (S.number pidx.0) ≡ Some (map (sym_of S.number) result.now) }
     {
         self.prods[usize::from(pidx)].symbols.as_slice()
     }
@@ -345,7 +354,7 @@ impl<S: Storage> YaccGrammar<S> {
     /// Adds symbols, each with a space and in double quotes.
     fn push_symbols(&self, text: &mut String, symbols: &[Symbol<S>]) -> Result<(), AllocError>
         ensures { OnOk result (string_bytes text.new
-            ≡ string_bytes text.old ++ concat (map (sym_text self.now) (map (sym S.number) symbols.now))) }
+            ≡ string_bytes text.old ++ concat (map (sym_text self.now) (map (sym_of S.number) symbols.now))) }
     {
         for symbol in symbols {
             self.push_symbol(text, *symbol)?;
@@ -355,7 +364,7 @@ impl<S: Storage> YaccGrammar<S> {
 
     /// Adds a space and the name of a symbol in double quotes.
     fn push_symbol(&self, text: &mut String, symbol: Symbol<S>) -> Result<(), AllocError>
-        ensures { OnOk result (string_bytes text.new ≡ string_bytes text.old ++ sym_text self.now (sym S.number symbol)) }
+        ensures { OnOk result (string_bytes text.new ≡ string_bytes text.old ++ sym_text self.now (sym_of S.number symbol)) }
     {
         text.push_str(" \"")?;
         text.push_str(self.symbol_name(symbol))?;
@@ -374,7 +383,7 @@ impl<S: Storage> YaccGrammar<S> {
 
     /// The name of a symbol of a production, empty for one that is not there.
     fn symbol_name(&self, symbol: Symbol<S>) -> &str
-        ensures { result.now ≡ sym_name self.now (sym S.number symbol) }
+        ensures { result.now ≡ sym_name self.now (sym_of S.number symbol) }
     {
         match symbol {
             Symbol::Rule(ridx) => self.name_at(ridx),

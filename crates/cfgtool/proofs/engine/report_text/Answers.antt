@@ -1,8 +1,7 @@
-use Rattle.std.proofs.Common.{All, sym, subst, ap, ◌∙◌}
+use Rattle.std.proofs.Common.{All, string_bytes, sym, subst, ap, ◌∙◌}
 use Rattle.cfgsyntax.proofs.ErrorPlaces.{IsErrorAt}
 use Rattle.cfgtool.proofs.Refusals.{told_placed}
-use Rattle.cfgtool.proofs.Told.{told_by}
-use Rattle.cfgtool.specs.Report.{greatest, production_lines, error_lines}
+use Rattle.cfgtool.specs.Report.{greatest, AreLinesOf, error_lines}
 use Rattle.cfgtool.proofs.engine.report_text.Goals as goal
 
 pub error_lines-requires : goal.error_lines-requires
@@ -13,11 +12,11 @@ error_lines-requires c =
     subst (All (IsErrorAt c.args.text.now)) (sym errors)
     (told_placed greatest c.args.kind c.args.text.now c.utf8.text one.items one.stop one.reads _ c.in-Err-Errors.errors.items refused)
 
-pub returns-in_ok-production_lines-in-Ok-clause-told : goal.returns-in_ok-production_lines-in-Ok-clause-told
-returns-in_ok-production_lines-in-Ok-clause-told c = λ items stop reads.
+pub returns-in_ok-command_lines-in-Ok-clause-told : goal.returns-in_ok-command_lines-in-Ok-clause-told
+returns-in_ok-command_lines-in-Ok-clause-told c = λ items stop reads.
     let answer = c.in-Ok.ensures.answer items stop reads in
-    let lines = c.in_ok-production_lines-in-Ok.ensures in
-    (answer.0, answer.1, lines ∙ ap production_lines answer.2 ∙ sym (told_by c.args.command _))
+    let told = c.in_ok-command_lines-in-Ok.ensures in
+    (answer.0, answer.1, subst (λ g. AreLinesOf c.args.command g (string_bytes c.in_ok-command_lines-in-Ok.field-0)) answer.2 told)
 
 pub returns-in_ok-error_lines-in-Err-Errors-clause-told : goal.returns-in_ok-error_lines-in-Err-Errors-clause-told
 returns-in_ok-error_lines-in-Err-Errors-clause-told c = λ items stop reads.

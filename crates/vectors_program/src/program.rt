@@ -1,6 +1,6 @@
 //! Rows on the program.
 
-use crate::help::Narrow;
+use crate::narrow::Narrow;
 use cfgtool::{Counted, Input, Source, run};
 use std::alloc::Global;
 use std::test::Fail;

@@ -1,9 +1,12 @@
 //! Rows on the report, over writers that take some bytes.
 
-use crate::help::{KIND, Narrow};
+use crate::narrow::Narrow;
+use cfgrammar::yacc::{YaccKind, YaccOriginalActionKind};
 use cfgtool::{Command, Counted, KindArg, Outcome, ReportFault, Sink, report};
 use std::alloc::Global;
 use std::test::Fail;
+
+const KIND: KindArg = KindArg::Named(YaccKind::Original(YaccOriginalActionKind::GenericParseTree));
 
 const ONE_RULE: &str = "%start R %token T %% R: 'T';";
 
@@ -12,13 +15,7 @@ const LINES: &str = "0 R: \"T\"\n1 ^: \"R\"\n";
 /// How the report of a text ends, and how many faults its writer then has.
 fn reported(alloc: Global, text: &str, writer: &mut Narrow) -> (Result<Outcome, ReportFault>, u64) {
     let mut out = Counted::new(writer);
-    let ended = report(
-        alloc,
-        KindArg::Named(KIND),
-        Command::Grammar,
-        text,
-        &mut out,
-    );
+    let ended = report(alloc, KIND, Command::Grammar, text, &mut out);
     (ended, out.faults())
 }
 

@@ -1,0 +1,44 @@
+use Rattle.std.proofs.Common.{◌≡◌, ◌+◌, ◌++◌, take, string_bytes, sym, ap, ◌∙◌, arith}
+use Rattle.std.specs.List.{flat_map, enumerate_from}
+use Rattle.std.proofs.lemmas.List.FromFn.{length-enumerate_from}
+use Rattle.cfganalysis.specs.Firsts.{epsilon_bit}
+use Rattle.cfganalysis.specs.Table.{bit}
+use Rattle.cfgrammar.specs.Counting.{Left}
+use Rattle.cfgrammar.proofs.Turns.{all_taken}
+use Rattle.cfgtool.specs.FirstLines.{first_line}
+use Rattle.cfgtool.proofs.Told.{one_more_shown}
+use Rattle.cfgtool.proofs.first_lines.first_lines.Goals as goal
+
+pub write_line-requires : goal.write_line-requires
+write_line-requires c =
+    let (number, inside, left) = c.in-Some.ensures.steps in
+    omega (arith, number, inside, c.loop-ridx.invariant.all)
+
+pub loop-ridx-preserved : goal.loop-ridx-preserved
+loop-ridx-preserved c =
+    let g = c.args.grammar.now in
+    let firsts = c.args.firsts.now in
+    let line = first_line g (bit firsts.firsts) (epsilon_bit firsts) in
+    let counted = enumerate_from 0 g.rules in
+    let before = c.loop-ridx.invariant in
+    let next = c.loop-ridx.ridx-iterator.next in
+    let (number, inside, left) = c.in-Some.ensures.steps in
+    let (text, shown, added) = c.in_ok-write_line.ensures in
+    let after : c.next.new.self.next ≡ next + 1 = ap (λ (l : Left). l.next) left in
+    let end : c.next.new.self.end ≡ c.loop-ridx.ridx-iterator.end = ap (λ (l : Left). l.end) left in
+    let here = rw number at shown in
+    record {
+      all = end ∙ before.all;
+      within = omega arith;
+      told = added ∙ ap (λ t. t ++ text) before.told
+          ∙ one_more_shown line g.rules next text here ∙ ap (λ k. flat_map line (take k counted)) (sym after);
+    }
+
+pub returns : goal.returns
+returns c =
+    let firsts = c.args.firsts.now in
+    let counted = enumerate_from 0 c.args.grammar.now.rules in
+    let before = c.loop-ridx.invariant in
+    let (over, _) = c.in-None.ensures.steps in
+    before.told ∙ ap (flat_map (first_line c.args.grammar.now (bit firsts.firsts) (epsilon_bit firsts)))
+    (all_taken counted c.loop-ridx.ridx-iterator.next (omega (arith, over, before.all, length-enumerate_from 0 c.args.grammar.now.rules)))

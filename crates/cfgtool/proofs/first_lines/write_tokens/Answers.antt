@@ -1,0 +1,56 @@
+use Rattle.std.proofs.Common.{◌≡◌, ◌+◌, ◌++◌, take, string_bytes, sym, ap, ◌∙◌, append_assoc, append-nil, arith}
+use Rattle.std.specs.List.{flat_map, enumerate_from}
+use Rattle.std.proofs.lemmas.List.FromFn.{length-enumerate_from}
+use Rattle.cfganalysis.specs.Table.{bit}
+use Rattle.cfgrammar.specs.Counting.{Left}
+use Rattle.cfgrammar.specs.Shown.{token_at}
+use Rattle.cfgrammar.proofs.Turns.{all_taken}
+use Rattle.cfgtool.specs.FirstLines.{token_word}
+use Rattle.cfgtool.proofs.Told.{one_more_shown}
+use Rattle.cfgtool.proofs.first_lines.write_tokens.Goals as goal
+
+pub loop-tidx-init : goal.loop-tidx-init
+loop-tidx-init c =
+    let begun = c.into_iter-tidx-iterator.ensures.into_iter_gives ∙ c.iter_tidxs-tidx-items.ensures in
+    let next : c.into_iter-tidx-iterator.result.next ≡ 0 = ap (λ (l : Left). l.next) begun in
+    record {
+      all = ap (λ (l : Left). l.end) begun;
+      within = omega (arith, next);
+      told = sym (append-nil (string_bytes c.args.lines.now)) ∙ ap (λ k. string_bytes c.args.lines.now
+          ++ flat_map (token_word (bit c.args.firsts.now.firsts c.args.ridx.0)) (take k (enumerate_from 0 c.args.grammar.now.tokens))) (sym next);
+    }
+
+pub write_token-requires : goal.write_token-requires
+write_token-requires c =
+    let (number, inside, left) = c.in-Some.ensures.steps in
+    omega (arith, number, inside, c.loop-tidx.invariant.all)
+
+pub loop-tidx-preserved : goal.loop-tidx-preserved
+loop-tidx-preserved c =
+    let g = c.args.grammar.now in
+    let word = token_word (bit c.args.firsts.now.firsts c.args.ridx.0) in
+    let counted = enumerate_from 0 g.tokens in
+    let before = c.loop-tidx.invariant in
+    let next = c.loop-tidx.tidx-iterator.next in
+    let (number, inside, left) = c.in-Some.ensures.steps in
+    let (text, shown, added) = c.in_ok-write_token.ensures in
+    let after : c.next.new.self.next ≡ next + 1 = ap (λ (l : Left). l.next) left in
+    let end : c.next.new.self.end ≡ c.loop-tidx.tidx-iterator.end = ap (λ (l : Left). l.end) left in
+    let here = rw number at shown in
+    record {
+      all = end ∙ before.all;
+      within = omega arith;
+      told = added
+          ∙ ap (λ t. t ++ text) before.told
+          ∙ append_assoc (string_bytes c.args.lines.now) (flat_map word (take next counted)) text
+          ∙ ap (λ t. string_bytes c.args.lines.now ++ t) (one_more_shown word g.tokens next text here ∙ ap (λ k. flat_map word (take k counted)) (sym after));
+    }
+
+pub returns : goal.returns
+returns c =
+    let counted = enumerate_from 0 c.args.grammar.now.tokens in
+    let word = token_word (bit c.args.firsts.now.firsts c.args.ridx.0) in
+    let before = c.loop-tidx.invariant in
+    let (over, _) = c.in-None.ensures.steps in
+    before.told ∙ ap (λ t. string_bytes c.args.lines.now ++ flat_map word t)
+    (all_taken counted c.loop-tidx.tidx-iterator.next (omega (arith, over, before.all, length-enumerate_from 0 c.args.grammar.now.tokens)))
