@@ -1,3 +1,5 @@
 pub mod Concatenation
 pub mod Firsts
 pub mod Follows
+pub mod Parts
+pub mod Trees

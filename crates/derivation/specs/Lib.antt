@@ -1,5 +1,7 @@
 pub mod Grammar
 pub mod Derivation
+pub mod Concatenation
+pub mod Tree
 pub mod Sentence
 pub mod First
 pub mod Follow

@@ -1,0 +1,12 @@
+-- What a concatenation derives.
+use Rattle.std.specs.Prelude.{◌≡◌, ℕ, List, ◌++◌}
+use Rattle.derivation.specs.Grammar.{Sym}
+use Rattle.derivation.specs.Derivation.{Derives}
+
+-- c is two parts: what a derives, and behind it what b derives
+pub record DerivedInParts (P : ℕ → List Sym → Type 0) (a b c : List Sym) : Type 0 where
+  pub front : List Sym
+  pub back : List Sym
+  pub whole : c ≡ front ++ back
+  pub first : Derives P a front
+  pub second : Derives P b back
