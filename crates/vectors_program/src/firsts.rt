@@ -4,7 +4,7 @@ use crate::narrow::Narrow;
 use cfgrammar::yacc::firsts::{YaccFirsts, firsts_over};
 use cfgrammar::yacc::grammar::Productions;
 use cfgrammar::yacc::{YaccGrammar, YaccKind, YaccOriginalActionKind};
-use cfgrammar::{RIdx, TIdx};
+use cfgrammar::{RIdx, Storage, TIdx};
 use cfgtool::{Command, Counted, KindArg, Outcome, report};
 use std::alloc::{AllocError, Global};
 use std::process::Abort;
@@ -71,12 +71,12 @@ fn no_sentence(rt: HostRuntime) -> Result<(), Fail> {
     )
 }
 
-/// What is in the sets, by their two calls: `1` for a token that is set and `0` for one that isn't, and for each rule
-/// whether it is empty.
-fn bits(
+/// What is in the sets, a line for each rule: `1` for a token that is set and `0` for one that isn't, and behind them the
+/// same of whether the rule is empty.
+fn bits<S: Storage>(
     alloc: Global,
-    grammar: &YaccGrammar<u32>,
-    firsts: &YaccFirsts<u32>,
+    grammar: &YaccGrammar<S>,
+    firsts: &YaccFirsts<S>,
 ) -> Result<String, AllocError> {
     let mut bits = String::new(alloc);
     for ridx in grammar.iter_rules() {
@@ -101,10 +101,27 @@ fn set_one_bit(rt: HostRuntime) -> Result<(), Fail> {
     assert!(rt; !firsts.set(RIdx(1), TIdx(1)));
     assert!(rt; firsts.set(RIdx(1), TIdx(1)));
     assert!(rt; firsts.is_set(RIdx(1), TIdx(1)));
+    assert_eq!(rt; firsts.firsts(RIdx(1)).get(1), Some(true));
     assert_eq!(rt;
         bits(rt.alloc(), &grammar, &firsts)?.as_str(),
         "10 0\n11 0\n"
     );
+    Ok(())
+}
+
+/// The sets of a text's grammar, whose indices are stored in `S`.
+fn stored_in<S: Storage>(alloc: Global, text: &str) -> Result<String, Fail> {
+    let grammar = YaccGrammar::<S>::new_with_storaget(alloc, KIND, text)?;
+    let firsts = grammar.firsts(alloc)?;
+    Ok(bits(alloc, &grammar, &firsts)?)
+}
+
+#[test]
+fn empty_tail_of_every_index_type(rt: HostRuntime) -> Result<(), Fail> {
+    let wanted = "0100 0\n0100 0\n0100 0\n0010 1\n";
+    assert_eq!(rt; stored_in::<u8>(rt.alloc(), EMPTY_TAIL)?.as_str(), wanted);
+    assert_eq!(rt; stored_in::<u16>(rt.alloc(), EMPTY_TAIL)?.as_str(), wanted);
+    assert_eq!(rt; stored_in::<u32>(rt.alloc(), EMPTY_TAIL)?.as_str(), wanted);
     Ok(())
 }
 
