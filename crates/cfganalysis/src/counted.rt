@@ -1,6 +1,6 @@
 //! Productions of borrowed tables, with counts of their own.
 
-ghost use Rattle.std.specs.Prelude.{◌≡◌, ◌<◌, length, map, replicate, IfOk};
+ghost use Rattle.std.specs.Prelude.{◌≡◌, ◌<◌, ◌≤◌, All, length, map, replicate, IfOk};
 ghost use Rattle.derivation.specs.Grammar.{Grammar, IsGrammar};
 ghost use Rattle.cfganalysis.specs.Openings.{production_at};
 ghost use Rattle.cfganalysis.specs.Symbols.{sym_of};
@@ -15,10 +15,11 @@ pub trait Tables<S: Storage> {
     // The grammar.
     ghost grammar: { Self → Grammar };
 
-    /// How many rules there are.
+    /// How many rules there are. The tables are those of a grammar that `S` counts, the symbols of each production too.
     fn rules_len(&self) -> RIdx<S>
         ensures value { S.number result.0 ≡ (grammar self.now).rules }
-        ensures content { IsGrammar (grammar self.now) };
+        ensures content { IsGrammar (grammar self.now) }
+        ensures fits { All (λ p. length p.symbols ≤ S.MAX) (grammar self.now).productions };
 
     /// How many tokens there are, with the end token.
     fn tokens_len(&self) -> TIdx<S>

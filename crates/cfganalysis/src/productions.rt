@@ -1,6 +1,6 @@
 //! What an analysis reads: the productions of a grammar, which are opened one by one.
 
-ghost use Rattle.std.specs.Prelude.{◌≡◌, ℕ, ◌-◌, ◌^◌, ◌<◌, length, map};
+ghost use Rattle.std.specs.Prelude.{◌≡◌, ℕ, ◌-◌, ◌^◌, ◌<◌, ◌≤◌, All, length, map};
 ghost use Rattle.std.specs.Borrow.{sem};
 ghost use Rattle.std.specs.Io.BufRead.{Rests};
 ghost use Rattle.derivation.specs.Grammar.{Grammar, IsGrammar};
@@ -20,10 +20,11 @@ pub trait Productions<S: Storage> {
     // How often productions were opened, all together.
     ghost opened_all: { Self → ℕ };
 
-    /// How many rules there are.
+    /// How many rules there are. The content is a grammar that `S` counts, the symbols of each production too.
     fn rules_len(&self) -> RIdx<S>
         ensures value { S.number result.0 ≡ (content self.now).rules }
-        ensures content { IsGrammar (content self.now) };
+        ensures content { IsGrammar (content self.now) }
+        ensures fits { All (λ p. length p.symbols ≤ S.MAX) (content self.now).productions };
 
     /// How many tokens there are, with the end token.
     fn tokens_len(&self) -> TIdx<S>

@@ -10,7 +10,7 @@ use Rattle.std.proofs.lemmas.Simd.{map-map}
 use Rattle.std.proofs.lemmas.Slice.Zip.{firsts-zip}
 use Rattle.cfgbase.specs.declared.span.Span.{Span}
 use Rattle.cfgwords.specs.Words.{Word}
-use Rattle.derivation.specs.Grammar.{Rule, IsGrammar, IsSymbolOf}
+use Rattle.derivation.specs.Grammar.{Rule, IsSymbolOf}
 use Rattle.cfgast.specs.Syntax as file
 use Rattle.cfgast.specs.Syntax.{Syntax, Production, Symbol, RuleSymbol, TokenSymbol}
 use Rattle.cfgast.proofs.Lists.{found-position}

@@ -17,7 +17,8 @@ use Rattle.cfgsyntax.specs.declared.yacc.kind.YaccKind.{YaccKind}
 use Rattle.cfgsyntax.specs.Errors.{ErrorKind, GrammarError, NoStartRule, InvalidStartRule, UnknownRuleRef, UnknownToken}
 use Rattle.cfgsyntax.specs.Check.{is_rule, is_token, error_at, or_else, first_error, error_there, start_error, symbol_error, production_error, place_error, rule_error, check_of}
 use Rattle.cfgsyntax.specs.Faults.{error_of, errors_of}
-use Rattle.cfgsyntax.specs.Places.{IsPiece, word_in, IsWordAt, IsProductionAt, AreAtPlaces}
+use Rattle.cfgast.specs.View.{symbol_word}
+use Rattle.cfgsyntax.specs.Places.{IsPiece, IsWordAt, IsProductionAt, AreAtPlaces}
 use Rattle.cfgsyntax.specs.Reads.{Reads}
 use Rattle.cfgsyntax.proofs.Kept.{file_kept}
 use Rattle.cfgsyntax.proofs.PlacesRead.{IsItemAt, IsReached, places_kept}
@@ -60,7 +61,7 @@ module _ (text : List ℕ) where
       one_span NoStartRule (record { start = 0; end = 0 }) (record { ordered = omega arith; begins_at = first; ends_at = first })
   start_error_at utf8 s (Some word) h = unless_known (is_rule s word.name) (InvalidStartRule word.name) word.span h
 
-  symbol_error_at : (s : Syntax) (symbol : Symbol) → IsWordAt text (word_in symbol) → IfSome (symbol_error s symbol) (IsErrorAt text)
+  symbol_error_at : (s : Syntax) (symbol : Symbol) → IsWordAt text (symbol_word symbol) → IfSome (symbol_error s symbol) (IsErrorAt text)
   symbol_error_at s (RuleSymbol word) h = unless_known (is_rule s word.name) (UnknownRuleRef word.name) word.span h
   symbol_error_at s (TokenSymbol word) h = unless_known (is_token s word.name) (UnknownToken word.name) word.span h
 

@@ -7,7 +7,8 @@ use Rattle.cfgwords.specs.Words.{Word, Token, word_of}
 use Rattle.cfgast.specs.Items.{Item, TokenDeclared, StartDeclared, RuleNamed, TokenQuoted, Alternative}
 use Rattle.cfgast.specs.Syntax.{RuleSymbol, TokenSymbol, with_fronts, is_named, token_named, token_declared, start_named, rule_named, symbol_behind, alternative, alternatives, token_words, rule_words, rule_of, syntax_of}
 use Rattle.cfgast.proofs.Keeps.{All-with_fronts, All-filter_map, All-firsts}
-use Rattle.cfgsyntax.specs.Places.{IsPiece, word_in, IsWordAt, IsProductionAt, AreAtPlaces}
+use Rattle.cfgast.specs.View.{symbol_word}
+use Rattle.cfgsyntax.specs.Places.{IsPiece, IsWordAt, IsProductionAt, AreAtPlaces}
 use Rattle.cfgsyntax.proofs.PlacesRead.{IsItemAt}
 
 -- of an element that is there
@@ -40,10 +41,10 @@ module _ (whole : List ℕ) where
   rule_at (TokenQuoted word) h = tt
   rule_at (Alternative rule symbols span) h = h.0
 
-  symbol_at : (front : List Item) (token : Token) → IsWordAt whole (word_of token) → IsWordAt whole (word_in (symbol_behind front token))
+  symbol_at : (front : List Item) (token : Token) → IsWordAt whole (word_of token) → IsWordAt whole (symbol_word (symbol_behind front token))
   symbol_at front token h = go (token.quoted || is_named token.name (filter_map token_declared front))
     where
-      go : (b : Bool) → IsWordAt whole (word_in (if b then TokenSymbol (word_of token) else RuleSymbol (word_of token)))
+      go : (b : Bool) → IsWordAt whole (symbol_word (if b then TokenSymbol (word_of token) else RuleSymbol (word_of token)))
       go true = h
       go false = h
 
@@ -54,8 +55,8 @@ module _ (whole : List ℕ) where
   alternative_at front (TokenQuoted word) h = tt
   alternative_at front (Alternative rule symbols span) h = record {
     itself = h.2;
-    symbols = All-map (λ symbol. IsWordAt whole (word_in symbol)) (symbol_behind front) symbols
-        (All-weaker (λ token. IsWordAt whole (word_of token)) (λ token. IsWordAt whole (word_in (symbol_behind front token))) (symbol_at front) symbols h.1);
+    symbols = All-map (λ symbol. IsWordAt whole (symbol_word symbol)) (symbol_behind front) symbols
+        (All-weaker (λ token. IsWordAt whole (word_of token)) (λ token. IsWordAt whole (symbol_word (symbol_behind front token))) (symbol_at front) symbols h.1);
     action = tt;
   }
 

@@ -4,24 +4,20 @@ use Rattle.std.specs.Prelude.{ℕ, ◌≤◌, List, All, IfSome}
 use Rattle.std.specs.Str.{IsCharBoundary}
 use Rattle.cfgbase.specs.declared.span.Span.{Span}
 use Rattle.cfgwords.specs.Words.{Word}
-use Rattle.cfgast.specs.Syntax.{Symbol, RuleSymbol, TokenSymbol, Production, Syntax}
+use Rattle.cfgast.specs.Syntax.{Production, Syntax}
+use Rattle.cfgast.specs.View.{symbol_word}
 
 pub record IsPiece (text : List ℕ) (span : Span) : Type 0 where
   pub ordered : span.start ≤ span.end
   pub begins_at : IsCharBoundary text span.start
   pub ends_at : IsCharBoundary text span.end
 
--- what a symbol names, with its span
-abbrev pub word_in : Symbol → Word
-word_in (RuleSymbol word) = word
-word_in (TokenSymbol word) = word
-
 abbrev pub IsWordAt : List ℕ → Word → Type 0
 IsWordAt text word = IsPiece text word.span
 
 pub record IsProductionAt (text : List ℕ) (production : Production) : Type 0 where
   pub itself : IsPiece text production.span
-  pub symbols : All (λ symbol. IsWordAt text (word_in symbol)) production.symbols
+  pub symbols : All (λ symbol. IsWordAt text (symbol_word symbol)) production.symbols
   pub action : IfSome production.action (λ action. IsPiece text action.1)
 
 -- each span of a syntax

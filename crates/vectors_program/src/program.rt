@@ -37,9 +37,9 @@ fn told(alloc: Global, args: &[&str], input: Input) -> Result<String, Fail> {
     told_in(alloc, args, input, usize::MAX)
 }
 
-fn told_of_text(alloc: Global, text: &str) -> Result<String, Fail> {
+fn told_of_text(alloc: Global, command: &str, text: &str) -> Result<String, Fail> {
     let bytes = text.as_bytes().to_vec(alloc)?;
-    let args = ["original-genericparsetree", "grammar", "-"];
+    let args = ["original-genericparsetree", command, "-"];
     told(alloc, &args, Input::Bytes(bytes))
 }
 
@@ -64,7 +64,29 @@ fn productions_and_errors(rt: HostRuntime) -> Result<(), Fail> {
     ];
     for (text, lines) in rows {
         assert_eq!(rt;
-            told_of_text(rt.alloc(), text)?.as_str(),
+            told_of_text(rt.alloc(), "grammar", text)?.as_str(),
+            lines,
+            "of {text}"
+        );
+    }
+    Ok(())
+}
+
+#[test]
+fn first_sets_and_errors(rt: HostRuntime) -> Result<(), Fail> {
+    let rows = [
+        (
+            "%start A %% A: 'x' | ;",
+            "0\n^: \"x\" %empty\nA: \"x\" %empty\n",
+        ),
+        (
+            "%start A %% A: C;",
+            "1\n1:16: Unknown reference to rule 'C'\n",
+        ),
+    ];
+    for (text, lines) in rows {
+        assert_eq!(rt;
+            told_of_text(rt.alloc(), "firsts", text)?.as_str(),
             lines,
             "of {text}"
         );

@@ -14,7 +14,7 @@ ghost use Rattle.cfgsyntax.specs.Reads.{Reads, HasOneReading};
 ghost use Rattle.cfgsyntax.specs.Sound.{IsSound};
 ghost use Rattle.cfgsyntax.specs.declared.yacc.kind.YaccKind.{YaccKind};
 ghost use Rattle.cfgrammar.specs.Answer.{IsAnswer};
-ghost use Rattle.cfgrammar.specs.Fits.{LeavesRoom};
+ghost use Rattle.cfgrammar.specs.Fits.{Fits, LeavesRoom};
 ghost use Rattle.cfgrammar.specs.Numbered.{numbered};
 ghost use Rattle.cfgrammar.specs.Numbering.{IsNumbering};
 ghost use Rattle.cfgrammar.specs.Shown.{has_token_name, production_at, production_text, rule_at, sym_name, sym_text, token_at};
@@ -130,9 +130,11 @@ impl<S: Storage> YaccGrammar<S> {
 impl<S: Storage> YaccGrammar<S> {
     ghost use Rattle.cfganalysis.specs.Symbols.{sym_of};
 
-    /// A law, so the call does nothing: every grammar has the numbers of a syntax that was read without errors.
+    /// A law, so the call does nothing: every grammar has the numbers of a syntax that was read without errors, and `S`
+    /// counts it.
     pub fn comes_from_syntax(&self)
-        ensures { IsNumbering self.now }
+        ensures numbering { IsNumbering self.now }
+        ensures fits { Fits S.MAX self.now }
     {
         let _tables = &self.rules;
     }
