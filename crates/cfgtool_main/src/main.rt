@@ -31,15 +31,47 @@ impl Source for System<'_> {
     }
 }
 
-fn main(rt: HostRuntime) -> io::Result<ExitCode> {
-    let words: Vec<String> = env::args(&rt)?.skip(1).collect(rt.alloc())?;
-    let args: Vec<&str> = words.iter().map(|word| word.as_str()).collect(rt.alloc())?;
-    let status = run(
+/// A source that has no memory left.
+#[derive(Clone, Copy)]
+struct NoMemory;
+
+impl Source for NoMemory {
+    fn fetch(&mut self, _name: &str) -> Input {
+        Input::OutOfMemory
+    }
+}
+
+/// Runs the program over the streams of the system, and answers its status.
+fn run_on<S: Source>(rt: &HostRuntime, args: &[&str], source: &mut S) -> u8 {
+    run(
         rt.alloc(),
-        &args,
-        &mut System { rt: &rt },
+        args,
+        source,
         &mut Counted::new(rt.stdout()),
         &mut Counted::new(rt.stderr()),
-    );
-    Ok(ExitCode::from(status))
+    )
+}
+
+/// Runs the program on its words.
+///
+/// # Errors
+///
+/// A word that is not UTF-8, and want of memory for the words.
+fn run_on_words(rt: &HostRuntime) -> io::Result<u8> {
+    let words: Vec<String> = env::args(rt)?.skip(1).collect(rt.alloc())?;
+    let args: Vec<&str> = words.iter().map(|word| word.as_str()).collect(rt.alloc())?;
+    Ok(run_on(rt, &args, &mut System { rt }))
+}
+
+/// The program. Where there is no memory for its words, it ends as where there is none for its file; a word that is not
+/// UTF-8 is wrong usage.
+fn main(rt: HostRuntime) -> ExitCode {
+    let status = match run_on_words(&rt) {
+        Ok(status) => status,
+        Err(error) if error.kind() == io::ErrorKind::OutOfMemory => {
+            run_on(&rt, &["original-noaction", "grammar", "-"], &mut NoMemory)
+        }
+        Err(_) => run_on(&rt, &[], &mut NoMemory),
+    };
+    ExitCode::from(status)
 }
