@@ -11,6 +11,3 @@ pub use builder::{AstBuilder, built_is_syntax, syntax_is_well_formed};
 pub use production::Production;
 pub use rule::Rule;
 pub use symbol::Symbol;
-
-#[cfg(test)]
-mod tests;

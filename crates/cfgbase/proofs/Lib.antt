@@ -1,4 +1,3 @@
-pub mod Faithful
 pub mod Newlines
 pub mod LineEnds
 pub mod LastLine

@@ -130,30 +130,3 @@ pub enum Symbol<S> {
     /// A token.
     Token(TIdx<S>),
 }
-
-#[cfg(test)]
-mod tests {
-    use super::*;
-
-    #[test]
-    fn indices_tell_their_numbers(rt: HostRuntime) {
-        assert_eq!(rt; RIdx(3u8).as_storaget(), 3);
-        assert_eq!(rt; PIdx(4u16).as_storaget(), 4);
-        assert_eq!(rt; SIdx(5u32).as_storaget(), 5);
-        assert_eq!(rt; TIdx(6u8).as_storaget(), 6);
-        assert_eq!(rt; usize::from(RIdx(u8::MAX)), 255);
-        assert_eq!(rt; usize::from(PIdx(u16::MAX)), 65535);
-        assert_eq!(rt; usize::from(SIdx(u32::MAX)), 4294967295);
-        assert_eq!(rt; usize::from(TIdx(0u8)), 0);
-        assert_eq!(rt; u32::from(RIdx(u8::MAX)), 255);
-        assert_eq!(rt; u32::from(PIdx(u16::MAX)), 65535);
-        assert_eq!(rt; u32::from(SIdx(u32::MAX)), 4294967295);
-        assert_eq!(rt; u32::from(TIdx(0u8)), 0);
-    }
-
-    #[test]
-    fn a_rule_is_no_token(rt: HostRuntime) {
-        assert_ne!(rt; Symbol::Rule(RIdx(1u8)), Symbol::Token(TIdx(1u8)));
-        assert_eq!(rt; Symbol::Token(TIdx(1u8)), Symbol::Token(TIdx(1u8)));
-    }
-}

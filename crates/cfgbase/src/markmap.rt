@@ -12,8 +12,6 @@ mod lists;
 mod marked;
 mod marking;
 mod merge;
-#[cfg(test)]
-mod tests;
 
 pub use behavior::MergeBehavior;
 pub use entry::{Entry, OccupiedEntry, VacantEntry};

@@ -93,27 +93,3 @@ pub trait Spanned: Display {
     fn spanskind(&self) -> SpansKind
         ensures { result ≡ spanskind self.now };
 }
-
-#[cfg(test)]
-mod tests {
-    use super::*;
-    use std::test::Fail;
-
-    #[test]
-    fn spans_tell_their_bytes(rt: HostRuntime) {
-        let span = Span::new(3, 5);
-        assert_eq!(rt;
-            (span.start(), span.end(), span.len(), span.is_empty()),
-            (3, 5, 2, false)
-        );
-        assert!(rt; Span::new(5, 5).is_empty());
-    }
-
-    #[test]
-    fn a_location_is_cloned(rt: HostRuntime) -> Result<(), Fail> {
-        let elsewhere = Location::Other(String::from_str(rt.alloc(), "a build script")?);
-        assert_eq!(rt; elsewhere.clone()?, elsewhere);
-        assert_ne!(rt; Location::from(Span::new(0, 1)), Location::CommandLine);
-        Ok(())
-    }
-}

@@ -90,22 +90,3 @@ impl Storage for u32 {
         u32::try_from(n).ok()
     }
 }
-
-#[cfg(test)]
-mod tests {
-    use super::*;
-
-    fn stored<S: Storage>(n: usize) -> Option<usize> {
-        S::from_usize(n).map(|x| x.to_usize())
-    }
-
-    #[test]
-    fn stores_numbers_up_to_the_greatest(rt: HostRuntime) {
-        assert_eq!(rt; stored::<u8>(255), Some(255));
-        assert_eq!(rt; stored::<u8>(256), None);
-        assert_eq!(rt; stored::<u16>(65535), Some(65535));
-        assert_eq!(rt; stored::<u16>(65536), None);
-        assert_eq!(rt; stored::<u32>(4294967295), Some(4294967295));
-        assert_eq!(rt; stored::<u32>(4294967296), None);
-    }
-}

@@ -91,31 +91,3 @@ impl PartialEq for Vob {
 impl Eq for Vob {
     ghost laws = { lists_equiv bool_eq_equiv };
 }
-
-#[cfg(test)]
-mod tests {
-    use super::*;
-    use std::test::Fail;
-
-    #[test]
-    fn bits_turn_on(rt: HostRuntime) -> Result<(), Fail> {
-        let mut bits = Vob::from_elem(rt.alloc(), false, 65)?;
-        assert_eq!(rt; bits.len(), 65);
-        assert!(rt; bits.set(64, true));
-        assert!(rt; !bits.set(64, true));
-        assert_eq!(rt; bits.get(64), Some(true));
-        assert_eq!(rt; bits.get(65), None);
-        Ok(())
-    }
-
-    #[test]
-    fn lists_of_bits_join(rt: HostRuntime) -> Result<(), Fail> {
-        let mut bits = Vob::from_elem(rt.alloc(), false, 65)?;
-        let same = Vob::from_elem(rt.alloc(), false, 65)?;
-        let all = Vob::from_elem(rt.alloc(), true, 65)?;
-        assert!(rt; !bits.or(&same));
-        assert!(rt; bits.or(&all));
-        assert_eq!(rt; bits, all);
-        Ok(())
-    }
-}

@@ -92,36 +92,3 @@ impl<'a> Front<'a> {
         }
     }
 }
-
-#[cfg(test)]
-mod tests {
-    use super::*;
-
-    #[test]
-    fn passes_parts(rt: HostRuntime) {
-        for (text, rest) in [
-            ("\t a", Some(" a")),
-            ("\r\na", Some("\na")),
-            ("// a */ é\r\nb", Some("\nb")),
-            ("//", Some("")),
-            ("/*/\n*/*/", Some("*/")),
-            ("/ a", None),
-            ("", None),
-        ] {
-            assert_eq!(rt; Front::of(text).part(true), Ok(rest), "at {text}");
-        }
-    }
-
-    #[test]
-    fn refuses_line_ends_and_open_comments(rt: HostRuntime) {
-        for (text, lines, kind) in [
-            ("\na", false, FaultKind::ReachedEOL),
-            ("/*\n*/", false, FaultKind::ReachedEOL),
-            ("/*\r", false, FaultKind::ReachedEOL),
-            ("/*/", false, FaultKind::IncompleteComment),
-            ("/*\n", true, FaultKind::IncompleteComment),
-        ] {
-            assert_eq!(rt; Front::of(text).part(lines), Err(kind), "at {text}");
-        }
-    }
-}

@@ -20,27 +20,3 @@ pub fn split_at_first<'a>(text: &'a str, needle: &str) -> Option<(&'a str, &'a s
 {
     text.split_once(needle)
 }
-
-#[cfg(test)]
-mod tests {
-    use super::*;
-
-    #[test]
-    fn strips_a_word(rt: HostRuntime) {
-        assert_eq!(rt; after_word("%token A", "%token"), Some(" A"));
-        assert_eq!(rt; after_word("%%", "%%"), Some(""));
-        assert_eq!(rt; after_word("%tok", "%token"), None);
-        assert_eq!(rt; after_word(" %token", "%token"), None);
-    }
-
-    #[test]
-    fn splits_at_the_first_needle(rt: HostRuntime) {
-        assert_eq!(rt;
-            split_at_first(" one */ two */", "*/"),
-            Some((" one ", " two */"))
-        );
-        assert_eq!(rt; split_at_first("**//", "*/"), Some(("*", "/")));
-        assert_eq!(rt; split_at_first("* /", "*/"), None);
-        assert_eq!(rt; split_at_first("é*/", "*/"), Some(("é", "")));
-    }
-}

@@ -10,9 +10,6 @@ use std::error::Error;
 use std::fmt;
 use std::marker::Model;
 
-#[cfg(test)]
-mod tests;
-
 /// What is wrong with a Yacc file.
 ///
 /// Of the declarations `%token`, `%start`, `%left`, `%right`, `%nonassoc` and `%prec` are those of POSIX

@@ -9,9 +9,6 @@ use std::alloc::AllocError;
 use std::fmt;
 use std::marker::Model;
 
-#[cfg(test)]
-mod tests;
-
 /// What is odd about a grammar that is right.
 #[derive(Clone, Debug, Drop, PartialEq, Eq)]
 pub enum YaccGrammarWarningKind {
