@@ -1,7 +1,7 @@
 -- The symbols of productions, in numbers.
 use Rattle.std.specs.Prelude.{ℕ}
-use Rattle.cfgbase.specs.declared.idxnewtype.Symbol.{Symbol}
-use Rattle.cfgbase.specs.declared.idxnewtype.Symbol.TheVariants as symbols
+use Rattle.cfgindex.specs.declared.idxnewtype.Symbol.{Symbol}
+use Rattle.cfgindex.specs.declared.idxnewtype.Symbol.TheVariants as symbols
 use Rattle.derivation.specs.Grammar.{Sym, Rule, Token}
 
 abbrev pub sym_of : {S : Type 0} → (S → ℕ) → Symbol S → Sym

@@ -3,7 +3,7 @@
 ghost use Rattle.std.specs.Prelude.{◌≡◌, ◌<◌, false, true, length, IfOk, MatchBool};
 ghost use Rattle.cfganalysis.specs.Table.{bit, blank, row_of, with_bit};
 
-use cfgbase::Vob;
+use cfgindex::Vob;
 use std::alloc::{AllocError, Global};
 use std::marker::Model;
 

@@ -6,7 +6,7 @@ ghost use Rattle.cfganalysis.specs.Openings.{production_at};
 ghost use Rattle.cfganalysis.specs.Symbols.{sym_of};
 
 use crate::productions::Productions;
-use cfgbase::{PIdx, RIdx, Storage, Symbol, TIdx};
+use cfgindex::{PIdx, RIdx, Storage, Symbol, TIdx};
 use std::alloc::{AllocError, Global};
 use std::marker::Model;
 

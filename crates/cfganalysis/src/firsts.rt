@@ -12,7 +12,7 @@ use crate::bits::BitTable;
 use crate::counted::{Counted, Tables};
 use crate::productions::Productions;
 use crate::rounds::{Analysis, settle};
-use cfgbase::{RIdx, Storage, Symbol, TIdx, Vob};
+use cfgindex::{RIdx, Storage, Symbol, TIdx, Vob};
 use std::alloc::{AllocError, Global};
 use std::marker::{Model, PhantomData};
 

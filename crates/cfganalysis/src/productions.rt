@@ -7,7 +7,7 @@ ghost use Rattle.derivation.specs.Grammar.{Grammar, IsGrammar};
 ghost use Rattle.cfganalysis.specs.Openings.{production_at, OpensOne};
 ghost use Rattle.cfganalysis.specs.Symbols.{sym_of};
 
-use cfgbase::{PIdx, RIdx, Storage, Symbol, TIdx};
+use cfgindex::{PIdx, RIdx, Storage, Symbol, TIdx};
 
 /// The productions of a grammar. Their symbols are reached by [`open`](Productions::open) alone, which counts.
 pub trait Productions<S: Storage> {

@@ -7,7 +7,7 @@ ghost use Rattle.cfganalysis.specs.Rounds.{IsSettled, OpensEach, Sweeps, TakesIn
 ghost use Rattle.cfganalysis.specs.Symbols.{sym_of};
 
 use crate::productions::Productions;
-use cfgbase::{PIdx, RIdx, Storage, Symbol};
+use cfgindex::{PIdx, RIdx, Storage, Symbol};
 
 /// Sets of tokens that grow by what productions give.
 pub trait Analysis<S: Storage> {

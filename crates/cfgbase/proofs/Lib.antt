@@ -6,4 +6,3 @@ pub mod MarkEntries
 pub mod MarkLists
 pub mod MergeSteps
 pub mod StoredKeys
-pub mod Bits

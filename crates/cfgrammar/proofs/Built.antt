@@ -1,7 +1,7 @@
 -- The tables of a valid syntax, and what a constructor answers.
 use Rattle.std.proofs.Common.{◌≡◌, ℕ, List, [], ◌∷◌, ◌++◌, length, map, None, Err, String, Global, refl, sym, subst}
 use Rattle.std.specs.List.{zip, enumerate_from}
-use Rattle.cfgbase.specs.declared.idxnewtype.PIdx.{PIdx}
+use Rattle.cfgindex.specs.declared.idxnewtype.PIdx.{PIdx}
 use Rattle.cfgast.specs.Syntax.{Syntax}
 use Rattle.cfgsyntax.specs.Errors.{GrammarError}
 use Rattle.cfgsyntax.specs.Sound.{IsSound}

@@ -6,7 +6,7 @@ use Rattle.std.proofs.lemmas.Bool.Decides.{nat_tests}
 use Rattle.std.proofs.lemmas.List.Folds.{list_any_at}
 use Rattle.std.proofs.lemmas.List.Sums.{prefix_len_stops}
 use Rattle.std.proofs.lemmas.Option.{slice_get-get_or}
-use Rattle.cfgbase.specs.declared.idxnewtype.RIdx.{RIdx}
+use Rattle.cfgindex.specs.declared.idxnewtype.RIdx.{RIdx}
 use Rattle.cfgast.specs.Syntax.{Syntax, Rule, Production}
 use Rattle.cfgast.specs.WellFormed.{IsWellFormed, times}
 use Rattle.cfgast.proofs.Lists.{found-position}

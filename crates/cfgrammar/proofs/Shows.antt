@@ -3,7 +3,7 @@ use Rattle.std.proofs.Common.{◌≡◌, ℕ, zero, suc, ◌<◌, ◌≤◌, Lis
 use Rattle.std.specs.Map.{values_of}
 use Rattle.std.proofs.lemmas.List.{get_or-map, length-map}
 use Rattle.std.proofs.lemmas.Option.{slice_get-get_or}
-use Rattle.cfgbase.specs.declared.idxnewtype.PIdx.{PIdx}
+use Rattle.cfgindex.specs.declared.idxnewtype.PIdx.{PIdx}
 use Rattle.cfgrammar.specs.Numbered.{Numbered, NumberedRule, NumberedProduction}
 use Rattle.cfgrammar.specs.Fits.{Fits}
 use Rattle.cfgrammar.specs.Shown.{rule_at, production_at}

@@ -1,7 +1,7 @@
 -- What the tables of the code show, as plain data. An index type shows the number that each of its values stores.
 use Rattle.std.specs.Prelude.{ℕ, List, String, ◌∷◌, [], ◌++◌, map, None, option_map, string_bytes}
 use Rattle.std.specs.declared.alloc.Global.{Global}
-use Rattle.cfgbase.specs.declared.idxnewtype.PIdx.{PIdx}
+use Rattle.cfgindex.specs.declared.idxnewtype.PIdx.{PIdx}
 use Rattle.cfganalysis.specs.Symbols.{sym_of}
 use Rattle.cfgrammar.specs.Numbered.{Numbered, NumberedRule, NumberedToken, NumberedProduction, file_token, end_token}
 use Rattle.cfgrammar.specs.Fits.{Fits}

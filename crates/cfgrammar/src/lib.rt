@@ -4,6 +4,6 @@
 pub mod yacc;
 
 pub use cfgbase::{
-    FeedError, Location, NewlineCache, PIdx, RIdx, SIdx, Span, Spanned, SpansKind, Storage, Symbol,
-    TIdx, Vob, idxnewtype, markmap, newlinecache, span, storage,
+    FeedError, Location, NewlineCache, Span, Spanned, SpansKind, markmap, newlinecache, span,
 };
+pub use cfgindex::{PIdx, RIdx, SIdx, Storage, Symbol, TIdx, Vob, idxnewtype, storage};

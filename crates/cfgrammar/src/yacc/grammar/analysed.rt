@@ -6,7 +6,7 @@ ghost use Rattle.cfgrammar.specs.Numbered.{core};
 
 use super::tables::YaccGrammar;
 use cfganalysis::{Counted, Tables, YaccFirsts};
-use cfgbase::{PIdx, RIdx, Storage, Symbol, TIdx};
+use cfgindex::{PIdx, RIdx, Storage, Symbol, TIdx};
 use std::alloc::{AllocError, Global};
 
 impl<S: Storage> Tables<S> for YaccGrammar<S> {

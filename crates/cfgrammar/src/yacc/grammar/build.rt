@@ -17,7 +17,8 @@ ghost use Rattle.cfgrammar.specs.View.{names, rule_view, production_view, token_
 
 use super::rows::{ProductionRow, RuleRow, TokenRow};
 use super::stored::stored;
-use cfgbase::{PIdx, RIdx, Span, Storage, Symbol, TIdx};
+use cfgbase::Span;
+use cfgindex::{PIdx, RIdx, Storage, Symbol, TIdx};
 use cfgsyntax::yacc::ast;
 use cfgsyntax::yacc::ast::{GrammarAST, Production, Rule};
 use indexmap::IndexMap;

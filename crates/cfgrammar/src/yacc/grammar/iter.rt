@@ -4,7 +4,7 @@ ghost use Rattle.std.specs.Prelude.{◌≡◌, ◌-◌, ◌≤◌};
 ghost use Rattle.std.specs.Iterator.{at_most};
 ghost use Rattle.cfgrammar.specs.Counting.{CountsUp};
 
-use cfgbase::{PIdx, RIdx, Storage, TIdx};
+use cfgindex::{PIdx, RIdx, Storage, TIdx};
 use std::marker::{Model, PhantomData};
 
 /// The numbers from `next` up to, and not including, `end`, as indices store them.

@@ -1,6 +1,7 @@
 //! The rows of a grammar's tables.
 
-use cfgbase::{PIdx, RIdx, Span, Symbol};
+use cfgbase::Span;
+use cfgindex::{PIdx, RIdx, Symbol};
 
 /// A rule, which stands under its name.
 #[derive(Drop)]

@@ -2,7 +2,7 @@
 
 ghost use Rattle.std.specs.Prelude.{◌≡◌, ◌≤◌};
 
-use cfgbase::Storage;
+use cfgindex::Storage;
 
 /// The value that stores `n`.
 pub(super) fn stored<S: Storage>(n: usize) -> S

@@ -1,5 +1,5 @@
 use Rattle.std.proofs.Common.{◌≡◌, map, take}
-use Rattle.cfgbase.specs.declared.idxnewtype.PIdx.{PIdx}
+use Rattle.cfgindex.specs.declared.idxnewtype.PIdx.{PIdx}
 use Rattle.cfgrammar.proofs.yacc.grammar.build.rule_row.Given as goal
 
 abbrev pub invariant-loop-place : goal.invariant-loop-place

@@ -1,5 +1,5 @@
 use Rattle.std.proofs.Common.{map, sym, ap}
-use Rattle.cfgbase.specs.declared.idxnewtype.PIdx.{PIdx}
+use Rattle.cfgindex.specs.declared.idxnewtype.PIdx.{PIdx}
 use Rattle.cfgrammar.proofs.Shows.{rule_shown}
 use Rattle.cfgrammar.proofs.yacc.grammar.tables.YaccGrammar.rule_to_prods.Goals as goal
 

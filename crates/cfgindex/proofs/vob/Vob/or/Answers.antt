@@ -1,6 +1,6 @@
 use Rattle.std.proofs.Common.{◌≡◌, ◌<◌, length, get_or, arith, ap, ◌∙◌}
-use Rattle.cfgbase.proofs.Bits.{joined_none, joined_more, joined_all, joined_grew}
-use Rattle.cfgbase.proofs.vob.Vob.or.Goals as goal
+use Rattle.cfgindex.proofs.Bits.{joined_none, joined_more, joined_all, joined_grew}
+use Rattle.cfgindex.proofs.vob.Vob.or.Goals as goal
 
 pub loop-i-init : goal.loop-i-init
 loop-i-init c = joined_none _ _
