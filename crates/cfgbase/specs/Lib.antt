@@ -1,4 +1,3 @@
-pub mod Lines
 pub mod MarkEntry
 pub mod MarkLends
 pub mod MarkWord

@@ -3,7 +3,6 @@
 
 pub mod yacc;
 
-pub use cfgbase::{
-    FeedError, Location, NewlineCache, Span, Spanned, SpansKind, markmap, newlinecache, span,
-};
+pub use cfgbase::{Location, Span, Spanned, SpansKind, markmap, span};
 pub use cfgindex::{PIdx, RIdx, SIdx, Storage, Symbol, TIdx, Vob, idxnewtype, storage};
+pub use cfglines::{FeedError, NewlineCache, newlinecache};

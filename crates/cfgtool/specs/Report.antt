@@ -4,7 +4,7 @@ use Rattle.std.specs.List.{flat_map, enumerate_from}
 use Rattle.std.specs.Option.{option_map_or}
 use Rattle.std.specs.Fmt.{decimal}
 use Rattle.std.specs.Io.KnownBytes.{Appends, Keeps}
-use Rattle.cfgbase.specs.Lines.{line_number, column}
+use Rattle.cfglines.specs.Lines.{line_number, column}
 use Rattle.cfgsyntax.specs.Errors.{GrammarError}
 use Rattle.cfgsyntax.specs.Texts.{error_text}
 use Rattle.cfgsyntax.specs.declared.yacc.kind.YaccKind.{YaccKind}

@@ -1,7 +1,7 @@
 //! Rows on lines and columns, of texts that are fed whole and in pieces.
 
 ghost use Rattle.std.specs.Prelude.{IfOk};
-ghost use Rattle.cfgbase.specs.Lines.{StandsFor};
+ghost use Rattle.cfglines.specs.Lines.{StandsFor};
 
 use cfgrammar::{NewlineCache, Span};
 use std::alloc::{AllocError, Global};

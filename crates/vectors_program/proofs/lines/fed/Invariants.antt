@@ -1,7 +1,7 @@
 use Rattle.std.proofs.Common.{◌≡◌, ℕ, ◌++◌, List}
 use denote.Shadow.{shadow}
 use denote.Text.{Utf8}
-use Rattle.cfgbase.specs.Lines.{StandsFor}
+use Rattle.cfglines.specs.Lines.{StandsFor}
 use Rattle.vectors_program.proofs.lines.fed.Given as goal
 
 -- what is fed so far and the rest are the text

@@ -1,6 +1,0 @@
-use Rattle.std.proofs.Common.{◌<◌, ◌^◌, length}
-use Rattle.cfgbase.specs.Lines.{StandsFor, joined}
-use Rattle.cfgbase.proofs.newlinecache.NewlineCache.from_pieces.Given as goal
-
-abbrev pub invariant-loop-piece : goal.invariant-loop-piece
-invariant-loop-piece g l = StandsFor l.cache (joined l.yielded) × (length (joined l.yielded) < 2 ^ 64)

@@ -1,0 +1,4 @@
+pub mod Newlines
+pub mod LineEnds
+pub mod LastLine
+pub mod Pieces
