@@ -1,7 +1,6 @@
-//! The values that every part of cfgrammar speaks of: spans of a text, and maps whose keys carry marks.
+//! Spans of a text, where a value was given, and what the spans of an error or a warning stand for.
 #![tactic(auto)]
 
-pub mod markmap;
 pub mod span;
 
 pub use span::{Location, Span, Spanned, SpansKind};

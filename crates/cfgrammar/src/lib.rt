@@ -3,6 +3,7 @@
 
 pub mod yacc;
 
-pub use cfgbase::{Location, Span, Spanned, SpansKind, markmap, span};
+pub use cfgbase::{Location, Span, Spanned, SpansKind, span};
 pub use cfgindex::{PIdx, RIdx, SIdx, Storage, Symbol, TIdx, Vob, idxnewtype, storage};
 pub use cfglines::{FeedError, NewlineCache, newlinecache};
+pub use cfgmarks::markmap;

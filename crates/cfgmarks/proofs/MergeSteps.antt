@@ -1,0 +1,146 @@
+-- Merging one key after another is merging all keys.
+use Rattle.std.proofs.Common.{◌≡◌, Bool, true, false, cond, if◌then◌else◌, Option, None, Some, List, [], ◌∷◌, ◌++◌, refl, sym, ap, ◌∙◌, subst, append_assoc}
+use Rattle.std.specs.declared.cmp.Ordering.{Ordering}
+use Rattle.std.specs.declared.cmp.Ordering.TheVariants.{Less, Equal, Greater}
+use Rattle.std.specs.Ordering.{is_eq, is_lt}
+use Rattle.std.specs.Cmp.{IsTotalOrder, tied_itself, eq_by_cmp_equiv, Equal-is}
+use Rattle.std.specs.List.{AllByRecursion}
+use Rattle.std.specs.List.Sorted.{IsStrictlySortedBy}
+use Rattle.std.specs.Map.{keys_of, lookup}
+use Rattle.std.specs.BTreeMap.{is_at}
+use Rattle.cfgmarks.specs.declared.markmap.behavior.MergeBehavior.{MergeBehavior}
+use Rattle.cfgmarks.specs.declared.markmap.marked.Marked.{Marked}
+use Rattle.cfgmarks.specs.declared.markmap.fault.MergeFault.{MergeFault}
+use Rattle.cfgmarks.specs.Marks.{Marks, entry_at}
+use Rattle.std.specs.Option.{ForSome}
+use Rattle.cfgmarks.specs.Merging.{wanted, CallableOnWanted, MergedAt, Merged}
+use Rattle.cfgmarks.specs.MergeFaults.{MergesKey, IsFaultAt, StopsAt}
+use Rattle.cfgmarks.proofs.MarkEntries.{none_above, below_all, lookup_congr}
+
+module _ {K X : Type 0} (test : K → Bool) where
+  lookup_after_none : (es fs : List (K × X)) → lookup test es ≡ None → lookup test (es ++ fs) ≡ lookup test fs
+  lookup_after_none [] fs none = refl
+  lookup_after_none (e ∷ es) fs none =
+      elim (test e.0) as (λ b. cond b (Some e.1) (lookup test es) ≡ None → cond b (Some e.1) (lookup test (es ++ fs)) ≡ lookup test fs) [
+        | true ↦ λ none. cc
+        | false ↦ λ none. lookup_after_none es fs none
+      ] none
+
+  lookup_before_none : (es fs : List (K × X)) → lookup test fs ≡ None → lookup test (es ++ fs) ≡ lookup test es
+  lookup_before_none [] fs none = none
+  lookup_before_none (e ∷ es) fs none = ap (cond (test e.0) (Some e.1)) (lookup_before_none es fs none)
+
+all_at : {K X : Type 0} (P : K → Type 0) (es fs : List (K × X)) (e : K × X) → AllByRecursion P (keys_of (es ++ e ∷ fs)) → P e.0
+all_at P [] fs e all = all.0
+all_at P (d ∷ es) fs e all = all_at P es fs e all.1
+
+module _ {K X : Type 0} (cmp : K → K → Ordering) (total : IsTotalOrder cmp) where
+  -- among entries in order, those before k are found at the keys below k
+  pub lookup_before : (es fs : List (K × X)) (k : K) (x : X) → IsStrictlySortedBy cmp (keys_of (es ++ (k, x) ∷ fs)) → (q : K)
+      → lookup (is_at (cmp q)) es ≡ (if is_lt (cmp q k) then lookup (is_at (cmp q)) (es ++ (k, x) ∷ fs) else None)
+  unfolding IsStrictlySortedBy
+  lookup_before [] fs k x ordered q =
+      elim (cmp q k) as (λ r. cmp q k ≡ r → None ≡ (if is_lt r then cond (is_eq r) (Some x) (lookup (is_at (cmp q)) fs) else None)) [
+        | Less ↦ λ is. sym (none_above cmp fs q (below_all cmp total (keys_of fs) q k is ordered.0))
+        | Equal ↦ λ is. refl
+        | Greater ↦ λ is. refl
+      ] refl
+  lookup_before (e ∷ es) fs k x ordered q =
+      let below : cmp e.0 k ≡ Less = all_at (λ y. cmp e.0 y ≡ Less) es fs (k, x) ordered.0 in
+      elim (cmp q e.0) as (λ r. cmp q e.0 ≡ r → cond (is_eq r) (Some e.1) (lookup (is_at (cmp q)) es)
+      ≡ (if is_lt (cmp q k) then cond (is_eq r) (Some e.1) (lookup (is_at (cmp q)) (es ++ (k, x) ∷ fs)) else None)) [
+        | Less ↦ λ is. lookup_before es fs k x ordered.1 q
+        | Equal ↦ λ is. rw (total.congr q e.0 k is, below)
+        | Greater ↦ λ is. lookup_before es fs k x ordered.1 q
+      ] refl
+
+  none_before : (es fs : List (K × X)) (k : K) (x : X) → IsStrictlySortedBy cmp (keys_of (es ++ (k, x) ∷ fs)) → lookup (is_at (cmp k)) es ≡ None
+  none_before es fs k x ordered = rw (lookup_before es fs k x ordered k, tied_itself total k)
+
+  found_here : (es fs : List (K × X)) (k : K) (x : X) → IsStrictlySortedBy cmp (keys_of (es ++ (k, x) ∷ fs)) → lookup (is_at (cmp k)) (es ++ (k, x) ∷ fs) ≡ Some x
+  found_here es fs k x ordered = lookup_after_none (is_at (cmp k)) es ((k, x) ∷ fs) (none_before es fs k x ordered) ∙ rw (tied_itself total k)
+
+module _ {K U V : Type 0} (cmp : K → K → Ordering) (total : IsTotalOrder cmp) (converts : U → V → Type 0) where
+  -- the entries so far are merged
+  abbrev pub MergedSoFar : Marks K V → List (K × Marked U) → Marks K V → Type 0
+  MergedSoFar mine done now = (now.behavior ≡ mine.behavior)
+      × ((q : K) → MergedAt converts mine.behavior (entry_at cmp mine q) (lookup (is_at (cmp q)) done) (entry_at cmp now q))
+
+  moved : {b c : MergeBehavior} {m n : Option (Marked V)} {s t : Option (Marked U)} {x y : Option (Marked V)} → b ≡ c → m ≡ n → s ≡ t → x ≡ y → MergedAt converts b m s x → MergedAt converts c n t y
+  moved {b} {c} {m} {n} {s} {t} {x} {y} e f h i merged =
+      subst (λ c. MergedAt converts c n t y) e (subst (λ n. MergedAt converts b n t y) f (subst (λ t. MergedAt converts b m t y) h (subst (MergedAt converts b m s) i merged)))
+
+  -- the walk over theirs is at k, with the entries done merged
+  pub record Reached (mine now : Marks K V) (theirs : Marks K U) (done rest : List (K × Marked U)) (k : K) (x : Marked U) : Type 0 where
+    pub given : theirs.entries ≡ done ++ (k, x) ∷ rest
+    pub ordered : IsStrictlySortedBy cmp (keys_of (done ++ (k, x) ∷ rest))
+    pub so_far : MergedSoFar mine done now
+
+  pub reached : {mine now : Marks K V} {theirs : Marks K U} {done left rest : List (K × Marked U)} {k : K} {x : Marked U} → theirs.entries ≡ done ++ left → left ≡ (k, x) ∷ rest
+      → IsStrictlySortedBy cmp (keys_of theirs.entries) → MergedSoFar mine done now → Reached mine now theirs done rest k x
+  reached {theirs = theirs} {done = done} given next ordered so_far =
+      let here : theirs.entries ≡ done ++ _ = given ∙ ap (λ es. done ++ es) next in
+      record { given = here; ordered = subst (λ es. IsStrictlySortedBy cmp (keys_of es)) here ordered; so_far = so_far }
+
+  module _ {mine now : Marks K V} {theirs : Marks K U} {done rest : List (K × Marked U)} {k : K} {x : Marked U} (at_key : Reached mine now theirs done rest k x) where
+    -- a key that isn't reached yet is mine
+    still_mine : entry_at cmp now k ≡ entry_at cmp mine k
+    still_mine = subst (λ t. MergedAt converts mine.behavior (entry_at cmp mine k) t (entry_at cmp now k)) (none_before cmp total done rest k x at_key.ordered) (at_key.so_far.1 k)
+
+    -- the walk's entry is the key's
+    theirs_here : entry_at cmp theirs k ≡ Some x
+    theirs_here = ap (lookup (is_at (cmp k))) at_key.given ∙ found_here cmp total done rest k x at_key.ordered
+
+    pub one_more : theirs.entries ≡ (done ++ (k, x) ∷ []) ++ rest
+    one_more = at_key.given ∙ sym (append_assoc done ((k, x) ∷ []) rest)
+
+    pub merged_step : (after : Marks K V) → MergesKey cmp converts k x now after → MergedSoFar mine (done ++ (k, x) ∷ []) after
+    merged_step after step = (
+      step.0 ∙ at_key.so_far.0,
+      λ q.
+          elim (is_at (cmp k) q) as (λ b. is_at (cmp k) q ≡ b → MergedAt converts mine.behavior (entry_at cmp mine q) (lookup (is_at (cmp q)) (done ++ (k, x) ∷ [])) (entry_at cmp after q)) [
+            | true ↦ λ is.
+                let same : cmp k q ≡ Equal = (Equal-is (cmp k q)).0 is in
+                let back : is_at (cmp q) k ≡ true = (eq_by_cmp_equiv total).symm q k ∙ is in
+                let none : lookup (is_at (cmp q)) done ≡ None = sym (lookup_congr cmp total done k q same) ∙ none_before cmp total done rest k x at_key.ordered in
+                let here : Some x ≡ lookup (is_at (cmp q)) (done ++ (k, x) ∷ []) = sym (lookup_after_none (is_at (cmp q)) done ((k, x) ∷ []) none ∙ ap (λ b. cond b (Some x) None) back) in
+                moved at_key.so_far.0 (still_mine ∙ lookup_congr cmp total mine.entries k q same) here (lookup_congr cmp total after.entries k q same) step.1
+            | false ↦ λ is.
+                let back : is_at (cmp q) k ≡ false = (eq_by_cmp_equiv total).symm q k ∙ is in
+                let there : lookup (is_at (cmp q)) done ≡ lookup (is_at (cmp q)) (done ++ (k, x) ∷ []) = sym (lookup_before_none (is_at (cmp q)) done ((k, x) ∷ []) (ap (λ b. cond b (Some x) None) back)) in
+                moved refl refl there (sym (step.2 q is)) (at_key.so_far.1 q)
+          ] refl,
+    )
+
+    merged_below : Merged cmp converts mine theirs k now
+    merged_below = (
+      at_key.so_far.0,
+      λ q.
+          let below : lookup (is_at (cmp q)) done ≡ (if is_lt (cmp q k) then entry_at cmp theirs q else None) =
+          lookup_before cmp total done rest k x at_key.ordered q ∙ ap (λ es. if is_lt (cmp q k) then lookup (is_at (cmp q)) es else None) (sym at_key.given) in
+          moved refl refl below refl (at_key.so_far.1 q),
+    )
+
+    pub stops_at : {E : Type 0} (refuses : U → E → Type 0) (fault : MergeFault K V E) (after : Marks K V) → after ≡ now
+        → IsFaultAt converts refuses now.behavior k (entry_at cmp now k) x fault → StopsAt converts refuses cmp mine theirs fault after
+    stops_at refuses fault after same fault_here =
+        subst (StopsAt converts refuses cmp mine theirs fault) (sym same) (
+          k,
+          x,
+          theirs_here,
+          subst (λ b. IsFaultAt converts refuses b k (entry_at cmp mine k) x fault) at_key.so_far.0
+              (subst (λ m. IsFaultAt converts refuses now.behavior k m x fault) still_mine fault_here),
+          merged_below,
+        )
+
+    -- what may be converted at the key
+    pub wanted_callable : {may_convert : U → Type 0} → CallableOnWanted cmp may_convert mine theirs → ForSome (wanted now.behavior (entry_at cmp now k) x) may_convert
+    wanted_callable callable =
+        let same : wanted now.behavior (entry_at cmp now k) x ≡ wanted mine.behavior (entry_at cmp mine k) x =
+        ap (λ b. wanted b (entry_at cmp now k) x) at_key.so_far.0 ∙ ap (λ o. wanted mine.behavior o x) still_mine in
+        λ u wants. callable k x theirs_here u (sym same ∙ wants)
+
+-- what may be done with any value may be done with those
+pub always_callable : {K U V : Type 0} (cmp : K → K → Ordering) (may_convert : U → Type 0) (mine : Marks K V) (theirs : Marks K U) → ((u : U) → may_convert u)
+    → CallableOnWanted cmp may_convert mine theirs
+always_callable cmp may_convert mine theirs always q x found u wants = always u

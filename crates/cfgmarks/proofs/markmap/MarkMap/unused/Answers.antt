@@ -1,0 +1,18 @@
+use Rattle.std.proofs.Common.{if◌then◌else◌, Some, None, sym, ap, ◌∙◌}
+use Rattle.std.specs.Map.Iter.{deref_pair}
+use Rattle.cfgmarks.specs.Marks.{unused_key}
+use Rattle.cfgmarks.proofs.MarkLists.{given_step, picked, passed_over, AllZip-push}
+use Rattle.cfgmarks.proofs.markmap.MarkMap.unused.Goals as goal
+
+pub loop-key-preserved-in_ok-push : goal.loop-key-preserved-in_ok-push
+loop-key-preserved-in_ok-push g c = record {
+  given = given_step deref_pair c.args.self.now.contents.entries c.loop-key.yielded (c.in-Some.key, c.in-Some.marked) c.loop-key.key-iterator c.next.new.self c.loop-key.invariant.given c.in-Some.ensures.steps;
+  kept = rw (picked deref_pair unused_key c.loop-key.yielded (c.in-Some.key, c.in-Some.marked) c.in-Some.key.now (ap (λ b. if b then Some c.in-Some.key.now else None) (sym c.is_unused.ensures ∙ c.if-is_unused.true)), c.in_ok-push.ensures.items)
+      (AllZip-push g.K.Clone.is_clone _ c.loop-key.keys.items c.in-Some.key.now _ c.loop-key.invariant.kept c.in_ok-clone.ensures.cases);
+}
+
+pub loop-key-preserved : goal.loop-key-preserved
+loop-key-preserved g c = record {
+  given = given_step deref_pair c.args.self.now.contents.entries c.loop-key.yielded (c.in-Some.key, c.in-Some.marked) c.loop-key.key-iterator c.next.new.self c.loop-key.invariant.given c.in-Some.ensures.steps;
+  kept = rw (passed_over deref_pair unused_key c.loop-key.yielded (c.in-Some.key, c.in-Some.marked) (ap (λ b. if b then Some c.in-Some.key.now else None) (sym c.is_unused.ensures ∙ c.if-is_unused.false))) c.loop-key.invariant.kept;
+}

@@ -1,0 +1,4 @@
+//! Maps whose keys carry marks.
+#![tactic(auto)]
+
+pub mod markmap;

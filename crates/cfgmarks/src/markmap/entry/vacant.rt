@@ -1,0 +1,116 @@
+//! The place of a key that holds no value.
+ghost use Rattle.std.specs.Prelude.{◌≡◌, None, IsSome, IfOk, IfErr, OnOk, OnErr};
+ghost use Rattle.std.specs.Borrow.{sem};
+ghost use Rattle.std.specs.declared.cmp.Ordering.TheVariants.{Equal};
+ghost use Rattle.cfgmarks.specs.Marks.{marks, entry_at, changed, set_required, set_behavior, set_value, ChangesAt, IsFaithful};
+ghost use Rattle.cfgmarks.specs.MarkEntry.{occupied_map, occupied_key, vacant_map, vacant_key, IsSamePlace};
+ghost use Rattle.cfgmarks.specs.MarkLends.{lends_value, rests_if_refused};
+
+use super::{OccupiedEntry, VacantEntry};
+use crate::markmap::{MarkMap, MergeBehavior};
+use std::alloc::AllocError;
+use std::cmp::Ordering;
+
+impl<'a, K: Ord + Clone, V: Drop> VacantEntry<'a, K, V> {
+    /// The key.
+    pub fn key(&self) -> &K
+        ensures { result.now ≡ vacant_key self.now }
+    {
+        &self.key
+    }
+
+    /// Gives the key the value, and lends it. Only a key without an entry can be refused, for want of memory: key and
+    /// value then come back. A clone of such a key finds the entry again.
+    pub fn insert(self, value: V) -> Result<&'a mut V, (K, V)>
+        ensures* writes_back { sem 𝓛 (lends_value K.row V.row K.Ord self.entry result) }
+        ensures value { IfOk result (λ lent. lent.now ≡ value) }
+        ensures handed_back { IfErr result (λ back. back ≡ (vacant_key self.entry, value)) }
+        ensures absent { OnErr result (entry_at K.cmp (vacant_map self.entry) (vacant_key self.entry) ≡ None) }
+    {
+        let VacantEntry { map, key } = self;
+        let place = match placed(map, key) {
+            Ok(place) => place,
+            Err(key) => return Err((key, value)),
+        };
+        match map.put(&place, value) {
+            Ok(lent) => Ok(lent),
+            Err(value) => Err((place, value)),
+        }
+    }
+
+    /// Gives the key the value, and answers the occupied entry. Only a key without an entry can be refused, for want
+    /// of memory: key and value then come back. A clone of such a key finds the entry again.
+    pub fn insert_entry(self, value: V) -> Result<OccupiedEntry<'a, K, V>, (K, V)>
+        ensures* rests { sem 𝓛 (rests_if_refused K.row V.row K.Ord self.entry result) }
+        ensures map { IfOk result (λ e. occupied_map e
+            ≡ changed K.cmp (vacant_map self.entry) (vacant_key self.entry) (set_value value)) }
+        ensures key { IfOk result (λ e. K.cmp (vacant_key self.entry) (occupied_key e) ≡ Equal) }
+        ensures handed_back { IfErr result (λ back. back ≡ (vacant_key self.entry, value)) }
+        ensures absent { OnErr result (entry_at K.cmp (vacant_map self.entry) (vacant_key self.entry) ≡ None) }
+    {
+        let VacantEntry { map, key } = self;
+        let place = match placed(map, key) {
+            Ok(place) => place,
+            Err(key) => return Err((key, value)),
+        };
+        map.replace_value(&place, value);
+        Ok(OccupiedEntry { map, key: place })
+    }
+
+    /// Marks the key as required. Where it has no entry, it gets one with a clone of the key, and only that takes
+    /// memory.
+    pub fn mark_required(&mut self) -> Result<(), AllocError>
+        requires { IsFaithful K.cmp K.is_clone }
+        ensures place { IsSamePlace self.old self.new }
+        ensures ok { OnOk result (ChangesAt K.cmp K.is_clone (vacant_key self.old) set_required (vacant_map self.old) (vacant_map self.new)) }
+        ensures err { OnErr result (vacant_map self.new ≡ vacant_map self.old) }
+        ensures absent { OnErr result (entry_at K.cmp (vacant_map self.old) (vacant_key self.old) ≡ None) }
+    {
+        self.map.mark_required(&self.key)
+    }
+
+    /// Sets what merging does at the key, in the place of what was set before. Where it has no entry, it gets one with
+    /// a clone of the key, and only that takes memory.
+    pub fn set_merge_behavior(&mut self, behavior: MergeBehavior) -> Result<(), AllocError>
+        requires { IsFaithful K.cmp K.is_clone }
+        ensures place { IsSamePlace self.old self.new }
+        ensures ok { OnOk result (ChangesAt K.cmp K.is_clone (vacant_key self.old) (set_behavior behavior) (vacant_map self.old) (vacant_map self.new)) }
+        ensures err { OnErr result (vacant_map self.new ≡ vacant_map self.old) }
+        ensures absent { OnErr result (entry_at K.cmp (vacant_map self.old) (vacant_key self.old) ≡ None) }
+    {
+        self.map.set_merge_behavior(&self.key, behavior)
+    }
+}
+
+/// A clone of the key. One that isn't equal to the key is refused as if there were no memory for it.
+fn copied<K: Ord + Clone>(key: &K) -> Result<K, AllocError>
+    ensures { IfOk result (λ copy. K.cmp key.now copy ≡ Equal) }
+{
+    let copy = key.clone()?;
+    match key.cmp(&copy) {
+        Ordering::Equal => Ok(copy),
+        _ => Err(AllocError),
+    }
+}
+
+/// Gives the key an entry where it has none, and answers a key that is equal to it. A refused key comes back.
+fn placed<K: Ord + Clone, V: Drop>(map: &mut MarkMap<K, V>, key: K) -> Result<K, K>
+    ensures place { IfOk result (λ place. K.cmp key place ≡ Equal) }
+    ensures there { IfOk result (λ place. IsSome (entry_at K.cmp (marks map.new) place)) }
+    ensures map { IfOk result (λ place. (f : _)
+        → changed K.cmp (marks map.new) place f ≡ changed K.cmp (marks map.old) key f) }
+    ensures err { OnErr result (marks map.new ≡ marks map.old) }
+    ensures handed_back { IfErr result (λ back. back ≡ key) }
+    ensures absent { OnErr result (entry_at K.cmp (marks map.old) key ≡ None) }
+{
+    if map.has_entry(&key) {
+        return Ok(key);
+    }
+    match copied(&key) {
+        Ok(copy) => {
+            map.add_unmarked(key)?;
+            Ok(copy)
+        }
+        Err(_) => Err(key),
+    }
+}
