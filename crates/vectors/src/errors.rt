@@ -1,104 +1,61 @@
-//! Rows on what is wrong with a text, and on the places in a syntax.
+//! Errors of a text, line by line.
 
-use crate::described::assert_told;
-use crate::help::{KIND, errors};
-use cfgrammar::Span;
-use cfgrammar::yacc::ast::{ASTWithValidityInfo, Symbol};
-use std::test::Fail;
+use cfgrammar::yacc::YaccGrammarError;
+use cfgrammar::{FeedError, NewlineCache, Span, Spanned};
+use std::alloc::{AllocError, Global};
 
-const MISSING_RULES: [(&str, &str); 3] = [
-    (
-        "%start B %% A: C;",
-        "Start rule 'B' does not appear in grammar (7,8)\n",
-    ),
-    (
-        "%start A %% A: C;",
-        "Unknown reference to rule 'C' (15,16)\n",
-    ),
-    ("%% A: 'x'", "Incomplete rule (9,9)\n"),
-];
+/// Writes a space and the bytes of a span.
+pub(crate) fn write_span(out: &mut String, span: Span) -> Result<(), AllocError> {
+    write!(out, " ({},{})", span.start(), span.end())
+}
 
-const EMPTY_TEXT: [(&str, &str); 2] = [
-    (
-        "",
-        "File ends prematurely (0,0)\nNo start rule specified (0,0)\n",
-    ),
-    ("%% S: a.b ; a.b: ;", "Illegal string (7,7)\n"),
-];
+/// Writes whether there are errors, and a line for each.
+pub(crate) fn write_errors(
+    out: &mut String,
+    alloc: Global,
+    text: &str,
+    errors: &[YaccGrammarError],
+) -> Result<(), AllocError> {
+    if errors.is_empty() {
+        return writeln!(out, "errors: none");
+    }
+    writeln!(out, "errors")?;
+    write_error_lines(out, alloc, text, errors)
+}
 
-#[test]
-fn empty_text(rt: HostRuntime) -> Result<(), Fail> {
-    for (text, wrong) in EMPTY_TEXT {
-        assert_eq!(rt; errors(rt.alloc(), text)?.as_str(), wrong, "of {text}");
+/// Writes a line for each error: its kind, its spans, the line and the column of the first span's start, what the spans
+/// stand for, and its text.
+pub(crate) fn write_error_lines(
+    out: &mut String,
+    alloc: Global,
+    text: &str,
+    errors: &[YaccGrammarError],
+) -> Result<(), AllocError> {
+    let cache = match NewlineCache::from_str(alloc, text) {
+        Ok(cache) => cache,
+        Err(FeedError::OutOfMemory) => return Err(AllocError),
+        Err(FeedError::TooLong) => return writeln!(out, "    too long"),
+    };
+    for error in errors {
+        write!(out, "    {:?}", error.kind())?;
+        let mut place = 0;
+        for span in error.spans().iter().rev() {
+            place = span.start();
+        }
+        write_spans(out, error)?;
+        match cache.byte_to_line_num_and_col_num(text, place) {
+            Some((line, column)) => write!(out, " {line}:{column}")?,
+            None => write!(out, " no place")?,
+        }
+        writeln!(out, " {:?}: {error}", error.spanskind())?;
     }
     Ok(())
 }
 
-#[test]
-fn missing_rules(rt: HostRuntime) -> Result<(), Fail> {
-    for (text, wrong) in MISSING_RULES {
-        assert_eq!(rt; errors(rt.alloc(), text)?.as_str(), wrong, "of {text}");
+/// Writes the spans of an error.
+pub(crate) fn write_spans(out: &mut String, error: &YaccGrammarError) -> Result<(), AllocError> {
+    for span in error.spans() {
+        write_span(out, *span)?;
     }
-    Ok(())
-}
-
-#[test]
-fn empty_text_is_no_grammar(rt: HostRuntime) -> Result<(), Fail> {
-    for (text, wrong) in EMPTY_TEXT {
-        assert_told(&rt, rt.alloc(), text, wrong)?;
-    }
-    Ok(())
-}
-
-#[test]
-fn missing_rules_make_no_grammar(rt: HostRuntime) -> Result<(), Fail> {
-    for (text, wrong) in MISSING_RULES {
-        assert_told(&rt, rt.alloc(), text, wrong)?;
-    }
-    Ok(())
-}
-
-#[test]
-fn lines_and_columns(rt: HostRuntime) -> Result<(), Fail> {
-    assert_eq!(rt;
-        errors(rt.alloc(), "/*é*/%% A: C;")?.as_str(),
-        "Unknown reference to rule 'C' (12,13)\n"
-    );
-    Ok(())
-}
-
-#[test]
-fn indented_spans(rt: HostRuntime) -> Result<(), Fail> {
-    let text =
-        "\n        %start start\n        %token a\n        %%\n        start: \"a\" a;\n        ";
-    let parsed = ASTWithValidityInfo::new(rt.alloc(), KIND, text)?;
-    assert!(rt; parsed.is_valid());
-    assert_eq!(rt; parsed.yacc_kind(), KIND);
-    let first = parsed.ast().prods().first().ok_or("a production")?;
-    let a = String::from_str(rt.alloc(), "a")?;
-    assert_eq!(rt;
-        first.symbols.as_slice(),
-        [
-            Symbol::Token(a.clone()?, Span::new(66, 67)),
-            Symbol::Token(a, Span::new(69, 70))
-        ]
-        .as_slice()
-    );
-    Ok(())
-}
-
-#[test]
-fn action_and_quotes(rt: HostRuntime) -> Result<(), Fail> {
-    let parsed = ASTWithValidityInfo::new(rt.alloc(), KIND, "%% A: \"\"x\" ;")?;
-    assert!(rt; parsed.is_valid());
-    let ast = parsed.ast();
-    let first = ast.prods().first().ok_or("a production")?;
-    let name = String::from_str(rt.alloc(), "\"x")?;
-    assert_eq!(rt; first.prod_span, Span::new(6, 10));
-    assert_eq!(rt;
-        first.symbols.as_slice(),
-        [Symbol::Token(name, Span::new(7, 9))].as_slice()
-    );
-    assert_eq!(rt; ast.spans(), [Span::new(7, 9)].as_slice());
     Ok(())
 }

@@ -1,131 +1,112 @@
 //! The syntax of a text, by what its readers answer.
 
-use crate::help::{KIND, write_span};
-use cfgrammar::yacc::ast::{ASTWithValidityInfo, GrammarAST, Symbol};
+use crate::errors::write_span;
+use cfgrammar::yacc::ast::{ASTWithValidityInfo, GrammarAST, Production, Rule, Symbol};
 use std::alloc::{AllocError, Global};
-use std::test::Fail;
 
-/// All that a syntax holds: its start, and a line for each rule, production and token.
+/// Writes all that a syntax holds: its start, and a line for each rule, production and token. A copy holds the same.
+pub(crate) fn write_syntax(
+    out: &mut String,
+    alloc: Global,
+    parsed: &ASTWithValidityInfo,
+) -> Result<(), AllocError> {
+    let told = told(alloc, parsed.ast())?;
+    writeln!(out, "syntax")?;
+    out.push_str(told.as_str())?;
+    let copy = parsed.ast().clone()?;
+    if self::told(alloc, &copy)? != told {
+        writeln!(out, "    and a copy that isn't the same")?;
+    }
+    Ok(())
+}
+
+/// Writes how much there is in a syntax.
+pub(crate) fn write_lengths(out: &mut String, ast: &GrammarAST) -> Result<(), AllocError> {
+    writeln!(
+        out,
+        "syntax of {} rules, {} productions, {} tokens, {} of them declared",
+        ast.rules().len(),
+        ast.prods().len(),
+        ast.tokens().len(),
+        ast.token_directives().len()
+    )
+}
+
 fn told(alloc: Global, ast: &GrammarAST) -> Result<String, AllocError> {
-    let mut lines = String::new(alloc);
+    let mut out = String::new(alloc);
     if let Some((name, span)) = ast.start() {
-        write!(lines, "start {name}")?;
-        write_span(&mut lines, *span)?;
-        writeln!(lines)?;
+        write!(out, "    start {name:?}")?;
+        write_span(&mut out, *span)?;
+        writeln!(out)?;
     }
-    write_rules(&mut lines, ast)?;
-    write_productions(&mut lines, ast)?;
-    write_tokens(&mut lines, ast)?;
-    Ok(lines)
-}
-
-/// Each rule: its name, the name's place, and its productions.
-fn write_rules(lines: &mut String, ast: &GrammarAST) -> Result<(), AllocError> {
     for rule in ast.rules().values() {
-        let (name, span) = &rule.name;
-        write!(lines, "{name}")?;
-        write_span(lines, *span)?;
-        writeln!(lines, " {:?}", rule.pidxs)?;
+        write_rule(&mut out, ast, rule)?;
     }
-    Ok(())
+    for (index, production) in ast.prods().iter().enumerate() {
+        write!(out, "    production {index}")?;
+        write_production(&mut out, production)?;
+    }
+    write_tokens(&mut out, ast)?;
+    Ok(out)
 }
 
-/// Each production: its place and its symbols.
-fn write_productions(lines: &mut String, ast: &GrammarAST) -> Result<(), AllocError> {
-    for production in ast.prods() {
-        write!(lines, "production")?;
-        write_span(lines, production.prod_span)?;
-        write_symbols(lines, &production.symbols)?;
+/// Writes a rule: its name, the name's place, and its productions. It is found by its name.
+fn write_rule(out: &mut String, ast: &GrammarAST, rule: &Rule) -> Result<(), AllocError> {
+    let (name, span) = &rule.name;
+    write!(out, "    rule {name:?}")?;
+    write_span(out, *span)?;
+    out.push(':')?;
+    for index in &rule.pidxs {
+        write!(out, " {index}")?;
     }
-    Ok(())
+    if let Some(action_type) = &rule.actiont {
+        write!(out, ", type {action_type}")?;
+    }
+    if ast.get_rule(name.as_str()) != Some(rule) {
+        write!(out, ", not by its name")?;
+    }
+    writeln!(out)
 }
 
-/// Writes the symbols of a production with their places, and ends the line.
-fn write_symbols(lines: &mut String, symbols: &[Symbol]) -> Result<(), AllocError> {
-    for symbol in symbols {
-        match symbol {
-            Symbol::Rule(_, span) => {
-                write!(lines, " rule {symbol}")?;
-                write_span(lines, *span)?;
-            }
-            Symbol::Token(_, span) => {
-                write!(lines, " token {symbol}")?;
-                write_span(lines, *span)?;
-            }
-        }
+/// Writes a production: its place, its symbols with their places, and its precedence and action, where it has some.
+fn write_production(out: &mut String, production: &Production) -> Result<(), AllocError> {
+    write_span(out, production.prod_span)?;
+    out.push(':')?;
+    for symbol in &production.symbols {
+        write_symbol(out, symbol)?;
     }
-    writeln!(lines)
+    if let Some(token) = &production.precedence {
+        write!(out, ", precedence of {token:?}")?;
+    }
+    if let Some((action, span)) = &production.action {
+        write!(out, ", action {action:?}")?;
+        write_span(out, *span)?;
+    }
+    writeln!(out)
 }
 
-/// Each token: its name, the name's place, and whether a `%token` declares it.
-fn write_tokens(lines: &mut String, ast: &GrammarAST) -> Result<(), AllocError> {
+/// Writes a symbol: its kind, its name and the name's place. The name is also what the symbol prints.
+fn write_symbol(out: &mut String, symbol: &Symbol) -> Result<(), AllocError> {
+    let (kind, name, span) = match symbol {
+        Symbol::Rule(name, span) => ("rule", name, *span),
+        Symbol::Token(name, span) => ("token", name, *span),
+    };
+    write!(out, " {kind} {name:?}")?;
+    write_span(out, span)
+}
+
+/// Writes each token: its name, the name's place, and whether a `%token` declares it.
+fn write_tokens(out: &mut String, ast: &GrammarAST) -> Result<(), AllocError> {
     for (index, (name, span)) in ast.tokens().iter().zip(ast.spans()).enumerate() {
-        write!(lines, "token {name}")?;
-        write_span(lines, *span)?;
-        let declared = ast.token_directives().contains(&index);
-        writeln!(lines, " {declared}")?;
+        write!(out, "    token {index} {name:?}")?;
+        write_span(out, *span)?;
+        if ast.token_directives().contains(&index) {
+            write!(out, " declared")?;
+        }
+        if !ast.has_token(name.as_str()) {
+            write!(out, ", not by its name")?;
+        }
+        writeln!(out)?;
     }
-    Ok(())
-}
-
-/// What reading the text notes.
-fn told_of_text(alloc: Global, text: &str) -> Result<String, AllocError> {
-    let parsed = ASTWithValidityInfo::new(alloc, KIND, text)?;
-    told(alloc, parsed.ast())
-}
-
-/// What a copy of a syntax holds.
-fn told_of_copy(alloc: Global, ast: &GrammarAST) -> Result<String, AllocError> {
-    let copy = ast.clone()?;
-    told(alloc, &copy)
-}
-
-const ONE_RULE: &str = "%start R %token T %% R: 'T';";
-
-const ONE_RULE_TOLD: &str = "\
-start R (7,8)
-R (21,22) [0]
-production (24,27) token T (25,26)
-token T (16,17) true
-";
-
-#[test]
-fn one_rule(rt: HostRuntime) -> Result<(), Fail> {
-    assert_eq!(rt; told_of_text(rt.alloc(), ONE_RULE)?.as_str(), ONE_RULE_TOLD);
-    Ok(())
-}
-
-#[test]
-fn one_rule_is_copied(rt: HostRuntime) -> Result<(), Fail> {
-    let parsed = ASTWithValidityInfo::new(rt.alloc(), KIND, ONE_RULE)?;
-    assert_eq!(rt;
-        told_of_copy(rt.alloc(), parsed.ast())?.as_str(),
-        ONE_RULE_TOLD
-    );
-    Ok(())
-}
-
-#[test]
-fn one_rule_has_its_names(rt: HostRuntime) -> Result<(), Fail> {
-    let parsed = ASTWithValidityInfo::new(rt.alloc(), KIND, ONE_RULE)?;
-    let ast = parsed.ast();
-    assert!(rt; ast.get_rule("R").is_some());
-    assert!(rt; ast.get_rule("T").is_none());
-    assert!(rt; ast.has_token("T"));
-    assert!(rt; !ast.has_token("R"));
-    Ok(())
-}
-
-#[test]
-fn missing_rules(rt: HostRuntime) -> Result<(), Fail> {
-    let wanted = "\
-start B (7,8)
-A (12,13) [0]
-production (15,16) rule C (15,16)
-";
-    assert_eq!(rt;
-        told_of_text(rt.alloc(), "%start B %% A: C;")?.as_str(),
-        wanted
-    );
     Ok(())
 }

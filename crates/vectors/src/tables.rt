@@ -1,125 +1,295 @@
-//! Rows on the tables of small grammars, for every index type.
+//! The tables of a grammar, by what their accessors answer, at every index type.
 
-use crate::described::{assert_told, described, looked_up};
-use crate::help::KIND;
-use cfgrammar::Storage;
+ghost use Rattle.std.specs.Prelude.{◌<◌, length};
+
+use crate::errors::{write_error_lines, write_span};
+use crate::firsts::{self, write_firsts};
+use crate::text::push_pictures;
 use cfgrammar::yacc::YaccGrammar;
 use cfgrammar::yacc::ast::ASTWithValidityInfo;
-use std::alloc::Global;
-use std::test::Fail;
+use cfgrammar::yacc::parser::YaccFault;
+use cfgrammar::{PIdx, RIdx, Storage, Symbol, TIdx};
+use std::alloc::{AllocError, Global};
 
-const ONE_RULE: &str = "%start R %token T %% R: 'T';";
-
-const ONE_RULE_TOLD: &str = "\
-rules 2, start 0; productions 2, start 1; tokens 2, end 1
-0 ^ (0,0) 1
-1 R (21,22) 0
-0 R: \"T\" (24,27)
-1 ^: \"R\" (0,0)
-0 of rule 1 has 1: token 0
-1 of rule 0 has 1: rule 1
-0 T (16,17)
-1
-";
-
-#[test]
-fn one_rule(rt: HostRuntime) -> Result<(), Fail> {
-    assert_told(&rt, rt.alloc(), ONE_RULE, ONE_RULE_TOLD)
+/// Writes the tables of a text at every index type, once where they are the same.
+pub(crate) fn write_tables(
+    out: &mut String,
+    alloc: Global,
+    text: &str,
+    parsed: &ASTWithValidityInfo,
+) -> Result<(), AllocError> {
+    let narrow = told::<u8>(alloc, text, parsed)?;
+    let middle = told::<u16>(alloc, text, parsed)?;
+    let wide = told::<u32>(alloc, text, parsed)?;
+    write_once(out, narrow.as_str(), middle.as_str(), wide.as_str())
 }
 
-#[test]
-fn one_rule_of_32_bits(rt: HostRuntime) -> Result<(), Fail> {
-    let grammar = YaccGrammar::new(rt.alloc(), KIND, ONE_RULE)?;
-    assert_eq!(rt; described(rt.alloc(), &grammar)?.as_str(), ONE_RULE_TOLD);
-    assert!(rt; grammar.implicit_rule().is_none());
+/// Writes what was told at the index types, once where it is the same.
+fn write_once(out: &mut String, narrow: &str, middle: &str, wide: &str) -> Result<(), AllocError> {
+    if narrow == middle && middle == wide {
+        return write!(out, "grammar over u8, u16 and u32{wide}");
+    }
+    write!(
+        out,
+        "grammar over u8{narrow}grammar over u16{middle}grammar over u32{wide}"
+    )
+}
+
+/// The tables of a text that was read, by both calls that make them.
+fn told<S: Storage>(
+    alloc: Global,
+    text: &str,
+    parsed: &ASTWithValidityInfo,
+) -> Result<String, AllocError> {
+    let mut told = match YaccGrammar::<S>::new_with_storaget(alloc, parsed.yacc_kind(), text) {
+        Ok(grammar) => described(alloc, &grammar)?,
+        Err(fault) => refused(alloc, text, parsed, fault)?,
+    };
+    let of_syntax = match YaccGrammar::<S>::new_from_ast_with_validity_info(alloc, parsed) {
+        Ok(grammar) => described(alloc, &grammar)?,
+        Err(fault) => refused(alloc, text, parsed, fault)?,
+    };
+    if of_syntax != told {
+        write!(told, "and of its syntax{of_syntax}")?;
+    }
+    Ok(told)
+}
+
+/// Why there are no tables: the text's errors, or others, each in a line.
+fn refused(
+    alloc: Global,
+    text: &str,
+    parsed: &ASTWithValidityInfo,
+    fault: YaccFault,
+) -> Result<String, AllocError> {
+    let YaccFault::Errors(errors) = fault else {
+        return Err(AllocError);
+    };
+    let mut out = String::from_str(alloc, ": refused\n")?;
+    if errors.as_slice() != parsed.errors() {
+        write_error_lines(&mut out, alloc, text, &errors)?;
+    }
+    Ok(out)
+}
+
+/// All that a grammar holds.
+fn described<S: Storage>(alloc: Global, grammar: &YaccGrammar<S>) -> Result<String, AllocError> {
+    let mut out = String::from_str(alloc, "\n")?;
+    write_lengths(&mut out, grammar)?;
+    write_rules(&mut out, grammar)?;
+    write_productions(&mut out, alloc, grammar)?;
+    write_tokens(&mut out, grammar)?;
+    write_rule_names(&mut out, grammar)?;
+    write_token_names(&mut out, grammar)?;
+    write_firsts(&mut out, alloc, grammar)?;
+    Ok(out)
+}
+
+/// Writes how many rules, productions and tokens there are, and which of them are the start's and the end's.
+fn write_lengths<S: Storage>(out: &mut String, grammar: &YaccGrammar<S>) -> Result<(), AllocError> {
+    let rules = usize::from(grammar.rules_len());
+    let start_rule = usize::from(grammar.start_rule_idx());
+    let productions = usize::from(grammar.prods_len());
+    let start_production = usize::from(grammar.start_prod());
+    let tokens = usize::from(grammar.tokens_len());
+    let end = usize::from(grammar.eof_token_idx());
+    write!(out, "    rules {rules}, start {start_rule}; ")?;
+    write!(out, "productions {productions}, start {start_production}; ")?;
+    write!(out, "tokens {tokens}, end {end}")?;
+    if let Some(ridx) = grammar.implicit_rule() {
+        write!(out, "; implicit tokens in {}", usize::from(ridx))?;
+    }
+    writeln!(out)
+}
+
+/// Writes a line for each rule.
+fn write_rules<S: Storage>(out: &mut String, grammar: &YaccGrammar<S>) -> Result<(), AllocError> {
+    for ridx in grammar.iter_rules() {
+        write_rule(out, grammar, ridx)?;
+    }
     Ok(())
 }
 
-#[test]
-fn one_rule_of_a_syntax(rt: HostRuntime) -> Result<(), Fail> {
-    let parsed = ASTWithValidityInfo::new(rt.alloc(), KIND, ONE_RULE)?;
-    let grammar = YaccGrammar::<u16>::new_from_ast_with_validity_info(rt.alloc(), &parsed)?;
-    assert_eq!(rt; described(rt.alloc(), &grammar)?.as_str(), ONE_RULE_TOLD);
+/// Writes a rule: its index, its name, the name's place, and its productions.
+fn write_rule<S: Storage>(
+    out: &mut String,
+    grammar: &YaccGrammar<S>,
+    ridx: RIdx<S>,
+) -> Result<(), AllocError>
+    requires { S.number ridx.0 < length grammar.now.rules }
+{
+    let name = grammar.rule_name_str(ridx);
+    write!(out, "    rule {} {name:?}", usize::from(ridx))?;
+    write_span(out, grammar.rule_name_span(ridx))?;
+    write_indices(out, grammar.rule_to_prods(ridx))?;
+    if let Some(action_type) = grammar.actiontype(ridx) {
+        write!(out, ", type {action_type}")?;
+    }
+    if grammar.rule_name(ridx) != name {
+        out.push_str(", another name")?;
+    }
+    out.push('\n')
+}
+
+fn write_indices<S: Storage>(out: &mut String, pidxs: &[PIdx<S>]) -> Result<(), AllocError> {
+    out.push(':')?;
+    for pidx in pidxs {
+        write!(out, " {}", usize::from(*pidx))?;
+    }
     Ok(())
 }
 
-/// What the names of the row's symbols, and the empty name, stand for.
-fn names_told<S: Storage>(alloc: Global) -> Result<String, Fail> {
-    let grammar = YaccGrammar::<S>::new_with_storaget(alloc, KIND, ONE_RULE)?;
-    Ok(looked_up(alloc, &grammar, &["^", "R", "T", ""])?)
-}
-
-#[test]
-fn one_rule_by_names(rt: HostRuntime) -> Result<(), Fail> {
-    let wanted = "'^' rule 0\n'R' rule 1\n'T' token 0\n''\n";
-    assert_eq!(rt; names_told::<u8>(rt.alloc())?.as_str(), wanted);
-    assert_eq!(rt; names_told::<u16>(rt.alloc())?.as_str(), wanted);
-    assert_eq!(rt; names_told::<u32>(rt.alloc())?.as_str(), wanted);
+/// Writes a line for each production.
+fn write_productions<S: Storage>(
+    out: &mut String,
+    alloc: Global,
+    grammar: &YaccGrammar<S>,
+) -> Result<(), AllocError> {
+    for pidx in grammar.iter_pidxs() {
+        write_place(out, grammar, pidx)?;
+        write_body(out, grammar.prod(pidx))?;
+        out.push_str("; ")?;
+        push_pictures(out, grammar.pp_prod(alloc, pidx)?.as_str())?;
+        write_action(out, grammar, pidx)?;
+    }
     Ok(())
 }
 
-#[test]
-fn slash_in_comment(rt: HostRuntime) -> Result<(), Fail> {
-    let text = "%start A /* x\n/ */ %% A: ;";
-    let table = "\
-rules 2, start 0; productions 2, start 1; tokens 1, end 0
-0 ^ (0,0) 1
-1 A (22,23) 0
-0 A: (25,25)
-1 ^: \"A\" (0,0)
-0 of rule 1 has 0:
-1 of rule 0 has 1: rule 1
-0
-";
-    assert_told(&rt, rt.alloc(), text, table)
+/// Writes a production's index, its place, its rule, and how many symbols it has.
+fn write_place<S: Storage>(
+    out: &mut String,
+    grammar: &YaccGrammar<S>,
+    pidx: PIdx<S>,
+) -> Result<(), AllocError>
+    requires { S.number pidx.0 < length grammar.now.productions }
+{
+    write!(out, "    production {}", usize::from(pidx))?;
+    write_span(out, grammar.prod_span(pidx))?;
+    let rule = usize::from(grammar.prod_to_rule(pidx));
+    let len = usize::from(grammar.prod_len(pidx));
+    write!(out, " of rule {rule}, {len} symbols:")
 }
 
-#[test]
-fn no_spaces(rt: HostRuntime) -> Result<(), Fail> {
-    let table = "\
-rules 2, start 0; productions 2, start 1; tokens 1, end 0
-0 ^ (0,0) 1
-1 A (9,10) 0
-0 A: (11,11)
-1 ^: \"A\" (0,0)
-0 of rule 1 has 0:
-1 of rule 0 has 1: rule 1
-0
-";
-    assert_told(&rt, rt.alloc(), "%startA%%A:;", table)
+/// Writes a production's action, where it has one, and ends the line.
+fn write_action<S: Storage>(
+    out: &mut String,
+    grammar: &YaccGrammar<S>,
+    pidx: PIdx<S>,
+) -> Result<(), AllocError>
+    requires { S.number pidx.0 < length grammar.now.productions }
+{
+    if let Some(action) = grammar.action(pidx) {
+        write!(out, ", action {action:?}")?;
+    }
+    if let Some(span) = grammar.action_span(pidx) {
+        write_span(out, span)?;
+    }
+    out.push('\n')
 }
 
-#[test]
-fn indented_spans(rt: HostRuntime) -> Result<(), Fail> {
-    let text =
-        "\n        %start start\n        %token a\n        %%\n        start: \"a\" a;\n        ";
-    let table = "\
-rules 2, start 0; productions 2, start 1; tokens 2, end 1
-0 ^ (0,0) 1
-1 start (58,63) 0
-0 start: \"a\" \"a\" (65,70)
-1 ^: \"start\" (0,0)
-0 of rule 1 has 2: token 0 token 0
-1 of rule 0 has 1: rule 1
-0 a (37,38)
-1
-";
-    assert_told(&rt, rt.alloc(), text, table)
+fn write_body<S: Storage>(out: &mut String, symbols: &[Symbol<S>]) -> Result<(), AllocError> {
+    for symbol in symbols {
+        match *symbol {
+            Symbol::Rule(ridx) => write!(out, " rule {}", usize::from(ridx))?,
+            Symbol::Token(tidx) => write!(out, " token {}", usize::from(tidx))?,
+        }
+    }
+    Ok(())
 }
 
-#[test]
-fn action_and_quotes(rt: HostRuntime) -> Result<(), Fail> {
-    let text = "%% A: \"\"x\" ;";
-    let table = "\
-rules 2, start 0; productions 2, start 1; tokens 2, end 1
-0 ^ (0,0) 1
-1 A (3,4) 0
-0 A: \"\"x\" (6,10)
-1 ^: \"A\" (0,0)
-0 of rule 1 has 1: token 0
-1 of rule 0 has 1: rule 1
-0 \"x (7,9)
-1
-";
-    assert_told(&rt, rt.alloc(), text, table)
+/// Writes a line for each token.
+fn write_tokens<S: Storage>(out: &mut String, grammar: &YaccGrammar<S>) -> Result<(), AllocError> {
+    for tidx in grammar.iter_tidxs() {
+        write_token(out, grammar, tidx)?;
+    }
+    Ok(())
+}
+
+/// Writes a token: its index, its name, and the name's place.
+fn write_token<S: Storage>(
+    out: &mut String,
+    grammar: &YaccGrammar<S>,
+    tidx: TIdx<S>,
+) -> Result<(), AllocError>
+    requires { S.number tidx.0 < length grammar.now.tokens }
+{
+    write!(out, "    token {}", usize::from(tidx))?;
+    if let Some(name) = grammar.token_name(tidx) {
+        write!(out, " {name:?}")?;
+    }
+    if let Some(span) = grammar.token_span(tidx) {
+        write_span(out, span)?;
+    }
+    out.push('\n')
+}
+
+/// Writes what each rule's name stands for.
+fn write_rule_names<S: Storage>(
+    out: &mut String,
+    grammar: &YaccGrammar<S>,
+) -> Result<(), AllocError> {
+    for ridx in grammar.iter_rules() {
+        write_name(out, grammar, grammar.rule_name_str(ridx))?;
+    }
+    Ok(())
+}
+
+/// Writes what each token's name stands for, and the empty name, which the end token stands for here.
+fn write_token_names<S: Storage>(
+    out: &mut String,
+    grammar: &YaccGrammar<S>,
+) -> Result<(), AllocError> {
+    for tidx in grammar.iter_tidxs() {
+        write_name(out, grammar, grammar.token_name(tidx).unwrap_or(""))?;
+    }
+    Ok(())
+}
+
+/// Writes which rule and which token have a name.
+fn write_name<S: Storage>(
+    out: &mut String,
+    grammar: &YaccGrammar<S>,
+    name: &str,
+) -> Result<(), AllocError> {
+    write!(out, "    name {name:?}:")?;
+    if let Some(ridx) = grammar.rule_idx(name) {
+        write!(out, " rule {}", usize::from(ridx))?;
+    }
+    if let Some(tidx) = grammar.token_idx(name) {
+        write!(out, " token {}", usize::from(tidx))?;
+    }
+    if grammar.rule_idx(name).is_none() && grammar.token_idx(name).is_none() {
+        write!(out, " nothing")?;
+    }
+    writeln!(out)
+}
+
+/// Writes how much there is in the tables of a text at every index type, once where that is the same.
+pub(crate) fn write_lengths_of_all(
+    out: &mut String,
+    alloc: Global,
+    text: &str,
+    parsed: &ASTWithValidityInfo,
+) -> Result<(), AllocError> {
+    let narrow = lengths_told::<u8>(alloc, text, parsed)?;
+    let middle = lengths_told::<u16>(alloc, text, parsed)?;
+    let wide = lengths_told::<u32>(alloc, text, parsed)?;
+    write_once(out, narrow.as_str(), middle.as_str(), wide.as_str())
+}
+
+/// How much there is in the tables of a text that was read, and in their FIRST sets.
+fn lengths_told<S: Storage>(
+    alloc: Global,
+    text: &str,
+    parsed: &ASTWithValidityInfo,
+) -> Result<String, AllocError> {
+    match YaccGrammar::<S>::new_with_storaget(alloc, parsed.yacc_kind(), text) {
+        Ok(grammar) => {
+            let mut out = String::from_str(alloc, "\n")?;
+            write_lengths(&mut out, &grammar)?;
+            firsts::write_lengths(&mut out, alloc, &grammar)?;
+            Ok(out)
+        }
+        Err(fault) => refused(alloc, text, parsed, fault),
+    }
 }

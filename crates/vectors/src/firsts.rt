@@ -1,0 +1,116 @@
+//! FIRST sets of a grammar.
+
+use cfgrammar::yacc::YaccGrammar;
+use cfgrammar::yacc::firsts::{YaccFirsts, firsts_over};
+use cfgrammar::yacc::grammar::Productions;
+use cfgrammar::{PIdx, RIdx, Storage, TIdx};
+use std::alloc::{AllocError, Global};
+
+/// Writes the FIRST sets of a grammar.
+pub(crate) fn write_firsts<S: Storage>(
+    out: &mut String,
+    alloc: Global,
+    grammar: &YaccGrammar<S>,
+) -> Result<(), AllocError> {
+    let firsts = grammar.firsts(alloc)?;
+    write_sets(out, grammar, &firsts)
+}
+
+/// Writes how many tokens the FIRST sets of a grammar have, all together, and how many rules are empty.
+pub(crate) fn write_lengths<S: Storage>(
+    out: &mut String,
+    alloc: Global,
+    grammar: &YaccGrammar<S>,
+) -> Result<(), AllocError> {
+    let firsts = grammar.firsts(alloc)?;
+    let mut tokens = 0u64;
+    let mut empty = 0u64;
+    for ridx in grammar.iter_rules() {
+        tokens = tokens.saturating_add(tokens_in(grammar, &firsts, ridx));
+        empty = empty.saturating_add(u64::from(firsts.is_epsilon_set(ridx)));
+    }
+    writeln!(out, "    firsts of {tokens} tokens, {empty} rules empty")
+}
+
+/// How many tokens a rule begins with.
+fn tokens_in<S: Storage>(grammar: &YaccGrammar<S>, firsts: &YaccFirsts<S>, ridx: RIdx<S>) -> u64 {
+    let mut tokens = 0u64;
+    for tidx in grammar.iter_tidxs() {
+        tokens = tokens.saturating_add(u64::from(firsts.is_set(ridx, tidx)));
+    }
+    tokens
+}
+
+/// Writes how often a production of the text's grammar was opened at the most while the sets were found, where that is
+/// never, or more than rules x (tokens + 1) + 1 times.
+pub(crate) fn write_openings(
+    out: &mut String,
+    alloc: Global,
+    grammar: &YaccGrammar<u32>,
+) -> Result<(), AllocError> {
+    let most = most_opened(alloc, grammar)?;
+    let rules = u128::from(grammar.rules_len().0);
+    let tokens = u128::from(grammar.tokens_len().0);
+    if most == 0 || u128::from(most) > rules * (tokens + 1) + 1 {
+        writeln!(out, "    opened {most} times")?;
+    }
+    Ok(())
+}
+
+/// The greatest count of a production's openings, after the FIRST sets were found.
+fn most_opened(alloc: Global, grammar: &YaccGrammar<u32>) -> Result<u64, AllocError> {
+    let mut productions = grammar.productions(alloc)?;
+    let _firsts = firsts_over(alloc, &mut productions)?;
+    Ok(greatest_count(&productions))
+}
+
+/// The greatest count of a production's openings.
+fn greatest_count<S: Storage, P: Productions<S>>(productions: &P) -> u64 {
+    let mut most = 0;
+    for number in 0..usize::from(productions.prods_len()) {
+        if let Some(number) = S::from_usize(number) {
+            most = most.max(productions.opened(PIdx(number)));
+        }
+    }
+    most
+}
+
+/// Writes each rule's set: the tokens by their indices, and whether the rule is empty.
+fn write_sets<S: Storage>(
+    out: &mut String,
+    grammar: &YaccGrammar<S>,
+    firsts: &YaccFirsts<S>,
+) -> Result<(), AllocError> {
+    for ridx in grammar.iter_rules() {
+        write!(out, "    first of {}:", usize::from(ridx))?;
+        for tidx in grammar.iter_tidxs() {
+            if firsts.is_set(ridx, tidx) {
+                write!(out, " {}", usize::from(tidx))?;
+            }
+        }
+        if firsts.is_epsilon_set(ridx) {
+            write!(out, " empty")?;
+        }
+        writeln!(out)?;
+    }
+    Ok(())
+}
+
+/// Sets one bit of the FIRST sets of a grammar twice, and writes whether it was set before, and the sets.
+pub(crate) fn write_set(
+    out: &mut String,
+    alloc: Global,
+    grammar: &YaccGrammar<u32>,
+    (rule, token): (usize, usize),
+) -> Result<(), AllocError> {
+    let (Some(rule), Some(token)) = (u32::from_usize(rule), u32::from_usize(token)) else {
+        return writeln!(out, "no such bit");
+    };
+    let mut firsts = grammar.firsts(alloc)?;
+    if rule < grammar.rules_len().0 && token < grammar.tokens_len().0 {
+        let was_set = firsts.set(RIdx(rule), TIdx(token));
+        let is_set = firsts.set(RIdx(rule), TIdx(token));
+        writeln!(out, "set({rule}, {token}): {was_set}, and again: {is_set}")?;
+    }
+    write_sets(out, grammar, &firsts)
+}

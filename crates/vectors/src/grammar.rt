@@ -1,0 +1,84 @@
+//! Rows on the texts of grammars.
+
+use crate::row::{Row, numbers};
+use crate::{cuts, errors, firsts, syntax, tables, text};
+use cfgrammar::yacc::ast::ASTWithValidityInfo;
+use cfgrammar::yacc::{YaccGrammar, YaccKind, YaccOriginalActionKind};
+use std::alloc::{AllocError, Global};
+
+/// The kind that a row names; that of the rows that name none is `Original(GenericParseTree)`.
+fn kind_of(row: &Row<'_>) -> YaccKind {
+    YaccKind::Original(match row.first("kind") {
+        Some("original-noaction") => YaccOriginalActionKind::NoAction,
+        Some("original-useraction") => YaccOriginalActionKind::UserAction,
+        _ => YaccOriginalActionKind::GenericParseTree,
+    })
+}
+
+/// Writes all that is answered of a row's text, or as much as the row asks for.
+pub(crate) fn tell(
+    out: &mut String,
+    alloc: Global,
+    row: &Row<'_>,
+    text: &str,
+) -> Result<(), AllocError> {
+    let kind = kind_of(row);
+    writeln!(out, "text of {} bytes, {kind:?}", text.len())?;
+    match row.first("show") {
+        Some("cuts") => {
+            text::write_text(out, text)?;
+            cuts::write_cuts(out, alloc, kind, text)
+        }
+        Some("brief") => tell_brief(out, alloc, kind, text),
+        _ => {
+            text::write_text(out, text)?;
+            tell_whole(out, alloc, kind, text)?;
+            tell_analyses(out, alloc, row, text)
+        }
+    }
+}
+
+/// Writes the errors, the syntax and the tables of a text.
+fn tell_whole(
+    out: &mut String,
+    alloc: Global,
+    kind: YaccKind,
+    text: &str,
+) -> Result<(), AllocError> {
+    let parsed = ASTWithValidityInfo::new(alloc, kind, text)?;
+    errors::write_errors(out, alloc, text, parsed.errors())?;
+    syntax::write_syntax(out, alloc, &parsed)?;
+    tables::write_tables(out, alloc, text, &parsed)
+}
+
+/// Writes what the analyses of a text's grammar do beside what they answer.
+fn tell_analyses(
+    out: &mut String,
+    alloc: Global,
+    row: &Row<'_>,
+    text: &str,
+) -> Result<(), AllocError> {
+    let Ok(grammar) = YaccGrammar::new(alloc, kind_of(row), text) else {
+        return Ok(());
+    };
+    firsts::write_openings(out, alloc, &grammar)?;
+    for (word, rest) in &row.lines {
+        if *word == "set" {
+            firsts::write_set(out, alloc, &grammar, numbers(*rest))?;
+        }
+    }
+    Ok(())
+}
+
+/// Writes the errors of a text, and how much there is in its syntax and its tables.
+fn tell_brief(
+    out: &mut String,
+    alloc: Global,
+    kind: YaccKind,
+    text: &str,
+) -> Result<(), AllocError> {
+    let parsed = ASTWithValidityInfo::new(alloc, kind, text)?;
+    errors::write_errors(out, alloc, text, parsed.errors())?;
+    syntax::write_lengths(out, parsed.ast())?;
+    tables::write_lengths_of_all(out, alloc, text, &parsed)
+}

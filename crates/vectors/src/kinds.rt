@@ -1,0 +1,98 @@
+//! Rows on the texts of errors and warnings.
+
+use crate::errors::write_spans;
+use crate::row::{Row, numbers};
+use cfgrammar::yacc::{YaccGrammarError, YaccGrammarErrorKind, YaccGrammarWarningKind};
+use cfgrammar::{Span, Spanned};
+use std::alloc::{AllocError, Global};
+
+/// Writes a line for each error that the row names: its kind, its spans, what they stand for, and its text.
+pub(crate) fn tell(out: &mut String, alloc: Global, row: &Row<'_>) -> Result<(), AllocError> {
+    for (word, rest) in &row.lines {
+        match *word {
+            "error" => write_error(out, alloc, *rest)?,
+            "warning" => {
+                let kind = warning_of(*rest);
+                writeln!(out, "    {kind:?}: {kind}")?;
+            }
+            _ => {}
+        }
+    }
+    Ok(())
+}
+
+fn write_error(out: &mut String, alloc: Global, line: &str) -> Result<(), AllocError> {
+    let (name, rest) = line.split_once(' ').unwrap_or((line, ""));
+    let (start, end) = numbers(rest);
+    let mut spans = Vec::new(alloc);
+    if start <= end {
+        spans.push(Span::new(start, end))?;
+        spans.push(Span::new(end, end))?;
+    }
+    let error = YaccGrammarError::new(kind_of(alloc, name)?, spans);
+    write!(out, "    {:?}", error.kind())?;
+    write_spans(out, &error)?;
+    write!(out, " {:?}: {error}", error.spanskind())?;
+    if error.clone()? != error {
+        write!(out, ", and a copy that isn't the same")?;
+    }
+    writeln!(out)
+}
+
+fn warning_of(name: &str) -> YaccGrammarWarningKind {
+    match name {
+        "UnusedRule" => YaccGrammarWarningKind::UnusedRule,
+        _ => YaccGrammarWarningKind::UnusedToken,
+    }
+}
+
+/// The kind of this name. A kind that holds a name, or a character, holds `µ`.
+fn kind_of(alloc: Global, name: &str) -> Result<YaccGrammarErrorKind, AllocError> {
+    let n = String::from_str(alloc, "µ")?;
+    Ok(match name {
+        "IllegalInteger" => YaccGrammarErrorKind::IllegalInteger,
+        "IllegalName" => YaccGrammarErrorKind::IllegalName,
+        "IllegalString" => YaccGrammarErrorKind::IllegalString,
+        "IncompleteRule" => YaccGrammarErrorKind::IncompleteRule,
+        "IncompleteComment" => YaccGrammarErrorKind::IncompleteComment,
+        "IncompleteAction" => YaccGrammarErrorKind::IncompleteAction,
+        "MissingColon" => YaccGrammarErrorKind::MissingColon,
+        "MissingRightArrow" => YaccGrammarErrorKind::MissingRightArrow,
+        "MismatchedBrace" => YaccGrammarErrorKind::MismatchedBrace,
+        "NonEmptyProduction" => YaccGrammarErrorKind::NonEmptyProduction,
+        "PrematureEnd" => YaccGrammarErrorKind::PrematureEnd,
+        "ProductionNotTerminated" => YaccGrammarErrorKind::ProductionNotTerminated,
+        "ProgramsNotSupported" => YaccGrammarErrorKind::ProgramsNotSupported,
+        "UnknownDeclaration" => YaccGrammarErrorKind::UnknownDeclaration,
+        "PrecNotFollowedByToken" => YaccGrammarErrorKind::PrecNotFollowedByToken,
+        "ReachedEOL" => YaccGrammarErrorKind::ReachedEOL,
+        "InvalidString" => YaccGrammarErrorKind::InvalidString,
+        "NoStartRule" => YaccGrammarErrorKind::NoStartRule,
+        "UnknownSymbol" => YaccGrammarErrorKind::UnknownSymbol,
+        "InvalidStartRule" => YaccGrammarErrorKind::InvalidStartRule(n),
+        "UnknownRuleRef" => YaccGrammarErrorKind::UnknownRuleRef(n),
+        "UnknownToken" => YaccGrammarErrorKind::UnknownToken(n),
+        "NoPrecForToken" => YaccGrammarErrorKind::NoPrecForToken(n),
+        "UnknownEPP" => YaccGrammarErrorKind::UnknownEPP(n),
+        "ExpectedInput" => YaccGrammarErrorKind::ExpectedInput('µ'),
+        "StorageTooSmall" => YaccGrammarErrorKind::StorageTooSmall,
+        _ => duplicate_of(name),
+    })
+}
+
+/// The kind of this name, of those that speak of duplicates.
+fn duplicate_of(name: &str) -> YaccGrammarErrorKind {
+    match name {
+        "DuplicatePrecedence" => YaccGrammarErrorKind::DuplicatePrecedence,
+        "DuplicateAvoidInsertDeclaration" => YaccGrammarErrorKind::DuplicateAvoidInsertDeclaration,
+        "DuplicateImplicitTokensDeclaration" => {
+            YaccGrammarErrorKind::DuplicateImplicitTokensDeclaration
+        }
+        "DuplicateExpectDeclaration" => YaccGrammarErrorKind::DuplicateExpectDeclaration,
+        "DuplicateExpectRRDeclaration" => YaccGrammarErrorKind::DuplicateExpectRRDeclaration,
+        "DuplicateStartDeclaration" => YaccGrammarErrorKind::DuplicateStartDeclaration,
+        "DuplicateActiontypeDeclaration" => YaccGrammarErrorKind::DuplicateActiontypeDeclaration,
+        "DuplicateEPP" => YaccGrammarErrorKind::DuplicateEPP,
+        _ => YaccGrammarErrorKind::InvalidYaccKind,
+    }
+}

@@ -1,0 +1,139 @@
+//! Rows on lines and columns, of texts that are fed whole and in pieces.
+
+ghost use Rattle.std.specs.Prelude.{IfOk, IfSome};
+ghost use Rattle.cfglines.specs.Lines.{StandsFor};
+
+use crate::row::{Row, number, numbers};
+use crate::text::write_text;
+use cfgrammar::{FeedError, NewlineCache, Span};
+use std::alloc::{AllocError, Global};
+
+/// Writes what a cache of the text's newlines answers, of the text fed whole; and the ways to feed it in pieces by which
+/// it answers something else.
+pub(crate) fn tell(
+    out: &mut String,
+    alloc: Global,
+    row: &Row<'_>,
+    text: &str,
+) -> Result<(), AllocError> {
+    writeln!(out, "text of {} bytes", text.len())?;
+    write_text(out, text)?;
+    let whole = match NewlineCache::from_str(alloc, text) {
+        Ok(cache) => cache,
+        Err(_) => return Err(AllocError),
+    };
+    let answers = answers(alloc, row, &whole, text)?;
+    out.push_str(answers.as_str())?;
+    let ways = ways(alloc, row, text)?;
+    for way in &ways {
+        let is_same = match fed(alloc, text, way) {
+            Ok(Some(cache)) => self::answers(alloc, row, &cache, text)? == answers,
+            Ok(None) => false,
+            Err(_) => return Err(AllocError),
+        };
+        if !is_same {
+            writeln!(
+                out,
+                "otherwise where it is fed by {way:?} bytes and the rest"
+            )?;
+        }
+    }
+    writeln!(out, "fed in {} ways", ways.len())?;
+    write_joined(out, alloc, text)
+}
+
+/// The ways to feed a text, each as the lengths of all pieces but the last: in two pieces, cut before each character and
+/// at the end; in pieces of one character; and as the row says.
+fn ways(alloc: Global, row: &Row<'_>, text: &str) -> Result<Vec<Vec<usize>>, AllocError> {
+    let mut ways = Vec::new(alloc);
+    let mut characters = Vec::new(alloc);
+    for (place, character) in text.char_indices() {
+        ways.push([place].to_vec(alloc)?)?;
+        characters.push(character.len_utf8())?;
+    }
+    ways.push([text.len()].to_vec(alloc)?)?;
+    ways.push(characters)?;
+    for (word, rest) in &row.lines {
+        if *word == "pieces" {
+            ways.push(rest.split(' ').map(|word| number(word)).collect(alloc)?)?;
+        }
+    }
+    Ok(ways)
+}
+
+/// The cache of a text that is fed in pieces: these lengths, and then the rest. There is none where a character would be
+/// cut.
+fn fed(alloc: Global, text: &str, lengths: &[usize]) -> Result<Option<NewlineCache>, FeedError>
+    ensures { IfOk result (λ fed. IfSome fed (λ cache. StandsFor cache text.now)) }
+{
+    let mut cache = NewlineCache::new(alloc);
+    let mut rest = text;
+    for length in lengths {
+        let Some((piece, behind)) = rest.split_at_checked(*length) else {
+            return Ok(None);
+        };
+        cache.feed(piece)?;
+        rest = behind;
+    }
+    cache.feed(rest)?;
+    Ok(Some(cache))
+}
+
+/// What the four questions answer: of each byte, of the text's end and past it, and of the row's spans.
+fn answers(
+    alloc: Global,
+    row: &Row<'_>,
+    cache: &NewlineCache,
+    text: &str,
+) -> Result<String, AllocError>
+    requires { StandsFor cache.now text.now }
+{
+    let mut out = String::new(alloc);
+    for byte in 0..text.len().saturating_add(2) {
+        write!(out, "    {byte}:")?;
+        write_line(&mut out, cache, byte)?;
+        match cache.byte_to_line_num_and_col_num(text, byte) {
+            Some((line, column)) => writeln!(out, ", at {line}:{column}")?,
+            None => writeln!(out, ", no column")?,
+        }
+    }
+    write_spans(&mut out, row, cache)?;
+    Ok(out)
+}
+
+/// Writes the line of a byte, and where that line starts.
+fn write_line(out: &mut String, cache: &NewlineCache, byte: usize) -> Result<(), AllocError> {
+    match cache.byte_to_line_num(byte) {
+        Some(line) => write!(out, " line {line}")?,
+        None => write!(out, " no line")?,
+    }
+    match cache.byte_to_line_byte(byte) {
+        Some(start) => write!(out, " from {start}"),
+        None => write!(out, " from nowhere"),
+    }
+}
+
+/// Writes the bytes of the lines that each of the row's spans touches.
+fn write_spans(out: &mut String, row: &Row<'_>, cache: &NewlineCache) -> Result<(), AllocError> {
+    for (word, rest) in &row.lines {
+        let (start, end) = numbers(*rest);
+        if *word == "span" && start <= end {
+            let (first, last) = cache.span_line_bytes(Span::new(start, end));
+            writeln!(out, "    lines of ({start},{end}): ({first},{last})")?;
+        }
+    }
+    Ok(())
+}
+
+/// Writes what a cache of the text's characters, joined, answers of the text's end and past it.
+fn write_joined(out: &mut String, alloc: Global, text: &str) -> Result<(), AllocError> {
+    let pieces: Vec<&str> = text.split_inclusive('\n').collect(alloc)?;
+    let Ok(joined) = NewlineCache::from_pieces(alloc, pieces.iter().copied()) else {
+        return Err(AllocError);
+    };
+    write!(out, "of its lines, joined: {}:", text.len())?;
+    write_line(out, &joined, text.len())?;
+    write!(out, ", past it:")?;
+    write_line(out, &joined, text.len().saturating_add(1))?;
+    writeln!(out)
+}

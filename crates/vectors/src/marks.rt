@@ -1,0 +1,237 @@
+//! Rows on maps whose keys carry marks: scripts of calls.
+
+ghost use Rattle.cfgmarks.specs.Marks.{IsFaithful};
+
+mod entry;
+
+use crate::row::{Row, number, words};
+use cfgrammar::markmap::{MarkMap, MergeBehavior, MergeError, MergeFault};
+use std::alloc::{AllocError, Global};
+use std::fmt::Debug;
+use std::mem;
+
+/// A type of keys.
+trait Key: Ord + Clone + Debug + Drop {
+    /// The key that a word names.
+    fn of(alloc: Global, word: &str) -> Result<Self, AllocError>;
+}
+
+impl Key for u32 {
+    fn of(_: Global, word: &str) -> Result<u32, AllocError> {
+        Ok(small(word))
+    }
+}
+
+impl Key for String {
+    fn of(alloc: Global, word: &str) -> Result<String, AllocError> {
+        String::from_str(alloc, word)
+    }
+}
+
+/// Runs the row's script, over keys of the type that the row names, and writes each call, its answer, and the map after
+/// it.
+pub(crate) fn tell(out: &mut String, alloc: Global, row: &Row<'_>) -> Result<(), AllocError> {
+    match row.first("keys") {
+        Some("numbers") => play::<u32>(out, alloc, row),
+        _ => play::<String>(out, alloc, row),
+    }
+}
+
+/// Runs a script on two maps, of which the second is merged into the first.
+fn play<K: Key>(out: &mut String, alloc: Global, row: &Row<'_>) -> Result<(), AllocError>
+    requires { IsFaithful K.cmp K.is_clone }
+{
+    let mut map = MarkMap::<K, u32>::new(alloc);
+    let mut other = MarkMap::<K, u32>::new(alloc);
+    for (word, rest) in &row.lines {
+        match *word {
+            "call" => {
+                write!(out, "    {rest}: ")?;
+                call(out, alloc, &mut map, *rest)?;
+                write_map(out, alloc, row, &mut map)?;
+            }
+            "other" => {
+                write!(out, "    other {rest}: ")?;
+                call(out, alloc, &mut other, *rest)?;
+            }
+            "merge" => {
+                let theirs = mem::replace(&mut other, MarkMap::new(alloc));
+                write!(out, "    merge {rest}: ")?;
+                merge(out, &mut map, theirs, number(*rest))?;
+                write_map(out, alloc, row, &mut map)?;
+            }
+            "compare" => writeln!(out, "    equal to the other: {}", map == other)?,
+            _ => {}
+        }
+    }
+    Ok(())
+}
+
+/// Makes a call, and writes what it answers.
+fn call<K: Key>(
+    out: &mut String,
+    alloc: Global,
+    map: &mut MarkMap<K, u32>,
+    line: &str,
+) -> Result<(), AllocError>
+    requires { IsFaithful K.cmp K.is_clone }
+{
+    let (name, key, value) = words(line);
+    if name == "default" {
+        map.set_default_merge_behavior(behavior(key));
+        return out.push_str("()\n");
+    }
+    let key = K::of(alloc, key)?;
+    match name {
+        "insert" => insert(out, map, key, small(value)),
+        "remove" => writeln!(out, "{:?}", map.remove(&key)),
+        "entry" if map.contains_key(&key) => entry::call_occupied(out, map, key, value),
+        "entry" => entry::call_vacant(out, map, key, value),
+        _ => {
+            mark(map, name, &key, behavior(value))?;
+            out.push_str("()\n")
+        }
+    }
+}
+
+/// Gives a key a value, and writes the value that it held.
+fn insert<K: Key>(
+    out: &mut String,
+    map: &mut MarkMap<K, u32>,
+    key: K,
+    value: u32,
+) -> Result<(), AllocError> {
+    match map.insert(key, value) {
+        Ok(old) => writeln!(out, "{old:?}"),
+        Err(_) => Err(AllocError),
+    }
+}
+
+/// Marks a key.
+fn mark<K: Key>(
+    map: &mut MarkMap<K, u32>,
+    name: &str,
+    key: &K,
+    behavior: MergeBehavior,
+) -> Result<(), AllocError>
+    requires { IsFaithful K.cmp K.is_clone }
+{
+    match name {
+        "mark_used" => map.mark_used(key),
+        "mark_required" => map.mark_required(key),
+        _ => map.set_merge_behavior(key, behavior),
+    }
+}
+
+/// The number that a word spells, or what is left of it where it is large.
+fn small(word: &str) -> u32 {
+    (number(word) % 4096) as u32
+}
+
+/// The behaviour that a word names.
+fn behavior(word: &str) -> MergeBehavior {
+    match word {
+        "Theirs" => MergeBehavior::Theirs,
+        "Ours" => MergeBehavior::Ours,
+        _ => MergeBehavior::MutuallyExclusive,
+    }
+}
+
+/// Merges a map into another, where one value isn't converted, and writes how that ended.
+fn merge<K: Key>(
+    out: &mut String,
+    map: &mut MarkMap<K, u32>,
+    theirs: MarkMap<K, u32>,
+    refused: usize,
+) -> Result<(), AllocError> {
+    let convert = |value: u32| {
+        if value as usize == refused {
+            Err("not converted")
+        } else {
+            Ok(value)
+        }
+    };
+    match map.merge_from(theirs, convert) {
+        Ok(()) => writeln!(out, "()"),
+        Err(MergeFault::Convert(key, refused)) => writeln!(out, "{refused} at {key:?}"),
+        Err(MergeFault::OutOfMemory) => Err(AllocError),
+        Err(MergeFault::Conflict(conflict)) => {
+            write!(out, "{conflict}")?;
+            let MergeError::Exclusivity(key, value) = conflict;
+            writeln!(out, ", at {key:?} against {}", *value)
+        }
+    }
+}
+
+/// Writes a map: what each of the row's keys has, and its lists of keys.
+fn write_map<K: Key>(
+    out: &mut String,
+    alloc: Global,
+    row: &Row<'_>,
+    map: &mut MarkMap<K, u32>,
+) -> Result<(), AllocError>
+    requires { IsFaithful K.cmp K.is_clone }
+{
+    write!(out, "       ")?;
+    for word in row.first("watch").unwrap_or("").split_whitespace() {
+        let key = K::of(alloc, word)?;
+        write!(out, " [{key:?}")?;
+        write_marks(out, map, &key)?;
+        entry::write_mark(out, map, key)?;
+    }
+    writeln!(out)?;
+    write_lists(out, alloc, map)
+}
+
+/// Writes the value of a key and its marks.
+fn write_marks<K: Key>(out: &mut String, map: &MarkMap<K, u32>, key: &K) -> Result<(), AllocError> {
+    match map.get(key) {
+        Some(value) => write!(out, " {value}")?,
+        None => write!(out, " -")?,
+    }
+    if map.contains_key(key) != map.get(key).is_some() {
+        write!(out, " (or not)")?;
+    }
+    if map.is_used(key) {
+        write!(out, " used")?;
+    }
+    if map.is_required(key) {
+        write!(out, " required")?;
+    }
+    Ok(())
+}
+
+/// Writes the keys and the entries, the unused keys and the missing ones.
+fn write_lists<K: Key>(
+    out: &mut String,
+    alloc: Global,
+    map: &MarkMap<K, u32>,
+) -> Result<(), AllocError> {
+    out.push_str("        keys")?;
+    for key in map.keys() {
+        write!(out, " {key:?}")?;
+    }
+    out.push_str("; entries")?;
+    for (key, value) in map {
+        write!(out, " {key:?} {value}")?;
+    }
+    write_marked(out, alloc, map)
+}
+
+/// Writes the unused keys and the missing ones.
+fn write_marked<K: Key>(
+    out: &mut String,
+    alloc: Global,
+    map: &MarkMap<K, u32>,
+) -> Result<(), AllocError> {
+    out.push_str("; unused")?;
+    for key in map.unused(alloc)?.iter() {
+        write!(out, " {key:?}")?;
+    }
+    out.push_str("; missing")?;
+    for key in map.missing(alloc)?.iter() {
+        let key: &K = *key;
+        write!(out, " {key:?}")?;
+    }
+    out.push('\n')
+}

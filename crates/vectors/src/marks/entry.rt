@@ -1,0 +1,83 @@
+//! Calls at the place of a key.
+
+ghost use Rattle.cfgmarks.specs.Marks.{IsFaithful};
+
+use super::{Key, behavior, small};
+use crate::row::words;
+use cfgrammar::markmap::{Entry, MarkMap};
+use std::alloc::AllocError;
+
+/// Makes a call at the place of a key that holds a value, and writes what it answers.
+pub(super) fn call_occupied<K: Key>(
+    out: &mut String,
+    map: &mut MarkMap<K, u32>,
+    key: K,
+    line: &str,
+) -> Result<(), AllocError> {
+    let (name, word, _) = words(line);
+    match map.entry(key) {
+        Entry::Vacant(_entry) => writeln!(out, "vacant"),
+        Entry::Occupied(mut entry) => match name {
+            "insert" => writeln!(out, "occupied, {}", entry.insert(small(word))),
+            "mark_used" => {
+                entry.mark_used();
+                writeln!(out, "occupied, used: {}", entry.is_used())
+            }
+            "mark_required" => {
+                entry.mark_required();
+                writeln!(out, "occupied, required: {}", entry.is_required())
+            }
+            "set_merge_behavior" => {
+                entry.set_merge_behavior(behavior(word));
+                writeln!(out, "occupied, mark {}", entry.get_mark())
+            }
+            _ => writeln!(out, "occupied, {}", *entry.get()),
+        },
+    }
+}
+
+/// Makes a call at the place of a key that holds no value, and writes what it answers.
+pub(super) fn call_vacant<K: Key>(
+    out: &mut String,
+    map: &mut MarkMap<K, u32>,
+    key: K,
+    line: &str,
+) -> Result<(), AllocError>
+    requires { IsFaithful K.cmp K.is_clone }
+{
+    let (name, word, _) = words(line);
+    match map.entry(key) {
+        Entry::Occupied(_entry) => writeln!(out, "occupied"),
+        Entry::Vacant(mut entry) => match name {
+            "insert" => match entry.insert(small(word)) {
+                Ok(lent) => writeln!(out, "vacant, lends {}", *lent),
+                Err(_) => Err(AllocError),
+            },
+            "insert_entry" => match entry.insert_entry(small(word)) {
+                Ok(occupied) => writeln!(out, "vacant, mark {}", occupied.get_mark()),
+                Err(_) => Err(AllocError),
+            },
+            "mark_required" => {
+                entry.mark_required()?;
+                writeln!(out, "vacant, ()")
+            }
+            "set_merge_behavior" => {
+                entry.set_merge_behavior(behavior(word))?;
+                writeln!(out, "vacant, ()")
+            }
+            _ => writeln!(out, "vacant, {:?}", entry.key()),
+        },
+    }
+}
+
+/// Writes the mark of a key that holds a value.
+pub(super) fn write_mark<K: Key>(
+    out: &mut String,
+    map: &mut MarkMap<K, u32>,
+    key: K,
+) -> Result<(), AllocError> {
+    match map.entry(key) {
+        Entry::Occupied(entry) => write!(out, ", mark {}]", entry.get_mark()),
+        Entry::Vacant(_entry) => write!(out, "]"),
+    }
+}

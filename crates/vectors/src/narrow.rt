@@ -1,0 +1,68 @@
+//! A writer with little room.
+
+use crate::row::Row;
+use std::alloc::Global;
+use std::io::{self, Write};
+
+/// A writer that takes few bytes at a time, and so many in all; then it fails, or takes none.
+#[derive(Drop)]
+pub(crate) struct Narrow {
+    taken: Vec<u8>,
+    step: usize,
+    room: usize,
+    takes_none: bool,
+    faults: u64,
+}
+
+impl Narrow {
+    pub(crate) fn new(alloc: Global, step: usize, room: usize, takes_none: bool) -> Self {
+        Narrow {
+            taken: Vec::new(alloc),
+            step,
+            room,
+            takes_none,
+            faults: 0,
+        }
+    }
+
+    /// The writer that a row describes: `room NAME N` says how many bytes it takes, `step NAME N` how many of them at a
+    /// time, and `full NAME` that it takes none where its room ends. Else it takes all.
+    pub(crate) fn of_row(alloc: Global, row: &Row<'_>, name: &str) -> Self {
+        Narrow::new(
+            alloc,
+            row.number_of("step", name).unwrap_or(usize::MAX),
+            row.number_of("room", name).unwrap_or(usize::MAX),
+            row.number_of("full", name).is_some(),
+        )
+    }
+
+    /// What it took.
+    pub(crate) fn bytes(&self) -> &[u8] {
+        self.taken.as_slice()
+    }
+
+    /// How many faults it is known to have had.
+    pub(crate) fn faults(&self) -> u64 {
+        self.faults
+    }
+
+    pub(crate) fn note_faults(&mut self, faults: u64) {
+        self.faults = faults;
+    }
+}
+
+impl Write for Narrow {
+    fn write(&mut self, bytes: &[u8]) -> io::Result<usize> {
+        let count = bytes.len().min(self.step).min(self.room);
+        if count == 0 && !self.takes_none {
+            return Err(io::Error::from(io::ErrorKind::BrokenPipe));
+        }
+        self.taken.extend_from_slice(&bytes[..count])?;
+        self.room -= count;
+        Ok(count)
+    }
+
+    fn flush(&mut self) -> io::Result<()> {
+        Ok(())
+    }
+}

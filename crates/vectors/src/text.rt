@@ -1,0 +1,74 @@
+//! The texts of rows.
+
+use crate::row::{Row, number};
+use std::alloc::AllocError;
+use std::{fs, io};
+
+/// The text that a row spells, or that of the file which it names.
+pub(crate) fn of_row(rt: &HostRuntime, row: &Row<'_>) -> io::Result<String> {
+    let mut text = String::new(rt.alloc());
+    let mut has_line = false;
+    for (word, rest) in &row.lines {
+        match *word {
+            "file" => text.push_str(fs::read_to_string(rt, *rest)?.as_str())?,
+            "text" if has_line => {
+                text.push('\n')?;
+                push_line(&mut text, *rest)?;
+            }
+            "text" => push_line(&mut text, *rest)?,
+            "then" => push_line(&mut text, *rest)?,
+            "times" => push_times(&mut text, *rest)?,
+            _ => continue,
+        }
+        has_line = true;
+    }
+    Ok(text)
+}
+
+/// Adds what a line of a row spells, in which pictures stand for CR and TAB.
+fn push_line(text: &mut String, line: &str) -> Result<(), AllocError> {
+    for character in line.chars() {
+        text.push(match character {
+            '␍' => '\r',
+            '␉' => '\t',
+            other => other,
+        })?;
+    }
+    Ok(())
+}
+
+/// Adds a line as many times as the number in front of it says, with the turn's number for each `#`.
+fn push_times(text: &mut String, line: &str) -> Result<(), AllocError> {
+    let (count, line) = line.split_once(' ').unwrap_or(("0", ""));
+    for turn in 0..number(count) {
+        for (place, part) in line.split('#').enumerate() {
+            if place > 0 {
+                write!(text, "{turn}")?;
+            }
+            push_line(text, part)?;
+        }
+    }
+    Ok(())
+}
+
+/// Writes a text, each line behind a bar, with pictures for CR and TAB.
+pub(crate) fn write_text(out: &mut String, text: &str) -> Result<(), AllocError> {
+    for line in text.split('\n') {
+        out.push_str("    |")?;
+        push_pictures(out, line)?;
+        out.push('\n')?;
+    }
+    Ok(())
+}
+
+/// Adds a text with pictures for CR and TAB.
+pub(crate) fn push_pictures(out: &mut String, text: &str) -> Result<(), AllocError> {
+    for character in text.chars() {
+        out.push(match character {
+            '\r' => '␍',
+            '\t' => '␉',
+            other => other,
+        })?;
+    }
+    Ok(())
+}
