@@ -1,6 +1,7 @@
 //! Each beginning of a text.
 
 use crate::errors::write_spans;
+use crate::pen;
 use cfgrammar::yacc::YaccKind;
 use cfgrammar::yacc::ast::ASTWithValidityInfo;
 use std::alloc::{AllocError, Global};
@@ -14,7 +15,8 @@ pub(crate) fn write_cuts(
 ) -> Result<(), AllocError> {
     for len in 0..=text.len() {
         if let Some(cut) = text.get(..len) {
-            write!(out, "    {len}:")?;
+            pen::number(out, "    ", len)?;
+            out.push(':')?;
             write_cut(out, alloc, kind, cut)?;
         }
     }
@@ -30,15 +32,15 @@ fn write_cut(
 ) -> Result<(), AllocError> {
     let parsed = ASTWithValidityInfo::new(alloc, kind, text)?;
     for error in parsed.errors() {
-        write!(out, " {:?}", error.kind())?;
+        pen::value(out, " ", error.kind())?;
         write_spans(out, error)?;
     }
     let ast = parsed.ast();
-    writeln!(
+    pen::numbers(
         out,
-        "; {} rules, {} productions, {} tokens",
-        ast.rules().len(),
-        ast.prods().len(),
-        ast.tokens().len()
-    )
+        ("; ", ast.rules().len()),
+        (" rules, ", ast.prods().len()),
+    )?;
+    pen::number(out, " productions, ", ast.tokens().len())?;
+    out.push_str(" tokens\n")
 }

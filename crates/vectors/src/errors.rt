@@ -1,12 +1,14 @@
 //! Errors of a text, line by line.
 
+use crate::pen;
 use cfgrammar::yacc::YaccGrammarError;
 use cfgrammar::{FeedError, NewlineCache, Span, Spanned};
 use std::alloc::{AllocError, Global};
 
 /// Writes a space and the bytes of a span.
 pub(crate) fn write_span(out: &mut String, span: Span) -> Result<(), AllocError> {
-    write!(out, " ({},{})", span.start(), span.end())
+    pen::numbers(out, (" (", span.start()), (",", span.end()))?;
+    out.push(')')
 }
 
 /// Writes whether there are errors, and a line for each.
@@ -17,9 +19,9 @@ pub(crate) fn write_errors(
     errors: &[YaccGrammarError],
 ) -> Result<(), AllocError> {
     if errors.is_empty() {
-        return writeln!(out, "errors: none");
+        return out.push_str("errors: none\n");
     }
-    writeln!(out, "errors")?;
+    out.push_str("errors\n")?;
     write_error_lines(out, alloc, text, errors)
 }
 
@@ -34,18 +36,18 @@ pub(crate) fn write_error_lines(
     let cache = match NewlineCache::from_str(alloc, text) {
         Ok(cache) => cache,
         Err(FeedError::OutOfMemory) => return Err(AllocError),
-        Err(FeedError::TooLong) => return writeln!(out, "    too long"),
+        Err(FeedError::TooLong) => return out.push_str("    too long\n"),
     };
     for error in errors {
-        write!(out, "    {:?}", error.kind())?;
+        pen::value(out, "    ", error.kind())?;
         let mut place = 0;
         for span in error.spans().iter().rev() {
             place = span.start();
         }
         write_spans(out, error)?;
         match cache.byte_to_line_num_and_col_num(text, place) {
-            Some((line, column)) => write!(out, " {line}:{column}")?,
-            None => write!(out, " no place")?,
+            Some((line, column)) => pen::numbers(out, (" ", line), (":", column))?,
+            None => out.push_str(" no place")?,
         }
         writeln!(out, " {:?}: {error}", error.spanskind())?;
     }

@@ -1,5 +1,6 @@
 //! FIRST sets of a grammar.
 
+use crate::pen;
 use cfgrammar::yacc::YaccGrammar;
 use cfgrammar::yacc::firsts::{YaccFirsts, firsts_over};
 use cfgrammar::yacc::grammar::Productions;
@@ -82,16 +83,17 @@ fn write_sets<S: Storage>(
     firsts: &YaccFirsts<S>,
 ) -> Result<(), AllocError> {
     for ridx in grammar.iter_rules() {
-        write!(out, "    first of {}:", usize::from(ridx))?;
+        pen::number(out, "    first of ", usize::from(ridx))?;
+        out.push(':')?;
         for tidx in grammar.iter_tidxs() {
             if firsts.is_set(ridx, tidx) {
-                write!(out, " {}", usize::from(tidx))?;
+                pen::number(out, " ", usize::from(tidx))?;
             }
         }
         if firsts.is_epsilon_set(ridx) {
-            write!(out, " empty")?;
+            out.push_str(" empty")?;
         }
-        writeln!(out)?;
+        out.push('\n')?;
     }
     Ok(())
 }
@@ -104,7 +106,7 @@ pub(crate) fn write_set(
     (rule, token): (usize, usize),
 ) -> Result<(), AllocError> {
     let (Some(rule), Some(token)) = (u32::from_usize(rule), u32::from_usize(token)) else {
-        return writeln!(out, "no such bit");
+        return out.push_str("no such bit\n");
     };
     let mut firsts = grammar.firsts(alloc)?;
     if rule < grammar.rules_len().0 && token < grammar.tokens_len().0 {

@@ -1,6 +1,7 @@
 //! Rows on the texts of errors and warnings.
 
 use crate::errors::write_spans;
+use crate::pen;
 use crate::row::{Row, numbers};
 use cfgrammar::yacc::{YaccGrammarError, YaccGrammarErrorKind, YaccGrammarWarningKind};
 use cfgrammar::{Span, Spanned};
@@ -30,13 +31,13 @@ fn write_error(out: &mut String, alloc: Global, line: &str) -> Result<(), AllocE
         spans.push(Span::new(end, end))?;
     }
     let error = YaccGrammarError::new(kind_of(alloc, name)?, spans);
-    write!(out, "    {:?}", error.kind())?;
+    pen::value(out, "    ", error.kind())?;
     write_spans(out, &error)?;
     write!(out, " {:?}: {error}", error.spanskind())?;
     if error.clone()? != error {
-        write!(out, ", and a copy that isn't the same")?;
+        out.push_str(", and a copy that isn't the same")?;
     }
-    writeln!(out)
+    out.push('\n')
 }
 
 fn warning_of(name: &str) -> YaccGrammarWarningKind {

@@ -3,6 +3,7 @@
 ghost use Rattle.std.specs.Prelude.{IfOk, IfSome};
 ghost use Rattle.cfglines.specs.Lines.{StandsFor};
 
+use crate::pen;
 use crate::row::{Row, number, numbers};
 use crate::text::write_text;
 use cfgrammar::{FeedError, NewlineCache, Span};
@@ -90,12 +91,14 @@ fn answers(
 {
     let mut out = String::new(alloc);
     for byte in 0..text.len().saturating_add(2) {
-        write!(out, "    {byte}:")?;
+        pen::number(&mut out, "    ", byte)?;
+        out.push(':')?;
         write_line(&mut out, cache, byte)?;
         match cache.byte_to_line_num_and_col_num(text, byte) {
-            Some((line, column)) => writeln!(out, ", at {line}:{column}")?,
-            None => writeln!(out, ", no column")?,
+            Some((line, column)) => pen::numbers(&mut out, (", at ", line), (":", column))?,
+            None => out.push_str(", no column")?,
         }
+        out.push('\n')?;
     }
     write_spans(&mut out, row, cache)?;
     Ok(out)
@@ -104,12 +107,12 @@ fn answers(
 /// Writes the line of a byte, and where that line starts.
 fn write_line(out: &mut String, cache: &NewlineCache, byte: usize) -> Result<(), AllocError> {
     match cache.byte_to_line_num(byte) {
-        Some(line) => write!(out, " line {line}")?,
-        None => write!(out, " no line")?,
+        Some(line) => pen::number(out, " line ", line)?,
+        None => out.push_str(" no line")?,
     }
     match cache.byte_to_line_byte(byte) {
-        Some(start) => write!(out, " from {start}"),
-        None => write!(out, " from nowhere"),
+        Some(start) => pen::number(out, " from ", start),
+        None => out.push_str(" from nowhere"),
     }
 }
 
@@ -119,7 +122,9 @@ fn write_spans(out: &mut String, row: &Row<'_>, cache: &NewlineCache) -> Result<
         let (start, end) = numbers(*rest);
         if *word == "span" && start <= end {
             let (first, last) = cache.span_line_bytes(Span::new(start, end));
-            writeln!(out, "    lines of ({start},{end}): ({first},{last})")?;
+            pen::numbers(out, ("    lines of (", start), (",", end))?;
+            pen::numbers(out, ("): (", first), (",", last))?;
+            out.push_str(")\n")?;
         }
     }
     Ok(())
@@ -133,7 +138,7 @@ fn write_joined(out: &mut String, alloc: Global, text: &str) -> Result<(), Alloc
     };
     write!(out, "of its lines, joined: {}:", text.len())?;
     write_line(out, &joined, text.len())?;
-    write!(out, ", past it:")?;
+    out.push_str(", past it:")?;
     write_line(out, &joined, text.len().saturating_add(1))?;
-    writeln!(out)
+    out.push('\n')
 }

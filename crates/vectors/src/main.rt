@@ -11,6 +11,7 @@ mod kinds;
 mod lines;
 mod marks;
 mod narrow;
+mod pen;
 mod row;
 mod runs;
 mod syntax;

@@ -4,6 +4,7 @@ ghost use Rattle.cfgmarks.specs.Marks.{IsFaithful};
 
 mod entry;
 
+use crate::pen;
 use crate::row::{Row, number, words};
 use cfgrammar::markmap::{MarkMap, MergeBehavior, MergeError, MergeFault};
 use std::alloc::{AllocError, Global};
@@ -60,7 +61,7 @@ fn play<K: Key>(out: &mut String, alloc: Global, row: &Row<'_>) -> Result<(), Al
                 merge(out, &mut map, theirs, number(*rest))?;
                 write_map(out, alloc, row, &mut map)?;
             }
-            "compare" => writeln!(out, "    equal to the other: {}", map == other)?,
+            "compare" => finish(out, "    equal to the other: ", &(map == other))?,
             _ => {}
         }
     }
@@ -84,7 +85,7 @@ fn call<K: Key>(
     let key = K::of(alloc, key)?;
     match name {
         "insert" => insert(out, map, key, small(value)),
-        "remove" => writeln!(out, "{:?}", map.remove(&key)),
+        "remove" => finish(out, "", &map.remove(&key)),
         "entry" if map.contains_key(&key) => entry::call_occupied(out, map, key, value),
         "entry" => entry::call_vacant(out, map, key, value),
         _ => {
@@ -102,7 +103,7 @@ fn insert<K: Key>(
     value: u32,
 ) -> Result<(), AllocError> {
     match map.insert(key, value) {
-        Ok(old) => writeln!(out, "{old:?}"),
+        Ok(old) => finish(out, "", &old),
         Err(_) => Err(AllocError),
     }
 }
@@ -121,6 +122,12 @@ fn mark<K: Key>(
         "mark_required" => map.mark_required(key),
         _ => map.set_merge_behavior(key, behavior),
     }
+}
+
+/// Writes a text and a value, and ends the line.
+fn finish<T: Debug>(out: &mut String, before: &str, value: &T) -> Result<(), AllocError> {
+    pen::value(out, before, value)?;
+    out.push('\n')
 }
 
 /// The number that a word spells, or what is left of it where it is large.
@@ -152,7 +159,7 @@ fn merge<K: Key>(
         }
     };
     match map.merge_from(theirs, convert) {
-        Ok(()) => writeln!(out, "()"),
+        Ok(()) => out.push_str("()\n"),
         Err(MergeFault::Convert(key, refused)) => writeln!(out, "{refused} at {key:?}"),
         Err(MergeFault::OutOfMemory) => Err(AllocError),
         Err(MergeFault::Conflict(conflict)) => {
@@ -172,31 +179,31 @@ fn write_map<K: Key>(
 ) -> Result<(), AllocError>
     requires { IsFaithful K.cmp K.is_clone }
 {
-    write!(out, "       ")?;
+    out.push_str("       ")?;
     for word in row.first("watch").unwrap_or("").split_whitespace() {
         let key = K::of(alloc, word)?;
-        write!(out, " [{key:?}")?;
+        pen::value(out, " [", &key)?;
         write_marks(out, map, &key)?;
         entry::write_mark(out, map, key)?;
     }
-    writeln!(out)?;
+    out.push('\n')?;
     write_lists(out, alloc, map)
 }
 
 /// Writes the value of a key and its marks.
 fn write_marks<K: Key>(out: &mut String, map: &MarkMap<K, u32>, key: &K) -> Result<(), AllocError> {
     match map.get(key) {
-        Some(value) => write!(out, " {value}")?,
-        None => write!(out, " -")?,
+        Some(value) => pen::value(out, " ", value)?,
+        None => out.push_str(" -")?,
     }
     if map.contains_key(key) != map.get(key).is_some() {
-        write!(out, " (or not)")?;
+        out.push_str(" (or not)")?;
     }
     if map.is_used(key) {
-        write!(out, " used")?;
+        out.push_str(" used")?;
     }
     if map.is_required(key) {
-        write!(out, " required")?;
+        out.push_str(" required")?;
     }
     Ok(())
 }
@@ -209,11 +216,12 @@ fn write_lists<K: Key>(
 ) -> Result<(), AllocError> {
     out.push_str("        keys")?;
     for key in map.keys() {
-        write!(out, " {key:?}")?;
+        pen::value(out, " ", key)?;
     }
     out.push_str("; entries")?;
     for (key, value) in map {
-        write!(out, " {key:?} {value}")?;
+        pen::value(out, " ", key)?;
+        pen::value(out, " ", value)?;
     }
     write_marked(out, alloc, map)
 }
@@ -226,12 +234,12 @@ fn write_marked<K: Key>(
 ) -> Result<(), AllocError> {
     out.push_str("; unused")?;
     for key in map.unused(alloc)?.iter() {
-        write!(out, " {key:?}")?;
+        pen::value(out, " ", key)?;
     }
     out.push_str("; missing")?;
     for key in map.missing(alloc)?.iter() {
         let key: &K = *key;
-        write!(out, " {key:?}")?;
+        pen::value(out, " ", key)?;
     }
     out.push('\n')
 }

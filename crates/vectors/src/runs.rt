@@ -1,6 +1,7 @@
 //! Rows on runs of the program.
 
 use crate::narrow::Narrow;
+use crate::pen;
 use crate::row::Row;
 use crate::text::write_text;
 use cfgtool::{Counted, Input, Sink, Source, run};
@@ -83,12 +84,12 @@ fn write_rooms(
         let mut output = Narrow::new(alloc, step, room, takes_none);
         let mut errors = Narrow::new(alloc, usize::MAX, usize::MAX, false);
         let status = ended(alloc, row, text, &mut output, &mut errors)?;
-        write!(out, " {}:{status}", output.bytes().len())?;
+        pen::numbers(out, (" ", output.bytes().len()), (":", usize::from(status)))?;
         if !whole.starts_with(output.bytes()) {
-            write!(out, " (no beginning)")?;
+            out.push_str(" (no beginning)")?;
         }
     }
-    writeln!(out)
+    out.push('\n')
 }
 
 /// What the row's file holds.
@@ -107,6 +108,6 @@ fn write_taken(out: &mut String, name: &str, taken: &Narrow) -> Result<(), Alloc
     writeln!(out, "{name} of {} bytes, {faults} faults", bytes.len())?;
     match std::str::from_utf8(bytes) {
         Ok(text) => write_text(out, text),
-        Err(_) => writeln!(out, "    no text"),
+        Err(_) => out.push_str("    no text\n"),
     }
 }

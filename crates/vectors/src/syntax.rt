@@ -1,6 +1,7 @@
 //! The syntax of a text, by what its readers answer.
 
 use crate::errors::write_span;
+use crate::pen;
 use cfgrammar::yacc::ast::{ASTWithValidityInfo, GrammarAST, Production, Rule, Symbol};
 use std::alloc::{AllocError, Global};
 
@@ -11,11 +12,11 @@ pub(crate) fn write_syntax(
     parsed: &ASTWithValidityInfo,
 ) -> Result<(), AllocError> {
     let told = told(alloc, parsed.ast())?;
-    writeln!(out, "syntax")?;
+    out.push_str("syntax\n")?;
     out.push_str(told.as_str())?;
     let copy = parsed.ast().clone()?;
     if self::told(alloc, &copy)? != told {
-        writeln!(out, "    and a copy that isn't the same")?;
+        out.push_str("    and a copy that isn't the same\n")?;
     }
     Ok(())
 }
@@ -35,15 +36,15 @@ pub(crate) fn write_lengths(out: &mut String, ast: &GrammarAST) -> Result<(), Al
 fn told(alloc: Global, ast: &GrammarAST) -> Result<String, AllocError> {
     let mut out = String::new(alloc);
     if let Some((name, span)) = ast.start() {
-        write!(out, "    start {name:?}")?;
+        pen::name(&mut out, "    start ", name.as_str())?;
         write_span(&mut out, *span)?;
-        writeln!(out)?;
+        out.push('\n')?;
     }
     for rule in ast.rules().values() {
         write_rule(&mut out, ast, rule)?;
     }
     for (index, production) in ast.prods().iter().enumerate() {
-        write!(out, "    production {index}")?;
+        pen::number(&mut out, "    production ", index)?;
         write_production(&mut out, production)?;
     }
     write_tokens(&mut out, ast)?;
@@ -53,19 +54,19 @@ fn told(alloc: Global, ast: &GrammarAST) -> Result<String, AllocError> {
 /// Writes a rule: its name, the name's place, and its productions. It is found by its name.
 fn write_rule(out: &mut String, ast: &GrammarAST, rule: &Rule) -> Result<(), AllocError> {
     let (name, span) = &rule.name;
-    write!(out, "    rule {name:?}")?;
+    pen::name(out, "    rule ", name.as_str())?;
     write_span(out, *span)?;
     out.push(':')?;
     for index in &rule.pidxs {
-        write!(out, " {index}")?;
+        pen::number(out, " ", *index)?;
     }
     if let Some(action_type) = &rule.actiont {
-        write!(out, ", type {action_type}")?;
+        pen::name(out, ", type ", action_type.as_str())?;
     }
     if ast.get_rule(name.as_str()) != Some(rule) {
-        write!(out, ", not by its name")?;
+        out.push_str(", not by its name")?;
     }
-    writeln!(out)
+    out.push('\n')
 }
 
 /// Writes a production: its place, its symbols with their places, and its precedence and action, where it has some.
@@ -76,37 +77,39 @@ fn write_production(out: &mut String, production: &Production) -> Result<(), All
         write_symbol(out, symbol)?;
     }
     if let Some(token) = &production.precedence {
-        write!(out, ", precedence of {token:?}")?;
+        pen::name(out, ", precedence of ", token.as_str())?;
     }
     if let Some((action, span)) = &production.action {
-        write!(out, ", action {action:?}")?;
+        pen::name(out, ", action ", action.as_str())?;
         write_span(out, *span)?;
     }
-    writeln!(out)
+    out.push('\n')
 }
 
 /// Writes a symbol: its kind, its name and the name's place. The name is also what the symbol prints.
 fn write_symbol(out: &mut String, symbol: &Symbol) -> Result<(), AllocError> {
     let (kind, name, span) = match symbol {
-        Symbol::Rule(name, span) => ("rule", name, *span),
-        Symbol::Token(name, span) => ("token", name, *span),
+        Symbol::Rule(name, span) => (" rule", name, *span),
+        Symbol::Token(name, span) => (" token", name, *span),
     };
-    write!(out, " {kind} {name:?}")?;
+    out.push_str(kind)?;
+    pen::name(out, " ", name.as_str())?;
     write_span(out, span)
 }
 
 /// Writes each token: its name, the name's place, and whether a `%token` declares it.
 fn write_tokens(out: &mut String, ast: &GrammarAST) -> Result<(), AllocError> {
     for (index, (name, span)) in ast.tokens().iter().zip(ast.spans()).enumerate() {
-        write!(out, "    token {index} {name:?}")?;
+        pen::number(out, "    token ", index)?;
+        pen::name(out, " ", name.as_str())?;
         write_span(out, *span)?;
         if ast.token_directives().contains(&index) {
-            write!(out, " declared")?;
+            out.push_str(" declared")?;
         }
         if !ast.has_token(name.as_str()) {
-            write!(out, ", not by its name")?;
+            out.push_str(", not by its name")?;
         }
-        writeln!(out)?;
+        out.push('\n')?;
     }
     Ok(())
 }

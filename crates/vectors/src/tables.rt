@@ -4,6 +4,7 @@ ghost use Rattle.std.specs.Prelude.{◌<◌, length};
 
 use crate::errors::{write_error_lines, write_span};
 use crate::firsts::{self, write_firsts};
+use crate::pen;
 use crate::text::push_pictures;
 use cfgrammar::yacc::YaccGrammar;
 use cfgrammar::yacc::ast::ASTWithValidityInfo;
@@ -93,13 +94,17 @@ fn write_lengths<S: Storage>(out: &mut String, grammar: &YaccGrammar<S>) -> Resu
     let start_production = usize::from(grammar.start_prod());
     let tokens = usize::from(grammar.tokens_len());
     let end = usize::from(grammar.eof_token_idx());
-    write!(out, "    rules {rules}, start {start_rule}; ")?;
-    write!(out, "productions {productions}, start {start_production}; ")?;
-    write!(out, "tokens {tokens}, end {end}")?;
+    pen::numbers(out, ("    rules ", rules), (", start ", start_rule))?;
+    pen::numbers(
+        out,
+        ("; productions ", productions),
+        (", start ", start_production),
+    )?;
+    pen::numbers(out, ("; tokens ", tokens), (", end ", end))?;
     if let Some(ridx) = grammar.implicit_rule() {
-        write!(out, "; implicit tokens in {}", usize::from(ridx))?;
+        pen::number(out, "; implicit tokens in ", usize::from(ridx))?;
     }
-    writeln!(out)
+    out.push('\n')
 }
 
 /// Writes a line for each rule.
@@ -119,11 +124,12 @@ fn write_rule<S: Storage>(
     requires { S.number ridx.0 < length grammar.now.rules }
 {
     let name = grammar.rule_name_str(ridx);
-    write!(out, "    rule {} {name:?}", usize::from(ridx))?;
+    pen::number(out, "    rule ", usize::from(ridx))?;
+    pen::name(out, " ", name)?;
     write_span(out, grammar.rule_name_span(ridx))?;
     write_indices(out, grammar.rule_to_prods(ridx))?;
     if let Some(action_type) = grammar.actiontype(ridx) {
-        write!(out, ", type {action_type}")?;
+        pen::name(out, ", type ", action_type.as_str())?;
     }
     if grammar.rule_name(ridx) != name {
         out.push_str(", another name")?;
@@ -134,7 +140,7 @@ fn write_rule<S: Storage>(
 fn write_indices<S: Storage>(out: &mut String, pidxs: &[PIdx<S>]) -> Result<(), AllocError> {
     out.push(':')?;
     for pidx in pidxs {
-        write!(out, " {}", usize::from(*pidx))?;
+        pen::number(out, " ", usize::from(*pidx))?;
     }
     Ok(())
 }
@@ -163,11 +169,12 @@ fn write_place<S: Storage>(
 ) -> Result<(), AllocError>
     requires { S.number pidx.0 < length grammar.now.productions }
 {
-    write!(out, "    production {}", usize::from(pidx))?;
+    pen::number(out, "    production ", usize::from(pidx))?;
     write_span(out, grammar.prod_span(pidx))?;
     let rule = usize::from(grammar.prod_to_rule(pidx));
     let len = usize::from(grammar.prod_len(pidx));
-    write!(out, " of rule {rule}, {len} symbols:")
+    pen::numbers(out, (" of rule ", rule), (", ", len))?;
+    out.push_str(" symbols:")
 }
 
 /// Writes a production's action, where it has one, and ends the line.
@@ -179,7 +186,7 @@ fn write_action<S: Storage>(
     requires { S.number pidx.0 < length grammar.now.productions }
 {
     if let Some(action) = grammar.action(pidx) {
-        write!(out, ", action {action:?}")?;
+        pen::name(out, ", action ", action.as_str())?;
     }
     if let Some(span) = grammar.action_span(pidx) {
         write_span(out, span)?;
@@ -190,8 +197,8 @@ fn write_action<S: Storage>(
 fn write_body<S: Storage>(out: &mut String, symbols: &[Symbol<S>]) -> Result<(), AllocError> {
     for symbol in symbols {
         match *symbol {
-            Symbol::Rule(ridx) => write!(out, " rule {}", usize::from(ridx))?,
-            Symbol::Token(tidx) => write!(out, " token {}", usize::from(tidx))?,
+            Symbol::Rule(ridx) => pen::number(out, " rule ", usize::from(ridx))?,
+            Symbol::Token(tidx) => pen::number(out, " token ", usize::from(tidx))?,
         }
     }
     Ok(())
@@ -213,9 +220,9 @@ fn write_token<S: Storage>(
 ) -> Result<(), AllocError>
     requires { S.number tidx.0 < length grammar.now.tokens }
 {
-    write!(out, "    token {}", usize::from(tidx))?;
+    pen::number(out, "    token ", usize::from(tidx))?;
     if let Some(name) = grammar.token_name(tidx) {
-        write!(out, " {name:?}")?;
+        pen::name(out, " ", name)?;
     }
     if let Some(span) = grammar.token_span(tidx) {
         write_span(out, span)?;
@@ -251,17 +258,18 @@ fn write_name<S: Storage>(
     grammar: &YaccGrammar<S>,
     name: &str,
 ) -> Result<(), AllocError> {
-    write!(out, "    name {name:?}:")?;
+    pen::name(out, "    name ", name)?;
+    out.push(':')?;
     if let Some(ridx) = grammar.rule_idx(name) {
-        write!(out, " rule {}", usize::from(ridx))?;
+        pen::number(out, " rule ", usize::from(ridx))?;
     }
     if let Some(tidx) = grammar.token_idx(name) {
-        write!(out, " token {}", usize::from(tidx))?;
+        pen::number(out, " token ", usize::from(tidx))?;
     }
     if grammar.rule_idx(name).is_none() && grammar.token_idx(name).is_none() {
-        write!(out, " nothing")?;
+        out.push_str(" nothing")?;
     }
-    writeln!(out)
+    out.push('\n')
 }
 
 /// Writes how much there is in the tables of a text at every index type, once where that is the same.

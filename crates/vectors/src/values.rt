@@ -1,5 +1,6 @@
 //! Rows on spans, on indices, and on lists of bits.
 
+use crate::pen;
 use crate::row::{Row, number, numbers};
 use cfgrammar::{Location, PIdx, RIdx, SIdx, Span, Storage, Symbol, TIdx, Vob};
 use std::alloc::{AllocError, Global};
@@ -24,13 +25,14 @@ fn write_span(
     (start, end): (usize, usize),
 ) -> Result<(), AllocError> {
     if start > end {
-        return writeln!(out, "    no span");
+        return out.push_str("    no span\n");
     }
     let span = Span::new(start, end);
-    write!(out, "    ({},{})", span.start(), span.end())?;
-    write!(out, " has {} bytes", span.len())?;
+    pen::numbers(out, ("    (", span.start()), (",", span.end()))?;
+    pen::number(out, ") has ", span.len())?;
+    out.push_str(" bytes")?;
     if span.is_empty() {
-        write!(out, ", is empty")?;
+        out.push_str(", is empty")?;
     }
     let place = Location::from(span);
     let copy = place.clone()?;
@@ -46,11 +48,12 @@ fn write_span(
 
 /// Writes a number as each index type stores it.
 fn write_number(out: &mut String, number: usize) -> Result<(), AllocError> {
-    write!(out, "    {number}:")?;
-    write_stored::<u8>(out, "u8", number)?;
-    write_stored::<u16>(out, "u16", number)?;
-    write_stored::<u32>(out, "u32", number)?;
-    writeln!(out)
+    pen::number(out, "    ", number)?;
+    out.push(':')?;
+    write_stored::<u8>(out, " u8", number)?;
+    write_stored::<u16>(out, " u16", number)?;
+    write_stored::<u32>(out, " u32", number)?;
+    out.push('\n')
 }
 
 /// Writes a number as one index type stores it, and as the indices of this type tell it.
@@ -60,9 +63,11 @@ fn write_stored<S: Storage>(
     number: usize,
 ) -> Result<(), AllocError> {
     let Some(stored) = S::from_usize(number) else {
-        return write!(out, " {storage} none");
+        out.push_str(storage)?;
+        return out.push_str(" none");
     };
-    write!(out, " {storage} {}", stored.to_usize())?;
+    out.push_str(storage)?;
+    pen::number(out, " ", stored.to_usize())?;
     let (rule, production) = (RIdx(stored), PIdx(stored));
     let (symbol, token) = (SIdx(stored), TIdx(stored));
     let numbers = [
@@ -81,7 +86,7 @@ fn write_stored<S: Storage>(
     ];
     let is_rule = Symbol::Rule(rule) == Symbol::Token(token);
     if numbers.iter().any(|other| *other != number) || is_rule {
-        write!(out, " with indices {numbers:?}")?;
+        out.push_str(" with other indices")?;
     }
     Ok(())
 }
@@ -122,7 +127,8 @@ fn write_bits(
 
 /// Writes the bits of a list.
 fn write_list(out: &mut String, bits: &Vob) -> Result<(), AllocError> {
-    write!(out, "    {} bits ", bits.len())?;
+    pen::number(out, "    ", bits.len())?;
+    out.push_str(" bits ")?;
     for place in 0..bits.len() {
         out.push(if bits.get(place) == Some(true) {
             '1'
@@ -130,5 +136,5 @@ fn write_list(out: &mut String, bits: &Vob) -> Result<(), AllocError> {
             '0'
         })?;
     }
-    writeln!(out)
+    out.push('\n')
 }

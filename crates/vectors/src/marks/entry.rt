@@ -2,7 +2,7 @@
 
 ghost use Rattle.cfgmarks.specs.Marks.{IsFaithful};
 
-use super::{Key, behavior, small};
+use super::{Key, behavior, finish, small};
 use crate::row::words;
 use cfgrammar::markmap::{Entry, MarkMap};
 use std::alloc::AllocError;
@@ -16,22 +16,22 @@ pub(super) fn call_occupied<K: Key>(
 ) -> Result<(), AllocError> {
     let (name, word, _) = words(line);
     match map.entry(key) {
-        Entry::Vacant(_entry) => writeln!(out, "vacant"),
+        Entry::Vacant(_entry) => out.push_str("vacant\n"),
         Entry::Occupied(mut entry) => match name {
-            "insert" => writeln!(out, "occupied, {}", entry.insert(small(word))),
+            "insert" => finish(out, "occupied, ", &entry.insert(small(word))),
             "mark_used" => {
                 entry.mark_used();
-                writeln!(out, "occupied, used: {}", entry.is_used())
+                finish(out, "occupied, used: ", &entry.is_used())
             }
             "mark_required" => {
                 entry.mark_required();
-                writeln!(out, "occupied, required: {}", entry.is_required())
+                finish(out, "occupied, required: ", &entry.is_required())
             }
             "set_merge_behavior" => {
                 entry.set_merge_behavior(behavior(word));
-                writeln!(out, "occupied, mark {}", entry.get_mark())
+                finish(out, "occupied, mark ", &entry.get_mark())
             }
-            _ => writeln!(out, "occupied, {}", *entry.get()),
+            _ => finish(out, "occupied, ", entry.get()),
         },
     }
 }
@@ -47,25 +47,25 @@ pub(super) fn call_vacant<K: Key>(
 {
     let (name, word, _) = words(line);
     match map.entry(key) {
-        Entry::Occupied(_entry) => writeln!(out, "occupied"),
+        Entry::Occupied(_entry) => out.push_str("occupied\n"),
         Entry::Vacant(mut entry) => match name {
             "insert" => match entry.insert(small(word)) {
-                Ok(lent) => writeln!(out, "vacant, lends {}", *lent),
+                Ok(lent) => finish(out, "vacant, lends ", &*lent),
                 Err(_) => Err(AllocError),
             },
             "insert_entry" => match entry.insert_entry(small(word)) {
-                Ok(occupied) => writeln!(out, "vacant, mark {}", occupied.get_mark()),
+                Ok(occupied) => finish(out, "vacant, mark ", &occupied.get_mark()),
                 Err(_) => Err(AllocError),
             },
             "mark_required" => {
                 entry.mark_required()?;
-                writeln!(out, "vacant, ()")
+                out.push_str("vacant, ()\n")
             }
             "set_merge_behavior" => {
                 entry.set_merge_behavior(behavior(word))?;
-                writeln!(out, "vacant, ()")
+                out.push_str("vacant, ()\n")
             }
-            _ => writeln!(out, "vacant, {:?}", entry.key()),
+            _ => finish(out, "vacant, ", entry.key()),
         },
     }
 }
@@ -78,6 +78,6 @@ pub(super) fn write_mark<K: Key>(
 ) -> Result<(), AllocError> {
     match map.entry(key) {
         Entry::Occupied(entry) => write!(out, ", mark {}]", entry.get_mark()),
-        Entry::Vacant(_entry) => write!(out, "]"),
+        Entry::Vacant(_entry) => out.push_str("]"),
     }
 }

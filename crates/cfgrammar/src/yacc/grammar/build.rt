@@ -117,16 +117,24 @@ fn rule_row<S: Storage>(alloc: Global, rule: &Rule) -> Result<RuleRow<S>, AllocE
     ensures productions { IfOk result (λ row. map (λ p. S.number p.0) row.prods.items ≡ rule.now.pidxs.items) }
     ensures action_type { IfOk result (λ row. option_map string_bytes row.actiont ≡ option_map string_bytes rule.now.actiont) }
 {
-    let mut prods = Vec::with_capacity(alloc, rule.pidxs.len())?;
-    for place in &rule.pidxs {
-        prods.push(PIdx(stored(*place)))?;
-    }
     let (_, span) = &rule.name;
     Ok(RuleRow {
         span: *span,
-        prods,
+        prods: stored_places(alloc, &rule.pidxs)?,
         actiont: rule.actiont.clone()?,
     })
+}
+
+/// The productions at these places, as indices.
+fn stored_places<S: Storage>(alloc: Global, places: &[usize]) -> Result<Vec<PIdx<S>>, AllocError>
+    requires { All (λ place. place ≤ S.MAX) places.now }
+    ensures { IfOk result (λ prods. map (λ p. S.number p.0) prods.items ≡ places.now) }
+{
+    let mut prods = Vec::with_capacity(alloc, places.len())?;
+    for place in places {
+        prods.push(PIdx(stored(*place)))?;
+    }
+    Ok(prods)
 }
 
 /// The productions: the file's, and then that of the start rule.
