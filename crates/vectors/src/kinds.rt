@@ -13,7 +13,10 @@ pub(crate) fn tell(out: &mut String, alloc: Global, row: &Row<'_>) -> Result<(),
         match *word {
             "error" => write_error(out, alloc, *rest)?,
             "warning" => {
-                let kind = warning_of(*rest);
+                let kind = match *rest {
+                    "UnusedRule" => YaccGrammarWarningKind::UnusedRule,
+                    _ => YaccGrammarWarningKind::UnusedToken,
+                };
                 writeln!(out, "    {kind:?}: {kind}")?;
             }
             _ => {}
@@ -38,13 +41,6 @@ fn write_error(out: &mut String, alloc: Global, line: &str) -> Result<(), AllocE
         out.push_str(", and a copy that isn't the same")?;
     }
     out.push('\n')
-}
-
-fn warning_of(name: &str) -> YaccGrammarWarningKind {
-    match name {
-        "UnusedRule" => YaccGrammarWarningKind::UnusedRule,
-        _ => YaccGrammarWarningKind::UnusedToken,
-    }
 }
 
 /// The kind of this name. A kind that holds a name, or a character, holds `µ`.

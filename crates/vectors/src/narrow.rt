@@ -11,7 +11,8 @@ pub(crate) struct Narrow {
     step: usize,
     room: usize,
     takes_none: bool,
-    faults: u64,
+    /// How many faults it is known to have had.
+    pub(crate) faults: u64,
 }
 
 impl Narrow {
@@ -39,15 +40,6 @@ impl Narrow {
     /// What it took.
     pub(crate) fn bytes(&self) -> &[u8] {
         self.taken.as_slice()
-    }
-
-    /// How many faults it is known to have had.
-    pub(crate) fn faults(&self) -> u64 {
-        self.faults
-    }
-
-    pub(crate) fn note_faults(&mut self, faults: u64) {
-        self.faults = faults;
     }
 }
 

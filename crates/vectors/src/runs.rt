@@ -60,8 +60,8 @@ fn ended(
     let mut to_errors = Counted::new(&mut *errors);
     let status = run(alloc, &args, &mut source, &mut to_output, &mut to_errors);
     let (faults, more_faults) = (to_output.faults(), to_errors.faults());
-    output.note_faults(faults);
-    errors.note_faults(more_faults);
+    output.faults = faults;
+    errors.faults = more_faults;
     Ok(status)
 }
 
@@ -104,7 +104,7 @@ fn input(alloc: Global, row: &Row<'_>, text: &str) -> Result<Input, AllocError> 
 
 /// Writes what an output took.
 fn write_taken(out: &mut String, name: &str, taken: &Narrow) -> Result<(), AllocError> {
-    let (bytes, faults) = (taken.bytes(), taken.faults());
+    let (bytes, faults) = (taken.bytes(), taken.faults);
     writeln!(out, "{name} of {} bytes, {faults} faults", bytes.len())?;
     match std::str::from_utf8(bytes) {
         Ok(text) => write_text(out, text),
