@@ -3,8 +3,8 @@ use Rattle.std.proofs.Common.{◌≡◌, ℕ, ◌+◌, Bool, true, false, cond, 
 use Rattle.std.proofs.lemmas.Bool.Decides.{nat_tests}
 use Rattle.reading.specs.Pieces.{starts, IsRun, run}
 use Rattle.reading.proofs.PiecesLemmas.{IsRun-run, run_only, run_shorter}
-use Rattle.reading.proofs.Graphs.{IsFinder}
-use Rattle.reading.proofs.Lengths.{IsShorter}
+use Rattle.reading.specs.Finder.{IsFinder}
+use Rattle.reading.specs.Finder.{IsShorter}
 use Rattle.cfgwords.specs.declared.bytes.ByteClass.{ByteClass}
 use Rattle.cfgwords.specs.declared.bytes.ByteClass.TheVariants as bytes
 use Rattle.cfgwords.specs.Bytes.{holds}

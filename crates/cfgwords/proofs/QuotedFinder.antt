@@ -2,8 +2,8 @@
 use Rattle.std.proofs.Common.{◌≡◌, ℕ, ◌+◌, Bool, true, false, cond, not, ◌&&◌, ◌==◌, List, [], ◌∷◌, ◌++◌, length, Some, None, refl, ap, ap₂, sym, ◌∙◌, arith, eqb-true, eq-eqb, length-append}
 use Rattle.reading.specs.Pieces.{IsRun, run}
 use Rattle.reading.proofs.PiecesLemmas.{IsRun-run, run_only}
-use Rattle.reading.proofs.Graphs.{IsFinder}
-use Rattle.reading.proofs.Lengths.{IsShorter}
+use Rattle.reading.specs.Finder.{IsFinder}
+use Rattle.reading.specs.Finder.{IsShorter}
 use Rattle.cfgwords.specs.declared.bytes.ByteClass.TheVariants as bytes
 use Rattle.cfgwords.specs.Bytes.{holds}
 use Rattle.cfgwords.specs.Words.{is_inside, IsQuoted, closed, quoted_of}

@@ -1,6 +1,7 @@
 -- The function of each combinator gives just what the combinator's relation allows.
 use Rattle.std.proofs.Common.{◌≡◌, ℕ, zero, suc, ◌<◌, Bool, true, false, cond, List, [], ◌++◌, length, Option, Some, None, Result, Ok, Err, refl, ap, ◌∙◌, arith}
 use Rattle.reading.specs.Graph.{IsGraph}
+use Rattle.reading.specs.Finder.{IsFinder}
 use Rattle.reading.specs.Pieces.{strip, IsFirst, split_first}
 use Rattle.reading.specs.Read.{Read, gives, prefixed, fails, Exactly, Then, on, off, Case, begins, other, WordHere, found, missing, follow, follow_outcome, behind_word, case_of, found_word, word_here}
 use Rattle.reading.specs.Turns.{Turn, again, ends, Turns, last, next, after, turns, all_turns, OneOf, done, one, stopped, Many, Repeat, one_outcome, one_of, many, repeat}
@@ -48,11 +49,6 @@ module _ {I F A : Type 0} {G H : List ℕ → Read I F A → Type 0} {g h : List
       only : (text : List ℕ) (r : Read I F A) → Case word G H text r → case_of word g h text ≡ r
       only text r (begins rest e1 e2) = ap (behind_word g (h text)) (strip_only word text rest e1) ∙ p.only rest r e2
       only text r (other apart e) = stands text r apart e (strip word text) refl
-
--- p finds the words of the kind P
-pub record IsFinder {W : Type 0} (P : List ℕ → W → List ℕ → Type 0) (p : List ℕ → Option (W × List ℕ)) : Type 0 where
-  pub sound : (text : List ℕ) (word : W) (rest : List ℕ) → p text ≡ Some (word, rest) → P text word rest
-  pub only : (text : List ℕ) (word : W) (rest : List ℕ) → P text word rest → p text ≡ Some (word, rest)
 
 -- what stands before the first needle is a word
 pub split_first_finder : (needle : List ℕ) → IsFinder (IsFirst needle) (split_first needle)

@@ -1,6 +1,7 @@
 -- How much of a text a reading leaves: no more (lax), or less (strict).
 use Rattle.std.proofs.Common.{◌≡◌, ℕ, zero, suc, ◌<◌, ◌≤◌, Bool, true, false, cond, List, [], ◌∷◌, length, Option, Some, None, Result, Ok, Err, refl, ap, sym, ◌∙◌, arith}
 use Rattle.std.specs.Prelude.{if◌then◌else◌}
+use Rattle.reading.specs.Finder.{IsShorter}
 use Rattle.reading.specs.Pieces.{starts, strip}
 use Rattle.reading.specs.Read.{Read, gives, emits, fails, follow, follow_outcome, behind_word, case_of, found_word, word_here}
 use Rattle.reading.specs.Turns.{ends, after, turns, with_value, one_outcome, one_of, many, repeat}
@@ -114,14 +115,6 @@ choice_strict {I = I} {F = F} {A = A} {g = g} {h = h} test p q = record { less =
     go text a rest true = p.less text a rest
     go text a rest false = q.less text a rest
 
--- the words that a finder finds leave no more
-pub record IsNoLonger {W : Type 0} (p : List ℕ → Option (W × List ℕ)) : Type 0 where
-  pub less : (text : List ℕ) (word : W) (rest : List ℕ) → p text ≡ Some (word, rest) → length rest ≤ length text
-
--- the words that a finder finds leave less
-pub record IsShorter {W : Type 0} (p : List ℕ → Option (W × List ℕ)) : Type 0 where
-  pub less : (text : List ℕ) (word : W) (rest : List ℕ) → p text ≡ Some (word, rest) → length rest < length text
-
 -- where a word gives a value, the finder found one
 pub word_parts : (I : Type 0) {F W A : Type 0} (p : List ℕ → Option (W × List ℕ)) (value : List ℕ → W → List ℕ → A) (fault : List ℕ → F)
     (text : List ℕ) (a : A) (rest : List ℕ)
@@ -137,14 +130,6 @@ word_parts I {W = W} p value fault text a rest e = go (p text) refl e
 pub word_here_strict : {I F W A : Type 0} {p : List ℕ → Option (W × List ℕ)} → IsShorter p
     → (value : List ℕ → W → List ℕ → A) (fault : List ℕ → F) → IsStrict (word_here {I = I} p value fault)
 word_here_strict {I = I} {p = p} s value fault = record {
-  less = λ text a rest e.
-      let w = word_parts I p value fault text a rest e in s.less text w.0 rest w.1;
-}
-
--- a word that leaves no more
-pub word_here_lax : {I F W A : Type 0} {p : List ℕ → Option (W × List ℕ)} → IsNoLonger p
-    → (value : List ℕ → W → List ℕ → A) (fault : List ℕ → F) → IsLax (word_here {I = I} p value fault)
-word_here_lax {I = I} {p = p} s value fault = record {
   less = λ text a rest e.
       let w = word_parts I p value fault text a rest e in s.less text w.0 rest w.1;
 }

@@ -1,7 +1,11 @@
+pub mod Agree
+pub mod ChoiceLemmas
 pub mod Graphs
+pub mod Keeps
+pub mod Leaving
 pub mod Lengths
 pub mod Loops
 pub mod PiecesLemmas
-pub mod TextLemmas
 pub mod SilentLemmas
+pub mod TextLemmas
 pub mod Yields

@@ -3,6 +3,8 @@
 use Rattle.std.proofs.Common.{◌≡◌, ℕ, Bool, List, [], ◌++◌, Result, Ok, Err, All, sym, subst}
 use Rattle.std.proofs.lemmas.List.Elements.{All-nil, All-cons, All-append}
 use Rattle.reading.specs.Read.{Read, gives, emits, fails, Exactly, Then, on, off, Case, begins, other, WordHere, found, missing}
+use Rattle.reading.specs.Choice as tested
+use Rattle.reading.specs.Choice.{Choice}
 use Rattle.reading.specs.Silent.{Silently}
 use Rattle.reading.specs.Turns.{Turn, again, ends, Turns, last, next, with_value, OneOf, done, one, stopped, Many, Repeat}
 
@@ -61,6 +63,14 @@ module _ {I F : Type 0} {T : List ℕ → Type 0} {P : I → Type 0} {S : F → 
         go : (text : List ℕ) (r : Read I F A) → T text → Case word G H text r → Passes T P S Q r
         go text r t (begins rest e g) = p.passes rest r (behind text rest t e) g
         go text r t (other none h) = q.passes text r t h
+
+    -- choice by a test
+    pub choice_yields : {G H : List ℕ → Read I F A → Type 0} (test : List ℕ → Bool) → Yields T P S Q G → Yields T P S Q H → Yields T P S Q (Choice test G H)
+    choice_yields {G} {H} test p q = record { passes = go }
+      where
+        go : (text : List ℕ) (r : Read I F A) → T text → Choice test G H text r → Passes T P S Q r
+        go text r t (tested.passes e g) = p.passes text r t g
+        go text r t (tested.fails e h) = q.passes text r t h
 
     -- a word, or a fault
     pub word_yields : {W : Type 0} {Word : List ℕ → W → List ℕ → Type 0} {value : List ℕ → W → List ℕ → A} {fault : List ℕ → F}
