@@ -7,7 +7,7 @@ use Rattle.cfgsyntax.specs.declared.yacc.parser.reader.Reader.{Reader}
 use Rattle.cfgsyntax.specs.declared.yacc.parser.reader.ReadError.{ReadError}
 use Rattle.cfgsyntax.specs.declared.yacc.parser.reader.ReadError.TheVariants as errors
 use Rattle.cfgsyntax.specs.Builds.{IsPartHere, Fails, Builds, Grows}
-use Rattle.cfgsyntax.specs.Reading.{blank_here}
+use Rattle.cfgsyntax.specs.Grammar.{blank_here}
 use Rattle.cfgsyntax.proofs.Steps.{adds_none}
 
 -- the blank that is left, now, ends as the whole one does
@@ -23,13 +23,13 @@ whole : (lines : Bool) (start now : Reader) → KeepsBlank lines start now → b
 whole lines start now keeps = ap (λ len. blank len lines start.rest.now) (sym keeps.len) ∙ sym keeps.ends
 
 pub blank_fails : (lines : Bool) (start now : Reader) (e : ReadError) → KeepsBlank lines start now → IsPartHere lines now (Err e)
-    → Fails start now e (blank_here start.len lines start.rest.now)
+    → Fails start now e (blank_here start.len lines)
 blank_fails lines start now errors.OutOfMemory keeps here = tt
 blank_fails lines start now (errors.Fault fault) keeps (kind, stops, is) =
     (whole lines start now keeps ∙ blank_stops now.len lines now.rest.now kind stops ∙ ap Err (sym is), grown start now keeps.tree)
 
 pub blank_done : (lines : Bool) (start now : Reader) → KeepsBlank lines start now → IsPartHere lines now (Ok None)
-    → Builds (λ x. x) start now (Ok tt) (blank_here start.len lines start.rest.now)
+    → Builds (λ x. x) start now (Ok tt) (blank_here start.len lines)
 blank_done lines start now keeps here =
     (whole lines start now keeps ∙ blank_ends now.len lines now.rest.now here, keeps.len, grown start now keeps.tree)
 

@@ -98,7 +98,7 @@ pub record IsReadAt (text : List ℕ) (items : List Item) (stop : Option Fault) 
 read_at : (kind : YaccKind) (text : List ℕ) → IsUtf8 text → (items : List Item) (stop : Option Fault) → Reads kind text items stop → IsReadAt text items stop
 read_at kind text utf8 items stop reads =
     let start : IsReached text text text = record { origin = cut_here text; further = cut_here text } in
-    let kept = (file_kept (places_kept text utf8) text kind).passes text reads.read start reads.file in
+    let kept = (file_kept (places_kept text utf8) text kind).passes text reads.read start reads.says in
     record {
       items_at = subst (All (IsItemAt text)) reads.items_are kept.items;
       stop_at = subst (λ s. IfSome s (λ fault. IsPiece text fault.span)) reads.stop_is (ended_at text (IsReached text text) (λ fault. IsPiece text fault.span) (λ _. Unit {0}) reads.read.outcome kept.outcome);

@@ -3,12 +3,10 @@ pub mod CheckLemmas
 pub mod ErrorLemmas
 pub mod ErrorPlaces
 pub mod Kept
-pub mod Lengths
 pub mod Loops
 pub mod NamesRead
 pub mod OneReading
 pub mod PlacesRead
-pub mod Readings
 pub mod SoundLemmas
 pub mod Steps
 pub mod Symbols

@@ -63,4 +63,4 @@ named_rules items h = All-map (λ rule. begins_as_name rule.0) (rule_of (alterna
 pub rules_are_names : (kind : YaccKind) (text : List ℕ) (items : List Item) (stop : Option Fault) → Reads kind text items stop
     → All (λ rule. begins_as_name rule.0) (syntax_of items).rules
 rules_are_names kind text items stop reads =
-    named_rules items (subst (All NamesRule) reads.items_are ((file_kept (names_kept (length text)) text kind).passes text reads.read tt reads.file).items)
+    named_rules items (subst (All NamesRule) reads.items_are ((file_kept (names_kept (length text)) text kind).passes text reads.read tt reads.says).items)

@@ -5,7 +5,6 @@ pub mod Faults
 pub mod Grammar
 pub mod Parsed
 pub mod Places
-pub mod Reading
 pub mod Reads
 pub mod Sound
 pub mod Texts

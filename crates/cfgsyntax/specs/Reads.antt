@@ -1,15 +1,16 @@
 -- A reading of a text: the items that count as read, and what stopped the reading, if anything did.
 use Rattle.std.specs.Prelude.{◌≡◌, ℕ, List, length, Option}
+use Rattle.reading.specs.Construct.{Says}
 use Rattle.reading.specs.Read.{Read, stop_of}
 use Rattle.cfgwords.specs.declared.fault.Fault.{Fault}
 use Rattle.cfgast.specs.Items.{Item}
 use Rattle.cfgsyntax.specs.declared.yacc.kind.YaccKind.{YaccKind}
-use Rattle.cfgsyntax.specs.Grammar.{File}
+use Rattle.cfgsyntax.specs.Grammar.{file}
 
 -- The text is a file of this kind up to stop, and these are the items read on the way.
 pub record Reads (kind : YaccKind) (text : List ℕ) (items : List Item) (stop : Option Fault) : Type 0 where
   pub read : Read Item Fault (Unit {0})
-  pub file : File kind (length text) text read
+  pub says : Says (file kind (length text)) text read
   pub items_are : read.items ≡ items
   pub stop_is : stop_of read.outcome ≡ stop
 

@@ -2,9 +2,8 @@
 
 ghost use Rattle.std.specs.Prelude.{◌≡◌, is_some, codes};
 ghost use Rattle.reading.specs.Pieces.{strip};
-ghost use Rattle.reading.specs.Turns.{repeat};
-ghost use Rattle.cfgsyntax.specs.Grammar.{is_listed, is_declaration, separator_fault};
-ghost use Rattle.cfgsyntax.specs.Reading.{expect, listed_token, token_declaration, start_declaration, declaration, start_and_more, declarations};
+ghost use Rattle.reading.specs.Construct.{repeat, expect};
+ghost use Rattle.cfgsyntax.specs.Grammar.{is_listed, is_declaration, separator_fault, listed_token, token_declaration, start_declaration, declaration, start_and_more, declarations};
 
 use super::reader::{ReadError, Reader};
 use cfgwords::fault::FaultKind;
@@ -14,9 +13,9 @@ impl Reader<'_> {
     ghost use Rattle.cfgsyntax.specs.Builds.{Builds};
 
     /// Passes a token of a `%token` list and the blank behind it.
-    #[tactic(auto, unfolding(crate::specs::Reading::listed_token, cfgast::specs::Building::adds))]
+    #[tactic(auto, unfolding(crate::specs::Grammar::listed_token, cfgast::specs::Building::adds))]
     fn listed_token(&mut self) -> Result<(), ReadError>
-        ensures { Builds (λ x. x) self.old self.new result (listed_token self.old.len self.old.rest.now) }
+        ensures { Builds (λ x. x) self.old self.new result (listed_token self.old.len) }
     {
         let token = self.token()?;
         self.tree.declare_token(self.alloc, token.name, token.span)?;
@@ -35,7 +34,7 @@ impl Reader<'_> {
 
     /// Passes the tokens of a `%token` list.
     fn token_list(&mut self) -> Result<(), ReadError>
-        ensures { Builds (λ x. x) self.old self.new result (repeat is_listed (listed_token self.old.len) self.old.rest.now) }
+        ensures { Builds (λ x. x) self.old self.new result (repeat is_listed (listed_token self.old.len)) }
     {
         while self.is_listed() {
             self.listed_token()?;
@@ -44,18 +43,18 @@ impl Reader<'_> {
     }
 
     /// Passes what follows `%token`.
-    #[tactic(auto, unfolding(crate::specs::Reading::token_declaration, cfgast::specs::Building::adds))]
+    #[tactic(auto, unfolding(crate::specs::Grammar::token_declaration, cfgast::specs::Building::adds))]
     fn token_declaration(&mut self) -> Result<(), ReadError>
-        ensures { Builds (λ x. x) self.old self.new result (token_declaration self.old.len self.old.rest.now) }
+        ensures { Builds (λ x. x) self.old self.new result (token_declaration self.old.len) }
     {
         self.blank(false)?;
         self.token_list()
     }
 
     /// Passes what follows `%start`.
-    #[tactic(auto, unfolding(crate::specs::Reading::start_declaration, cfgast::specs::Building::adds))]
+    #[tactic(auto, unfolding(crate::specs::Grammar::start_declaration, cfgast::specs::Building::adds))]
     fn start_declaration(&mut self) -> Result<(), ReadError>
-        ensures { Builds (λ x. x) self.old self.new result (start_declaration self.old.len self.old.rest.now) }
+        ensures { Builds (λ x. x) self.old self.new result (start_declaration self.old.len) }
     {
         self.blank(false)?;
         let name = self.name()?;
@@ -64,9 +63,9 @@ impl Reader<'_> {
     }
 
     /// Passes a declaration other than `%start`.
-    #[tactic(auto, unfolding(crate::specs::Reading::declaration, cfgast::specs::Building::adds))]
+    #[tactic(auto, unfolding(crate::specs::Grammar::declaration, cfgast::specs::Building::adds))]
     fn declaration(&mut self) -> Result<(), ReadError>
-        ensures { Builds (λ x. x) self.old self.new result (declaration self.old.len self.old.rest.now) }
+        ensures { Builds (λ x. x) self.old self.new result (declaration self.old.len) }
     {
         if self.accept("%token") {
             self.token_declaration()
@@ -83,7 +82,7 @@ impl Reader<'_> {
     }
 
     fn declaration_list(&mut self) -> Result<(), ReadError>
-        ensures { Builds (λ x. x) self.old self.new result (repeat is_declaration (declaration self.old.len) self.old.rest.now) }
+        ensures { Builds (λ x. x) self.old self.new result (repeat is_declaration (declaration self.old.len)) }
     {
         while self.is_declaration() {
             self.declaration()?;
@@ -91,18 +90,18 @@ impl Reader<'_> {
         Ok(())
     }
 
-    #[tactic(auto, unfolding(crate::specs::Reading::start_and_more, cfgast::specs::Building::adds))]
+    #[tactic(auto, unfolding(crate::specs::Grammar::start_and_more, cfgast::specs::Building::adds))]
     fn start_and_more(&mut self) -> Result<(), ReadError>
-        ensures { Builds (λ x. x) self.old self.new result (start_and_more self.old.len self.old.rest.now) }
+        ensures { Builds (λ x. x) self.old self.new result (start_and_more self.old.len) }
     {
         self.start_declaration()?;
         self.declaration_list()
     }
 
     /// Passes all declarations. `%start` may stand once.
-    #[tactic(auto, unfolding(crate::specs::Reading::declarations, cfgast::specs::Building::adds))]
+    #[tactic(auto, unfolding(crate::specs::Grammar::declarations, cfgast::specs::Building::adds))]
     pub(super) fn declarations(&mut self) -> Result<(), ReadError>
-        ensures { Builds (λ x. x) self.old self.new result (declarations self.old.len self.old.rest.now) }
+        ensures { Builds (λ x. x) self.old self.new result (declarations self.old.len) }
     {
         self.declaration_list()?;
         if self.accept("%start") {
@@ -115,7 +114,7 @@ impl Reader<'_> {
     /// Passes the `%%` behind the declarations.
     #[tactic(auto, unfolding(cfgast::specs::Building::adds))]
     pub(super) fn separator(&mut self) -> Result<(), ReadError>
-        ensures { Builds (λ x. x) self.old self.new result (expect (codes "%%") (separator_fault self.old.len) self.old.rest.now) }
+        ensures { Builds (λ x. x) self.old self.new result (expect (codes "%%") (separator_fault self.old.len)) }
     {
         if self.accept("%%") {
             Ok(())

@@ -3,7 +3,7 @@
 ghost use Rattle.std.specs.Prelude.{◌≡◌, ◌≤◌, length, [], Some, None, MatchBool, IfOk};
 ghost use Rattle.reading.specs.Pieces.{strip};
 ghost use Rattle.cfgwords.specs.Text.{place, fault_at};
-ghost use Rattle.cfgsyntax.specs.Reading.{blank_here, name_here, token_here};
+ghost use Rattle.cfgsyntax.specs.Grammar.{blank_here, name_here, token_here};
 
 use cfgast::{AstBuilder, GrammarAST};
 use cfgbase::Span;
@@ -130,7 +130,7 @@ impl<'a> Reader<'a> {
 
     /// Passes the blank that begins here; where `lines` is false, it may not pass a line's end.
     pub(super) fn blank(&mut self, lines: bool) -> Result<(), ReadError>
-        ensures { Builds (λ x. x) self.old self.new result (blank_here self.old.len lines self.old.rest.now) }
+        ensures { Builds (λ x. x) self.old self.new result (blank_here self.old.len lines) }
     {
         while let Some(rest) = self.part(lines)? {
             self.rest = rest;
@@ -140,7 +140,7 @@ impl<'a> Reader<'a> {
 
     /// Passes the name that must stand here.
     pub(super) fn name(&mut self) -> Result<Word<'a>, ReadError>
-        ensures { Builds word_view self.old self.new result (name_here self.old.len self.old.rest.now) }
+        ensures { Builds word_view self.old self.new result (name_here self.old.len) }
     {
         match leading_name(self.rest) {
             Some((name, rest)) => {
@@ -155,7 +155,7 @@ impl<'a> Reader<'a> {
 
     /// Passes the token that must stand here.
     pub(super) fn token(&mut self) -> Result<Token<'a>, ReadError>
-        ensures read { Builds token_view self.old self.new result (token_here self.old.len self.old.rest.now) }
+        ensures read { Builds token_view self.old self.new result (token_here self.old.len) }
         ensures after { IfOk result (λ token. place self.old.len self.old.rest.now ≤ token.end) }
     {
         match leading_token(self.rest) {

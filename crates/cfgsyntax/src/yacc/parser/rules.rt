@@ -1,11 +1,10 @@
 //! Rules: what stands behind the first `%%`.
 
 ghost use Rattle.std.specs.Prelude.{◌≡◌, ◌≤◌, All, IfOk, OnOk, length, map, codes};
-ghost use Rattle.reading.specs.Turns.{many, repeat};
+ghost use Rattle.reading.specs.Construct.{many, repeat, expect};
 ghost use Rattle.cfgwords.specs.Text.{place, fault_at};
 ghost use Rattle.cfgwords.specs.declared.fault.FaultKind.TheVariants.{MissingColon};
-ghost use Rattle.cfgsyntax.specs.Grammar.{is_symbol, is_finish, is_alternative, is_open, body_fault, finish};
-ghost use Rattle.cfgsyntax.specs.Reading.{expect, symbol, production_from, production, next_production, body, rule, file};
+ghost use Rattle.cfgsyntax.specs.Grammar.{is_symbol, is_finish, is_alternative, is_open, body_fault, symbol, finish, production, next_production, body, rule, file};
 
 use super::reader::{ReadError, Reader};
 use crate::yacc::kind::YaccKind;
@@ -32,7 +31,7 @@ impl<'a> Reader<'a> {
     /// Passes `|` or `;`, which must stand here.
     #[tactic(auto, unfolding(cfgast::specs::Building::adds))]
     fn expect(&mut self, word: &str) -> Result<(), ReadError>
-        ensures { Builds (λ x. x) self.old self.new result (expect word.now (body_fault self.old.len) self.old.rest.now) }
+        ensures { Builds (λ x. x) self.old self.new result (expect word.now (body_fault self.old.len)) }
     {
         if self.accept(word) {
             Ok(())
@@ -44,7 +43,7 @@ impl<'a> Reader<'a> {
     /// Passes the colon behind a rule's name.
     #[tactic(auto, unfolding(cfgast::specs::Building::adds))]
     fn colon(&mut self) -> Result<(), ReadError>
-        ensures { Builds (λ x. x) self.old self.new result (expect (codes ":") (fault_at self.old.len MissingColon) self.old.rest.now) }
+        ensures { Builds (λ x. x) self.old self.new result (expect (codes ":") (fault_at self.old.len MissingColon)) }
     {
         if self.accept(":") {
             Ok(())
@@ -64,9 +63,9 @@ impl<'a> Reader<'a> {
     }
 
     /// Passes a symbol of a production and the blank behind it; a quoted token is noted.
-    #[tactic(auto, unfolding(crate::specs::Reading::symbol, cfgast::specs::Building::adds))]
+    #[tactic(auto, unfolding(crate::specs::Grammar::symbol, cfgast::specs::Building::adds))]
     fn symbol(&mut self) -> Result<Token<'a>, ReadError>
-        ensures read { Builds token_view self.old self.new result (symbol self.old.len self.old.rest.now) }
+        ensures read { Builds token_view self.old self.new result (symbol self.old.len) }
         ensures after { IfOk result (λ symbol. place self.old.len self.old.rest.now ≤ symbol.end) }
     {
         let token = self.token()?;
@@ -79,7 +78,7 @@ impl<'a> Reader<'a> {
 
     /// Passes the symbols of a production.
     fn symbols(&mut self) -> Result<Vec<Token<'a>>, ReadError>
-        ensures read { Builds tokens_view self.old self.new result (many is_symbol (symbol self.old.len) self.old.rest.now) }
+        ensures read { Builds tokens_view self.old self.new result (many is_symbol (symbol self.old.len)) }
         ensures ends { IfOk result (λ symbols. All (λ symbol. place self.old.len self.old.rest.now ≤ symbol.end) symbols.items) }
         ensures shorter { OnOk result (length self.new.rest.now ≤ length self.old.rest.now) }
     {
@@ -102,7 +101,7 @@ impl<'a> Reader<'a> {
     }
 
     /// Notes the production that began at `start`, where it ends here.
-    #[tactic(auto, unfolding(cfgast::specs::Building::adds))]
+    #[tactic(auto, unfolding(crate::specs::Grammar::finish, cfgast::specs::Building::adds))]
     fn finish(
         &mut self,
         rule: Word<'a>,
@@ -112,7 +111,7 @@ impl<'a> Reader<'a> {
         requires here { start ≤ place self.old.len self.old.rest.now }
         requires ends { All (λ symbol. start ≤ symbol.end) symbols.now }
         ensures { Builds (λ x. x) self.old self.new result
-            (finish self.old.len (word_view rule.entry) start (map token_view symbols.now) self.old.rest.now) }
+            (finish self.old.len (word_view rule.entry) start (map token_view symbols.now)) }
     {
         if !self.is_finish() {
             return Err(self.body_fault());
@@ -126,9 +125,9 @@ impl<'a> Reader<'a> {
     }
 
     /// Passes a production of the rule, up to its `|` or `;`.
-    #[tactic(auto, unfolding(crate::specs::Reading::production, crate::specs::Reading::production_from, cfgast::specs::Building::adds))]
+    #[tactic(auto, unfolding(crate::specs::Grammar::production, cfgast::specs::Building::adds))]
     fn production(&mut self, rule: Word<'a>) -> Result<(), ReadError>
-        ensures { Builds (λ x. x) self.old self.new result (production self.old.len (word_view rule.entry) self.old.rest.now) }
+        ensures { Builds (λ x. x) self.old self.new result (production self.old.len (word_view rule.entry)) }
     {
         let start = self.place();
         let symbols = self.symbols()?;
@@ -146,9 +145,9 @@ impl<'a> Reader<'a> {
     }
 
     /// Passes `|` and the production behind it.
-    #[tactic(auto, unfolding(crate::specs::Reading::next_production, cfgast::specs::Building::adds))]
+    #[tactic(auto, unfolding(crate::specs::Grammar::next_production, cfgast::specs::Building::adds))]
     fn next_production(&mut self, rule: Word<'a>) -> Result<(), ReadError>
-        ensures { Builds (λ x. x) self.old self.new result (next_production self.old.len (word_view rule.entry) self.old.rest.now) }
+        ensures { Builds (λ x. x) self.old self.new result (next_production self.old.len (word_view rule.entry)) }
     {
         self.expect("|")?;
         self.blank(true)?;
@@ -158,7 +157,7 @@ impl<'a> Reader<'a> {
     /// Passes the productions from the second on.
     fn more_productions(&mut self, rule: Word<'a>) -> Result<(), ReadError>
         ensures { Builds (λ x. x) self.old self.new result
-            (repeat is_alternative (next_production self.old.len (word_view rule.entry)) self.old.rest.now) }
+            (repeat is_alternative (next_production self.old.len (word_view rule.entry))) }
     {
         while self.is_alternative() {
             self.next_production(rule)?;
@@ -167,9 +166,9 @@ impl<'a> Reader<'a> {
     }
 
     /// Passes the productions of a rule, and the `;` that ends it.
-    #[tactic(auto, unfolding(crate::specs::Reading::body, cfgast::specs::Building::adds))]
+    #[tactic(auto, unfolding(crate::specs::Grammar::body, cfgast::specs::Building::adds))]
     fn body(&mut self, rule: Word<'a>) -> Result<(), ReadError>
-        ensures { Builds (λ x. x) self.old self.new result (body self.old.len (word_view rule.entry) self.old.rest.now) }
+        ensures { Builds (λ x. x) self.old self.new result (body self.old.len (word_view rule.entry)) }
     {
         self.production(rule)?;
         self.more_productions(rule)?;
@@ -177,9 +176,9 @@ impl<'a> Reader<'a> {
     }
 
     /// Passes a rule and the blank behind it.
-    #[tactic(auto, unfolding(crate::specs::Reading::rule, cfgast::specs::Building::adds))]
+    #[tactic(auto, unfolding(crate::specs::Grammar::rule, cfgast::specs::Building::adds))]
     fn rule(&mut self) -> Result<(), ReadError>
-        ensures { Builds (λ x. x) self.old self.new result (rule self.old.len self.old.rest.now) }
+        ensures { Builds (λ x. x) self.old self.new result (rule self.old.len) }
     {
         let name = self.name()?;
         self.tree.name_rule(self.alloc, name.name, name.span)?;
@@ -199,7 +198,7 @@ impl<'a> Reader<'a> {
 
     /// Passes rules up to the end.
     fn rules(&mut self) -> Result<(), ReadError>
-        ensures { Builds (λ x. x) self.old self.new result (repeat is_open (rule self.old.len) self.old.rest.now) }
+        ensures { Builds (λ x. x) self.old self.new result (repeat is_open (rule self.old.len)) }
     {
         while self.is_open() {
             self.rule()?;
@@ -208,9 +207,9 @@ impl<'a> Reader<'a> {
     }
 
     /// Passes a whole file.
-    #[tactic(auto, unfolding(crate::specs::Reading::file, cfgast::specs::Building::adds))]
+    #[tactic(auto, unfolding(crate::specs::Grammar::file, cfgast::specs::Building::adds))]
     pub(super) fn file(&mut self, kind: YaccKind) -> Result<(), ReadError>
-        ensures { Builds (λ x. x) self.old self.new result (file kind self.old.len self.old.rest.now) }
+        ensures { Builds (λ x. x) self.old self.new result (file kind self.old.len) }
     {
         self.blank(true)?;
         self.declarations()?;

@@ -1,8 +1,7 @@
 use Rattle.std.proofs.Common.{sym, ◌∙◌}
 use Rattle.std.proofs.lemmas.Result.{err_from_is_err_and}
-use Rattle.cfgsyntax.specs.Grammar.{is_declaration}
-use Rattle.cfgsyntax.specs.Reading.{declaration}
-use Rattle.cfgsyntax.proofs.Lengths.{declaration_strict}
+use Rattle.reading.proofs.Agree.{leaves}
+use Rattle.cfgsyntax.specs.Grammar.{is_declaration, declaration}
 use Rattle.cfgsyntax.proofs.Loops.{keeps_start, keeps_on, keeps_fails, keeps_done}
 use Rattle.cfgsyntax.proofs.yacc.parser.reader.Reader.declaration_list.Goals as goal
 
@@ -10,10 +9,10 @@ pub loop-self-init : goal.loop-self-init
 loop-self-init c = keeps_start is_declaration declaration c.args.self.now
 
 pub loop-self-smaller : goal.loop-self-smaller
-loop-self-smaller c = (declaration_strict c.loop-self.self.len).less c.loop-self.self.rest.now _ _ c.in_ok-declaration.ensures.0
+loop-self-smaller c = (leaves (declaration c.loop-self.self.len)).less c.loop-self.self.rest.now _ _ c.in_ok-declaration.ensures.0
 
 pub loop-self-preserved : goal.loop-self-preserved
-loop-self-preserved c = keeps_on is_declaration declaration declaration_strict (λ x. x) c.args.self.now c.loop-self.self c.declaration.new.self _
+loop-self-preserved c = keeps_on is_declaration declaration (λ x. x) c.args.self.now c.loop-self.self c.declaration.new.self _
     c.loop-self.invariant (sym c.is_declaration.ensures ∙ c.loop-self-test.true) c.in_ok-declaration.ensures
 
 pub returns-in_err-declaration : goal.returns-in_err-declaration

@@ -1,6 +1,5 @@
 use Rattle.std.proofs.Common.{length}
-use Rattle.cfgsyntax.specs.Grammar.{is_declaration}
-use Rattle.cfgsyntax.specs.Reading.{declaration}
+use Rattle.cfgsyntax.specs.Grammar.{is_declaration, declaration}
 use Rattle.cfgsyntax.proofs.Loops.{KeepsOn}
 use Rattle.cfgsyntax.proofs.yacc.parser.reader.Reader.declaration_list.Given as goal
 

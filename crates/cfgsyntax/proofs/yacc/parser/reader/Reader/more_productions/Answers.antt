@@ -1,9 +1,8 @@
 use Rattle.std.proofs.Common.{sym, ◌∙◌}
 use Rattle.std.proofs.lemmas.Result.{err_from_is_err_and}
-use Rattle.cfgsyntax.specs.Grammar.{is_alternative}
+use Rattle.reading.proofs.Agree.{leaves}
+use Rattle.cfgsyntax.specs.Grammar.{is_alternative, next_production}
 use Rattle.cfgsyntax.specs.Builds.{word_view}
-use Rattle.cfgsyntax.specs.Reading.{next_production}
-use Rattle.cfgsyntax.proofs.Lengths.{next_production_strict}
 use Rattle.cfgsyntax.proofs.Loops.{keeps_start, keeps_on, keeps_fails, keeps_done}
 use Rattle.cfgsyntax.proofs.yacc.parser.reader.Reader.more_productions.Goals as goal
 
@@ -11,10 +10,10 @@ pub loop-self-init : goal.loop-self-init
 loop-self-init c = keeps_start is_alternative (λ len. next_production len (word_view c.args.rule)) c.args.self.now
 
 pub loop-self-smaller : goal.loop-self-smaller
-loop-self-smaller c = (next_production_strict c.loop-self.self.len (word_view c.args.rule)).less c.loop-self.self.rest.now _ _ c.in_ok-next_production.ensures.0
+loop-self-smaller c = (leaves (next_production c.loop-self.self.len (word_view c.args.rule))).less c.loop-self.self.rest.now _ _ c.in_ok-next_production.ensures.0
 
 pub loop-self-preserved : goal.loop-self-preserved
-loop-self-preserved c = keeps_on is_alternative (λ len. next_production len (word_view c.args.rule)) (λ len. next_production_strict len (word_view c.args.rule)) (λ x. x) c.args.self.now c.loop-self.self c.next_production.new.self _
+loop-self-preserved c = keeps_on is_alternative (λ len. next_production len (word_view c.args.rule)) (λ x. x) c.args.self.now c.loop-self.self c.next_production.new.self _
     c.loop-self.invariant (sym c.is_alternative.ensures ∙ c.loop-self-test.true) c.in_ok-next_production.ensures
 
 pub returns-in_err-next_production : goal.returns-in_err-next_production

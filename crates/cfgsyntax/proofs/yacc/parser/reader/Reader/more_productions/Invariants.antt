@@ -1,7 +1,6 @@
 use Rattle.std.proofs.Common.{length}
-use Rattle.cfgsyntax.specs.Grammar.{is_alternative}
+use Rattle.cfgsyntax.specs.Grammar.{is_alternative, next_production}
 use Rattle.cfgsyntax.specs.Builds.{word_view}
-use Rattle.cfgsyntax.specs.Reading.{next_production}
 use Rattle.cfgsyntax.proofs.Loops.{KeepsOn}
 use Rattle.cfgsyntax.proofs.yacc.parser.reader.Reader.more_productions.Given as goal
 

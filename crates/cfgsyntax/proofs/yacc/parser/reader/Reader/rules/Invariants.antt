@@ -1,6 +1,5 @@
 use Rattle.std.proofs.Common.{length}
-use Rattle.cfgsyntax.specs.Grammar.{is_open}
-use Rattle.cfgsyntax.specs.Reading.{rule}
+use Rattle.cfgsyntax.specs.Grammar.{is_open, rule}
 use Rattle.cfgsyntax.proofs.Loops.{KeepsOn}
 use Rattle.cfgsyntax.proofs.yacc.parser.reader.Reader.rules.Given as goal
 

@@ -1,10 +1,9 @@
 use Rattle.std.proofs.Common.{sym, ◌∙◌, map}
 use Rattle.std.proofs.lemmas.Result.{err_from_is_err_and}
 use Rattle.cfgast.specs.View.{token_view}
-use Rattle.cfgsyntax.specs.Grammar.{is_symbol}
-use Rattle.cfgsyntax.specs.Reading.{symbol}
+use Rattle.reading.proofs.Agree.{leaves}
+use Rattle.cfgsyntax.specs.Grammar.{is_symbol, symbol}
 use Rattle.cfgsyntax.specs.Builds.{tokens_view}
-use Rattle.cfgsyntax.proofs.Lengths.{symbol_strict}
 use Rattle.cfgsyntax.proofs.Loops.{gathers_fails, gathers_done}
 use Rattle.cfgsyntax.proofs.Symbols.{symbols_start, symbols_on}
 use Rattle.cfgsyntax.proofs.yacc.parser.reader.Reader.symbols.Goals as goal
@@ -13,7 +12,7 @@ pub loop-self-init : goal.loop-self-init
 loop-self-init c = symbols_start c.args.self.now c.new-symbols.result.items c.new-symbols.ensures.items
 
 pub loop-self-smaller : goal.loop-self-smaller
-loop-self-smaller c = (symbol_strict c.loop-self.self.len).less c.loop-self.self.rest.now _ _ c.in_ok-symbol.ensures.read.0
+loop-self-smaller c = (leaves (symbol c.loop-self.self.len)).less c.loop-self.self.rest.now _ _ c.in_ok-symbol.ensures.read.0
 
 pub loop-self-preserved : goal.loop-self-preserved
 loop-self-preserved c = symbols_on c.args.self.now c.loop-self.self c.symbol.new.self c.loop-self.symbols.items c.push.new.self.items c.in_ok-symbol.symbol

@@ -1,8 +1,7 @@
 use Rattle.std.proofs.Common.{sym, ◌∙◌}
 use Rattle.std.proofs.lemmas.Result.{err_from_is_err_and}
-use Rattle.cfgsyntax.specs.Grammar.{is_listed}
-use Rattle.cfgsyntax.specs.Reading.{listed_token}
-use Rattle.cfgsyntax.proofs.Lengths.{listed_token_strict}
+use Rattle.reading.proofs.Agree.{leaves}
+use Rattle.cfgsyntax.specs.Grammar.{is_listed, listed_token}
 use Rattle.cfgsyntax.proofs.Loops.{keeps_start, keeps_on, keeps_fails, keeps_done}
 use Rattle.cfgsyntax.proofs.yacc.parser.reader.Reader.token_list.Goals as goal
 
@@ -10,10 +9,10 @@ pub loop-self-init : goal.loop-self-init
 loop-self-init c = keeps_start is_listed listed_token c.args.self.now
 
 pub loop-self-smaller : goal.loop-self-smaller
-loop-self-smaller c = (listed_token_strict c.loop-self.self.len).less c.loop-self.self.rest.now _ _ c.in_ok-listed_token.ensures.0
+loop-self-smaller c = (leaves (listed_token c.loop-self.self.len)).less c.loop-self.self.rest.now _ _ c.in_ok-listed_token.ensures.0
 
 pub loop-self-preserved : goal.loop-self-preserved
-loop-self-preserved c = keeps_on is_listed listed_token listed_token_strict (λ x. x) c.args.self.now c.loop-self.self c.listed_token.new.self _
+loop-self-preserved c = keeps_on is_listed listed_token (λ x. x) c.args.self.now c.loop-self.self c.listed_token.new.self _
     c.loop-self.invariant (sym c.is_listed.ensures ∙ c.loop-self-test.true) c.in_ok-listed_token.ensures
 
 pub returns-in_err-listed_token : goal.returns-in_err-listed_token

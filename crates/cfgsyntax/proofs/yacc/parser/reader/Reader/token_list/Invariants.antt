@@ -1,6 +1,5 @@
 use Rattle.std.proofs.Common.{length}
-use Rattle.cfgsyntax.specs.Grammar.{is_listed}
-use Rattle.cfgsyntax.specs.Reading.{listed_token}
+use Rattle.cfgsyntax.specs.Grammar.{is_listed, listed_token}
 use Rattle.cfgsyntax.proofs.Loops.{KeepsOn}
 use Rattle.cfgsyntax.proofs.yacc.parser.reader.Reader.token_list.Given as goal
 
