@@ -1,9 +1,9 @@
 -- What holds of all that a file's constructs give, construct by construct. It is told once for any conditions that
 -- the words, blanks and faults keep.
-use Rattle.std.proofs.Common.{◌≡◌, ℕ, Bool, true, List, [], ◌∷◌, ◌++◌, Result, All, codes, refl}
+use Rattle.std.proofs.Common.{◌≡◌, ℕ, Bool, true, List, [], ◌∷◌, ◌++◌, Some, Result, All, codes, refl}
 use Rattle.std.proofs.lemmas.List.Elements.{All-weaker}
 use Rattle.std.specs.List.{list_all}
-use Rattle.std.specs.Prelude.{nat_lt}
+use Rattle.std.specs.Prelude.{IfSome, nat_lt}
 use Rattle.reading.proofs.Keeps.{Keeps, Given, keeps, given_passes}
 use Rattle.reading.proofs.Yields.{EndsIn, Yields}
 use Rattle.cfgwords.specs.declared.fault.Fault.{Fault}
@@ -14,8 +14,8 @@ use Rattle.cfgwords.specs.Blank.{Blank}
 use Rattle.cfgwords.specs.Words.{Word, TokenText, Token, IsName, IsToken, word_at, token_at, word_of}
 use Rattle.cfgast.specs.Items.{Item, TokenDeclared, StartDeclared, RuleNamed, TokenQuoted, Alternative}
 use Rattle.cfgsyntax.specs.declared.yacc.kind.YaccKind.{YaccKind}
-use Rattle.reading.specs.Construct.{Says}
-use Rattle.cfgsyntax.specs.Grammar.{listed_token, token_declaration, start_declaration, declaration, start_and_more, declarations, symbol, finish, production, next_production, body, rule, file, separator_fault, body_fault, end_of}
+use Rattle.reading.specs.Construct.{Says, while_test}
+use Rattle.cfgsyntax.specs.Grammar.{listed_token, token_declaration, start_declaration, declaration, start_and_more, declarations, symbol, another, finish, production, rule, file, is_symbol, separator_fault, body_fault, end_of}
 
 abbrev pub is_ascii_word : List ℕ → Bool
 is_ascii_word word = list_all (λ b. nat_lt b 128) word
@@ -53,16 +53,16 @@ module _ {len : ℕ} {T : List ℕ → List ℕ → Type 0} {P : Item → Type 0
   )
 
   token_declaration_kept : (from : List ℕ) (Q : Unit {0} → Type 0) → Q tt → Keeps T P S (token_declaration len) from Q
-  unfolding token_declaration
+  unfolding token_declaration while_test
   token_declaration_kept from Q q = search (k.blank, listed_token_kept, q)
 
   start_declaration_kept : (from : List ℕ) (Q : Unit {0} → Type 0) → Q tt → Keeps T P S (start_declaration len) from Q
   unfolding start_declaration
   start_declaration_kept from Q q = search (k.blank, k.fault, name_goes, name_is, k.start, q)
 
-  declaration_kept : (from : List ℕ) (Q : Unit {0} → Type 0) → Q tt → Keeps T P S (declaration len) from Q
+  declaration_kept : (from : List ℕ) → Keeps T P S (declaration len) from (λ _. Unit {0})
   unfolding declaration
-  declaration_kept from Q q = search (k.behind (codes "%token") refl, k.fault, token_declaration_kept, q)
+  declaration_kept from = search (k.behind (codes "%token") refl, token_declaration_kept)
 
   start_and_more_kept : (from : List ℕ) (Q : Unit {0} → Type 0) → Q tt → Keeps T P S (start_and_more len) from Q
   unfolding start_and_more
@@ -86,26 +86,21 @@ module _ {len : ℕ} {T : List ℕ → List ℕ → Type 0} {P : Item → Type 0
   body_fault_kept from [] t = k.fault IncompleteRule from [] t
   body_fault_kept from (b ∷ text) t = k.fault IllegalString from (b ∷ text) t
 
-  finish_kept : (from : List ℕ) (rule : Word) → N rule → (symbols : List Token) → All (K from) symbols → (Q : Unit {0} → Type 0) → Q tt
-      → Keeps T P S (finish len rule (place len from) symbols) from Q
-  unfolding finish
-  finish_kept from rule n symbols qs Q q = (λ text t. (k.alternative rule symbols from text n t qs, q), body_fault_kept from)
+  finish_kept : (from : List ℕ) (production : Item) → P production → Keeps T P S (finish len production) from (λ _. Unit {0})
+  unfolding finish another
+  finish_kept from production p = search (k.behind (codes "|") refl, k.behind (codes ";") refl, k.blank, body_fault_kept, p)
 
-  symbols_kept : (from : List ℕ) (symbols : List Token) → All (Given T (symbol len) from) symbols → All (K from) symbols
-  symbols_kept from symbols qs = All-weaker (Given T (symbol len) from) (K from)
-      (given_passes T P S k.here k.on (symbol len) from (K from) (symbol_kept from (K from) (λ token q. q))) symbols qs
+  symbols_kept : (from : List ℕ) (symbols : List Token) → All (λ token. Given T (while_test is_symbol (symbol len)) from (Some token)) symbols → All (K from) symbols
+  unfolding while_test
+  symbols_kept from symbols = All-weaker (λ token. Given T (while_test is_symbol (symbol len)) from (Some token)) (K from)
+      (λ token. given_passes T P S k.here k.on (while_test is_symbol (symbol len)) from (λ o. IfSome o (K from)) (symbol_kept from (K from) (λ token q. q), tt) (Some token)) symbols
 
-  production_kept : (from : List ℕ) (rule : Word) → N rule → (Q : Unit {0} → Type 0) → Q tt → Keeps T P S (production len rule) from Q
-  unfolding production
-  production_kept from rule n Q q = λ text t. (symbol_kept text (λ _. Unit {0}) (λ _ _. tt), λ symbols qs. finish_kept text rule n symbols (symbols_kept text symbols qs) Q q)
-
-  next_production_kept : (from : List ℕ) (rule : Word) → N rule → (Q : Unit {0} → Type 0) → Q tt → Keeps T P S (next_production len rule) from Q
-  unfolding next_production
-  next_production_kept from rule n Q q = search (k.behind (codes "|") refl, k.blank, body_fault_kept, production_kept, n, q)
-
-  body_kept : (from : List ℕ) (rule : Word) → N rule → (Q : Unit {0} → Type 0) → Q tt → Keeps T P S (body len rule) from Q
-  unfolding body
-  body_kept from rule n Q q = search (k.behind (codes ";") refl, body_fault_kept, production_kept, next_production_kept, n, q)
+  production_kept : (from : List ℕ) (rule : Word) → N rule → Keeps T P S (production len rule) from (λ _. Unit {0})
+  unfolding production while_test
+  production_kept from rule n = λ text t. (
+    (symbol_kept text (λ _. Unit {0}) (λ _ _. tt), tt),
+    λ symbols qs behind u. finish_kept behind _ (k.alternative rule symbols text behind n u (symbols_kept text symbols qs)),
+  )
 
   rule_kept : (from : List ℕ) (Q : Unit {0} → Type 0) → Q tt → Keeps T P S (rule len) from Q
   unfolding rule
@@ -113,7 +108,7 @@ module _ {len : ℕ} {T : List ℕ → List ℕ → Type 0} {P : Item → Type 0
     λ text word rest t w.
         let it = k.name from text word rest t w in
         let name = word_at len text word rest in
-        (it.0, (k.rule name it.1, search (k.blank, k.behind (codes ":") refl, k.fault, body_kept, it, q) depth 9)),
+        (it.0, (k.rule name it.1, search (k.blank, k.behind (codes ":") refl, k.fault, production_kept, it, q) depth 9)),
     k.fault IllegalName from,
   )
 
@@ -122,8 +117,8 @@ module _ {len : ℕ} {T : List ℕ → List ℕ → Type 0} {P : Item → Type 0
   separator_fault_kept from (b ∷ text) t = k.fault UnknownDeclaration from (b ∷ text) t
 
   file_keeps : (from : List ℕ) (kind : YaccKind) → Keeps T P S (file kind len) from (λ _. Unit {0})
-  unfolding file
-  file_keeps from kind = search (k.behind (codes "%%") refl, k.blank, separator_fault_kept, declarations_kept, rule_kept)
+  unfolding file while_test
+  file_keeps from kind = search (k.behind (codes "%%") refl, k.blank, separator_fault_kept, declarations_kept, rule_kept) depth 8
 
   pub file_kept : (from : List ℕ) (kind : YaccKind) → Yields (T from) P S (λ _. Unit {0}) (Says (file kind len))
   file_kept from kind = keeps T P S k.here k.on (file kind len) from (λ _. Unit {0}) (file_keeps from kind)

@@ -1,12 +1,13 @@
 -- The function of each combinator gives just what the combinator's relation allows.
-use Rattle.std.proofs.Common.{◌≡◌, ℕ, zero, suc, ◌<◌, Bool, true, false, cond, List, [], ◌++◌, length, Option, Some, None, Result, Ok, Err, refl, ap, ◌∙◌, arith}
+use Rattle.std.proofs.Common.{◌≡◌, ℕ, zero, suc, ◌<◌, List, [], ◌++◌, length, Option, Some, None, Result, Ok, Err, refl, ap, ◌∙◌, arith}
 use Rattle.reading.specs.Graph.{IsGraph}
 use Rattle.reading.specs.Finder.{IsFinder}
 use Rattle.reading.specs.Pieces.{strip, IsFirst, split_first}
 use Rattle.reading.specs.Read.{Read, gives, prefixed, fails, Exactly, Then, on, off, Case, begins, other, WordHere, found, missing, follow, follow_outcome, behind_word, case_of, found_word, word_here}
-use Rattle.reading.specs.Turns.{Turn, again, ends, Turns, last, next, after, turns, all_turns, OneOf, done, one, stopped, Many, Repeat, one_outcome, one_of, many, repeat}
+use Rattle.reading.specs.Turns.{Turn, again, ends, Turns, last, next, after, turns, all_turns, OneOf, one, Many, Repeat, turn_outcome, turn_of, many, repeat}
 use Rattle.reading.proofs.PiecesLemmas.{strip_sound, strip_only, strip_none, split_first_sound, split_first_only}
-use Rattle.reading.proofs.Lengths.{IsStrict}
+use Rattle.reading.specs.Leaves.{OneOrEnd}
+use Rattle.reading.proofs.Lengths.{weight, Passing}
 
 -- a function of the text
 pub exactly_graph : {I F A : Type 0} (f : List ℕ → Read I F A) → IsGraph (Exactly f) f
@@ -125,56 +126,31 @@ module _ {R : Type 0} {Step : List ℕ → Turn R → Type 0} {step : List ℕ �
     only = turns_only g s none;
   }
 
--- a step where the text passes the test
-pub one_of_on : {I F A : Type 0} (more : List ℕ → Bool) (g : List ℕ → Read I F A) (text : List ℕ)
-    → more text ≡ true → one_of more g text ≡ one_outcome (g text).items (g text).outcome
-one_of_on more g text e = ap (λ b. cond b (one_outcome (g text).items (g text).outcome) (ends (gives [] text))) e
-
--- a step where it doesn't
-pub one_of_off : {I F A : Type 0} (more : List ℕ → Bool) (g : List ℕ → Read I F A) (text : List ℕ)
-    → more text ≡ false → one_of more g text ≡ ends (gives [] text)
-one_of_off more g text e = ap (λ b. cond b (one_outcome (g text).items (g text).outcome) (ends (gives [] text))) e
-
--- a strict reading's repetition goes on with less text
-pub one_of_shrinks : {I F A : Type 0} {g : List ℕ → Read I F A} → IsStrict g → (more : List ℕ → Bool) → Shrinks (one_of more g)
-one_of_shrinks {I = I} {F = F} {A = A} {g = g} s more = record { less = λ text rest complete e. go text rest complete (more text) e }
-  where
-    step : (text rest : List ℕ) (complete : Read I F (List A) → Read I F (List A)) (o : Result (A × List ℕ) F) → (g text).outcome ≡ o
-        → one_outcome (g text).items o ≡ again complete rest → length rest < length text
-    step text rest complete (Ok (a, mid)) e1 e2 = let same : mid ≡ rest = cc in omega (arith, s.less text a mid e1, ap length same)
-    step text rest complete (Err fault) e1 e2 = cc
-
-    go : (text rest : List ℕ) (complete : Read I F (List A) → Read I F (List A)) (t : Bool)
-        → cond t (one_outcome (g text).items (g text).outcome) (ends (gives [] text)) ≡ again complete rest → length rest < length text
-    go text rest complete true e = step text rest complete (g text).outcome refl e
-    go text rest complete false e = cc
-
-module _ {I F A : Type 0} {G : List ℕ → Read I F A → Type 0} {g : List ℕ → Read I F A} where
-  -- one step of a repetition
-  pub one_of_graph : IsGraph G g → (more : List ℕ → Bool) → IsGraph (OneOf more G) (one_of more g)
-  one_of_graph p more = record { sound = λ text. sound text (more text) refl; only = only }
+module _ {I F A : Type 0} {g : List ℕ → Read I F (Option A)} where
+  -- where each turn with a value leaves less text, a repetition goes on with less
+  pub one_of_shrinks : Passing (weight (OneOrEnd A)) g → Shrinks (λ text. turn_of (g text))
+  one_of_shrinks p = record { less = λ text rest complete e. go text rest complete (g text).outcome refl e }
     where
-      outcome : (text : List ℕ) → more text ≡ true → (items : List I) (o : Result (A × List ℕ) F) → G text (record { items = items; outcome = o })
-          → OneOf more G text (one_outcome items o)
-      outcome text e items (Ok (a, rest)) there = one items a rest e there
-      outcome text e items (Err fault) there = stopped items fault e there
+      go : (text rest : List ℕ) (complete : Read I F (List A) → Read I F (List A)) (o : Result (Option A × List ℕ) F) → (g text).outcome ≡ o
+          → turn_outcome (g text).items o ≡ again complete rest → length rest < length text
+      go text rest complete (Ok (Some a, mid)) e1 e2 = let same : mid ≡ rest = cc in omega (arith, p.least text (Some a) mid e1, ap length same)
+      go text rest complete (Ok (None, mid)) e1 e2 = cc
+      go text rest complete (Err fault) e1 e2 = cc
 
-      sound : (text : List ℕ) (t : Bool) → more text ≡ t
-          → OneOf more G text (cond t (one_outcome (g text).items (g text).outcome) (ends (gives [] text)))
-      sound text true e = outcome text e (g text).items (g text).outcome (p.sound text)
-      sound text false e = done e
+  module _ {G : List ℕ → Read I F (Option A) → Type 0} where
+    -- one turn
+    one_of_graph : IsGraph G g → IsGraph (OneOf G) (λ text. turn_of (g text))
+    one_of_graph p = record { sound = λ text. one (g text) (p.sound text); only = only }
+      where
+        only : (text : List ℕ) (t : Turn (Read I F (List A))) → OneOf G text t → turn_of (g text) ≡ t
+        only text t (one r there) = ap turn_of (p.only text r there)
 
-      only : (text : List ℕ) (t : Turn (Read I F (List A))) → OneOf more G text t → one_of more g text ≡ t
-      only text t (done e) = one_of_off more g text e
-      only text t (one items a rest e there) = one_of_on more g text e ∙ ap (λ r. one_outcome r.items r.outcome) (p.only text _ there)
-      only text t (stopped items fault e there) = one_of_on more g text e ∙ ap (λ r. one_outcome r.items r.outcome) (p.only text _ there)
+    -- repetition
+    pub many_graph : IsGraph G g → Passing (weight (OneOrEnd A)) g → IsGraph (Many G) (many g)
+    unfolding many
+    many_graph p s = turns_graph (one_of_graph p) (one_of_shrinks s) (gives [] [])
 
-  -- repetition while a test passes
-  pub many_graph : IsGraph G g → IsStrict g → (more : List ℕ → Bool) → IsGraph (Many more G) (many more g)
-  unfolding many
-  many_graph p s more = turns_graph (one_of_graph p more) (one_of_shrinks s more) (gives [] [])
-
-  -- repetition whose values don't matter
-  pub repeat_graph : IsGraph G g → IsStrict g → (more : List ℕ → Bool) → IsGraph (Repeat more G) (repeat more g)
-  unfolding repeat
-  repeat_graph p s more = then_graph (many_graph p s more) (λ values. exactly_graph (gives tt))
+    -- repetition whose values don't matter
+    pub repeat_graph : IsGraph G g → Passing (weight (OneOrEnd A)) g → IsGraph (Repeat G) (repeat g)
+    unfolding repeat
+    repeat_graph p s = then_graph (many_graph p s) (λ values. exactly_graph (gives tt))

@@ -2,7 +2,6 @@ pub mod Agree
 pub mod ChoiceLemmas
 pub mod Graphs
 pub mod Keeps
-pub mod Leaving
 pub mod Lengths
 pub mod Loops
 pub mod PiecesLemmas

@@ -1,12 +1,12 @@
 -- What holds of all that a kind of piece gives. Texts pass T where a piece begins and where one ends; each item
 -- that counts passes P, a value passes Q, and a fault that stops the reading passes S.
-use Rattle.std.proofs.Common.{◌≡◌, ℕ, Bool, List, [], ◌++◌, Result, Ok, Err, All, sym, subst}
+use Rattle.std.proofs.Common.{◌≡◌, ℕ, Bool, List, [], ◌++◌, Option, Some, None, Result, Ok, Err, All, sym, subst}
 use Rattle.std.proofs.lemmas.List.Elements.{All-nil, All-cons, All-append}
 use Rattle.reading.specs.Read.{Read, gives, emits, fails, Exactly, Then, on, off, Case, begins, other, WordHere, found, missing}
 use Rattle.reading.specs.Choice as tested
 use Rattle.reading.specs.Choice.{Choice}
 use Rattle.reading.specs.Silent.{Silently}
-use Rattle.reading.specs.Turns.{Turn, again, ends, Turns, last, next, with_value, OneOf, done, one, stopped, Many, Repeat}
+use Rattle.reading.specs.Turns.{Turn, again, ends, Turns, last, next, with_value, turn_outcome, OneOf, one, Many, Repeat}
 
 -- how a reading ended
 abbrev pub EndsIn : {F A : Type 0} → (List ℕ → Type 0) → (F → Type 0) → (A → Type 0) → Result (A × List ℕ) F → Type 0
@@ -109,24 +109,28 @@ module _ {I F : Type 0} {T : List ℕ → Type 0} {P : I → Type 0} {S : F → 
       go text r t (off items fault e) = let first = p.passes text _ t e in record { items = first.items; outcome = first.outcome }
 
   -- repetition
-  pub many_yields : {A : Type 0} {Q : A → Type 0} {G : List ℕ → Read I F A → Type 0} → Yields T P S Q G → (more : List ℕ → Bool) → Yields T P S (All Q) (Many more G)
-  many_yields {A} {Q} {G} p more = record { passes = turns_pass T (Passes T P S (All Q)) step }
+  pub many_yields : {A : Type 0} {Q : Option A → Type 0} {G : List ℕ → Read I F (Option A) → Type 0} → Yields T P S Q G
+      → Yields T P S (All (λ a. Q (Some a))) (Many G)
+  many_yields {A} {Q} {G} p = record { passes = turns_pass T (Passes T P S (All (λ a. Q (Some a)))) step }
     where
-      longer : (a : A) → Q a → (o : Result (List A × List ℕ) F) → EndsIn T S (All Q) o → EndsIn T S (All Q) (with_value a o)
-      longer a q (Ok (values, rest)) (t, qs) = (t, All-cons Q a values q qs)
+      longer : (a : A) → Q (Some a) → (o : Result (List A × List ℕ) F) → EndsIn T S (All (λ a. Q (Some a))) o → EndsIn T S (All (λ a. Q (Some a))) (with_value a o)
+      longer a q (Ok (values, rest)) (t, qs) = (t, All-cons (λ a. Q (Some a)) a values q qs)
       longer a q (Err fault) s = s
 
-      step : (text : List ℕ) (turn : Turn (Read I F (List A))) → T text → OneOf more G text turn → TurnPasses T (Passes T P S (All Q)) turn
-      step text turn t (done e) = gives_passes [] text t (All-nil Q)
-      step text turn t (one items a rest e g) =
-          let first = p.passes text _ t g in (
-            first.outcome.0,
-            λ r further. record {
-              items = All-append P items r.items first.items further.items;
-              outcome = longer a first.outcome.1 r.outcome further.outcome;
-            },
-          )
-      step text turn t (stopped items fault e g) = let first = p.passes text _ t g in record { items = first.items; outcome = first.outcome }
+      turn : (items : List I) (o : Result (Option A × List ℕ) F) → All P items → EndsIn T S Q o
+          → TurnPasses T (Passes T P S (All (λ a. Q (Some a)))) (turn_outcome items o)
+      turn items (Ok (Some a, rest)) each (t, q) = (
+        t,
+        λ r further. record {
+          items = All-append P items r.items each further.items;
+          outcome = longer a q r.outcome further.outcome;
+        },
+      )
+      turn items (Ok (None, rest)) each (t, q) = record { items = each; outcome = (t, All-nil (λ a. Q (Some a))) }
+      turn items (Err fault) each s = record { items = each; outcome = s }
 
-  pub repeat_yields : {A : Type 0} {Q : A → Type 0} {G : List ℕ → Read I F A → Type 0} → Yields T P S Q G → (more : List ℕ → Bool) → Yields T P S (λ _. Unit {0}) (Repeat more G)
-  repeat_yields p more = then_yields (many_yields p more) (λ values qs. gives_yields tt tt)
+      step : (text : List ℕ) (t : Turn (Read I F (List A))) → T text → OneOf G text t → TurnPasses T (Passes T P S (All (λ a. Q (Some a)))) t
+      step text t there (one r g) = let it = p.passes text r there g in turn r.items r.outcome it.items it.outcome
+
+  pub repeat_yields : {A : Type 0} {Q : Option A → Type 0} {G : List ℕ → Read I F (Option A) → Type 0} → Yields T P S Q G → Yields T P S (λ _. Unit {0}) (Repeat G)
+  repeat_yields p = then_yields (many_yields p) (λ values qs. gives_yields tt tt)

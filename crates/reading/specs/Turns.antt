@@ -1,5 +1,5 @@
 -- Repetition: steps from text to text, until one ends.
-use Rattle.std.specs.Prelude.{◌≡◌, ℕ, zero, suc, Bool, true, false, List, [], ◌∷◌, ◌++◌, length, Result, Ok, Err, if◌then◌else◌}
+use Rattle.std.specs.Prelude.{ℕ, zero, suc, List, [], ◌∷◌, ◌++◌, length, Option, Some, None, Result, Ok, Err}
 use Rattle.reading.specs.Read.{Read, gives, Then, Exactly, follow}
 
 -- What a step makes of a text: the end, or another step from the text that is left. What that one gives is
@@ -33,30 +33,29 @@ with_value a (Err fault) = Err fault
 abbrev pub with_one : {I F A : Type 0} → List I → A → Read I F (List A) → Read I F (List A)
 with_one items a r = record { items = items ++ r.items; outcome = with_value a r.outcome }
 
--- one G where the text passes the test, and the end where it doesn't
-pub data OneOf {I F A : Type 0} (more : List ℕ → Bool) (G : List ℕ → Read I F A → Type 0) (text : List ℕ) : Turn (Read I F (List A)) → Type 0 where
-  done : more text ≡ false → OneOf more G text (ends (gives [] text))
-  one : (items : List I) (a : A) (rest : List ℕ) → more text ≡ true
-      → G text (record { items = items; outcome = Ok (a, rest) }) → OneOf more G text (again (with_one items a) rest)
-  stopped : (items : List I) (fault : F) → more text ≡ true
-      → G text (record { items = items; outcome = Err fault }) → OneOf more G text (ends (record { items = items; outcome = Err fault }))
+-- what a turn makes of what it read: the end where it gave no value, or where a fault stopped it
+abbrev pub turn_outcome : {I F A : Type 0} → List I → Result (Option A × List ℕ) F → Turn (Read I F (List A))
+turn_outcome items (Ok (Some a, rest)) = again (with_one items a) rest
+turn_outcome items (Ok (None, rest)) = ends (record { items = items; outcome = Ok ([], rest) })
+turn_outcome items (Err fault) = ends (record { items = items; outcome = Err fault })
 
-abbrev pub Many : {I F A : Type 0} → (List ℕ → Bool) → (List ℕ → Read I F A → Type 0) → List ℕ → Read I F (List A) → Type 0
-Many more G = Turns (OneOf more G)
+abbrev pub turn_of : {I F A : Type 0} → Read I F (Option A) → Turn (Read I F (List A))
+turn_of r = turn_outcome r.items r.outcome
+
+-- one G
+pub data OneOf {I F A : Type 0} (G : List ℕ → Read I F (Option A) → Type 0) (text : List ℕ) : Turn (Read I F (List A)) → Type 0 where
+  one : (r : Read I F (Option A)) → G text r → OneOf G text (turn_of r)
+
+-- repetition: one G after another, until one gives no value
+abbrev pub Many : {I F A : Type 0} → (List ℕ → Read I F (Option A) → Type 0) → List ℕ → Read I F (List A) → Type 0
+Many G = Turns (OneOf G)
 
 -- repetition whose values don't matter
-abbrev pub Repeat : {I F A : Type 0} → (List ℕ → Bool) → (List ℕ → Read I F A → Type 0) → List ℕ → Read I F (Unit {0}) → Type 0
-Repeat more G = Then (Many more G) (λ _. Exactly (gives tt))
+abbrev pub Repeat : {I F A : Type 0} → (List ℕ → Read I F (Option A) → Type 0) → List ℕ → Read I F (Unit {0}) → Type 0
+Repeat G = Then (Many G) (λ _. Exactly (gives tt))
 
-abbrev pub one_outcome : {I F A : Type 0} → List I → Result (A × List ℕ) F → Turn (Read I F (List A))
-one_outcome items (Ok (a, rest)) = again (with_one items a) rest
-one_outcome items (Err fault) = ends (record { items = items; outcome = Err fault })
+unfoldable pub many : {I F A : Type 0} → (List ℕ → Read I F (Option A)) → List ℕ → Read I F (List A)
+many g text = all_turns (λ text. turn_of (g text)) (gives [] []) text
 
-abbrev pub one_of : {I F A : Type 0} → (List ℕ → Bool) → (List ℕ → Read I F A) → List ℕ → Turn (Read I F (List A))
-one_of more g text = if more text then one_outcome (g text).items (g text).outcome else ends (gives [] text)
-
-unfoldable pub many : {I F A : Type 0} → (List ℕ → Bool) → (List ℕ → Read I F A) → List ℕ → Read I F (List A)
-many more g text = all_turns (one_of more g) (gives [] []) text
-
-unfoldable pub repeat : {I F A : Type 0} → (List ℕ → Bool) → (List ℕ → Read I F A) → List ℕ → Read I F (Unit {0})
-repeat more g = follow (many more g) (λ _. gives tt)
+unfoldable pub repeat : {I F A : Type 0} → (List ℕ → Read I F (Option A)) → List ℕ → Read I F (Unit {0})
+repeat g = follow (many g) (λ _. gives tt)

@@ -1,13 +1,11 @@
 //! Declarations: what stands before the first `%%`.
 
-ghost use Rattle.std.specs.Prelude.{◌≡◌, is_some, codes};
-ghost use Rattle.reading.specs.Pieces.{strip};
-ghost use Rattle.reading.specs.Construct.{repeat, expect};
-ghost use Rattle.cfgsyntax.specs.Grammar.{is_listed, is_declaration, separator_fault, listed_token, token_declaration, start_declaration, declaration, start_and_more, declarations};
+ghost use Rattle.std.specs.Prelude.{◌≡◌, codes};
+ghost use Rattle.reading.specs.Construct.{expect, goes_on, repeat, while_test};
+ghost use Rattle.cfgsyntax.specs.Grammar.{is_listed, separator_fault, listed_token, token_declaration, start_declaration, declaration, start_and_more, declarations};
 
 use super::reader::{ReadError, Reader};
 use cfgwords::fault::FaultKind;
-use reading::after_word;
 
 impl Reader<'_> {
     ghost use Rattle.cfgsyntax.specs.Builds.{Builds};
@@ -34,7 +32,7 @@ impl Reader<'_> {
 
     /// Passes the tokens of a `%token` list.
     fn token_list(&mut self) -> Result<(), ReadError>
-        ensures { Builds (λ x. x) self.old self.new result (repeat is_listed (listed_token self.old.len)) }
+        ensures { Builds (λ x. x) self.old self.new result (repeat (while_test is_listed (listed_token self.old.len))) }
     {
         while self.is_listed() {
             self.listed_token()?;
@@ -62,31 +60,23 @@ impl Reader<'_> {
         self.blank(true)
     }
 
-    /// Passes a declaration other than `%start`.
+    /// Passes a declaration other than `%start`, and tells whether one stands here.
     #[tactic(auto, unfolding(crate::specs::Grammar::declaration, cfgast::specs::Building::adds))]
-    fn declaration(&mut self) -> Result<(), ReadError>
-        ensures { Builds (λ x. x) self.old self.new result (declaration self.old.len) }
+    fn declaration(&mut self) -> Result<bool, ReadError>
+        ensures { Builds goes_on self.old self.new result (declaration self.old.len) }
     {
         if self.accept("%token") {
-            self.token_declaration()
+            self.token_declaration()?;
+            Ok(true)
         } else {
-            Err(self.fault(FaultKind::UnknownDeclaration))
+            Ok(false)
         }
-    }
-
-    /// Whether a declaration other than `%start` stands here.
-    fn is_declaration(&self) -> bool
-        ensures { result ≡ is_declaration self.now.rest.now }
-    {
-        after_word(self.rest, "%token").is_some()
     }
 
     fn declaration_list(&mut self) -> Result<(), ReadError>
-        ensures { Builds (λ x. x) self.old self.new result (repeat is_declaration (declaration self.old.len)) }
+        ensures { Builds (λ x. x) self.old self.new result (repeat (declaration self.old.len)) }
     {
-        while self.is_declaration() {
-            self.declaration()?;
-        }
+        while self.declaration()? {}
         Ok(())
     }
 

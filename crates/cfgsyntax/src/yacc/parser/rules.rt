@@ -1,10 +1,11 @@
 //! Rules: what stands behind the first `%%`.
 
 ghost use Rattle.std.specs.Prelude.{◌≡◌, ◌≤◌, All, IfOk, OnOk, length, map, codes};
-ghost use Rattle.reading.specs.Construct.{many, repeat, expect};
+ghost use Rattle.reading.specs.Construct.{expect, goes_on, many, repeat, while_test};
 ghost use Rattle.cfgwords.specs.Text.{place, fault_at};
 ghost use Rattle.cfgwords.specs.declared.fault.FaultKind.TheVariants.{MissingColon};
-ghost use Rattle.cfgsyntax.specs.Grammar.{is_symbol, is_finish, is_alternative, is_open, body_fault, symbol, finish, production, next_production, body, rule, file};
+ghost use Rattle.cfgast.specs.Items.{Alternative};
+ghost use Rattle.cfgsyntax.specs.Grammar.{end_of, is_symbol, is_open, body_fault, symbol, another, finish, production, rule, file};
 
 use super::reader::{ReadError, Reader};
 use crate::yacc::kind::YaccKind;
@@ -25,18 +26,6 @@ impl<'a> Reader<'a> {
             self.fault(FaultKind::IncompleteRule)
         } else {
             self.fault(FaultKind::IllegalString)
-        }
-    }
-
-    /// Passes `|` or `;`, which must stand here.
-    #[tactic(auto, unfolding(cfgast::specs::Building::adds))]
-    fn expect(&mut self, word: &str) -> Result<(), ReadError>
-        ensures { Builds (λ x. x) self.old self.new result (expect word.now (body_fault self.old.len)) }
-    {
-        if self.accept(word) {
-            Ok(())
-        } else {
-            Err(self.body_fault())
         }
     }
 
@@ -78,7 +67,7 @@ impl<'a> Reader<'a> {
 
     /// Passes the symbols of a production.
     fn symbols(&mut self) -> Result<Vec<Token<'a>>, ReadError>
-        ensures read { Builds tokens_view self.old self.new result (many is_symbol (symbol self.old.len)) }
+        ensures read { Builds tokens_view self.old self.new result (many (while_test is_symbol (symbol self.old.len))) }
         ensures ends { IfOk result (λ symbols. All (λ symbol. place self.old.len self.old.rest.now ≤ symbol.end) symbols.items) }
         ensures shorter { OnOk result (length self.new.rest.now ≤ length self.old.rest.now) }
     {
@@ -90,89 +79,66 @@ impl<'a> Reader<'a> {
         Ok(symbols)
     }
 
-    /// Whether a production ends here.
-    fn is_finish(&self) -> bool
-        ensures { result ≡ is_finish self.now.rest.now }
+    /// Passes the `|` before another production or the `;` that ends a rule, and tells whether another one follows.
+    #[tactic(auto, unfolding(crate::specs::Grammar::another, cfgast::specs::Building::adds))]
+    fn another(&mut self) -> Result<bool, ReadError>
+        ensures { Builds (λ x. x) self.old self.new result (another self.old.len) }
     {
-        match self.rest.as_bytes() {
-            [] => false,
-            [b, ..] => *b == b'|' || *b == b';',
+        if self.accept("|") {
+            Ok(true)
+        } else if self.accept(";") {
+            Ok(false)
+        } else {
+            Err(self.body_fault())
         }
     }
 
-    /// Notes the production that began at `start`, where it ends here.
+    /// Notes the production that ends here, and tells whether another one follows.
     #[tactic(auto, unfolding(crate::specs::Grammar::finish, cfgast::specs::Building::adds))]
     fn finish(
         &mut self,
         rule: Word<'a>,
-        start: usize,
         symbols: &[Token<'a>],
-    ) -> Result<(), ReadError>
-        requires here { start ≤ place self.old.len self.old.rest.now }
-        requires ends { All (λ symbol. start ≤ symbol.end) symbols.now }
-        ensures { Builds (λ x. x) self.old self.new result
-            (finish self.old.len (word_view rule.entry) start (map token_view symbols.now)) }
+        span: Span,
+    ) -> Result<bool, ReadError>
+        ensures { Builds goes_on self.old self.new result
+            (finish self.old.len (Alternative (word_view rule.entry) (map token_view symbols.now) span)) }
     {
-        if !self.is_finish() {
-            return Err(self.body_fault());
-        }
-        let here = self.place();
-        let end = symbols.last().map_or(here, |symbol| symbol.end);
-        let span = Span::new(start, end);
+        let follows = self.another()?;
         self.tree
             .add_production(self.alloc, rule.name, rule.span, symbols, span)?;
-        Ok(())
+        self.blank(true)?;
+        Ok(follows)
     }
 
-    /// Passes a production of the rule, up to its `|` or `;`.
+    /// What stands between `start` and the end of the symbols behind it.
+    fn span_of(&self, start: usize, symbols: &[Token<'a>]) -> Span
+        requires here { start ≤ place self.now.len self.now.rest.now }
+        requires ends { All (λ symbol. start ≤ symbol.end) symbols.now }
+        ensures { result ≡ record { start = start; end = end_of (map token_view symbols.now) (place self.now.len self.now.rest.now) } }
+    {
+        let here = self.place();
+        let end = symbols.last().map_or(here, |symbol| symbol.end);
+        Span::new(start, end)
+    }
+
+    /// Passes a production of the rule and what ends it, and tells whether another one follows.
     #[tactic(auto, unfolding(crate::specs::Grammar::production, cfgast::specs::Building::adds))]
-    fn production(&mut self, rule: Word<'a>) -> Result<(), ReadError>
-        ensures { Builds (λ x. x) self.old self.new result (production self.old.len (word_view rule.entry)) }
+    fn production(&mut self, rule: Word<'a>) -> Result<bool, ReadError>
+        ensures { Builds goes_on self.old self.new result (production self.old.len (word_view rule.entry)) }
     {
         let start = self.place();
         let symbols = self.symbols()?;
-        self.finish(rule, start, &symbols)
+        let span = self.span_of(start, &symbols);
+        self.finish(rule, &symbols, span)
     }
 
-    /// Whether another production follows.
-    fn is_alternative(&self) -> bool
-        ensures { result ≡ is_alternative self.now.rest.now }
+    /// Passes the productions of a rule.
+    fn productions(&mut self, rule: Word<'a>) -> Result<(), ReadError>
+        ensures { Builds (λ x. x) self.old self.new result (repeat (production self.old.len (word_view rule.entry))) }
     {
-        match self.rest.as_bytes() {
-            [] => false,
-            [b, ..] => *b == b'|',
-        }
-    }
-
-    /// Passes `|` and the production behind it.
-    #[tactic(auto, unfolding(crate::specs::Grammar::next_production, cfgast::specs::Building::adds))]
-    fn next_production(&mut self, rule: Word<'a>) -> Result<(), ReadError>
-        ensures { Builds (λ x. x) self.old self.new result (next_production self.old.len (word_view rule.entry)) }
-    {
-        self.expect("|")?;
-        self.blank(true)?;
-        self.production(rule)
-    }
-
-    /// Passes the productions from the second on.
-    fn more_productions(&mut self, rule: Word<'a>) -> Result<(), ReadError>
-        ensures { Builds (λ x. x) self.old self.new result
-            (repeat is_alternative (next_production self.old.len (word_view rule.entry))) }
-    {
-        while self.is_alternative() {
-            self.next_production(rule)?;
-        }
+        while self.production(rule)? {}
         Ok(())
-    }
-
-    /// Passes the productions of a rule, and the `;` that ends it.
-    #[tactic(auto, unfolding(crate::specs::Grammar::body, cfgast::specs::Building::adds))]
-    fn body(&mut self, rule: Word<'a>) -> Result<(), ReadError>
-        ensures { Builds (λ x. x) self.old self.new result (body self.old.len (word_view rule.entry)) }
-    {
-        self.production(rule)?;
-        self.more_productions(rule)?;
-        self.expect(";")
     }
 
     /// Passes a rule and the blank behind it.
@@ -185,8 +151,7 @@ impl<'a> Reader<'a> {
         self.blank(true)?;
         self.colon()?;
         self.blank(true)?;
-        self.body(name)?;
-        self.blank(true)
+        self.productions(name)
     }
 
     /// Whether the text goes on here.
@@ -198,7 +163,7 @@ impl<'a> Reader<'a> {
 
     /// Passes rules up to the end.
     fn rules(&mut self) -> Result<(), ReadError>
-        ensures { Builds (λ x. x) self.old self.new result (repeat is_open (rule self.old.len)) }
+        ensures { Builds (λ x. x) self.old self.new result (repeat (while_test is_open (rule self.old.len))) }
     {
         while self.is_open() {
             self.rule()?;
