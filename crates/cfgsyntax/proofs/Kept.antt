@@ -14,7 +14,7 @@ use Rattle.cfgwords.specs.Blank.{Blank}
 use Rattle.cfgwords.specs.Words.{Word, TokenText, Token, IsName, IsToken, word_at, token_at, word_of}
 use Rattle.cfgast.specs.Items.{Item, TokenDeclared, StartDeclared, RuleNamed, TokenQuoted, Alternative}
 use Rattle.cfgsyntax.specs.declared.yacc.kind.YaccKind.{YaccKind}
-use Rattle.reading.specs.Construct.{Says, while_test}
+use Rattle.reading.specs.Construct.{repeat, while_test, Says}
 use Rattle.cfgsyntax.specs.Grammar.{listed_token, token_declaration, start_declaration, declaration, start_and_more, declarations, symbol, another, finish, production, rule, file, is_symbol, separator_fault, body_fault, end_of}
 
 abbrev pub is_ascii_word : List ℕ → Bool
@@ -53,7 +53,7 @@ module _ {len : ℕ} {T : List ℕ → List ℕ → Type 0} {P : Item → Type 0
   )
 
   token_declaration_kept : (from : List ℕ) (Q : Unit {0} → Type 0) → Q tt → Keeps T P S (token_declaration len) from Q
-  unfolding token_declaration while_test
+  unfolding token_declaration while_test repeat
   token_declaration_kept from Q q = search (k.blank, listed_token_kept, q)
 
   start_declaration_kept : (from : List ℕ) (Q : Unit {0} → Type 0) → Q tt → Keeps T P S (start_declaration len) from Q
@@ -65,11 +65,11 @@ module _ {len : ℕ} {T : List ℕ → List ℕ → Type 0} {P : Item → Type 0
   declaration_kept from = search (k.behind (codes "%token") refl, token_declaration_kept)
 
   start_and_more_kept : (from : List ℕ) (Q : Unit {0} → Type 0) → Q tt → Keeps T P S (start_and_more len) from Q
-  unfolding start_and_more
+  unfolding start_and_more repeat
   start_and_more_kept from Q q = search (start_declaration_kept, declaration_kept, q)
 
   declarations_kept : (from : List ℕ) (Q : Unit {0} → Type 0) → Q tt → Keeps T P S (declarations len) from Q
-  unfolding declarations
+  unfolding declarations repeat
   declarations_kept from Q q = search (k.behind (codes "%start") refl, declaration_kept, start_and_more_kept, q)
 
   symbol_kept : (from : List ℕ) (Q : Token → Type 0) → ((token : Token) → K from token → Q token) → Keeps T P S (symbol len) from Q
@@ -103,7 +103,7 @@ module _ {len : ℕ} {T : List ℕ → List ℕ → Type 0} {P : Item → Type 0
   )
 
   rule_kept : (from : List ℕ) (Q : Unit {0} → Type 0) → Q tt → Keeps T P S (rule len) from Q
-  unfolding rule
+  unfolding rule repeat
   rule_kept from Q q = (
     λ text word rest t w.
         let it = k.name from text word rest t w in
@@ -117,7 +117,7 @@ module _ {len : ℕ} {T : List ℕ → List ℕ → Type 0} {P : Item → Type 0
   separator_fault_kept from (b ∷ text) t = k.fault UnknownDeclaration from (b ∷ text) t
 
   file_keeps : (from : List ℕ) (kind : YaccKind) → Keeps T P S (file kind len) from (λ _. Unit {0})
-  unfolding file while_test
+  unfolding file while_test repeat
   file_keeps from kind = search (k.behind (codes "%%") refl, k.blank, separator_fault_kept, declarations_kept, rule_kept) depth 8
 
   pub file_kept : (from : List ℕ) (kind : YaccKind) → Yields (T from) P S (λ _. Unit {0}) (Says (file kind len))

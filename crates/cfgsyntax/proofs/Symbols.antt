@@ -34,7 +34,7 @@ symbols_on start now next symbols more x so_far here builds after e =
     let behind : place start.len start.rest.now ≤ x.end = omega (arith, so_far.shorter, so_far.gathers.len, after) in
     let shorter : length next.rest.now ≤ length start.rest.now = omega (arith, so_far.shorter, less) in
     rw e (record {
-      gathers = rw map-append (gathers_on turn (λ x. Some (token_view x)) start now next (map token_view symbols) x (token_view x) so_far.gathers took refl);
+      gathers = rw map-append (gathers_on so_far.gathers next (λ x. Some (token_view x)) x took (token_view x) refl);
       ends = All-push (λ (symbol : CodeToken). place start.len start.rest.now ≤ symbol.end) symbols x so_far.ends behind;
       shorter = shorter;
     })

@@ -4,7 +4,7 @@ use Rattle.reading.specs.Graph.{IsGraph}
 use Rattle.reading.specs.Finder.{IsFinder}
 use Rattle.reading.specs.Pieces.{strip, IsFirst, split_first}
 use Rattle.reading.specs.Read.{Read, gives, prefixed, fails, Exactly, Then, on, off, Case, begins, other, WordHere, found, missing, follow, follow_outcome, behind_word, case_of, found_word, word_here}
-use Rattle.reading.specs.Turns.{Turn, again, ends, Turns, last, next, after, turns, all_turns, OneOf, one, Many, Repeat, turn_outcome, turn_of, many, repeat}
+use Rattle.reading.specs.Turns.{Turn, again, ends, Turns, last, next, after, turns, all_turns, OneOf, one, Many, turn_outcome, turn_of, many}
 use Rattle.reading.proofs.PiecesLemmas.{strip_sound, strip_only, strip_none, split_first_sound, split_first_only}
 use Rattle.reading.specs.Leaves.{OneOrEnd}
 use Rattle.reading.proofs.Lengths.{weight, Passing}
@@ -149,8 +149,3 @@ module _ {I F A : Type 0} {g : List ℕ → Read I F (Option A)} where
     pub many_graph : IsGraph G g → Passing (weight (OneOrEnd A)) g → IsGraph (Many G) (many g)
     unfolding many
     many_graph p s = turns_graph (one_of_graph p) (one_of_shrinks s) (gives [] [])
-
-    -- repetition whose values don't matter
-    pub repeat_graph : IsGraph G g → Passing (weight (OneOrEnd A)) g → IsGraph (Repeat G) (repeat g)
-    unfolding repeat
-    repeat_graph p s = then_graph (many_graph p s) (λ values. exactly_graph (gives tt))

@@ -5,7 +5,7 @@ use Rattle.reading.specs.Leaves.{Gives, One, OneOrEnd, ValueOf, Leaves, Less, No
 use Rattle.reading.specs.Pieces.{strip}
 use Rattle.reading.specs.Choice.{choose}
 use Rattle.reading.specs.Read.{Read, gives, fails, follow, follow_outcome, behind_word, case_of, found_word, word_here}
-use Rattle.reading.specs.Turns.{after, turns, with_value, turn_outcome, turn_of, many, repeat}
+use Rattle.reading.specs.Turns.{after, turns, with_value, turn_outcome, turn_of, many}
 use Rattle.reading.proofs.PiecesLemmas.{strip_length}
 
 -- what a value weighs: the end of a repetition nothing, all others one byte
@@ -117,11 +117,6 @@ turns_passing {I = I} {F = F} {A = A} {g = g} p (suc k) = record { least = λ te
 pub many_passing : {I F A : Type 0} {n : Option A → ℕ} {g : List ℕ → Read I F (Option A)} → Passing n g → Passing (λ _. 0) (many g)
 unfolding many
 many_passing p = record { least = λ text. (turns_passing p (suc (length text))).least text }
-
--- the same where the values don't matter
-pub repeat_passing : {I F A : Type 0} {n : Option A → ℕ} {g : List ℕ → Read I F (Option A)} → Passing n g → Passing (λ _. 0) (repeat g)
-unfolding repeat
-repeat_passing p = follow_passing (λ _. 0) (λ a b. omega arith) (many_passing p) (λ values. stays_passing (λ _. 0) tt refl (λ text. refl))
 
 -- what a construct passes, by its class: of a sequence, and of a choice behind a word
 

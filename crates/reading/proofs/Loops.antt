@@ -1,8 +1,9 @@
 -- Repetition turn by turn, as a loop makes it.
 use Rattle.std.proofs.Common.{◌≡◌, ℕ, List, [], ◌∷◌, ◌++◌, Option, Some, None, Result, Ok, Err, refl, ap, ap₂, sym, ◌∙◌, append_assoc, append-nil}
-use Rattle.reading.specs.Leaves.{OneOrEnd}
+use Rattle.reading.specs.Leaves.{Less, OneOrEnd}
+use Rattle.reading.specs.Construct.{Construct, repeat, computes}
 use Rattle.reading.specs.Read.{Read, gives, follow_outcome}
-use Rattle.reading.specs.Turns.{after, with_value, with_one, turn_outcome, many, repeat}
+use Rattle.reading.specs.Turns.{after, with_value, with_one, turn_outcome, many}
 use Rattle.reading.proofs.Lengths.{weight, Passing}
 use Rattle.reading.proofs.Graphs.{turns_next, one_of_shrinks}
 
@@ -65,7 +66,14 @@ module _ {I F A : Type 0} {g : List ℕ → Read I F (Option A)} (p : Passing (w
   front_stopped fault e = so_far ∙ ap (with_front items values) (many_next p now _ e)
 
 -- the same where the values don't matter
-pub repeat_from_many : {I F A : Type 0} (g : List ℕ → Read I F (Option A)) (start : List ℕ) (items : List I) (o : Result (List A × List ℕ) F)
-    → many g start ≡ record { items = items; outcome = o } → repeat g start ≡ follow_outcome items o (λ values. gives tt)
-unfolding repeat
-repeat_from_many g start items o e = ap (λ r. follow_outcome r.items r.outcome (λ values. gives tt)) e
+module _ {I F A : Type 0} (c : Construct I F Less (OneOrEnd A)) (start : List ℕ) (items : List I) where
+  pub repeats_done : (values : List A) (rest : List ℕ) → many (computes c) start ≡ record { items = items; outcome = Ok (values, rest) }
+      → computes (repeat c) start ≡ record { items = items; outcome = Ok (tt, rest) }
+  unfolding repeat
+  repeats_done values rest e = ap (λ r. follow_outcome r.items r.outcome (λ values. gives tt)) e
+      ∙ ap (λ xs. record { items = xs; outcome = Ok (tt, rest) }) (append-nil items)
+
+  pub repeats_stopped : (fault : F) → many (computes c) start ≡ record { items = items; outcome = Err fault }
+      → computes (repeat c) start ≡ record { items = items; outcome = Err fault }
+  unfolding repeat
+  repeats_stopped fault e = ap (λ r. follow_outcome r.items r.outcome (λ values. gives tt)) e

@@ -6,7 +6,7 @@ use Rattle.reading.specs.Read.{Read, gives, emits, fails, Exactly, Then, on, off
 use Rattle.reading.specs.Choice as tested
 use Rattle.reading.specs.Choice.{Choice}
 use Rattle.reading.specs.Silent.{Silently}
-use Rattle.reading.specs.Turns.{Turn, again, ends, Turns, last, next, with_value, turn_outcome, OneOf, one, Many, Repeat}
+use Rattle.reading.specs.Turns.{Turn, again, ends, Turns, last, next, with_value, turn_outcome, OneOf, one, Many}
 
 -- how a reading ended
 abbrev pub EndsIn : {F A : Type 0} → (List ℕ → Type 0) → (F → Type 0) → (A → Type 0) → Result (A × List ℕ) F → Type 0
@@ -131,6 +131,3 @@ module _ {I F : Type 0} {T : List ℕ → Type 0} {P : I → Type 0} {S : F → 
 
       step : (text : List ℕ) (t : Turn (Read I F (List A))) → T text → OneOf G text t → TurnPasses T (Passes T P S (All (λ a. Q (Some a)))) t
       step text t there (one r g) = let it = p.passes text r there g in turn r.items r.outcome it.items it.outcome
-
-  pub repeat_yields : {A : Type 0} {Q : Option A → Type 0} {G : List ℕ → Read I F (Option A) → Type 0} → Yields T P S Q G → Yields T P S (λ _. Unit {0}) (Repeat G)
-  repeat_yields p = then_yields (many_yields p) (λ values qs. gives_yields tt tt)

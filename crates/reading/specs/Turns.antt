@@ -1,6 +1,6 @@
 -- Repetition: steps from text to text, until one ends.
 use Rattle.std.specs.Prelude.{ℕ, zero, suc, List, [], ◌∷◌, ◌++◌, length, Option, Some, None, Result, Ok, Err}
-use Rattle.reading.specs.Read.{Read, gives, Then, Exactly, follow}
+use Rattle.reading.specs.Read.{Read, gives}
 
 -- What a step makes of a text: the end, or another step from the text that is left. What that one gives is
 -- completed by the function.
@@ -50,12 +50,5 @@ pub data OneOf {I F A : Type 0} (G : List ℕ → Read I F (Option A) → Type 0
 abbrev pub Many : {I F A : Type 0} → (List ℕ → Read I F (Option A) → Type 0) → List ℕ → Read I F (List A) → Type 0
 Many G = Turns (OneOf G)
 
--- repetition whose values don't matter
-abbrev pub Repeat : {I F A : Type 0} → (List ℕ → Read I F (Option A) → Type 0) → List ℕ → Read I F (Unit {0}) → Type 0
-Repeat G = Then (Many G) (λ _. Exactly (gives tt))
-
 unfoldable pub many : {I F A : Type 0} → (List ℕ → Read I F (Option A)) → List ℕ → Read I F (List A)
 many g text = all_turns (λ text. turn_of (g text)) (gives [] []) text
-
-unfoldable pub repeat : {I F A : Type 0} → (List ℕ → Read I F (Option A)) → List ℕ → Read I F (Unit {0})
-repeat g = follow (many g) (λ _. gives tt)

@@ -3,7 +3,7 @@ use Rattle.std.proofs.lemmas.Result.{err_from_is_err_and}
 use Rattle.reading.specs.Construct.{goes_on}
 use Rattle.cfgsyntax.specs.Builds.{word_view}
 use Rattle.cfgsyntax.specs.Grammar.{production}
-use Rattle.cfgsyntax.proofs.Loops.{keeps_start, keeps_on, keeps_fails, keeps_done, turn_shorter}
+use Rattle.cfgsyntax.proofs.Loops.{keeps_start, keeps_on, repeat_fails, repeat_done, turn_shorter}
 use Rattle.cfgsyntax.proofs.yacc.parser.reader.Reader.productions.Goals as goal
 
 pub loop-init : goal.loop-init
@@ -13,14 +13,12 @@ pub loop-smaller : goal.loop-smaller
 loop-smaller c = turn_shorter (λ len. production len (word_view c.args.rule)) goes_on c.loop.self c.production.new.self c.in_ok-production.field-0 tt c.in_ok-production.ensures (ap goes_on c.if-branch.true)
 
 pub loop-preserved : goal.loop-preserved
-loop-preserved c = keeps_on (λ len. production len (word_view c.args.rule)) goes_on c.args.self.now c.loop.self c.production.new.self c.in_ok-production.field-0 tt c.loop.invariant
-    c.in_ok-production.ensures (ap goes_on c.if-branch.true)
+loop-preserved c = keeps_on c.loop.invariant c.production.new.self goes_on c.in_ok-production.field-0 c.in_ok-production.ensures tt (ap goes_on c.if-branch.true)
 
 pub returns-in_err-production : goal.returns-in_err-production
 returns-in_err-production c =
     let p = err_from_is_err_and c.from_residual.result c.from_residual.ensures.1 in
-    rw (p.1, p.2) (keeps_fails (λ len. production len (word_view c.args.rule)) c.args.self.now c.loop.self c.production.new.self _ c.loop.invariant c.in_err-production.ensures)
+    rw (p.1, p.2) (repeat_fails c.loop.invariant.gathers c.production.new.self _ c.in_err-production.ensures)
 
 pub returns : goal.returns
-returns c = keeps_done (λ len. production len (word_view c.args.rule)) goes_on c.args.self.now c.loop.self c.production.new.self c.in_ok-production.field-0 c.loop.invariant
-    c.in_ok-production.ensures (ap goes_on c.if-branch.false)
+returns c = repeat_done c.loop.invariant.gathers c.production.new.self goes_on c.in_ok-production.field-0 c.in_ok-production.ensures (ap goes_on c.if-branch.false)

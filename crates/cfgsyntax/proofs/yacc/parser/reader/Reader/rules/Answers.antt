@@ -2,7 +2,7 @@ use Rattle.std.proofs.Common.{sym, ◌∙◌, refl, Ok, Err, Some, None}
 use Rattle.std.proofs.lemmas.Result.{err_from_is_err_and}
 use Rattle.reading.specs.Construct.{while_test}
 use Rattle.cfgsyntax.specs.Grammar.{is_open, rule}
-use Rattle.cfgsyntax.proofs.Loops.{keeps_start, keeps_on, keeps_fails, keeps_done, while_builds, while_done, turn_shorter}
+use Rattle.cfgsyntax.proofs.Loops.{keeps_start, keeps_on, repeat_fails, repeat_done, while_builds, while_done, turn_shorter}
 use Rattle.cfgsyntax.proofs.yacc.parser.reader.Reader.rules.Goals as goal
 
 pub loop-self-init : goal.loop-self-init
@@ -13,15 +13,15 @@ loop-self-smaller c = turn_shorter (λ len. while_test is_open (rule len)) Some 
     (while_builds is_open rule c.loop-self.self (λ x. x) c.rule.new.self (Ok tt) (sym c.is_open.ensures ∙ c.loop-self-test.true) c.in_ok-rule.ensures) refl
 
 pub loop-self-preserved : goal.loop-self-preserved
-loop-self-preserved c = keeps_on (λ len. while_test is_open (rule len)) Some c.args.self.now c.loop-self.self c.rule.new.self tt tt c.loop-self.invariant
-    (while_builds is_open rule c.loop-self.self (λ x. x) c.rule.new.self (Ok tt) (sym c.is_open.ensures ∙ c.loop-self-test.true) c.in_ok-rule.ensures) refl
+loop-self-preserved c = keeps_on c.loop-self.invariant c.rule.new.self Some tt
+    (while_builds is_open rule c.loop-self.self (λ x. x) c.rule.new.self (Ok tt) (sym c.is_open.ensures ∙ c.loop-self-test.true) c.in_ok-rule.ensures) tt refl
 
 pub returns-in_err-rule : goal.returns-in_err-rule
 returns-in_err-rule c =
     let p = err_from_is_err_and c.from_residual.result c.from_residual.ensures.1 in
-    rw (p.1, p.2) (keeps_fails (λ len. while_test is_open (rule len)) c.args.self.now c.loop-self.self c.rule.new.self _ c.loop-self.invariant
+    rw (p.1, p.2) (repeat_fails c.loop-self.invariant.gathers c.rule.new.self _
     (while_builds is_open rule c.loop-self.self (λ x. x) c.rule.new.self (Err _) (sym c.is_open.ensures ∙ c.loop-self-test.true) c.in_err-rule.ensures))
 
 pub returns : goal.returns
-returns c = keeps_done (λ len. while_test is_open (rule len)) (λ (x : Unit {0}). None) c.args.self.now c.loop-self.self c.loop-self.self tt c.loop-self.invariant
+returns c = repeat_done c.loop-self.invariant.gathers c.loop-self.self (λ (x : Unit {0}). None) tt
     (while_done is_open rule c.loop-self.self (sym c.is_open.ensures ∙ c.loop-self-test.false)) refl

@@ -1,4 +1,4 @@
-use Rattle.std.proofs.Common.{sym, ◌∙◌, map, refl, Some, None, Ok, Err}
+use Rattle.std.proofs.Common.{sym, ◌∙◌, refl, Some, None, Ok, Err}
 use Rattle.std.proofs.lemmas.Result.{err_from_is_err_and}
 use Rattle.cfgast.specs.View.{token_view}
 use Rattle.cfgsyntax.specs.Grammar.{is_symbol, symbol}
@@ -21,9 +21,9 @@ loop-self-preserved c = symbols_on c.args.self.now c.loop-self.self c.symbol.new
 pub returns-in_err-symbol-clause-read : goal.returns-in_err-symbol-clause-read
 returns-in_err-symbol-clause-read c =
     let p = err_from_is_err_and c.from_residual.result c.from_residual.ensures.1 in
-    rw (p.1, p.2) (many_fails turn c.args.self.now c.loop-self.self c.symbol.new.self (map token_view c.loop-self.symbols.items) _ c.loop-self.invariant.gathers
+    rw (p.1, p.2) (many_fails c.loop-self.invariant.gathers c.symbol.new.self _
     (while_builds is_symbol symbol c.loop-self.self token_view c.symbol.new.self (Err _) (sym c.is_symbol.ensures ∙ c.loop-self-test.true) c.in_err-symbol.ensures.read))
 
 pub returns-clause-read : goal.returns-clause-read
-returns-clause-read c = many_done turn (λ (x : Unit {0}). None) tokens_view c.args.self.now c.loop-self.self c.loop-self.self tt c.loop-self.symbols c.loop-self.invariant.gathers
-    (while_done is_symbol symbol c.loop-self.self (sym c.is_symbol.ensures ∙ c.loop-self-test.false)) refl
+returns-clause-read c = many_done c.loop-self.invariant.gathers c.loop-self.self (λ (x : Unit {0}). None) tt
+    (while_done is_symbol symbol c.loop-self.self (sym c.is_symbol.ensures ∙ c.loop-self-test.false)) tokens_view c.loop-self.symbols refl refl
