@@ -1,12 +1,12 @@
 -- The function of each combinator gives just what the combinator's relation allows.
-use Rattle.std.proofs.Common.{◌≡◌, ℕ, zero, suc, ◌<◌, List, [], ◌++◌, length, Option, Some, None, Result, Ok, Err, refl, ap, ◌∙◌, arith}
+use Rattle.std.proofs.Common.{◌≡◌, ℕ, zero, suc, ◌<◌, Bool, true, false, cond, List, [], ◌++◌, length, Option, Some, None, Result, Ok, Err, refl, ap, ◌∙◌, arith}
 use Rattle.reading.specs.Graph.{IsGraph}
 use Rattle.reading.specs.Finder.{IsFinder}
 use Rattle.reading.specs.Pieces.{strip, IsFirst, split_first}
-use Rattle.reading.specs.Read.{Read, gives, prefixed, fails, Exactly, Then, on, off, Case, begins, other, WordHere, found, missing, follow, follow_outcome, behind_word, case_of, found_word, word_here}
+use Rattle.reading.specs.Read.{Read, gives, prefixed, fails, Exactly, Then, on, off, Case, begins, other, Choice, where_true, where_false, WordHere, found, missing, follow, follow_outcome, behind_word, case_of, choose, found_word, word_here}
 use Rattle.reading.specs.Turns.{Turn, again, ends, Turns, last, next, after, turns, all_turns, OneOf, one, Many, turn_outcome, turn_of, many}
-use Rattle.reading.proofs.PiecesLemmas.{strip_sound, strip_only, strip_none, split_first_sound, split_first_only}
 use Rattle.reading.specs.Leaves.{OneOrEnd}
+use Rattle.reading.proofs.PiecesLemmas.{strip_sound, strip_only, strip_none, split_first_sound, split_first_only}
 use Rattle.reading.proofs.Lengths.{weight, Passing}
 
 -- a function of the text
@@ -50,6 +50,24 @@ module _ {I F A : Type 0} {G H : List ℕ → Read I F A → Type 0} {g h : List
       only : (text : List ℕ) (r : Read I F A) → Case word G H text r → case_of word g h text ≡ r
       only text r (begins rest e1 e2) = ap (behind_word g (h text)) (strip_only word text rest e1) ∙ p.only rest r e2
       only text r (other apart e) = stands text r apart e (strip word text) refl
+
+-- choice by a test
+pub choice_graph : {I F A : Type 0} {G H : List ℕ → Read I F A → Type 0} {g h : List ℕ → Read I F A} (test : List ℕ → Bool)
+    → IsGraph G g → IsGraph H h → IsGraph (Choice test G H) (choose test g h)
+choice_graph {I = I} {F = F} {A = A} {G = G} {H = H} {g = g} {h = h} test p q = record { sound = λ text. sound text (test text) refl; only = only }
+  where
+    sound : (text : List ℕ) (t : Bool) → test text ≡ t → Choice test G H text (cond t (g text) (h text))
+    sound text true e = where_true e (p.sound text)
+    sound text false e = where_false e (q.sound text)
+
+    only : (text : List ℕ) (r : Read I F A) → Choice test G H text r → choose test g h text ≡ r
+    only text r (where_true e there) = ap (λ t. cond t (g text) (h text)) e ∙ p.only text r there
+    only text r (where_false e there) = ap (λ t. cond t (g text) (h text)) e ∙ q.only text r there
+
+-- a construct that depends on where it begins
+pub here_graph : {I F A : Type 0} {G : List ℕ → List ℕ → Read I F A → Type 0} {g : List ℕ → List ℕ → Read I F A}
+    → ((text : List ℕ) → IsGraph (G text) (g text)) → IsGraph (λ text. G text text) (λ text. g text text)
+here_graph p = record { sound = λ text. (p text).sound text; only = λ text. (p text).only text }
 
 -- what stands before the first needle is a word
 pub split_first_finder : (needle : List ℕ) → IsFinder (IsFirst needle) (split_first needle)

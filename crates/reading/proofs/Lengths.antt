@@ -3,8 +3,7 @@ use Rattle.std.proofs.Common.{◌≡◌, ℕ, zero, suc, ◌+◌, ◌≤◌, Boo
 use Rattle.reading.specs.Finder.{IsShorter}
 use Rattle.reading.specs.Leaves.{Gives, One, OneOrEnd, ValueOf, Leaves, Less, NoMore, either, both, behind}
 use Rattle.reading.specs.Pieces.{strip}
-use Rattle.reading.specs.Choice.{choose}
-use Rattle.reading.specs.Read.{Read, gives, fails, follow, follow_outcome, behind_word, case_of, found_word, word_here}
+use Rattle.reading.specs.Read.{Read, gives, fails, follow, follow_outcome, behind_word, case_of, choose, found_word, word_here}
 use Rattle.reading.specs.Turns.{after, turns, with_value, turn_outcome, turn_of, many}
 use Rattle.reading.proofs.PiecesLemmas.{strip_length}
 

@@ -1,5 +1,4 @@
 pub mod Agree
-pub mod ChoiceLemmas
 pub mod Graphs
 pub mod Keeps
 pub mod Lengths

@@ -2,9 +2,7 @@
 -- that counts passes P, a value passes Q, and a fault that stops the reading passes S.
 use Rattle.std.proofs.Common.{◌≡◌, ℕ, Bool, List, [], ◌++◌, Option, Some, None, Result, Ok, Err, All, sym, subst}
 use Rattle.std.proofs.lemmas.List.Elements.{All-nil, All-cons, All-append}
-use Rattle.reading.specs.Read.{Read, gives, emits, fails, Exactly, Then, on, off, Case, begins, other, WordHere, found, missing}
-use Rattle.reading.specs.Choice as tested
-use Rattle.reading.specs.Choice.{Choice}
+use Rattle.reading.specs.Read.{Read, gives, emits, fails, Exactly, Then, on, off, Case, begins, other, Choice, where_true, where_false, WordHere, found, missing}
 use Rattle.reading.specs.Silent.{Silently}
 use Rattle.reading.specs.Turns.{Turn, again, ends, Turns, last, next, with_value, turn_outcome, OneOf, one, Many}
 
@@ -69,8 +67,8 @@ module _ {I F : Type 0} {T : List ℕ → Type 0} {P : I → Type 0} {S : F → 
     choice_yields {G} {H} test p q = record { passes = go }
       where
         go : (text : List ℕ) (r : Read I F A) → T text → Choice test G H text r → Passes T P S Q r
-        go text r t (tested.passes e g) = p.passes text r t g
-        go text r t (tested.fails e h) = q.passes text r t h
+        go text r t (where_true e g) = p.passes text r t g
+        go text r t (where_false e h) = q.passes text r t h
 
     -- a word, or a fault
     pub word_yields : {W : Type 0} {Word : List ℕ → W → List ℕ → Type 0} {value : List ℕ → W → List ℕ → A} {fault : List ℕ → F}

@@ -1,4 +1,3 @@
-pub mod Choice
 pub mod Construct
 pub mod Finder
 pub mod Graph

@@ -3,7 +3,7 @@
 -- A kind of piece is a relation between a text and what reading it there gives. `>>=` is sequence, so a grammar
 -- is written as a `do` block. Item is the type of the parts that count as read, Fault that of what stops a
 -- reading.
-use Rattle.std.specs.Prelude.{◌≡◌, ◌≢◌, ℕ, List, [], ◌∷◌, ◌++◌, Option, Some, None, Result, Ok, Err}
+use Rattle.std.specs.Prelude.{◌≡◌, ◌≢◌, ℕ, Bool, true, false, List, [], ◌∷◌, ◌++◌, Option, Some, None, Result, Ok, Err, if◌then◌else◌}
 use Rattle.reading.specs.Pieces.{strip}
 
 -- the items that count as read, in order; then the piece's value and what is left, or what stopped the reading
@@ -48,10 +48,15 @@ abbrev pub ◌>>=◌ : {I F A B : Type 0} → (List ℕ → Read I F A → Type 
 abbrev pub ◌>>◌ : {I F A B : Type 0} → (List ℕ → Read I F A → Type 0) → (List ℕ → Read I F B → Type 0) → List ℕ → Read I F B → Type 0
 ◌>>◌ G H = Then G (λ _. H)
 
--- choice: G behind a word, H where another thing stands
+-- choice by a word: G behind it, H where another thing stands
 pub data Case {I F A : Type 0} (word : List ℕ) (G H : List ℕ → Read I F A → Type 0) (text : List ℕ) (r : Read I F A) : Type 0 where
   begins : (rest : List ℕ) → text ≡ word ++ rest → G rest r → Case word G H text r
   other : ((rest : List ℕ) → text ≢ word ++ rest) → H text r → Case word G H text r
+
+-- choice by a test: G where the text passes, H where it doesn't
+pub data Choice {I F A : Type 0} (test : List ℕ → Bool) (G H : List ℕ → Read I F A → Type 0) (text : List ℕ) (r : Read I F A) : Type 0 where
+  where_true : test text ≡ true → G text r → Choice test G H text r
+  where_false : test text ≡ false → H text r → Choice test G H text r
 
 -- a piece of the kind P with the value that it stands for, or a fault where none stands
 pub data WordHere {I F W A : Type 0} (P : List ℕ → W → List ℕ → Type 0) (value : List ℕ → W → List ℕ → A) (fault : List ℕ → F) (text : List ℕ) : Read I F A → Type 0 where
@@ -73,6 +78,9 @@ behind_word g otherwise None = otherwise
 
 abbrev pub case_of : {I F A : Type 0} → List ℕ → (List ℕ → Read I F A) → (List ℕ → Read I F A) → List ℕ → Read I F A
 case_of word g h text = behind_word g (h text) (strip word text)
+
+abbrev pub choose : {I F A : Type 0} → (List ℕ → Bool) → (List ℕ → Read I F A) → (List ℕ → Read I F A) → List ℕ → Read I F A
+choose test g h text = if test text then g text else h text
 
 abbrev pub found_word : {I F W A : Type 0} → (W → List ℕ → A) → F → Option (W × List ℕ) → Read I F A
 found_word value fault (Some (word, rest)) = gives (value word rest) rest
