@@ -7,7 +7,7 @@ use Rattle.reading.specs.Read.{Read, gives, prefixed, fails, Exactly, Then, on, 
 use Rattle.reading.specs.Turns.{Turn, again, ends, Turns, last, next, after, turns, all_turns, OneOf, one, Many, turn_outcome, turn_of, many}
 use Rattle.reading.specs.Leaves.{OneOrEnd}
 use Rattle.reading.proofs.PiecesLemmas.{strip_sound, strip_only, strip_none, split_first_sound, split_first_only}
-use Rattle.reading.proofs.Lengths.{weight, Passing}
+use Rattle.reading.proofs.Lengths.{weight, Shortens}
 
 -- a function of the text
 pub exactly_graph : {I F A : Type 0} (f : List ℕ → Read I F A) → IsGraph (Exactly f) f
@@ -146,7 +146,7 @@ module _ {R : Type 0} {Step : List ℕ → Turn R → Type 0} {step : List ℕ �
 
 module _ {I F A : Type 0} {g : List ℕ → Read I F (Option A)} where
   -- where each turn with a value leaves less text, a repetition goes on with less
-  pub one_of_shrinks : Passing (weight (OneOrEnd A)) g → Shrinks (λ text. turn_of (g text))
+  pub one_of_shrinks : Shortens (weight (OneOrEnd A)) g → Shrinks (λ text. turn_of (g text))
   one_of_shrinks p = record { less = λ text rest complete e. go text rest complete (g text).outcome refl e }
     where
       go : (text rest : List ℕ) (complete : Read I F (List A) → Read I F (List A)) (o : Result (Option A × List ℕ) F) → (g text).outcome ≡ o
@@ -164,6 +164,6 @@ module _ {I F A : Type 0} {g : List ℕ → Read I F (Option A)} where
         only text t (one r there) = ap turn_of (p.only text r there)
 
     -- repetition
-    pub many_graph : IsGraph G g → Passing (weight (OneOrEnd A)) g → IsGraph (Many G) (many g)
+    pub many_graph : IsGraph G g → Shortens (weight (OneOrEnd A)) g → IsGraph (Many G) (many g)
     unfolding many
     many_graph p s = turns_graph (one_of_graph p) (one_of_shrinks s) (gives [] [])

@@ -1,4 +1,4 @@
--- How many bytes of a text a reading passes, at least.
+-- By how many bytes a reading shortens its text, at least.
 use Rattle.std.proofs.Common.{◌≡◌, ℕ, zero, suc, ◌+◌, ◌≤◌, Bool, true, false, cond, List, [], ◌∷◌, length, Option, Some, None, Result, Ok, Err, refl, ap, sym, ◌∙◌, arith}
 use Rattle.reading.specs.Finder.{IsShorter}
 use Rattle.reading.specs.Leaves.{Gives, One, OneOrEnd, ValueOf, Leaves, Less, NoMore, either, both, behind}
@@ -13,13 +13,13 @@ weight (One A) a = 1
 weight (OneOrEnd A) (Some a) = 1
 weight (OneOrEnd A) None = 0
 
--- how many bytes a construct passes at least where it gives a
-abbrev pub passed : (G : Gives) → Leaves → ValueOf G → ℕ
-passed G Less a = weight G a
-passed G NoMore a = 0
+-- by how many bytes a construct shortens its text at least, where it gives a
+abbrev pub shortened : (G : Gives) → Leaves → ValueOf G → ℕ
+shortened G Less a = weight G a
+shortened G NoMore a = 0
 
--- a reading that passes at least n a bytes where it gives a
-pub record Passing {I F A : Type 0} (n : A → ℕ) (g : List ℕ → Read I F A) : Type 0 where
+-- a reading that shortens its text by n a bytes at least, where it gives a
+pub record Shortens {I F A : Type 0} (n : A → ℕ) (g : List ℕ → Read I F A) : Type 0 where
   pub least : (text : List ℕ) (a : A) (rest : List ℕ) → (g text).outcome ≡ Ok (a, rest) → n a + length rest ≤ length text
 
 -- what two equal outcomes leave, and give
@@ -28,21 +28,21 @@ pub left_same : {F A : Type 0} {a b : A} {text rest : List ℕ} → ◌≡◌ {A
 left_same e = cc
 
 -- a value that leaves the text
-pub stays_passing : {I F A : Type 0} {g : List ℕ → Read I F A} (n : A → ℕ) (a : A) → n a ≡ 0 → ((text : List ℕ) → (g text).outcome ≡ Ok (a, text)) → Passing n g
-stays_passing {A = A} n a none stays = record {
+pub stays_shortens : {I F A : Type 0} {g : List ℕ → Read I F A} (n : A → ℕ) (a : A) → n a ≡ 0 → ((text : List ℕ) → (g text).outcome ≡ Ok (a, text)) → Shortens n g
+stays_shortens {A = A} n a none stays = record {
   least = λ text b rest e.
       let same = left_same (sym (stays text) ∙ e) in
       omega (arith, none, ap (λ (x : A × List ℕ). n x.0) same, ap (λ (x : A × List ℕ). length x.1) same);
 }
 
 -- a fault leaves nothing
-pub fails_passing : {I F A : Type 0} (n : A → ℕ) (fault : List ℕ → F) → Passing n (λ text. fails {I = I} (fault text))
-fails_passing n fault = record { least = λ text a rest e. cc }
+pub fails_shortens : {I F A : Type 0} (n : A → ℕ) (fault : List ℕ → F) → Shortens n (λ text. fails {I = I} (fault text))
+fails_shortens n fault = record { least = λ text a rest e. cc }
 
 -- a word that leaves less
-pub word_here_passing : {I F W A : Type 0} {p : List ℕ → Option (W × List ℕ)} → IsShorter p
-    → (value : List ℕ → W → List ℕ → A) (fault : List ℕ → F) → Passing (λ _. 1) (word_here {I = I} p value fault)
-word_here_passing {I = I} {F = F} {W = W} {A = A} {p = p} s value fault = record { least = λ text a rest e. go text a rest (p text) refl e }
+pub word_here_shortens : {I F W A : Type 0} {p : List ℕ → Option (W × List ℕ)} → IsShorter p
+    → (value : List ℕ → W → List ℕ → A) (fault : List ℕ → F) → Shortens (λ _. 1) (word_here {I = I} p value fault)
+word_here_shortens {I = I} {F = F} {W = W} {A = A} {p = p} s value fault = record { least = λ text a rest e. go text a rest (p text) refl e }
   where
     go : (text : List ℕ) (a : A) (rest : List ℕ) (o : Option (W × List ℕ)) → p text ≡ o
         → (found_word {I = I} (value text) (fault text) o).outcome ≡ Ok (a, rest) → 1 + length rest ≤ length text
@@ -61,18 +61,18 @@ follow_parts {I = I} {F = F} {A = A} {B = B} g h text b rest e = go (g text).out
     go (Err fault) e1 e2 = cc
 
 -- sequence
-pub follow_passing : {I F A B : Type 0} {n : A → ℕ} {m : B → ℕ} {g : List ℕ → Read I F A} {h : A → List ℕ → Read I F B} (k : B → ℕ)
-    → ((a : A) (b : B) → k b ≤ n a + m b) → Passing n g → ((a : A) → Passing m (h a)) → Passing k (follow g h)
-follow_passing {g = g} {h = h} k enough p q = record {
+pub follow_shortens : {I F A B : Type 0} {n : A → ℕ} {m : B → ℕ} {g : List ℕ → Read I F A} {h : A → List ℕ → Read I F B} (k : B → ℕ)
+    → ((a : A) (b : B) → k b ≤ n a + m b) → Shortens n g → ((a : A) → Shortens m (h a)) → Shortens k (follow g h)
+follow_shortens {g = g} {h = h} k enough p q = record {
   least = λ text b rest e.
       let parts = follow_parts g h text b rest e in
       omega (arith, enough parts.0 b, p.least text parts.0 parts.1 parts.2, (q parts.0).least parts.1 b rest parts.3);
 }
 
 -- choice by a word
-pub case_passing : {I F A : Type 0} {n m : A → ℕ} {g h : List ℕ → Read I F A} (k : A → ℕ) (word : List ℕ)
-    → ((a : A) → k a ≤ length word + n a) → ((a : A) → k a ≤ m a) → Passing n g → Passing m h → Passing k (case_of word g h)
-case_passing {I = I} {F = F} {A = A} {g = g} {h = h} k word here other p q = record { least = λ text a rest e. go text a rest (strip word text) refl e }
+pub case_shortens : {I F A : Type 0} {n m : A → ℕ} {g h : List ℕ → Read I F A} (k : A → ℕ) (word : List ℕ)
+    → ((a : A) → k a ≤ length word + n a) → ((a : A) → k a ≤ m a) → Shortens n g → Shortens m h → Shortens k (case_of word g h)
+case_shortens {I = I} {F = F} {A = A} {g = g} {h = h} k word here other p q = record { least = λ text a rest e. go text a rest (strip word text) refl e }
   where
     go : (text : List ℕ) (a : A) (rest : List ℕ) (s : Option (List ℕ)) → strip word text ≡ s
         → (behind_word g (h text) s).outcome ≡ Ok (a, rest) → k a + length rest ≤ length text
@@ -80,9 +80,9 @@ case_passing {I = I} {F = F} {A = A} {g = g} {h = h} k word here other p q = rec
     go text a rest None e1 e2 = omega (arith, other a, q.least text a rest e2)
 
 -- choice by a test
-pub choose_passing : {I F A : Type 0} {n m : A → ℕ} {g h : List ℕ → Read I F A} (k : A → ℕ) (test : List ℕ → Bool)
-    → ((a : A) → k a ≤ n a) → ((a : A) → k a ≤ m a) → Passing n g → Passing m h → Passing k (choose test g h)
-choose_passing {I = I} {F = F} {A = A} {g = g} {h = h} k test first second p q = record { least = λ text a rest e. go text a rest (test text) e }
+pub choose_shortens : {I F A : Type 0} {n m : A → ℕ} {g h : List ℕ → Read I F A} (k : A → ℕ) (test : List ℕ → Bool)
+    → ((a : A) → k a ≤ n a) → ((a : A) → k a ≤ m a) → Shortens n g → Shortens m h → Shortens k (choose test g h)
+choose_shortens {I = I} {F = F} {A = A} {g = g} {h = h} k test first second p q = record { least = λ text a rest e. go text a rest (test text) e }
   where
     go : (text : List ℕ) (a : A) (rest : List ℕ) (t : Bool) → (cond t (g text) (h text)).outcome ≡ Ok (a, rest) → k a + length rest ≤ length text
     go text a rest true e = omega (arith, first a, p.least text a rest e)
@@ -95,16 +95,16 @@ with_value_parts {A = A} a (Ok (others, left)) values rest e = (others, ap (λ (
 with_value_parts a (Err fault) values rest e = cc
 
 -- repetition, n times at most
-turns_passing : {I F A : Type 0} {n : Option A → ℕ} {g : List ℕ → Read I F (Option A)} → Passing n g → (k : ℕ)
-    → Passing (λ _. 0) (turns (λ text. turn_of (g text)) (gives [] []) k)
+turns_shortens : {I F A : Type 0} {n : Option A → ℕ} {g : List ℕ → Read I F (Option A)} → Shortens n g → (k : ℕ)
+    → Shortens (λ _. 0) (turns (λ text. turn_of (g text)) (gives [] []) k)
 unfolding turns
-turns_passing {A = A} p zero = record { least = λ text values rest e. omega (arith, ap (λ (x : List A × List ℕ). length x.1) (left_same e)) }
-turns_passing {I = I} {F = F} {A = A} {g = g} p (suc k) = record { least = λ text values rest e. go (turns_passing p k) text values rest (g text).outcome refl e }
+turns_shortens {A = A} p zero = record { least = λ text values rest e. omega (arith, ap (λ (x : List A × List ℕ). length x.1) (left_same e)) }
+turns_shortens {I = I} {F = F} {A = A} {g = g} p (suc k) = record { least = λ text values rest e. go (turns_shortens p k) text values rest (g text).outcome refl e }
   where
     further : List ℕ → Read I F (List A)
     further = turns (λ text. turn_of (g text)) (gives [] []) k
 
-    go : Passing (λ _. 0) further → (text : List ℕ) (values : List A) (rest : List ℕ) (o : Result (Option A × List ℕ) F) → (g text).outcome ≡ o
+    go : Shortens (λ _. 0) further → (text : List ℕ) (values : List A) (rest : List ℕ) (o : Result (Option A × List ℕ) F) → (g text).outcome ≡ o
         → (after further (turn_outcome (g text).items o)).outcome ≡ Ok (values, rest) → 0 + length rest ≤ length text
     go ih text values rest (Ok (Some a, mid)) e1 e2 =
         let others = with_value_parts a (further mid).outcome values rest e2 in
@@ -113,28 +113,28 @@ turns_passing {I = I} {F = F} {A = A} {g = g} p (suc k) = record { least = λ te
     go ih text values rest (Err fault) e1 e2 = cc
 
 -- repetition
-pub many_passing : {I F A : Type 0} {n : Option A → ℕ} {g : List ℕ → Read I F (Option A)} → Passing n g → Passing (λ _. 0) (many g)
+pub many_shortens : {I F A : Type 0} {n : Option A → ℕ} {g : List ℕ → Read I F (Option A)} → Shortens n g → Shortens (λ _. 0) (many g)
 unfolding many
-many_passing p = record { least = λ text. (turns_passing p (suc (length text))).least text }
+many_shortens p = record { least = λ text. (turns_shortens p (suc (length text))).least text }
 
--- what a construct passes, by its class: of a sequence, and of a choice behind a word
+-- By its type: of a sequence, and of a choice behind a word.
 
 weight_one : (G : Gives) (a : ValueOf G) → weight G a ≤ 1
 weight_one (One A) a = omega arith
 weight_one (OneOrEnd A) (Some a) = omega arith
 weight_one (OneOrEnd A) None = omega arith
 
-pub either_passed : {A : Type 0} (l m : Leaves) (G : Gives) (a : A) (b : ValueOf G) → passed G (either l m) b ≤ passed (One A) l a + passed G m b
-either_passed Less Less G a b = omega arith
-either_passed Less NoMore G a b = omega (arith, weight_one G b)
-either_passed NoMore m G a b = omega arith
+pub either_shortened : {A : Type 0} (l m : Leaves) (G : Gives) (a : A) (b : ValueOf G) → shortened G (either l m) b ≤ shortened (One A) l a + shortened G m b
+either_shortened Less Less G a b = omega arith
+either_shortened Less NoMore G a b = omega (arith, weight_one G b)
+either_shortened NoMore m G a b = omega arith
 
-pub both_first : (word : List ℕ) (l m : Leaves) (G : Gives) (a : ValueOf G) → passed G (both (behind word l) m) a ≤ length word + passed G l a
+pub both_first : (word : List ℕ) (l m : Leaves) (G : Gives) (a : ValueOf G) → shortened G (both (behind word l) m) a ≤ length word + shortened G l a
 both_first [] l Less G a = omega arith
 both_first (c ∷ word) l Less G a = omega (arith, weight_one G a)
 both_first word l NoMore G a = omega arith
 
-pub both_second : (word : List ℕ) (l m : Leaves) (G : Gives) (a : ValueOf G) → passed G (both (behind word l) m) a ≤ passed G m a
+pub both_second : (word : List ℕ) (l m : Leaves) (G : Gives) (a : ValueOf G) → shortened G (both (behind word l) m) a ≤ shortened G m a
 both_second [] Less Less G a = omega arith
 both_second [] NoMore Less G a = omega arith
 both_second (c ∷ word) l Less G a = omega arith

@@ -4,11 +4,11 @@ use Rattle.reading.specs.Leaves.{Less, One, OneOrEnd}
 use Rattle.reading.specs.Construct.{Construct, then, again, repeat, while_test, computes}
 use Rattle.reading.specs.Read.{Read, gives, follow_outcome}
 use Rattle.reading.specs.Turns.{after, with_value, with_one, turn_outcome, many}
-use Rattle.reading.proofs.Lengths.{weight, Passing}
+use Rattle.reading.proofs.Lengths.{weight, Shortens}
 use Rattle.reading.proofs.Graphs.{turns_next, one_of_shrinks}
 
 -- a repetition is what its first turn makes of it
-pub many_next : {I F A : Type 0} {g : List ℕ → Read I F (Option A)} → Passing (weight (OneOrEnd A)) g → (text : List ℕ)
+pub many_next : {I F A : Type 0} {g : List ℕ → Read I F (Option A)} → Shortens (weight (OneOrEnd A)) g → (text : List ℕ)
     → (o : Result (Option A × List ℕ) F) → (g text).outcome ≡ o → many g text ≡ after (many g) (turn_outcome (g text).items o)
 unfolding many
 many_next {g = g} p text o e = turns_next (one_of_shrinks p) (gives [] []) text ∙ ap (λ o. after (many g) (turn_outcome (g text).items o)) e
@@ -48,7 +48,7 @@ with_front_one {I = I} {F = F} {A = A} items values more a r = go r.outcome
 pub front_start : {I F A : Type 0} (g : List ℕ → Read I F (Option A)) (start : List ℕ) → many g start ≡ with_front [] [] (many g start)
 front_start g start = sym (with_front_nil (many g start))
 
-module _ {I F A : Type 0} {g : List ℕ → Read I F (Option A)} (p : Passing (weight (OneOrEnd A)) g) (start now : List ℕ) (items : List I) (values : List A)
+module _ {I F A : Type 0} {g : List ℕ → Read I F (Option A)} (p : Shortens (weight (OneOrEnd A)) g) (start now : List ℕ) (items : List I) (values : List A)
     (so_far : many g start ≡ with_front items values (many g now)) where
   -- after one more turn
   pub front_one : (a : A) (rest : List ℕ) → (g now).outcome ≡ Ok (Some a, rest)

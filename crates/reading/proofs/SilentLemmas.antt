@@ -2,7 +2,7 @@
 use Rattle.std.proofs.Common.{◌≡◌, ℕ, ◌≤◌, List, length, Result, Ok, refl, sym, ap₂, arith}
 use Rattle.reading.specs.Graph.{IsGraph}
 use Rattle.reading.specs.Silent.{Silently, silently}
-use Rattle.reading.proofs.Lengths.{Passing}
+use Rattle.reading.proofs.Lengths.{Shortens}
 
 module _ {I F A : Type 0} {P : List ℕ → Result (A × List ℕ) F → Type 0} {p : List ℕ → Result (A × List ℕ) F} where
   pub silently_graph : IsGraph P p → IsGraph (Silently {I = I} P) (silently p)
@@ -11,6 +11,6 @@ module _ {I F A : Type 0} {P : List ℕ → Result (A × List ℕ) F → Type 0}
     only = λ text r s. ap₂ (λ (items : List I) (outcome : Result (A × List ℕ) F). record { items = items; outcome = outcome }) (sym s.silent) (h.only text r.outcome s.outcome);
   }
 
-pub silently_passing : {I F A : Type 0} {p : List ℕ → Result (A × List ℕ) F}
-    → ((text : List ℕ) (a : A) (rest : List ℕ) → p text ≡ Ok (a, rest) → length rest ≤ length text) → Passing (λ _. 0) (silently {I = I} p)
-silently_passing h = record { least = λ text a rest e. omega (arith, h text a rest e) }
+pub silently_shortens : {I F A : Type 0} {p : List ℕ → Result (A × List ℕ) F}
+    → ((text : List ℕ) (a : A) (rest : List ℕ) → p text ≡ Ok (a, rest) → length rest ≤ length text) → Shortens (λ _. 0) (silently {I = I} p)
+silently_shortens h = record { least = λ text a rest e. omega (arith, h text a rest e) }

@@ -1,16 +1,16 @@
-use Rattle.std.proofs.Common.{sym, ◌∙◌, refl, Ok, Err, Some, None}
+use Rattle.std.proofs.Common.{arith, sym, ◌∙◌, refl, Ok, Err, Some, None}
 use Rattle.std.proofs.lemmas.Result.{err_from_is_err_and}
 use Rattle.reading.specs.Construct.{while_test}
+use Rattle.reading.proofs.Agree.{leaves}
 use Rattle.cfgsyntax.specs.Grammar.{is_open, rule}
-use Rattle.cfgsyntax.proofs.Loops.{keeps_start, keeps_on, repeat_fails, repeat_done, while_builds, while_done, turn_shorter}
+use Rattle.cfgsyntax.proofs.Loops.{keeps_start, keeps_on, repeat_fails, repeat_done, while_builds, while_done}
 use Rattle.cfgsyntax.proofs.yacc.parser.reader.Reader.rules.Goals as goal
 
 pub loop-self-init : goal.loop-self-init
 loop-self-init c = keeps_start (λ len. while_test is_open (rule len)) c.args.self.now
 
 pub loop-self-smaller : goal.loop-self-smaller
-loop-self-smaller c = turn_shorter (λ len. while_test is_open (rule len)) Some c.loop-self.self c.rule.new.self tt tt
-    (while_builds is_open rule c.loop-self.self (λ x. x) c.rule.new.self (Ok tt) (sym c.is_open.ensures ∙ c.loop-self-test.true) c.in_ok-rule.ensures) refl
+loop-self-smaller c = omega (arith, (leaves (rule c.loop-self.self.len)).least c.loop-self.self.rest.now _ _ c.in_ok-rule.ensures.0)
 
 pub loop-self-preserved : goal.loop-self-preserved
 loop-self-preserved c = keeps_on c.loop-self.invariant c.rule.new.self Some tt

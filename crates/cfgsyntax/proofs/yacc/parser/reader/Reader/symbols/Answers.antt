@@ -1,18 +1,18 @@
-use Rattle.std.proofs.Common.{sym, ◌∙◌, refl, Some, None, Ok, Err}
+use Rattle.std.proofs.Common.{arith, sym, ◌∙◌, refl, None, Err}
 use Rattle.std.proofs.lemmas.Result.{err_from_is_err_and}
 use Rattle.cfgast.specs.View.{token_view}
+use Rattle.reading.proofs.Agree.{leaves}
 use Rattle.cfgsyntax.specs.Grammar.{is_symbol, symbol}
 use Rattle.cfgsyntax.specs.Builds.{tokens_view}
-use Rattle.cfgsyntax.proofs.Loops.{many_fails, many_done, while_builds, while_done, turn_shorter}
-use Rattle.cfgsyntax.proofs.Symbols.{turn, symbols_start, symbols_on}
+use Rattle.cfgsyntax.proofs.Loops.{many_fails, many_done, while_builds, while_done}
+use Rattle.cfgsyntax.proofs.Symbols.{symbols_start, symbols_on}
 use Rattle.cfgsyntax.proofs.yacc.parser.reader.Reader.symbols.Goals as goal
 
 pub loop-self-init : goal.loop-self-init
 loop-self-init c = symbols_start c.args.self.now c.new-symbols.result.items c.new-symbols.ensures.items
 
 pub loop-self-smaller : goal.loop-self-smaller
-loop-self-smaller c = turn_shorter turn (λ x. Some (token_view x)) c.loop-self.self c.symbol.new.self c.in_ok-symbol.symbol _
-    (while_builds is_symbol symbol c.loop-self.self token_view c.symbol.new.self (Ok c.in_ok-symbol.symbol) (sym c.is_symbol.ensures ∙ c.loop-self-test.true) c.in_ok-symbol.ensures.read) refl
+loop-self-smaller c = omega (arith, (leaves (symbol c.loop-self.self.len)).least c.loop-self.self.rest.now _ _ c.in_ok-symbol.ensures.read.0)
 
 pub loop-self-preserved : goal.loop-self-preserved
 loop-self-preserved c = symbols_on c.args.self.now c.loop-self.self c.symbol.new.self c.loop-self.symbols.items c.push.new.self.items c.in_ok-symbol.symbol

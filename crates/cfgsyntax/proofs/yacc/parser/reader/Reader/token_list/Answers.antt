@@ -1,16 +1,16 @@
-use Rattle.std.proofs.Common.{sym, ◌∙◌, refl, Ok, Err, Some, None}
+use Rattle.std.proofs.Common.{arith, sym, ◌∙◌, refl, Ok, Err, Some, None}
 use Rattle.std.proofs.lemmas.Result.{err_from_is_err_and}
 use Rattle.reading.specs.Construct.{while_test}
+use Rattle.reading.proofs.Agree.{leaves}
 use Rattle.cfgsyntax.specs.Grammar.{is_listed, listed_token}
-use Rattle.cfgsyntax.proofs.Loops.{keeps_start, keeps_on, repeat_fails, repeat_done, while_builds, while_done, turn_shorter}
+use Rattle.cfgsyntax.proofs.Loops.{keeps_start, keeps_on, repeat_fails, repeat_done, while_builds, while_done}
 use Rattle.cfgsyntax.proofs.yacc.parser.reader.Reader.token_list.Goals as goal
 
 pub loop-self-init : goal.loop-self-init
 loop-self-init c = keeps_start (λ len. while_test is_listed (listed_token len)) c.args.self.now
 
 pub loop-self-smaller : goal.loop-self-smaller
-loop-self-smaller c = turn_shorter (λ len. while_test is_listed (listed_token len)) Some c.loop-self.self c.listed_token.new.self tt tt
-    (while_builds is_listed listed_token c.loop-self.self (λ x. x) c.listed_token.new.self (Ok tt) (sym c.is_listed.ensures ∙ c.loop-self-test.true) c.in_ok-listed_token.ensures) refl
+loop-self-smaller c = omega (arith, (leaves (listed_token c.loop-self.self.len)).least c.loop-self.self.rest.now _ _ c.in_ok-listed_token.ensures.0)
 
 pub loop-self-preserved : goal.loop-self-preserved
 loop-self-preserved c = keeps_on c.loop-self.invariant c.listed_token.new.self Some tt
