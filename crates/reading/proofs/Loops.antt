@@ -42,41 +42,44 @@ with_front_one {I = I} {F = F} {A = A} items values more a r = go r.outcome
         (sym (append_assoc items more r.items)) (sym (append_assoc values (a ∷ []) others))
     go (Err fault) = ap (λ xs. record { items = xs; outcome = Err fault }) (sym (append_assoc items more r.items))
 
--- A loop's invariant is `many g start ≡ with_front items values (many g now)`.
+-- what a loop read and gathered from start to now, where the same is left to read
+pub record Front {I F A : Type 0} (g : List ℕ → Read I F (Option A)) (start now : List ℕ) (items : List I) (values : List A) : Type 0 where
+  pub so_far : many g start ≡ with_front items values (many g now)
 
 -- before the first turn
-pub front_start : {I F A : Type 0} (g : List ℕ → Read I F (Option A)) (start : List ℕ) → many g start ≡ with_front [] [] (many g start)
-front_start g start = sym (with_front_nil (many g start))
+pub front_start : {I F A : Type 0} (g : List ℕ → Read I F (Option A)) (start : List ℕ) → Front g start start [] []
+front_start g start = record { so_far = sym (with_front_nil (many g start)) }
 
-module _ {I F A : Type 0} {g : List ℕ → Read I F (Option A)} (p : Shortens (weight (OneOrEnd A)) g) (start now : List ℕ) (items : List I) (values : List A)
-    (so_far : many g start ≡ with_front items values (many g now)) where
+module _ {I F A : Type 0} {g : List ℕ → Read I F (Option A)} (p : Shortens (weight (OneOrEnd A)) g) {start now : List ℕ} {items : List I} {values : List A}
+    (front : Front g start now items values) where
   -- after one more turn
-  pub front_one : (a : A) (rest : List ℕ) → (g now).outcome ≡ Ok (Some a, rest)
-      → many g start ≡ with_front (items ++ (g now).items) (values ++ a ∷ []) (many g rest)
-  front_one a rest e = so_far ∙ ap (with_front items values) (many_next p now _ e) ∙ with_front_one items values (g now).items a (many g rest)
+  pub front_one : (a : A) (rest : List ℕ) → (g now).outcome ≡ Ok (Some a, rest) → Front g start rest (items ++ (g now).items) (values ++ a ∷ [])
+  front_one a rest e = record {
+    so_far = front.so_far ∙ ap (with_front items values) (many_next p now _ e) ∙ with_front_one items values (g now).items a (many g rest);
+  }
 
   -- after the last one
   pub front_done : (rest : List ℕ) → (g now).outcome ≡ Ok (None, rest)
       → many g start ≡ record { items = items ++ (g now).items; outcome = Ok (values, rest) }
-  front_done rest e = so_far ∙ ap (with_front items values) (many_next p now _ e)
+  front_done rest e = front.so_far ∙ ap (with_front items values) (many_next p now _ e)
       ∙ ap (λ xs. record { items = items ++ (g now).items; outcome = Ok (xs, rest) }) (append-nil values)
 
   -- where a fault stops a turn
   pub front_stopped : (fault : F) → (g now).outcome ≡ Err fault → many g start ≡ record { items = items ++ (g now).items; outcome = Err fault }
-  front_stopped fault e = so_far ∙ ap (with_front items values) (many_next p now _ e)
+  front_stopped fault e = front.so_far ∙ ap (with_front items values) (many_next p now _ e)
 
 -- the same where the values don't matter
 module _ {I F A : Type 0} (c : Construct I F Less (OneOrEnd A)) (start : List ℕ) (items : List I) where
-  pub repeats_done : (values : List A) (rest : List ℕ) → many (computes c) start ≡ record { items = items; outcome = Ok (values, rest) }
+  pub repeat_ended : (values : List A) (rest : List ℕ) → many (computes c) start ≡ record { items = items; outcome = Ok (values, rest) }
       → computes (repeat c) start ≡ record { items = items; outcome = Ok (tt, rest) }
   unfolding repeat
-  repeats_done values rest e = ap (λ r. follow_outcome r.items r.outcome (λ values. gives tt)) e
+  repeat_ended values rest e = ap (λ r. follow_outcome r.items r.outcome (λ values. gives tt)) e
       ∙ ap (λ xs. record { items = xs; outcome = Ok (tt, rest) }) (append-nil items)
 
-  pub repeats_stopped : (fault : F) → many (computes c) start ≡ record { items = items; outcome = Err fault }
+  pub repeat_stopped : (fault : F) → many (computes c) start ≡ record { items = items; outcome = Err fault }
       → computes (repeat c) start ≡ record { items = items; outcome = Err fault }
   unfolding repeat
-  repeats_stopped fault e = ap (λ r. follow_outcome r.items r.outcome (λ values. gives tt)) e
+  repeat_stopped fault e = ap (λ r. follow_outcome r.items r.outcome (λ values. gives tt)) e
 
 -- The turns of a loop with a test.
 

@@ -79,7 +79,7 @@ impl<'a> Reader<'a> {
         Ok(symbols)
     }
 
-    /// Passes the `|` before another production or the `;` that ends a rule, and tells whether another one follows.
+    /// Passes the `|` before another production, or the `;` that ends a rule, and tells whether it was `|`.
     #[tactic(auto, unfolding(crate::specs::Grammar::another, cfgast::specs::Building::adds))]
     fn another(&mut self) -> Result<bool, ReadError>
         ensures { Builds (λ x. x) self.old self.new result (another self.old.len) }
