@@ -1,6 +1,6 @@
 -- What holds of all that a file's constructs give, construct by construct. It is told once for any conditions that
 -- the words, blanks and faults keep.
-use Rattle.std.proofs.Common.{◌≡◌, ℕ, Bool, true, List, [], ◌∷◌, ◌++◌, Some, Result, All, codes, refl}
+use Rattle.std.proofs.Common.{◌≡◌, ℕ, Bool, true, List, [], ◌∷◌, ◌++◌, Option, Some, None, Result, All, codes, refl}
 use Rattle.std.proofs.lemmas.List.Elements.{All-weaker}
 use Rattle.std.specs.List.{list_all}
 use Rattle.std.specs.Prelude.{IfSome, nat_lt}
@@ -15,7 +15,7 @@ use Rattle.cfgwords.specs.Words.{Word, TokenText, Token, IsName, IsToken, word_a
 use Rattle.cfgast.specs.Items.{Item, TokenDeclared, StartDeclared, RuleNamed, TokenQuoted, Alternative}
 use Rattle.cfgsyntax.specs.declared.yacc.kind.YaccKind.{YaccKind}
 use Rattle.reading.specs.Construct.{repeat, while_test, Says}
-use Rattle.cfgsyntax.specs.Grammar.{listed_token, token_declaration, start_declaration, declaration, start_and_more, declarations, symbol, another, finish, production, rule, file, is_symbol, separator_fault, body_fault, end_of}
+use Rattle.cfgsyntax.specs.Grammar.{listed_token, token_declaration, start_declaration, declaration, start_and_more, declarations, symbol, another, finish, production, rule, file, separator_fault, body_fault, end_of}
 
 abbrev pub is_ascii_word : List ℕ → Bool
 is_ascii_word word = list_all (λ b. nat_lt b 128) word
@@ -72,14 +72,14 @@ module _ {len : ℕ} {T : List ℕ → List ℕ → Type 0} {P : Item → Type 0
   unfolding declarations repeat
   declarations_kept from Q q = search (k.behind (codes "%start") refl, declaration_kept, start_and_more_kept, q)
 
-  symbol_kept : (from : List ℕ) (Q : Token → Type 0) → ((token : Token) → K from token → Q token) → Keeps T P S (symbol len) from Q
+  symbol_kept : (from : List ℕ) (Q : Option Token → Type 0) → ((token : Token) → K from token → Q (Some token)) → Q None → Keeps T P S (symbol len) from Q
   unfolding symbol
-  symbol_kept from Q q = (
+  symbol_kept from Q q none = (
     λ text word rest t w.
         let it = k.token from text word rest t w in
         let here = q _ it.1 in
         (it.0, (k.blank true from, λ _. ((k.quoted from _ it.1, here), here))),
-    k.fault IllegalString from,
+    none,
   )
 
   body_fault_kept : (from text : List ℕ) → T from text → S (body_fault len text)
@@ -90,15 +90,14 @@ module _ {len : ℕ} {T : List ℕ → List ℕ → Type 0} {P : Item → Type 0
   unfolding finish another
   finish_kept from production p = search (k.behind (codes "|") refl, k.behind (codes ";") refl, k.blank, body_fault_kept, p)
 
-  symbols_kept : (from : List ℕ) (symbols : List Token) → All (λ token. Given T (while_test is_symbol (symbol len)) from (Some token)) symbols → All (K from) symbols
-  unfolding while_test
-  symbols_kept from symbols = All-weaker (λ token. Given T (while_test is_symbol (symbol len)) from (Some token)) (K from)
-      (λ token. given_passes T P S k.here k.on (while_test is_symbol (symbol len)) from (λ o. IfSome o (K from)) (symbol_kept from (K from) (λ token q. q), tt) (Some token)) symbols
+  symbols_kept : (from : List ℕ) (symbols : List Token) → All (λ token. Given T (symbol len) from (Some token)) symbols → All (K from) symbols
+  symbols_kept from symbols = All-weaker (λ token. Given T (symbol len) from (Some token)) (K from)
+      (λ token. given_passes T P S k.here k.on (symbol len) from (λ o. IfSome o (K from)) (symbol_kept from (λ o. IfSome o (K from)) (λ token q. q) tt) (Some token)) symbols
 
   production_kept : (from : List ℕ) (rule : Word) → N rule → Keeps T P S (production len rule) from (λ _. Unit {0})
-  unfolding production while_test
+  unfolding production
   production_kept from rule n = λ text t. (
-    (symbol_kept text (λ _. Unit {0}) (λ _ _. tt), tt),
+    symbol_kept text (λ _. Unit {0}) (λ _ _. tt) tt,
     λ symbols qs behind u. finish_kept behind _ (k.alternative rule symbols text behind n u (symbols_kept text symbols qs)),
   )
 

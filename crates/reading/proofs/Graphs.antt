@@ -3,7 +3,7 @@ use Rattle.std.proofs.Common.{◌≡◌, ℕ, zero, suc, ◌<◌, Bool, true, fa
 use Rattle.reading.specs.Graph.{IsGraph}
 use Rattle.reading.specs.Finder.{IsFinder}
 use Rattle.reading.specs.Pieces.{strip, IsFirst, split_first}
-use Rattle.reading.specs.Read.{Read, gives, prefixed, fails, Exactly, Then, on, off, Case, begins, other, Choice, where_true, where_false, WordHere, found, missing, follow, follow_outcome, behind_word, case_of, choose, found_word, word_here}
+use Rattle.reading.specs.Read.{Read, gives, prefixed, fails, Exactly, Then, on, off, Case, begins, other, Choice, where_true, where_false, WordOr, found, missing, follow, follow_outcome, behind_word, case_of, choose, found_word, word_or}
 use Rattle.reading.specs.Turns.{Turn, again, ends, Turns, last, next, after, turns, all_turns, OneOf, one, Many, turn_outcome, turn_of, many}
 use Rattle.reading.specs.Leaves.{OneOrEnd}
 use Rattle.reading.proofs.PiecesLemmas.{strip_sound, strip_only, strip_none, split_first_sound, split_first_only}
@@ -73,23 +73,25 @@ here_graph p = record { sound = λ text. (p text).sound text; only = λ text. (p
 pub split_first_finder : (needle : List ℕ) → IsFinder (IsFirst needle) (split_first needle)
 split_first_finder needle = record { sound = split_first_sound needle; only = split_first_only needle }
 
--- a word, or a fault
-pub word_here_graph : {I F W A : Type 0} {P : List ℕ → W → List ℕ → Type 0} {p : List ℕ → Option (W × List ℕ)} → IsFinder P p
-    → (value : List ℕ → W → List ℕ → A) (fault : List ℕ → F) → IsGraph (WordHere {I = I} P value fault) (word_here p value fault)
-word_here_graph {I = I} {F = F} {W = W} {A = A} {P = P} {p = p} f value fault = record { sound = λ text. sound text (p text) refl; only = only }
+-- choice by a word of a kind
+pub word_or_graph : {I F W A B : Type 0} {P : List ℕ → W → List ℕ → Type 0} {p : List ℕ → Option (W × List ℕ)}
+    {G : A → List ℕ → Read I F B → Type 0} {H : List ℕ → Read I F B → Type 0} {g : A → List ℕ → Read I F B} {h : List ℕ → Read I F B} → IsFinder P p
+    → (value : List ℕ → W → List ℕ → A) → ((a : A) → IsGraph (G a) (g a)) → IsGraph H h → IsGraph (WordOr P value G H) (word_or p value g h)
+word_or_graph {I = I} {F = F} {W = W} {B = B} {P = P} {p = p} {G = G} {H = H} {g = g} {h = h} f value q q' = record { sound = λ text. sound text (p text) refl; only = only }
   where
-    sound : (text : List ℕ) (o : Option (W × List ℕ)) → p text ≡ o → WordHere {I = I} P value fault text (found_word (value text) (fault text) o)
-    sound text (Some (word, rest)) e = found word rest (f.sound text word rest e)
-    sound text None e = missing (λ word rest h. let there : p text ≡ Some (word, rest) = f.only text word rest h in cc)
+    sound : (text : List ℕ) (o : Option (W × List ℕ)) → p text ≡ o → WordOr P value G H text (found_word (value text) g (h text) o)
+    sound text (Some (word, rest)) e = found word rest (f.sound text word rest e) ((q (value text word rest)).sound rest)
+    sound text None e = missing (λ word rest w. let there : p text ≡ Some (word, rest) = f.only text word rest w in cc) (q'.sound text)
 
-    lacks : (text : List ℕ) → ((word : W) (rest : List ℕ) → P text word rest → ⊥) → (o : Option (W × List ℕ)) → p text ≡ o
-        → found_word {I = I} (value text) (fault text) o ≡ fails (fault text)
-    lacks text none (Some (word, rest)) e = absurd (none word rest (f.sound text word rest e))
-    lacks text none None e = refl
+    lacks : (text : List ℕ) (r : Read I F B) → ((word : W) (rest : List ℕ) → P text word rest → ⊥) → H text r → (o : Option (W × List ℕ)) → p text ≡ o
+        → found_word (value text) g (h text) o ≡ r
+    lacks text r none there (Some (word, rest)) e = absurd (none word rest (f.sound text word rest e))
+    lacks text r none there None e = q'.only text r there
 
-    only : (text : List ℕ) (r : Read I F A) → WordHere P value fault text r → word_here p value fault text ≡ r
-    only text r (found word rest e) = ap (found_word (value text) (fault text)) (f.only text word rest e)
-    only text r (missing none) = lacks text none (p text) refl
+    only : (text : List ℕ) (r : Read I F B) → WordOr P value G H text r → word_or p value g h text ≡ r
+    only text r (found word rest e there) =
+        ap (found_word (value text) g (h text)) (f.only text word rest e) ∙ (q (value text word rest)).only rest r there
+    only text r (missing none there) = lacks text r none there (p text) refl
 
 -- each further step has less text
 pub record Shrinks {R : Type 0} (step : List ℕ → Turn R) : Type 0 where

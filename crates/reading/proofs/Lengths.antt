@@ -3,7 +3,7 @@ use Rattle.std.proofs.Common.{◌≡◌, ℕ, zero, suc, ◌+◌, ◌≤◌, Boo
 use Rattle.reading.specs.Finder.{IsShorter}
 use Rattle.reading.specs.Leaves.{Gives, One, OneOrEnd, ValueOf, Leaves, Less, NoMore, either, both, behind}
 use Rattle.reading.specs.Pieces.{strip}
-use Rattle.reading.specs.Read.{Read, gives, fails, follow, follow_outcome, behind_word, case_of, choose, found_word, word_here}
+use Rattle.reading.specs.Read.{Read, gives, fails, follow, follow_outcome, behind_word, case_of, choose, found_word, word_or}
 use Rattle.reading.specs.Turns.{after, turns, with_value, turn_outcome, turn_of, many}
 use Rattle.reading.proofs.PiecesLemmas.{strip_length}
 
@@ -39,15 +39,15 @@ stays_shortens {A = A} n a none stays = record {
 pub fails_shortens : {I F A : Type 0} (n : A → ℕ) (fault : List ℕ → F) → Shortens n (λ text. fails {I = I} (fault text))
 fails_shortens n fault = record { least = λ text a rest e. cc }
 
--- a word that leaves less
-pub word_here_shortens : {I F W A : Type 0} {p : List ℕ → Option (W × List ℕ)} → IsShorter p
-    → (value : List ℕ → W → List ℕ → A) (fault : List ℕ → F) → Shortens (λ _. 1) (word_here {I = I} p value fault)
-word_here_shortens {I = I} {F = F} {W = W} {A = A} {p = p} s value fault = record { least = λ text a rest e. go text a rest (p text) refl e }
+-- choice by a word that leaves less
+pub word_or_shortens : {I F W A B : Type 0} {n m : B → ℕ} {p : List ℕ → Option (W × List ℕ)} {g : A → List ℕ → Read I F B} {h : List ℕ → Read I F B}
+    → IsShorter p → (value : List ℕ → W → List ℕ → A) → ((b : B) → m b ≤ 1 + n b) → ((a : A) → Shortens n (g a)) → Shortens m h → Shortens m (word_or p value g h)
+word_or_shortens {I = I} {F = F} {W = W} {B = B} {m = m} {p = p} {g = g} {h = h} s value enough q q' = record { least = λ text b rest e. go text b rest (p text) refl e }
   where
-    go : (text : List ℕ) (a : A) (rest : List ℕ) (o : Option (W × List ℕ)) → p text ≡ o
-        → (found_word {I = I} (value text) (fault text) o).outcome ≡ Ok (a, rest) → 1 + length rest ≤ length text
-    go text a rest (Some (word, mid)) e1 e2 = omega (arith, s.less text word mid e1, ap (λ (x : A × List ℕ). length x.1) (left_same e2))
-    go text a rest None e1 e2 = cc
+    go : (text : List ℕ) (b : B) (rest : List ℕ) (o : Option (W × List ℕ)) → p text ≡ o
+        → (found_word (value text) g (h text) o).outcome ≡ Ok (b, rest) → m b + length rest ≤ length text
+    go text b rest (Some (word, mid)) e1 e2 = omega (arith, enough b, s.less text word mid e1, (q (value text word mid)).least mid b rest e2)
+    go text b rest None e1 e2 = q'.least text b rest e2
 
 -- where a sequence gives a value, both parts do
 pub follow_parts : {I F A B : Type 0} (g : List ℕ → Read I F A) (h : A → List ℕ → Read I F B) (text : List ℕ) (b : B) (rest : List ℕ)
@@ -123,6 +123,10 @@ weight_one : (G : Gives) (a : ValueOf G) → weight G a ≤ 1
 weight_one (One A) a = omega arith
 weight_one (OneOrEnd A) (Some a) = omega arith
 weight_one (OneOrEnd A) None = omega arith
+
+pub shortened_one : (l m : Leaves) (G : Gives) (a : ValueOf G) → shortened G m a ≤ 1 + shortened G l a
+shortened_one l Less G a = omega (arith, weight_one G a)
+shortened_one l NoMore G a = omega arith
 
 pub either_shortened : {A : Type 0} (l m : Leaves) (G : Gives) (a : A) (b : ValueOf G) → shortened G (either l m) b ≤ shortened (One A) l a + shortened G m b
 either_shortened Less Less G a b = omega arith

@@ -2,7 +2,7 @@
 -- that counts passes P, a value passes Q, and a fault that stops the reading passes S.
 use Rattle.std.proofs.Common.{◌≡◌, ℕ, Bool, List, [], ◌++◌, Option, Some, None, Result, Ok, Err, All, sym, subst}
 use Rattle.std.proofs.lemmas.List.Elements.{All-nil, All-cons, All-append}
-use Rattle.reading.specs.Read.{Read, gives, emits, fails, Exactly, Then, on, off, Case, begins, other, Choice, where_true, where_false, WordHere, found, missing}
+use Rattle.reading.specs.Read.{Read, gives, emits, fails, Exactly, Then, on, off, Case, begins, other, Choice, where_true, where_false, WordOr, found, missing}
 use Rattle.reading.specs.Silent.{Silently}
 use Rattle.reading.specs.Turns.{Turn, again, ends, Turns, last, next, with_value, turn_outcome, OneOf, one, Many}
 
@@ -70,15 +70,16 @@ module _ {I F : Type 0} {T : List ℕ → Type 0} {P : I → Type 0} {S : F → 
         go text r t (where_true e g) = p.passes text r t g
         go text r t (where_false e h) = q.passes text r t h
 
-    -- a word, or a fault
-    pub word_yields : {W : Type 0} {Word : List ℕ → W → List ℕ → Type 0} {value : List ℕ → W → List ℕ → A} {fault : List ℕ → F}
-        → ((text : List ℕ) (word : W) (rest : List ℕ) → T text → Word text word rest → T rest × Q (value text word rest))
-        → ((text : List ℕ) → T text → S (fault text)) → Yields T P S Q (WordHere Word value fault)
-    word_yields {W} {Word} {value} {fault} there lacks = record { passes = go }
+    -- choice by a word of a kind
+    pub word_yields : {W B : Type 0} {Word : List ℕ → W → List ℕ → Type 0} {value : List ℕ → W → List ℕ → B}
+        {G : B → List ℕ → Read I F A → Type 0} {H : List ℕ → Read I F A → Type 0}
+        → ((text : List ℕ) (word : W) (rest : List ℕ) → T text → Word text word rest → T rest × Yields T P S Q (G (value text word rest)))
+        → Yields T P S Q H → Yields T P S Q (WordOr Word value G H)
+    word_yields {W} {B} {Word} {value} {G} {H} there q = record { passes = go }
       where
-        go : (text : List ℕ) (r : Read I F A) → T text → WordHere Word value fault text r → Passes T P S Q r
-        go text r t (found word rest e) = record { items = All-nil P; outcome = there text word rest t e }
-        go text r t (missing none) = record { items = All-nil P; outcome = lacks text t }
+        go : (text : List ℕ) (r : Read I F A) → T text → WordOr Word value G H text r → Passes T P S Q r
+        go text r t (found word rest e g) = let it = there text word rest t e in it.1.passes rest r it.0 g
+        go text r t (missing none h) = q.passes text r t h
 
     -- a piece with no items
     pub silently_yields : {G : List ℕ → Result (A × List ℕ) F → Type 0} → ((text : List ℕ) (o : Result (A × List ℕ) F) → T text → G text o → EndsIn T S Q o)

@@ -58,10 +58,11 @@ pub data Choice {I F A : Type 0} (test : List ℕ → Bool) (G H : List ℕ → 
   where_true : test text ≡ true → G text r → Choice test G H text r
   where_false : test text ≡ false → H text r → Choice test G H text r
 
--- a piece of the kind P with the value that it stands for, or a fault where none stands
-pub data WordHere {I F W A : Type 0} (P : List ℕ → W → List ℕ → Type 0) (value : List ℕ → W → List ℕ → A) (fault : List ℕ → F) (text : List ℕ) : Read I F A → Type 0 where
-  found : (word : W) (rest : List ℕ) → P text word rest → WordHere P value fault text (gives (value text word rest) rest)
-  missing : ((word : W) (rest : List ℕ) → P text word rest → ⊥) → WordHere P value fault text (fails (fault text))
+-- choice by a word of the kind P: behind it what G makes of its value, H where none stands
+pub data WordOr {I F W A B : Type 0} (P : List ℕ → W → List ℕ → Type 0) (value : List ℕ → W → List ℕ → A)
+    (G : A → List ℕ → Read I F B → Type 0) (H : List ℕ → Read I F B → Type 0) (text : List ℕ) (r : Read I F B) : Type 0 where
+  found : (word : W) (rest : List ℕ) → P text word rest → G (value text word rest) rest r → WordOr P value G H text r
+  missing : ((word : W) (rest : List ℕ) → P text word rest → ⊥) → H text r → WordOr P value G H text r
 
 -- The same by functions: the plain slow program.
 
@@ -82,9 +83,10 @@ case_of word g h text = behind_word g (h text) (strip word text)
 abbrev pub choose : {I F A : Type 0} → (List ℕ → Bool) → (List ℕ → Read I F A) → (List ℕ → Read I F A) → List ℕ → Read I F A
 choose test g h text = if test text then g text else h text
 
-abbrev pub found_word : {I F W A : Type 0} → (W → List ℕ → A) → F → Option (W × List ℕ) → Read I F A
-found_word value fault (Some (word, rest)) = gives (value word rest) rest
-found_word value fault None = fails fault
+abbrev pub found_word : {I F W A B : Type 0} → (W → List ℕ → A) → (A → List ℕ → Read I F B) → Read I F B → Option (W × List ℕ) → Read I F B
+found_word value g otherwise (Some (word, rest)) = g (value word rest) rest
+found_word value g otherwise None = otherwise
 
-abbrev pub word_here : {I F W A : Type 0} → (List ℕ → Option (W × List ℕ)) → (List ℕ → W → List ℕ → A) → (List ℕ → F) → List ℕ → Read I F A
-word_here p value fault text = found_word (value text) (fault text) (p text)
+abbrev pub word_or : {I F W A B : Type 0} → (List ℕ → Option (W × List ℕ)) → (List ℕ → W → List ℕ → A)
+    → (A → List ℕ → Read I F B) → (List ℕ → Read I F B) → List ℕ → Read I F B
+word_or p value g h text = found_word (value text) g (h text) (p text)

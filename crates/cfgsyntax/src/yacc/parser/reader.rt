@@ -1,6 +1,6 @@
 //! The reader: a place in the text, and the tree of what was read so far.
 
-ghost use Rattle.std.specs.Prelude.{◌≡◌, ◌≤◌, length, [], Some, None, MatchBool, IfOk};
+ghost use Rattle.std.specs.Prelude.{◌≡◌, ◌≤◌, length, [], Some, None, MatchBool, IfSome};
 ghost use Rattle.reading.specs.Pieces.{strip};
 ghost use Rattle.cfgwords.specs.Text.{place, fault_at};
 ghost use Rattle.cfgsyntax.specs.Grammar.{blank_here, name_here, token_here};
@@ -61,7 +61,7 @@ pub(crate) struct Reader<'a> {
 }
 
 impl<'a> Reader<'a> {
-    ghost use Rattle.cfgsyntax.specs.Builds.{Builds, Grows, IsPartHere, word_view};
+    ghost use Rattle.cfgsyntax.specs.Builds.{Builds, Grows, IsPartHere, IsTokenHere, word_view};
     ghost use Rattle.cfgast.specs.View.{syntax, syntax_built, token_view};
     ghost use Rattle.cfgast.specs.Syntax.{syntax_of};
 
@@ -153,23 +153,34 @@ impl<'a> Reader<'a> {
         }
     }
 
-    /// Passes the token that must stand here.
-    pub(super) fn token(&mut self) -> Result<Token<'a>, ReadError>
-        ensures read { Builds token_view self.old self.new result (token_here self.old.len) }
-        ensures after { IfOk result (λ token. place self.old.len self.old.rest.now ≤ token.end) }
+    /// Passes the token that stands here, if one does.
+    pub(super) fn token_here(&mut self) -> Option<Token<'a>>
+        ensures read { IsTokenHere self.old self.new result }
+        ensures after { IfSome result (λ token. place self.old.len self.old.rest.now ≤ token.end) }
     {
         match leading_token(self.rest) {
             Some((name, quoted, rest)) => {
                 let place = self.place();
                 let start = if quoted { place + 1 } else { place };
                 self.rest = rest;
-                Ok(Token {
+                Some(Token {
                     name,
                     span: Span::new(start, start + name.len()),
                     quoted,
                     end: self.place(),
                 })
             }
+            None => None,
+        }
+    }
+
+    /// Passes the token that must stand here.
+    #[tactic(auto, unfolding(cfgast::specs::Building::adds))]
+    pub(super) fn token(&mut self) -> Result<Token<'a>, ReadError>
+        ensures { Builds token_view self.old self.new result (token_here self.old.len) }
+    {
+        match self.token_here() {
+            Some(token) => Ok(token),
             None => Err(self.fault(FaultKind::IllegalString)),
         }
     }

@@ -1,16 +1,15 @@
 //! Rules: what stands behind the first `%%`.
 
-ghost use Rattle.std.specs.Prelude.{◌≡◌, ◌≤◌, All, IfOk, OnOk, length, map, codes};
+ghost use Rattle.std.specs.Prelude.{◌≡◌, ◌≤◌, All, IfOk, IfSome, OnOk, length, map, option_map, codes};
 ghost use Rattle.reading.specs.Construct.{expect, goes_on, many, repeat, while_test};
 ghost use Rattle.cfgwords.specs.Text.{place, fault_at};
 ghost use Rattle.cfgwords.specs.declared.fault.FaultKind.TheVariants.{MissingColon};
 ghost use Rattle.cfgast.specs.Items.{Alternative};
-ghost use Rattle.cfgsyntax.specs.Grammar.{end_of, is_symbol, is_open, body_fault, symbol, another, finish, production, rule, file};
+ghost use Rattle.cfgsyntax.specs.Grammar.{end_of, is_open, body_fault, symbol, another, finish, production, rule, file};
 
 use super::reader::{ReadError, Reader};
 use crate::yacc::kind::YaccKind;
 use cfgbase::Span;
-use cfgwords::bytes::ByteClass;
 use cfgwords::fault::FaultKind;
 use cfgwords::words::{Token, Word};
 
@@ -41,39 +40,32 @@ impl<'a> Reader<'a> {
         }
     }
 
-    /// Whether a symbol stands here.
-    fn is_symbol(&self) -> bool
-        ensures { result ≡ is_symbol self.now.rest.now }
-    {
-        match self.rest.as_bytes() {
-            [] => false,
-            [b, ..] => ByteClass::Quote.holds(*b) || ByteClass::IdentifierStart.holds(*b),
-        }
-    }
-
-    /// Passes a symbol of a production and the blank behind it; a quoted token is noted.
+    /// Passes the symbol that stands here, if one does, and the blank behind it; a quoted token is noted.
     #[tactic(auto, unfolding(crate::specs::Grammar::symbol, cfgast::specs::Building::adds))]
-    fn symbol(&mut self) -> Result<Token<'a>, ReadError>
-        ensures read { Builds token_view self.old self.new result (symbol self.old.len) }
-        ensures after { IfOk result (λ symbol. place self.old.len self.old.rest.now ≤ symbol.end) }
+    fn symbol(&mut self) -> Result<Option<Token<'a>>, ReadError>
+        ensures read { Builds (option_map token_view) self.old self.new result (symbol self.old.len) }
+        ensures after { IfOk result (λ symbol. IfSome symbol (λ token. place self.old.len self.old.rest.now ≤ token.end)) }
     {
-        let token = self.token()?;
-        self.blank(true)?;
-        if token.quoted {
-            self.tree.quote_token(self.alloc, token.name, token.span)?;
+        match self.token_here() {
+            Some(token) => {
+                self.blank(true)?;
+                if token.quoted {
+                    self.tree.quote_token(self.alloc, token.name, token.span)?;
+                }
+                Ok(Some(token))
+            }
+            None => Ok(None),
         }
-        Ok(token)
     }
 
     /// Passes the symbols of a production.
     fn symbols(&mut self) -> Result<Vec<Token<'a>>, ReadError>
-        ensures read { Builds tokens_view self.old self.new result (many (while_test is_symbol (symbol self.old.len))) }
+        ensures read { Builds tokens_view self.old self.new result (many (symbol self.old.len)) }
         ensures ends { IfOk result (λ symbols. All (λ symbol. place self.old.len self.old.rest.now ≤ symbol.end) symbols.items) }
         ensures shorter { OnOk result (length self.new.rest.now ≤ length self.old.rest.now) }
     {
         let mut symbols = Vec::new(self.alloc);
-        while self.is_symbol() {
-            let symbol = self.symbol()?;
+        while let Some(symbol) = self.symbol()? {
             symbols.push(symbol)?;
         }
         Ok(symbols)
