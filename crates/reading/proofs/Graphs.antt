@@ -3,7 +3,7 @@ use Rattle.std.proofs.Common.{◌≡◌, ℕ, zero, suc, ◌<◌, Bool, true, fa
 use Rattle.reading.specs.Graph.{IsGraph}
 use Rattle.reading.specs.Finder.{IsFinder}
 use Rattle.reading.specs.Pieces.{strip, IsFirst, split_first}
-use Rattle.reading.specs.Read.{Read, gives, prefixed, fails, Exactly, Then, on, off, Case, begins, other, Choice, where_true, where_false, WordOr, found, missing, follow, follow_outcome, behind_word, case_of, choose, found_word, word_or}
+use Rattle.reading.specs.Read.{Read, gives, prefixed, Exactly, Then, on, off, Case, begins, other, Choice, where_true, where_false, WordOr, found, missing, follow, follow_outcome, behind_word, case_of, choose, found_word, word_or}
 use Rattle.reading.specs.Turns.{Turn, again, ends, Turns, last, next, after, turns, all_turns, OneOf, one, Many, turn_outcome, turn_of, many}
 use Rattle.reading.specs.Leaves.{OneOrEnd}
 use Rattle.reading.proofs.PiecesLemmas.{strip_sound, strip_only, strip_none, split_first_sound, split_first_only}
