@@ -154,7 +154,7 @@ impl<'a> Reader<'a> {
     }
 
     /// Passes the token that stands here, if one does.
-    pub(super) fn token_here(&mut self) -> Option<Token<'a>>
+    pub(super) fn next_token(&mut self) -> Option<Token<'a>>
         ensures read { IsTokenHere self.old self.new result }
         ensures after { IfSome result (λ token. place self.old.len self.old.rest.now ≤ token.end) }
     {
@@ -179,7 +179,7 @@ impl<'a> Reader<'a> {
     pub(super) fn token(&mut self) -> Result<Token<'a>, ReadError>
         ensures { Builds token_view self.old self.new result (token_here self.old.len) }
     {
-        match self.token_here() {
+        match self.next_token() {
             Some(token) => Ok(token),
             None => Err(self.fault(FaultKind::IllegalString)),
         }

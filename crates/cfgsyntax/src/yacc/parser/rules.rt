@@ -46,7 +46,7 @@ impl<'a> Reader<'a> {
         ensures read { Builds (option_map token_view) self.old self.new result (symbol self.old.len) }
         ensures after { IfOk result (λ symbol. IfSome symbol (λ token. place self.old.len self.old.rest.now ≤ token.end)) }
     {
-        match self.token_here() {
+        match self.next_token() {
             Some(token) => {
                 self.blank(true)?;
                 if token.quoted {

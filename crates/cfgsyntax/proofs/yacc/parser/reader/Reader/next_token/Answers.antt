@@ -1,8 +1,8 @@
 use Rattle.std.proofs.Common.{refl, sym, ap, ◌∙◌, ◌≡◌, ◌+◌, ℕ, if◌then◌else◌}
 use Rattle.cfgbase.specs.declared.span.Span.{Span}
 use Rattle.cfgwords.specs.Text.{place}
-use Rattle.cfgsyntax.proofs.yacc.parser.reader.Reader.token_here.Goals as goal
-use Rattle.cfgsyntax.proofs.yacc.parser.reader.Reader.token_here.Goals.{then-quoted, else-quoted}
+use Rattle.cfgsyntax.proofs.yacc.parser.reader.Reader.next_token.Goals as goal
+use Rattle.cfgsyntax.proofs.yacc.parser.reader.Reader.next_token.Goals.{then-quoted, else-quoted}
 
 pub returns-after-quoted-clause-read : goal.returns-after-quoted-clause-read
 returns-after-quoted-clause-read c =
