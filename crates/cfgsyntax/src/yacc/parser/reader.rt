@@ -139,6 +139,7 @@ impl<'a> Reader<'a> {
     }
 
     /// Passes the name that must stand here.
+    #[tactic(auto, unfolding(cfgast::specs::Building::adds))]
     pub(super) fn name(&mut self) -> Result<Word<'a>, ReadError>
         ensures { Builds word_view self.old self.new result (name_here self.old.len) }
     {
