@@ -1,6 +1,6 @@
 //! Each beginning of a text.
 
-use crate::errors::write_spans;
+use crate::errors::{write_kind, write_spans};
 use crate::pen;
 use cfgrammar::yacc::YaccKind;
 use cfgrammar::yacc::ast::ASTWithValidityInfo;
@@ -32,7 +32,7 @@ fn write_cut(
 ) -> Result<(), AllocError> {
     let parsed = ASTWithValidityInfo::new(alloc, kind, text)?;
     for error in parsed.errors() {
-        pen::value(out, " ", error.kind())?;
+        write_kind(out, error)?;
         write_spans(out, error)?;
     }
     let ast = parsed.ast();

@@ -39,7 +39,8 @@ pub(crate) fn write_error_lines(
         Err(FeedError::TooLong) => return out.push_str("    too long\n"),
     };
     for error in errors {
-        pen::value(out, "    ", error.kind())?;
+        out.push_str("   ")?;
+        write_kind(out, error)?;
         let mut place = 0;
         for span in error.spans().iter().rev() {
             place = span.start();
@@ -52,6 +53,11 @@ pub(crate) fn write_error_lines(
         writeln!(out, " {:?}: {error}", error.spanskind())?;
     }
     Ok(())
+}
+
+/// Writes a space and the kind of an error.
+pub(crate) fn write_kind(out: &mut String, error: &YaccGrammarError) -> Result<(), AllocError> {
+    write!(out, " {:?}", error.kind())
 }
 
 /// Writes the spans of an error.

@@ -1,7 +1,6 @@
 //! Rows on the texts of errors and warnings.
 
-use crate::errors::write_spans;
-use crate::pen;
+use crate::errors::{write_kind, write_spans};
 use crate::row::{Row, numbers};
 use cfgrammar::yacc::{YaccGrammarError, YaccGrammarErrorKind, YaccGrammarWarningKind};
 use cfgrammar::{Span, Spanned};
@@ -34,7 +33,8 @@ fn write_error(out: &mut String, alloc: Global, line: &str) -> Result<(), AllocE
         spans.push(Span::new(end, end))?;
     }
     let error = YaccGrammarError::new(kind_of(alloc, name)?, spans);
-    pen::value(out, "    ", error.kind())?;
+    out.push_str("   ")?;
+    write_kind(out, &error)?;
     write_spans(out, &error)?;
     write!(out, " {:?}: {error}", error.spanskind())?;
     if error.clone()? != error {

@@ -15,17 +15,28 @@ use std::mem;
 trait Key: Ord + Clone + Debug + Drop {
     /// The key that a word names.
     fn of(alloc: Global, word: &str) -> Result<Self, AllocError>;
+
+    /// Writes a text and the key.
+    fn tell(&self, out: &mut String, before: &str) -> Result<(), AllocError>;
 }
 
 impl Key for u32 {
     fn of(_: Global, word: &str) -> Result<u32, AllocError> {
         Ok(small(word))
     }
+
+    fn tell(&self, out: &mut String, before: &str) -> Result<(), AllocError> {
+        pen::number(out, before, *self as usize)
+    }
 }
 
 impl Key for String {
     fn of(alloc: Global, word: &str) -> Result<String, AllocError> {
         String::from_str(alloc, word)
+    }
+
+    fn tell(&self, out: &mut String, before: &str) -> Result<(), AllocError> {
+        pen::name(out, before, self.as_str())
     }
 }
 
@@ -61,7 +72,10 @@ fn play<K: Key>(out: &mut String, alloc: Global, row: &Row<'_>) -> Result<(), Al
                 merge(out, &mut map, theirs, number(*rest))?;
                 write_map(out, alloc, row, &mut map)?;
             }
-            "compare" => finish(out, "    equal to the other: ", &(map == other))?,
+            "compare" => {
+                pen::flag(out, "    equal to the other: ", map == other)?;
+                out.push('\n')?;
+            }
             _ => {}
         }
     }
@@ -85,7 +99,7 @@ fn call<K: Key>(
     let key = K::of(alloc, key)?;
     match name {
         "insert" => insert(out, map, key, small(value)),
-        "remove" => finish(out, "", &map.remove(&key)),
+        "remove" => write_old(out, map.remove(&key)),
         "entry" if map.contains_key(&key) => entry::call_occupied(out, map, key, value),
         "entry" => entry::call_vacant(out, map, key, value),
         _ => {
@@ -103,7 +117,7 @@ fn insert<K: Key>(
     value: u32,
 ) -> Result<(), AllocError> {
     match map.insert(key, value) {
-        Ok(old) => finish(out, "", &old),
+        Ok(old) => write_old(out, old),
         Err(_) => Err(AllocError),
     }
 }
@@ -124,10 +138,9 @@ fn mark<K: Key>(
     }
 }
 
-/// Writes a text and a value, and ends the line.
-fn finish<T: Debug>(out: &mut String, before: &str, value: &T) -> Result<(), AllocError> {
-    pen::value(out, before, value)?;
-    out.push('\n')
+/// Writes the value that a key held, and ends the line.
+fn write_old(out: &mut String, old: Option<u32>) -> Result<(), AllocError> {
+    writeln!(out, "{old:?}")
 }
 
 /// The number that a word spells, or what is left of it where it is large.
@@ -182,7 +195,7 @@ fn write_map<K: Key>(
     out.push_str("       ")?;
     for word in row.first("watch").unwrap_or("").split_whitespace() {
         let key = K::of(alloc, word)?;
-        pen::value(out, " [", &key)?;
+        key.tell(out, " [")?;
         write_marks(out, map, &key)?;
         entry::write_mark(out, map, key)?;
     }
@@ -193,7 +206,7 @@ fn write_map<K: Key>(
 /// Writes the value of a key and its marks.
 fn write_marks<K: Key>(out: &mut String, map: &MarkMap<K, u32>, key: &K) -> Result<(), AllocError> {
     match map.get(key) {
-        Some(value) => pen::value(out, " ", value)?,
+        Some(value) => pen::number(out, " ", *value as usize)?,
         None => out.push_str(" -")?,
     }
     if map.contains_key(key) != map.get(key).is_some() {
@@ -216,12 +229,12 @@ fn write_lists<K: Key>(
 ) -> Result<(), AllocError> {
     out.push_str("        keys")?;
     for key in map.keys() {
-        pen::value(out, " ", key)?;
+        key.tell(out, " ")?;
     }
     out.push_str("; entries")?;
     for (key, value) in map {
-        pen::value(out, " ", key)?;
-        pen::value(out, " ", value)?;
+        key.tell(out, " ")?;
+        pen::number(out, " ", *value as usize)?;
     }
     write_marked(out, alloc, map)
 }
@@ -234,12 +247,12 @@ fn write_marked<K: Key>(
 ) -> Result<(), AllocError> {
     out.push_str("; unused")?;
     for key in map.unused(alloc)?.iter() {
-        pen::value(out, " ", key)?;
+        key.tell(out, " ")?;
     }
     out.push_str("; missing")?;
     for key in map.missing(alloc)?.iter() {
         let key: &K = *key;
-        pen::value(out, " ", key)?;
+        key.tell(out, " ")?;
     }
     out.push('\n')
 }

@@ -1,7 +1,6 @@
 //! Pieces of what is written.
 
 use std::alloc::AllocError;
-use std::fmt::Debug;
 
 /// Writes a text and a number.
 pub(crate) fn number(out: &mut String, before: &str, number: usize) -> Result<(), AllocError> {
@@ -23,7 +22,8 @@ pub(crate) fn name(out: &mut String, before: &str, name: &str) -> Result<(), All
     write!(out, "{before}{name:?}")
 }
 
-/// Writes a text and a value by its debug form.
-pub(crate) fn value<T: Debug>(out: &mut String, before: &str, value: &T) -> Result<(), AllocError> {
-    write!(out, "{before}{value:?}")
+/// Writes a text and whether something is so.
+pub(crate) fn flag(out: &mut String, before: &str, flag: bool) -> Result<(), AllocError> {
+    out.push_str(before)?;
+    out.push_str(if flag { "true" } else { "false" })
 }

@@ -2,7 +2,8 @@
 
 ghost use Rattle.cfgmarks.specs.Marks.{IsFaithful};
 
-use super::{Key, behavior, finish, small};
+use super::{Key, behavior, small};
+use crate::pen;
 use crate::row::words;
 use cfgrammar::markmap::{Entry, MarkMap};
 use std::alloc::AllocError;
@@ -16,24 +17,25 @@ pub(super) fn call_occupied<K: Key>(
 ) -> Result<(), AllocError> {
     let (name, word, _) = words(line);
     match map.entry(key) {
-        Entry::Vacant(_entry) => out.push_str("vacant\n"),
+        Entry::Vacant(_entry) => out.push_str("vacant")?,
         Entry::Occupied(mut entry) => match name {
-            "insert" => finish(out, "occupied, ", &entry.insert(small(word))),
+            "insert" => pen::number(out, "occupied, ", entry.insert(small(word)) as usize)?,
             "mark_used" => {
                 entry.mark_used();
-                finish(out, "occupied, used: ", &entry.is_used())
+                pen::flag(out, "occupied, used: ", entry.is_used())?;
             }
             "mark_required" => {
                 entry.mark_required();
-                finish(out, "occupied, required: ", &entry.is_required())
+                pen::flag(out, "occupied, required: ", entry.is_required())?;
             }
             "set_merge_behavior" => {
                 entry.set_merge_behavior(behavior(word));
-                finish(out, "occupied, mark ", &entry.get_mark())
+                pen::number(out, "occupied, mark ", usize::from(entry.get_mark()))?;
             }
-            _ => finish(out, "occupied, ", entry.get()),
+            _ => pen::number(out, "occupied, ", *entry.get() as usize)?,
         },
     }
+    out.push('\n')
 }
 
 /// Makes a call at the place of a key that holds no value, and writes what it answers.
@@ -50,11 +52,11 @@ pub(super) fn call_vacant<K: Key>(
         Entry::Occupied(_entry) => out.push_str("occupied\n"),
         Entry::Vacant(mut entry) => match name {
             "insert" => match entry.insert(small(word)) {
-                Ok(lent) => finish(out, "vacant, lends ", &*lent),
+                Ok(lent) => end(out, "vacant, lends ", *lent as usize),
                 Err(_) => Err(AllocError),
             },
             "insert_entry" => match entry.insert_entry(small(word)) {
-                Ok(occupied) => finish(out, "vacant, mark ", &occupied.get_mark()),
+                Ok(occupied) => end(out, "vacant, mark ", usize::from(occupied.get_mark())),
                 Err(_) => Err(AllocError),
             },
             "mark_required" => {
@@ -65,9 +67,18 @@ pub(super) fn call_vacant<K: Key>(
                 entry.set_merge_behavior(behavior(word))?;
                 out.push_str("vacant, ()\n")
             }
-            _ => finish(out, "vacant, ", entry.key()),
+            _ => {
+                entry.key().tell(out, "vacant, ")?;
+                out.push('\n')
+            }
         },
     }
+}
+
+/// Writes a text and a number, and ends the line.
+fn end(out: &mut String, before: &str, number: usize) -> Result<(), AllocError> {
+    pen::number(out, before, number)?;
+    out.push('\n')
 }
 
 /// Writes the mark of a key that holds a value.
