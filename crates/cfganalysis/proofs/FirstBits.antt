@@ -1,8 +1,10 @@
 -- FIRST sets: what their bits say, one bit more, and when they are complete.
-use Rattle.std.proofs.Common.{◌≡◌, ℕ, ◌+◌, ◌<◌, ◌⊎◌, inl, inr, ◌&&◌, ◌||◌, Bool, true, false, List, [], ◌∷◌, All, Contains, IsTrue, arith, refl, sym, ap, ◌∙◌, subst, true≢false, length-set}
+use Rattle.std.proofs.Common.{◌≡◌, ℕ, ◌+◌, ◌<◌, inl, inr, ◌&&◌, ◌||◌, Bool, true, false, List, [], ◌∷◌, All, Contains, IsTrue, arith, refl, sym, ap, ◌∙◌, subst, true≢false, length-set}
+use Rattle.std.proofs.lemmas.Bool.{and_parts, and_from, or_cases, or_right}
 use Rattle.std.proofs.lemmas.Bool.Decides.{Decides-eqb}
 use Rattle.std.proofs.lemmas.List.{get_or_default, length-replicate}
 use Rattle.std.proofs.lemmas.List.Elements.{All-head, All-tail}
+use Rattle.lemmas.proofs.Elements.{get_or-set, get_or-replicate_default}
 use Rattle.derivation.specs.Grammar.{Sym, Rule, Token, Grammar, Production, IsGrammar, IsSymbolOf, HasProduction}
 use Rattle.derivation.specs.First.{First, Empty}
 use Rattle.derivation.specs.FirstSets.{Vanishes, Begins, Covers, IsClosed}
@@ -10,48 +12,32 @@ use Rattle.derivation.proofs.Firsts.{vanishes_map, begins_map, closed_first, clo
 use Rattle.cfganalysis.specs.Table.{IsTable, bit}
 use Rattle.cfganalysis.specs.Firsts.{FirstSets, FitsGrammar, AreFirsts, SayFirsts, HaveFirstsOf, IsAmongFirsts, IsEpsilon, epsilon_bit, no_firsts, with_first, with_epsilon, vanishes, begins, vanishes_by, begins_by}
 use Rattle.cfganalysis.specs.Rounds.{IsSettled}
-use Rattle.cfganalysis.proofs.OneBit.{get_or-set, bit_in_columns, bit-with_bit, IsTable-with_bit, off-replicate, bit-blank, IsTable-blank}
-
-and_both : (a b : Bool) → (a && b) ≡ true → (a ≡ true) × (b ≡ true)
-and_both true b h = (refl, h)
-and_both false b h = absurd (true≢false (sym h))
-
-both_and : (a b : Bool) → a ≡ true → b ≡ true → (a && b) ≡ true
-both_and true b h k = k
-both_and false b h k = h
-
-or_split : (a b : Bool) → (a || b) ≡ true → (a ≡ true) ⊎ (b ≡ true)
-or_split true b h = inl refl
-or_split false b h = inr h
-
-or_right : (a b : Bool) → b ≡ true → (a || b) ≡ true
-or_right true b h = refl
-or_right false b h = h
+use Rattle.cfganalysis.proofs.OneBit.{bit_in_columns, bit-with_bit, IsTable-with_bit, bit-blank, IsTable-blank}
 
 -- the tests are the equations
 vanishes_true : (e : ℕ → Bool) (a : List Sym) → vanishes e a ≡ true → Vanishes (λ r. IsTrue (e r)) a
 vanishes_true e [] h = tt
-vanishes_true e (Rule r ∷ a) h = let p = and_both (e r) (vanishes e a) h in (p.0, vanishes_true e a p.1)
+vanishes_true e (Rule r ∷ a) h = let p = and_parts (e r) (vanishes e a) h in (p.0, vanishes_true e a p.1)
 vanishes_true e (Token u ∷ a) h = true≢false (sym h)
 
 pub true_vanishes : (e : ℕ → Bool) (a : List Sym) → Vanishes (λ r. IsTrue (e r)) a → vanishes e a ≡ true
 true_vanishes e [] h = refl
-true_vanishes e (Rule r ∷ a) h = both_and (e r) (vanishes e a) h.0 (true_vanishes e a h.1)
+true_vanishes e (Rule r ∷ a) h = and_from (e r) (vanishes e a) h.0 (true_vanishes e a h.1)
 true_vanishes e (Token u ∷ a) h = absurd h
 
 begins_true : (e : ℕ → Bool) (f : ℕ → ℕ → Bool) (a : List Sym) (t : ℕ) → begins e (λ r. f r t) a t ≡ true → Begins (λ r. IsTrue (e r)) (λ r t. IsTrue (f r t)) a t
 begins_true e f [] t h = true≢false (sym h)
 begins_true e f (Token u ∷ a) t h = (Decides-eqb u t).0 h
-begins_true e f (Rule r ∷ a) t h = elim (or_split (f r t) (e r && begins e (λ r. f r t) a t) h) [
+begins_true e f (Rule r ∷ a) t h = elim (or_cases (f r t) (e r && begins e (λ r. f r t) a t) h) [
   | inl k ↦ inl k
-  | inr k ↦ let p = and_both (e r) (begins e (λ r. f r t) a t) k in inr (p.0, begins_true e f a t p.1)
+  | inr k ↦ let p = and_parts (e r) (begins e (λ r. f r t) a t) k in inr (p.0, begins_true e f a t p.1)
 ]
 
 pub true_begins : (e : ℕ → Bool) (f : ℕ → ℕ → Bool) (a : List Sym) (t : ℕ) → Begins (λ r. IsTrue (e r)) (λ r t. IsTrue (f r t)) a t → begins e (λ r. f r t) a t ≡ true
 true_begins e f [] t h = absurd h
 true_begins e f (Token u ∷ a) t h = (Decides-eqb u t).1 h
 true_begins e f (Rule r ∷ a) t (inl h) = ap (λ b. b || (e r && begins e (λ r. f r t) a t)) h
-true_begins e f (Rule r ∷ a) t (inr h) = or_right (f r t) _ (both_and (e r) (begins e (λ r. f r t) a t) h.0 (true_begins e f a t h.1))
+true_begins e f (Rule r ∷ a) t (inr h) = or_right (f r t) _ (and_from (e r) (begins e (λ r. f r t) a t) h.0 (true_begins e f a t h.1))
 
 -- a production's rule and symbols are of the grammar
 pub owner : (g : Grammar) (p : Production) → IsGrammar g → Contains g.productions p → p.rule < g.rules
@@ -104,7 +90,7 @@ say_none g rules tokens e h = record {
     epsilons = length-replicate rules false ∙ e;
   };
   first = λ r t on. absurd (true≢false (sym on ∙ bit-blank rules tokens r t));
-  empty = λ r on. absurd (true≢false (sym on ∙ off-replicate rules r));
+  empty = λ r on. absurd (true≢false (sym on ∙ get_or-replicate_default rules r false));
 }
 
 -- sets that say nothing wrong, to which no production adds, are exact

@@ -1,19 +1,15 @@
 -- A visit: what a production gives is added bit by bit.
-use Rattle.std.proofs.Common.{◌≡◌, ℕ, ◌+◌, ◌<◌, ◌≤◌, ◌⊎◌, inl, inr, ◌||◌, Bool, true, false, List, length, get_or, slice_get, slice_set, Some, MatchBool, arith, refl, sym, ap, ◌∙◌, subst, true≢false, below_more}
-use Rattle.std.specs.Option.{unwrap_or}
-use Rattle.std.proofs.lemmas.List.{set-get_or}
-use Rattle.std.proofs.lemmas.Option.{unwrap_or-slice_get}
+use Rattle.std.proofs.Common.{◌≡◌, ℕ, ◌+◌, ◌<◌, ◌≤◌, inl, inr, ◌||◌, Bool, true, false, List, length, slice_get, slice_set, Some, MatchBool, arith, sym, ap, ◌∙◌, subst, true≢false, below_more}
+use Rattle.std.proofs.lemmas.Bool.{cases_Bool, or_parts}
+use Rattle.std.proofs.lemmas.Option.{get_or_from_slice_get}
+use Rattle.lemmas.proofs.Elements.{set-slice_get}
 use Rattle.derivation.specs.Grammar.{Sym, Grammar, IsGrammar, HasProduction}
 use Rattle.cfganalysis.specs.Table.{Table, bit}
 use Rattle.cfganalysis.specs.Firsts.{FirstSets, SayFirsts, HaveFirstsOf, AddsEpsilon, AddsFirst, epsilon_bit, count_firsts, vanishes_by, begins_by}
 use Rattle.cfganalysis.specs.Rounds.{TakesIn}
-use Rattle.cfganalysis.proofs.Settling.{grown, both_false}
+use Rattle.cfganalysis.proofs.Settling.{grown}
 use Rattle.cfganalysis.proofs.OneBit.{bits_on-set, count_of-with_bit}
 use Rattle.cfganalysis.proofs.FirstBits.{owner, all_symbols, begins_below, say_first, say_epsilon, true_vanishes, true_begins}
-
-true_or_false : (b : Bool) → (b ≡ true) ⊎ (b ≡ false)
-true_or_false true = inl refl
-true_or_false false = inr refl
 
 -- what `Vob::set` did to the bits of the empty rules
 pub epsilon_set : (firsts : Table) (bits new : List Bool) (x : FirstSets) (place rule : ℕ) (symbols : List Sym) (r : Bool) → place ≡ rule
@@ -30,14 +26,11 @@ epsilon_set firsts bits new x place rule symbols r at is h put set =
     before : vanishes_by (record { firsts = firsts; epsilons = bits }) symbols ≡ true
     before = subst (λ y. vanishes_by y symbols ≡ true) (sym is) h
 
-    read : (b : Bool) → slice_get bits rule ≡ Some b → get_or bits rule false ≡ b
-    read b s = sym (unwrap_or-slice_get bits rule false) ∙ ap (λ o. unwrap_or o false) s
-
     go : (r : Bool) → MatchBool r (slice_get bits rule ≡ Some false) (slice_get bits rule ≡ Some true)
         → AddsEpsilon rule symbols (record { firsts = firsts; epsilons = bits }) (record { firsts = firsts; epsilons = new }) r
     go true s = record {
       given = λ k. before;
-      off = λ k. read false s;
+      off = λ k. get_or_from_slice_get bits rule false false s;
       added = λ k. ap (λ l. record { firsts = firsts; epsilons = l }) e;
       same = λ k. absurd (true≢false k);
       had = λ k. absurd (true≢false k);
@@ -46,8 +39,8 @@ epsilon_set firsts bits new x place rule symbols r at is h put set =
       given = λ k. before;
       off = λ k. absurd (true≢false (sym k));
       added = λ k. absurd (true≢false (sym k));
-      same = λ k. ap (λ l. record { firsts = firsts; epsilons = l }) (e ∙ ap (λ b. slice_set bits rule b) (sym (read true s)) ∙ set-get_or bits rule false);
-      had = λ k j. read true s;
+      same = λ k. ap (λ l. record { firsts = firsts; epsilons = l }) (e ∙ set-slice_get bits rule true s);
+      had = λ k j. get_or_from_slice_get bits rule true false s;
     }
 
 -- a rule's bit of the tokens below n, and that of the empty rules, were taken in
@@ -64,7 +57,7 @@ module _ (g : Grammar) (rule : ℕ) (symbols : List Sym) (is : IsGrammar g) (has
 
   pub visits_none : (old new : FirstSets) (r : Bool) → SayFirsts g old → AddsEpsilon rule symbols old new r → Visits rule symbols 0 old new r
   visits_none old new r say w = record {
-    sound = λ g' is' has' say'. elim (true_or_false r) [
+    sound = λ g' is' has' say'. elim (cases_Bool r) [
       | inl e ↦ subst (SayFirsts g') (sym (w.added e)) (say_epsilon g' rule symbols old is' has' say' (w.given e))
       | inr e ↦ subst (SayFirsts g') (sym (w.same e)) say'
     ];
@@ -85,7 +78,7 @@ module _ (g : Grammar) (rule : ℕ) (symbols : List Sym) (is : IsGrammar g) (has
   pub visits_one : (n : ℕ) (old mid new : FirstSets) (c r : Bool) → SayFirsts g old → n < g.tokens
       → Visits rule symbols n old mid c → AddsFirst rule symbols n mid new r → Visits rule symbols (n + 1) old new (c || r)
   visits_one n old mid new c r say lt v w = record {
-    sound = λ g' is' has' say'. let m = v.sound g' is' has' say' in elim (true_or_false r) [
+    sound = λ g' is' has' say'. let m = v.sound g' is' has' say' in elim (cases_Bool r) [
       | inl e ↦ subst (SayFirsts g') (sym (w.added e)) (say_first g' rule symbols mid is' has' m n (w.given e))
       | inr e ↦ subst (SayFirsts g') (sym (w.same e)) m
     ];
@@ -93,9 +86,9 @@ module _ (g : Grammar) (rule : ℕ) (symbols : List Sym) (is : IsGrammar g) (has
         (λ e. subst (λ x. count_firsts mid < count_firsts x) (sym (w.added e))
         (let k = count_of-with_bit g.rules g.tokens mid.firsts rule n (v.sound g is has say).fits.table rule_in_range lt (w.off e) in omega (arith, k)))
         w.same;
-    same = λ e. let b = both_false c r e in w.same b.1 ∙ v.same b.0;
-    empty = λ e. v.empty (both_false c r e).0;
-    begun = λ e. let b = both_false c r e in below_more _ _ (v.begun b.0)
+    same = λ e. let b = or_parts c r e in w.same b.1 ∙ v.same b.0;
+    empty = λ e. v.empty (or_parts c r e).0;
+    begun = λ e. let b = or_parts c r e in below_more _ _ (v.begun b.0)
         (subst (λ x. begins_by x symbols n ≡ true → bit x.firsts rule n ≡ true) (v.same b.0) (w.had b.1));
   }
 

@@ -1,6 +1,7 @@
 -- Rounds: one production more, one round more.
 use Rattle.std.proofs.Common.{◌≡◌, ℕ, ◌+◌, ◌-◌, ◌*◌, ◌^◌, ◌<◌, ◌≤◌, ◌≢◌, ◌||◌, Bool, true, false, cond, length, Contains, arith, refl, sym, ap, ◌∙◌, subst, below_more, true≢false}
 use Rattle.std.proofs.Math.Nat.{mul-le-mul_left}
+use Rattle.std.proofs.lemmas.Bool.{or_parts}
 use Rattle.std.proofs.lemmas.List.Elements.{Contains-get_or}
 use Rattle.derivation.specs.Grammar.{Grammar, Production, IsGrammar}
 use Rattle.cfganalysis.specs.Openings.{production_at, OpensOne}
@@ -33,11 +34,6 @@ grown bits old mid new true false m s m' s' e = subst (λ x. bits old < bits x) 
 grown bits old mid new false true m s m' s' e = subst (λ x. bits x < bits new) (s refl) (m' refl)
 grown bits old mid new false false m s m' s' e = absurd (true≢false (sym e))
 
--- where two steps changed nothing, neither did
-pub both_false : (c r : Bool) → (c || r) ≡ false → (c ≡ false) × (r ≡ false)
-both_false true r e = absurd (true≢false e)
-both_false false r e = (refl, e)
-
 module _ {X : Type 0} (holds : Grammar → X → Type 0) (covers : X → Production → Type 0) (bits : X → ℕ) where
   pub sweep_none : (g : Grammar) (x : X) → Sweeps holds covers bits g 0 x x false
   sweep_none g x = record { sound = λ h. h; more = λ e. absurd (true≢false (sym e)); same = λ e. refl; closed = λ e q h. absurd (omega (arith, h)) }
@@ -48,8 +44,8 @@ module _ {X : Type 0} (holds : Grammar → X → Type 0) (covers : X → Product
   sweep_one g n p old mid new c r is lt e h w t = record {
     sound = λ k. t.sound g is (at_place g n p lt e h) (w.sound k);
     more = grown bits old mid new c r w.more w.same t.more t.same;
-    same = λ k. let b = both_false c r k in t.same b.1 ∙ w.same b.0;
-    closed = λ k. let b = both_false c r k in below_more _ _ (w.closed b.0)
+    same = λ k. let b = or_parts c r k in t.same b.1 ∙ w.same b.0;
+    closed = λ k. let b = or_parts c r k in below_more _ _ (w.closed b.0)
         (subst (λ x. covers x (production_at g n)) (w.same b.0) (subst (λ q. covers mid q) (same_production p (production_at g n) e h) (t.closed b.1)));
   }
 

@@ -1,11 +1,7 @@
-pub mod Lists
-pub mod Names
-pub mod Pushes
-pub mod Directives
-pub mod Rules
-pub mod Law
-pub mod ListedOnce
+pub mod Fields
 pub mod Keeps
-pub mod WellFormedLemmas
+pub mod Law
+pub mod Names
 pub mod Steps
 pub mod Views
+pub mod WellFormedLemmas

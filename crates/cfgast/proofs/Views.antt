@@ -1,58 +1,22 @@
 -- What the views of keys, entries and copies show.
-use Rattle.std.proofs.Common.{◌≡◌, ℕ, ◌+◌, Bool, true, false, cond, not, nat_lt, List, [], ◌∷◌, ◌++◌, map, length, position, Option, Some, None, String, Global, string_bytes, string_eq, if◌then◌else◌, is_some, option_map, refl, sym, ap, subst, ◌∙◌, true≢false}
-use Rattle.std.specs.List.{list_any, position_or_len, AllZip, AllByRecursion, IsDistinct}
+use Rattle.std.proofs.Common.{◌≡◌, ℕ, Bool, true, false, cond, List, [], ◌∷◌, ◌++◌, map, Some, None, String, Global, string_bytes, string_eq, if◌then◌else◌, is_some, refl, sym, ap, subst, ◌∙◌}
+use Rattle.std.specs.List.{list_any, position_or_len, AllByRecursion, IsDistinct}
 use Rattle.std.specs.Map.{lookup, set_value, keys_of}
 use Rattle.std.specs.Str.{bytes_eq}
 use Rattle.std.specs.Cmp.Lexicographic.{bytes_decides, nat_list_eq_equiv}
-use Rattle.std.proofs.lemmas.List.{length-map}
+use Rattle.std.proofs.lemmas.List.{map-append}
+use Rattle.std.proofs.lemmas.Simd.{map-map}
 use Rattle.std.proofs.lemmas.Map.Keys.{IsDistinct-head, IsDistinct-tail}
 use Rattle.std.proofs.lemmas.Map.Made.{is_some-lookup}
+use Rattle.lemmas.specs.Lists.{pushed_unless}
+use Rattle.lemmas.proofs.Pushed.{map-pushed_unless}
+use Rattle.lemmas.proofs.Places.{position_or_len-map, position_or_len-push}
+use Rattle.lemmas.proofs.Tests.{list_any-map}
 use Rattle.indexmap.specs.IndexSet.{insert_key}
 use Rattle.cfgast.specs.Syntax.{index_of, Rule}
-use Rattle.cfgast.specs.Building.{listed, pushed_unless}
+use Rattle.cfgast.specs.Building.{listed, has_name, has_rule}
 use Rattle.cfgast.specs.View.{rule_entry, rule_view}
 use Rattle.cfgast.specs.declared.rule.Rule as source
-use Rattle.cfgast.proofs.Lists.{list_any-map, map-pushed_unless}
-use Rattle.cfgast.proofs.Names.{has_name}
-use Rattle.cfgast.proofs.Rules.{has_rule}
-
-pub position_or_len-map : {A B : Type 0} (p : B → Bool) (f : A → B) (xs : List A) → position_or_len p (map f xs) ≡ position_or_len (λ x. p (f x)) xs
-position_or_len-map p f [] = refl
-position_or_len-map p f (x ∷ xs) = ap (λ n. cond (not (p (f x))) (1 + n) 0) (position_or_len-map p f xs)
-
-pub position-map : {A B : Type 0} (p : B → Bool) (f : A → B) (xs : List A) → position p (map f xs) ≡ position (λ x. p (f x)) xs
-position-map p f xs = λ i. cond (nat_lt (position_or_len-map p f xs i) (length-map xs f i)) (Some (position_or_len-map p f xs i)) None
-
-pub position_or_len-push : {A : Type 0} (p : A → Bool) (xs : List A) (x : A) → p x ≡ true → position_or_len p (xs ++ x ∷ []) ≡ position_or_len p xs
-position_or_len-push p [] x passes = ap (λ b. cond (not b) 1 0) passes
-position_or_len-push p (y ∷ xs) x passes = ap (λ n. cond (not (p y)) (1 + n) 0) (position_or_len-push p xs x passes)
-
-pub place_found : {A : Type 0} (p : A → Bool) (xs : List A) (i : ℕ) → Some i ≡ position p xs → i ≡ position_or_len p xs
-place_found p xs i found = go (nat_lt (position_or_len p xs) (length xs)) found
-  where
-    go : (b : Bool) → Some i ≡ cond b (Some (position_or_len p xs)) None → i ≡ position_or_len p xs
-    go true e = cc
-    go false e = cc
-
-pub None-from_is_some : {A : Type 0} (o : Option A) → is_some o ≡ false → o ≡ None
-None-from_is_some None e = refl
-None-from_is_some (Some x) e = absurd (true≢false e)
-
-pub lookup-map : {K L X Y : Type 0} (p : L → Bool) (f : K → L) (g : X → Y) (es : List (K × X)) → lookup p (map (λ e. (f e.0, g e.1)) es) ≡ option_map g (lookup (λ k. p (f k)) es)
-lookup-map p f g [] = refl
-lookup-map {K} {L} {X} {Y} p f g (e ∷ es) = go (p (f e.0)) (lookup-map p f g es)
-  where
-    go : (b : Bool) → lookup p (map (λ e. (f e.0, g e.1)) es) ≡ option_map g (lookup (λ k. p (f k)) es)
-        → cond b (Some (g e.1)) (lookup p (map (λ e. (f e.0, g e.1)) es)) ≡ option_map g (cond b (Some e.1) (lookup (λ k. p (f k)) es))
-    go true rest = refl
-    go false rest = rest
-
--- a copy shows what its source shows
-pub map-copies : {A B : Type 0} (R : A → A → Type 0) (f : A → B) → ((x y : A) → R x y → f y ≡ f x) → (xs ys : List A) → AllZip R xs ys → map f ys ≡ map f xs
-map-copies R f same [] [] h = refl
-map-copies R f same [] (y ∷ ys) h = absurd h
-map-copies R f same (x ∷ xs) [] h = absurd h
-map-copies R f same (x ∷ xs) (y ∷ ys) h = λ i. same x y h.0 i ∷ map-copies R f same xs ys h.1 i
 
 -- the test by which a text is looked up among keys
 abbrev pub is_key : List ℕ → String Global → Bool
@@ -87,6 +51,19 @@ pub has_rule-entries : (name : List ℕ) (es : List (String Global × source.Rul
 has_rule-entries name es =
     list_any-map (λ (r : List ℕ × Rule). bytes_eq name r.0) rule_entry es
     ∙ sym (list_any-map (is_key name) (λ (e : String Global × source.Rule). e.0) es) ∙ sym (is_some-lookup (is_key name) es)
+
+-- the place of a rule's name among the rules
+pub rule_index : (name : List ℕ) (es : List (String Global × source.Rule)) → index_of name (map (λ (rule : List ℕ × Rule). rule.0) (map rule_entry es)) ≡ position_or_len (is_key name) (keys_of es)
+rule_index name es =
+    ap (index_of name) (map-map (λ (rule : List ℕ × Rule). rule.0) rule_entry es ∙ sym (map-map string_bytes (λ (e : String Global × source.Rule). e.0) es))
+    ∙ index_of-keys name (keys_of es)
+
+-- a new one stands behind the others
+pub rule_index-new : (name : List ℕ) (rules : List (List ℕ × Rule)) (rule : List ℕ × Rule) → rule.0 ≡ name
+    → index_of name (map (λ (r : List ℕ × Rule). r.0) (rules ++ rule ∷ [])) ≡ index_of name (map (λ (r : List ℕ × Rule). r.0) rules)
+rule_index-new name rules rule is =
+    ap (index_of name) (map-append (λ (r : List ℕ × Rule). r.0) rules (rule ∷ []))
+    ∙ position_or_len-push (bytes_eq name) (map (λ (r : List ℕ × Rule). r.0) rules) rule.0 (ap (bytes_eq name) is ∙ nat_list_eq_equiv.refl name)
 
 -- the rule, with the production at the place too
 abbrev pub longer : ℕ → Rule → Rule
@@ -125,16 +102,3 @@ module _ (name : List ℕ) (i : ℕ) where
           let is : old ≡ e.1 = cc in
           λ j. (string_bytes e.0, (grown ∙ ap (λ r. longer i (rule_view r)) is) j) ∷ sym (listed-others es (others here)) j
       go false here same rest = ap (λ t. rule_entry e ∷ t) (rest same)
-
--- the same of what may be there
-abbrev pub AreCopies : {A : Type 0} → (A → A → Type 0) → Option A → Option A → Type 0
-AreCopies R None None = Unit {0}
-AreCopies R None (Some y) = ⊥
-AreCopies R (Some x) None = ⊥
-AreCopies R (Some x) (Some y) = R x y
-
-pub option_map-copies : {A B : Type 0} (R : A → A → Type 0) (f : A → B) → ((x y : A) → R x y → f y ≡ f x) → (o p : Option A) → AreCopies R o p → option_map f p ≡ option_map f o
-option_map-copies R f same None None h = refl
-option_map-copies R f same None (Some y) h = absurd h
-option_map-copies R f same (Some x) None h = absurd h
-option_map-copies R f same (Some x) (Some y) h = ap Some (same x y h)

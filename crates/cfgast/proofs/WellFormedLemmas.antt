@@ -1,120 +1,77 @@
 -- The syntax of a list of items is well formed.
-use Rattle.std.proofs.Common.{◌≡◌, ℕ, zero, suc, ◌+◌, ◌<◌, ◌≤◌, ◌==◌, Bool, true, false, cond, List, [], ◌∷◌, ◌++◌, map, length, get_or, All, Any, Contains, None, filter_map, refl, sym, ap, subst, ◌∙◌, arith, add-zero, zero-add, ltb-true, eq-eqb, eqb-true}
-use Rattle.std.specs.List.{list_any, IsDistinct}
+use Rattle.std.proofs.Common.{◌≡◌, ℕ, ◌<◌, ◌==◌, true, List, [], map, length, filter_map, get_or, slice_get, All, Option, Some, None, option_map, refl, sym, ap, subst, ◌∙◌}
+use Rattle.std.specs.List.{IsDistinct}
 use Rattle.std.specs.Str.{bytes_eq}
 use Rattle.std.specs.Cmp.Lexicographic.{nat_list_eq_equiv}
-use Rattle.std.proofs.lemmas.List.{map-append, length-map}
-use Rattle.std.proofs.lemmas.List.Elements.{All-nil, All-cons, All-map}
-use Rattle.std.proofs.lemmas.List.Folds.{list_any_at, Any-from_list_any}
-use Rattle.std.proofs.lemmas.Map.Views.{Contains-from_any}
-use Rattle.std.proofs.lemmas.Bool.{or_left, or_right}
-use Rattle.std.proofs.lemmas.Map.Keys.{IsDistinct-push}
+use Rattle.std.proofs.lemmas.List.{length-map}
+use Rattle.std.proofs.lemmas.List.Elements.{All-map}
+use Rattle.std.proofs.lemmas.List.Folds.{list_any_at}
+use Rattle.std.proofs.lemmas.Option.{slice_get-map, slice_get_within, get_or_from_slice_get, same_Some}
 use Rattle.std.proofs.lemmas.Simd.{map-map}
+use Rattle.lemmas.specs.Lists.{places}
+use Rattle.lemmas.proofs.Passing.{places-same, places-map}
+use Rattle.lemmas.proofs.Tests.{list_any-map}
 use Rattle.cfgwords.specs.Words.{Word}
-use Rattle.cfgast.specs.Items.{Item}
-use Rattle.cfgast.specs.Syntax.{Rule, Production, is_named, firsts, places, places_from, token_named, rule_named, alternatives, token_words, declared_words, rule_words, rule_of, syntax_of}
-use Rattle.cfgast.specs.Building.{pushed_unless}
+use Rattle.cfgast.specs.Items.{Item, RuleHead}
+use Rattle.cfgast.specs.Syntax.{Rule, Production, word_name, head_name, index_of, indices_of, token_named, rule_named, alternatives, token_words, declared_words, rule_heads, rule_of, syntax_of}
+use Rattle.cfgast.specs.Building.{has_name}
 use Rattle.cfgast.specs.WellFormed.{IsWellFormed}
-use Rattle.cfgast.proofs.Lists.{from_pushes, found-position, list_any-map, list_any_weaker}
-use Rattle.cfgast.proofs.Names.{firsts-push, is_named-firsts}
-use Rattle.cfgast.proofs.Pushes.{names, has_name-names, declared_token, alternative_named}
-use Rattle.cfgast.proofs.Directives.{place_in}
-use Rattle.cfgast.proofs.ListedOnce.{listed_once}
+use Rattle.cfgast.proofs.Names.{AreAmong, firsts-distinct, index_of-within, same_place}
+use Rattle.cfgast.proofs.Fields.{declared_token, alternative_named, rule_names, production_names}
 
-places_from-below : {A : Type 0} (test : A → Bool) (n i : ℕ) (xs : List A) → i + length xs ≤ n → All (λ j. j < n) (places_from i test xs)
-places_from-below test n i [] within = All-nil (λ j. j < n)
-places_from-below {A} test n i (x ∷ xs) within = go (test x) (places_from-below test n (i + 1) xs (omega arith))
-  where
-    go : (b : Bool) → All (λ j. j < n) (places_from (i + 1) test xs) → All (λ j. j < n) (cond b (i ∷ places_from (i + 1) test xs) (places_from (i + 1) test xs))
-    go true rest = All-cons (λ j. j < n) i _ (omega arith) rest
-    go false rest = rest
+-- each of the names has a place among those that they stand among
+indices-within : (some all : List (List ℕ)) → AreAmong some all → All (λ i. i < length all) (indices_of some all)
+indices-within some all among = All-map (λ i. i < length all) (λ name. index_of name all) some (λ k d h.
+    index_of-within (get_or some k d) all (among (get_or some k d) (list_any_at (bytes_eq (get_or some k d)) some k d h (nat_list_eq_equiv.refl (get_or some k d)))))
 
-places_from-has : {A : Type 0} (test : A → Bool) (first i : ℕ) (xs : List A) (d : A) → i < length xs → test (get_or xs i d) ≡ true → list_any (λ j. first + i == j) (places_from first test xs) ≡ true
-places_from-has test first i [] d within passes = absurd (omega arith)
-places_from-has {A} test first zero (x ∷ xs) d within passes =
-    ap (λ b. list_any (λ j. first + 0 == j) (cond b (first ∷ places_from (first + 1) test xs) (places_from (first + 1) test xs))) passes
-    ∙ or_left _ _ (eq-eqb _ _ (add-zero first))
-places_from-has {A} test first (suc i) (x ∷ xs) d within passes = go (test x) (ap (λ n. list_any (λ j. n == j) (places_from (first + 1) test xs)) (omega arith) ∙ places_from-has test (first + 1) i xs d (omega arith) passes)
-  where
-    go : (b : Bool) → list_any (λ j. first + suc i == j) (places_from (first + 1) test xs) ≡ true
-        → list_any (λ j. first + suc i == j) (cond b (first ∷ places_from (first + 1) test xs) (places_from (first + 1) test xs)) ≡ true
-    go true rest = or_right _ _ rest
-    go false rest = rest
+-- a rule lists the places of the productions of its name, which are those of its place
+module _ (items : List Item) where
+  done : List (List ℕ × Production)
+  done = alternatives items
 
--- the name of a production's rule is that of a rule
-rule_named_of : (items : List Item) (i : ℕ) (d : List ℕ × Production) → i < length (alternatives items) → is_named (get_or (alternatives items) i d).0 (rule_words items) ≡ true
-rule_named_of items i d within =
-    let name : List ℕ = (get_or (alternatives items) i d).0 in
-    alternative_named name items (list_any_at (λ a. bytes_eq name a.0) (alternatives items) i d within (nat_list_eq_equiv.refl name))
+  distinct : IsDistinct bytes_eq (rule_names items)
+  unfolding rule_heads
+  distinct = firsts-distinct head_name (filter_map rule_named items)
 
--- a production to stand where there is none
-no_production : List ℕ × Production
-no_production = ([], record { symbols = []; precedence = None; action = None; span = record { start = 0; end = 0 } })
+  lists_own : (r : ℕ) (head : RuleHead) → slice_get (rule_heads items) r ≡ Some head
+      → places (λ a. bytes_eq (head_name head) a.0) done ≡ places (λ other. r == other) (indices_of (production_names items) (rule_names items))
+  unfolding done
+  lists_own r head at =
+      places-same _ _ done (λ k d h. own (get_or done k d).0 (alternative_named items _ (named k d h)))
+      ∙ sym (places-map (λ n. r == index_of n (rule_names items)) (λ (a : List ℕ × Production). a.0) done)
+      ∙ sym (places-map (λ other. r == other) (λ n. index_of n (rule_names items)) (production_names items))
+    where
+      name_at : slice_get (rule_names items) r ≡ Some (head_name head)
+      name_at = slice_get-map head_name (rule_heads items) r ∙ ap (option_map head_name) at
 
--- the rule of a production lists it
-listed : (items : List Item) (i : ℕ) → i < length (alternatives items) → Any (λ rule. Contains rule.1.productions i) (map (rule_of (alternatives items)) (rule_words items))
-listed items i within = (at.0, at.1, at.2, at.3, Contains-from_any eqb-true i at.1.1.productions at.4)
-  where
-    done : List (List ℕ × Production)
-    done = alternatives items
+      named : (k : ℕ) (d : List ℕ × Production) → k < length done → has_name (get_or done k d).0 (production_names items) ≡ true
+      named k d h = list_any-map _ _ done ∙ list_any_at (λ a. bytes_eq (get_or done k d).0 a.0) done k d h (nat_list_eq_equiv.refl (get_or done k d).0)
 
-    production : List ℕ × Production
-    production = get_or done i no_production
+      own : (name : List ℕ) → has_name name (rule_names items) ≡ true → bytes_eq (head_name head) name ≡ (r == index_of name (rule_names items))
+      own name there =
+          ap (λ n. bytes_eq n name) (sym (get_or_from_slice_get (rule_names items) r (head_name head) [] name_at))
+          ∙ same_place name (rule_names items) distinct there r (slice_get_within (rule_names items) r (head_name head) name_at)
 
-    lists : List ℕ × Rule → Bool
-    lists rule = list_any (λ j. i == j) rule.1.productions
-
-    lists-rule_of : (word : Word) → bytes_eq production.0 word.name ≡ true → lists (rule_of done word) ≡ true
-    lists-rule_of word same =
-        ap (λ n. list_any (λ j. n == j) (places (λ a. bytes_eq word.name a.0) done)) (sym (zero-add i))
-        ∙ places_from-has (λ a. bytes_eq word.name a.0) 0 i done _ within (nat_list_eq_equiv.symm word.name production.0 ∙ same)
-
-    named : is_named production.0 (rule_words items) ≡ true
-    named = rule_named_of items i no_production within
-
-    at : Any (λ rule. lists rule ≡ true) (map (rule_of done) (rule_words items))
-    at = Any-from_list_any lists (map (rule_of done) (rule_words items))
-        (list_any-map lists (rule_of done) (rule_words items) ∙ list_any_weaker _ _ lists-rule_of (rule_words items) named)
-
--- first occurrences differ
-firsts-distinct : (words : List Word) → IsDistinct bytes_eq (names (firsts words))
-unfolding firsts IsDistinct
-firsts-distinct = from_pushes (λ words. IsDistinct bytes_eq (names (firsts words))) tt more
-  where
-    more : (words : List Word) (word : Word) → IsDistinct bytes_eq (names (firsts words)) → IsDistinct bytes_eq (names (firsts (words ++ word ∷ [])))
-    more words word before = subst (λ ws. IsDistinct bytes_eq (names ws)) (sym (firsts-push words word)) (go (is_named word.name words) refl)
-      where
-        go : (known : Bool) → is_named word.name words ≡ known → IsDistinct bytes_eq (names (pushed_unless known (firsts words) word))
-        go true e = before
-        go false e =
-            subst (IsDistinct bytes_eq) (sym (map-append (λ (w : Word). w.name) (firsts words) (word ∷ [])))
-            (IsDistinct-push nat_list_eq_equiv (names (firsts words)) word.name before (has_name-names word.name (firsts words) ∙ is_named-firsts word.name words ∙ e))
-
--- each word is named among the words
-named-itself : (words : List Word) (k : ℕ) (d : Word) → k < length words → is_named (get_or words k d).name words ≡ true
-named-itself words k d within = list_any_at (λ w. bytes_eq (get_or words k d).name w.name) words k d within (nat_list_eq_equiv.refl (get_or words k d).name)
+  listed : (r : ℕ) (rule : List ℕ × Rule) → slice_get (map (rule_of done) (rule_heads items)) r ≡ Some rule
+      → rule.1.productions ≡ places (λ other. r == other) (indices_of (production_names items) (rule_names items))
+  listed r rule e = at (slice_get (rule_heads items) r) refl (sym (slice_get-map (rule_of done) (rule_heads items) r) ∙ e)
+    where
+      at : (o : Option RuleHead) → slice_get (rule_heads items) r ≡ o → option_map (rule_of done) o ≡ Some rule
+          → rule.1.productions ≡ places (λ other. r == other) (indices_of (production_names items) (rule_names items))
+      at None e is = let no : None ≡ Some rule = is in cc
+      at (Some head) e is = ap (λ (r : List ℕ × Rule). r.1.productions) (sym (same_Some (rule_of done head) rule is)) ∙ lists_own r head e
 
 pub syntax_of-IsWellFormed : (items : List Item) → IsWellFormed (syntax_of items)
-unfolding syntax_of token_words declared_words rule_words
+unfolding syntax_of token_words done
 syntax_of-IsWellFormed items = record {
-  rules_named = All-map (λ rule. rule.0 ≡ rule.1.name.name) (rule_of done) (rule_words items) (λ k d h. refl);
-  productions_within = All-map (λ rule. All (λ i. i < length (map (λ a. a.1) done)) rule.1.productions) (rule_of done) (rule_words items) (λ k d h.
-      places_from-below _ _ 0 done (omega (arith, length-map done (λ (a : List ℕ × Production). a.1))));
-  rules_distinct = subst (IsDistinct bytes_eq) (sym (map-map (λ (rule : List ℕ × Rule). rule.0) (rule_of done) (rule_words items))) (firsts-distinct (filter_map rule_named items));
-  tokens_distinct = firsts-distinct (filter_map token_named items);
-  productions_listed = λ i h. listed items i (omega (arith, length-map done (λ (a : List ℕ × Production). a.1)));
-  productions_once = λ i h.
-      let within : i < length done = omega (arith, length-map done (λ (a : List ℕ × Production). a.1)) in
-      listed_once done (rule_words items) i no_production within (firsts-distinct (filter_map rule_named items)) (rule_named_of items i no_production within);
-  spans_as_long = length-map tokens (λ (w : Word). w.span) ∙ sym (length-map tokens (λ (w : Word). w.name));
-  directives_within = All-map (λ i. i < length (names tokens)) (place_in tokens) (declared_words items) (λ k d h. within (get_or (declared_words items) k d) (named-itself (declared_words items) k d h));
+  rules_named = All-map (λ rule. rule.0 ≡ rule.1.name.name) (rule_of (alternatives items)) (rule_heads items) (λ k d h. refl);
+  rules_distinct = subst (IsDistinct bytes_eq) (sym (map-map (λ (rule : List ℕ × Rule). rule.0) (rule_of (alternatives items)) (rule_heads items))) (distinct items);
+  tokens_distinct = firsts-distinct word_name (filter_map token_named items);
+  production_rules_as_long = length-map (production_names items) (λ (n : List ℕ). index_of n (rule_names items)) ∙ length-map (alternatives items) (λ (a : List ℕ × Production). a.0) ∙ sym (length-map (alternatives items) (λ (a : List ℕ × Production). a.1));
+  production_rules_within = subst (λ n. All (λ r. r < n) (indices_of (production_names items) (rule_names items)))
+      (length-map (rule_heads items) head_name ∙ sym (length-map (rule_heads items) (rule_of (alternatives items))))
+      (indices-within (production_names items) (rule_names items) (alternative_named items));
+  productions_listed = listed items;
+  spans_as_long = length-map (token_words items) (λ (w : Word). w.span) ∙ sym (length-map (token_words items) word_name);
+  directives_within = indices-within (map word_name (declared_words items)) (map word_name (token_words items)) (declared_token items);
 }
-  where
-    done : List (List ℕ × Production)
-    done = alternatives items
-
-    tokens : List Word
-    tokens = token_words items
-
-    within : (word : Word) → is_named word.name (declared_words items) ≡ true → place_in tokens word < length (names tokens)
-    within word declared = ltb-true _ _ (found-position (bytes_eq word.name) (names tokens) ∙ has_name-names word.name tokens ∙ declared_token word.name items declared)

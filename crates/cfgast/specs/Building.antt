@@ -1,73 +1,82 @@
--- The same syntax, item by item: what each item adds to what those before it said.
-use Rattle.std.specs.Prelude.{ℕ, Bool, false, List, [], ◌∷◌, ◌++◌, map, fold, length, position, ◌==◌, ◌||◌, Option, Some, None, if◌then◌else◌}
+-- The same syntax, item by item: what one more item makes of each field. A field that an item says nothing of stays.
+use Rattle.std.specs.Prelude.{ℕ, Bool, false, List, [], ◌∷◌, ◌++◌, map, fold, length, position, ◌==◌, Option, Some, None, option_map, if◌then◌else◌}
 use Rattle.std.specs.List.{list_any}
-use Rattle.std.specs.Option.{option_map_or}
+use Rattle.std.specs.Option.{option_map_or, option_or}
 use Rattle.std.specs.Str.{bytes_eq}
+use Rattle.lemmas.specs.Lists.{pushed, pushed_unless}
 use Rattle.cfgbase.specs.declared.span.Span.{Span}
-use Rattle.cfgwords.specs.Words.{Word, Token, word_of}
-use Rattle.cfgast.specs.Items.{Item, TokenDeclared, StartDeclared, RuleNamed, TokenQuoted, Alternative}
-use Rattle.cfgast.specs.Syntax.{Syntax, Rule, Production, Symbol, RuleSymbol, TokenSymbol, index_of}
+use Rattle.cfgwords.specs.Words.{Word}
+use Rattle.cfgast.specs.Items.{Item, RuleHead}
+use Rattle.cfgast.specs.Syntax.{Syntax, Rule, Production, word_name, head_name, index_of, token_named, token_declared, start_named, rule_named, finished}
 
--- with one more element at the end, where it isn't known yet
-abbrev pub pushed_unless : {A : Type 0} → Bool → List A → A → List A
-pushed_unless known xs x = if known then xs else xs ++ x ∷ []
+-- whether a name stands among names
+abbrev pub has_name : List ℕ → List (List ℕ) → Bool
+has_name name names = list_any (bytes_eq name) names
 
--- the first of two, if it is there
-abbrev pub first_of : {A : Type 0} → Option A → Option A → Option A
-first_of (Some x) other = Some x
-first_of None other = other
+-- what is named first, where nothing is yet
+abbrev pub with_first : {A : Type 0} → Option A → Option A → Option A
+with_first None first = first
+with_first (Some x) first = option_or first (Some x)
 
--- the start, where there is none yet
-unfoldable pub with_start : Word → Syntax → Syntax
-with_start word s = record s { start = first_of s.start (Some word) }
+-- a name, where it isn't there yet
+abbrev pub with_name : Option (List ℕ) → List (List ℕ) → List (List ℕ)
+with_name None names = names
+with_name (Some name) names = pushed_unless (has_name name names) names name
 
--- a token, where none has its name yet
-unfoldable pub with_token : Word → Syntax → Syntax
-with_token word s =
-    let known = list_any (bytes_eq word.name) s.tokens in
-    record s { tokens = pushed_unless known s.tokens word.name; spans = pushed_unless known s.spans word.span }
+-- the span of a token, where none has its name yet
+abbrev pub with_span : Option Word → List (List ℕ) → List Span → List Span
+with_span None tokens spans = spans
+with_span (Some word) tokens spans = pushed_unless (has_name word.name tokens) spans word.span
 
--- the place of the token of this name, where it isn't noted yet
-unfoldable pub with_directive : List ℕ → Syntax → Syntax
-with_directive name s =
-    let i = index_of name s.tokens in
-    record s { token_directives = pushed_unless (list_any (λ j. i == j) s.token_directives) s.token_directives i }
+-- the place of a declared name among the tokens, where it isn't noted yet
+abbrev pub with_directive : Option (List ℕ) → List (List ℕ) → List ℕ → List ℕ
+with_directive None tokens directives = directives
+with_directive (Some name) tokens directives =
+    let i = index_of name tokens in
+    pushed_unless (list_any (λ j. i == j) directives) directives i
+
+abbrev pub has_rule : List ℕ → List (List ℕ × Rule) → Bool
+has_rule name rules = list_any (λ rule. bytes_eq name rule.0) rules
 
 -- a rule with no production, under its name
-abbrev pub new_rule : Word → List ℕ × Rule
-new_rule word = (word.name, record { name = word; productions = []; action_type = None })
+abbrev pub new_rule : RuleHead → List ℕ × Rule
+new_rule head = (head_name head, record { name = head.name; productions = []; action_type = head.action_type })
 
 -- a rule, where none has its name yet
-unfoldable pub with_rule : Word → Syntax → Syntax
-with_rule word s = record s { rules = pushed_unless (list_any (λ rule. bytes_eq word.name rule.0) s.rules) s.rules (new_rule word) }
+abbrev pub with_rule : Option RuleHead → List (List ℕ × Rule) → List (List ℕ × Rule)
+with_rule None rules = rules
+with_rule (Some head) rules = pushed_unless (has_rule (head_name head) rules) rules (new_rule head)
 
 -- the rule, with the production at the place too if the rule has the name
 abbrev pub listed : List ℕ → ℕ → List ℕ × Rule → List ℕ × Rule
 listed name i rule = if bytes_eq name rule.0 then (rule.0, record rule.1 { productions = rule.1.productions ++ i ∷ [] }) else rule
 
--- a production of the rule of this name
-unfoldable pub with_production : List ℕ → Production → Syntax → Syntax
-with_production name production s = record s {
-  rules = map (listed name (length s.productions)) s.rules;
-  productions = s.productions ++ production ∷ [];
-}
+-- the production at the place, with the rule of its name
+abbrev pub with_listed : Option (List ℕ × Production) → ℕ → List (List ℕ × Rule) → List (List ℕ × Rule)
+with_listed None i rules = rules
+with_listed (Some production) i rules = map (listed production.0 i) rules
 
 -- whether a `%token` list has the name
-unfoldable pub is_declared : List ℕ → Syntax → Bool
-is_declared name s = option_map_or (λ i. list_any (λ j. i == j) s.token_directives) (position (bytes_eq name) s.tokens) false
+unfoldable pub is_declared : Syntax → List ℕ → Bool
+is_declared s name = option_map_or (λ i. list_any (λ j. i == j) s.token_directives) (position (bytes_eq name) s.tokens) false
 
-abbrev pub symbol_in : Syntax → Token → Symbol
-symbol_in s token = if token.quoted || is_declared token.name s then TokenSymbol (word_of token) else RuleSymbol (word_of token)
-
-abbrev pub production_in : Syntax → List Token → Span → Production
-production_in s symbols span = record { symbols = map (symbol_in s) symbols; precedence = None; action = None; span = span }
+-- the syntax with what the item names, and with the production that it finishes
+abbrev pub grown : Syntax → Item → Option (List ℕ × Production) → Syntax
+grown s item production =
+    let rules = with_rule (rule_named item) s.rules in
+    let tokens = with_name (option_map word_name (token_named item)) s.tokens in
+    record {
+      start = with_first (start_named item) s.start;
+      rules = with_listed production (length s.productions) rules;
+      productions = pushed s.productions (option_map (λ p. p.1) production);
+      production_rules = pushed s.production_rules (option_map (λ p. index_of p.0 (map (λ rule. rule.0) rules)) production);
+      tokens = tokens;
+      spans = with_span (token_named item) s.tokens s.spans;
+      token_directives = with_directive (option_map word_name (token_declared item)) tokens s.token_directives;
+    }
 
 unfoldable pub add : Syntax → Item → Syntax
-add s (TokenDeclared word) = with_directive word.name (with_token word s)
-add s (StartDeclared word) = with_start word s
-add s (RuleNamed word) = with_rule word (with_start word s)
-add s (TokenQuoted word) = with_token word s
-add s (Alternative rule symbols span) = with_production rule.name (production_in s symbols span) (with_rule rule (with_start rule s))
+add s item = grown s item (finished (is_declared s) item)
 
 unfoldable pub adds : Syntax → List Item → Syntax
 adds s items = fold add s items

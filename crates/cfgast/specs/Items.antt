@@ -1,11 +1,23 @@
 -- The parts of a grammar file that count as read, each as it stands in the text.
-use Rattle.std.specs.Prelude.{List}
+use Rattle.std.specs.Prelude.{ℕ, List, Option}
 use Rattle.cfgbase.specs.declared.span.Span.{Span}
 use Rattle.cfgwords.specs.Words.{Word, Token}
+
+-- what stands before a rule's colon: its name, and the type of what its actions answer, if it says one
+pub record RuleHead : Type 0 where
+  pub name : Word
+  pub action_type : Option (List ℕ)
+
+-- a production: its symbols, the name of the token that `%prec` gives it, its action and the action's span
+pub record Body : Type 0 where
+  pub symbols : List Token
+  pub precedence : Option (List ℕ)
+  pub action : Option (List ℕ × Span)
+  pub span : Span
 
 pub data Item : Type 0 where
   TokenDeclared : Word → Item  -- a token of a `%token` list
   StartDeclared : Word → Item  -- the name behind `%start`
-  RuleNamed : Word → Item  -- a rule, at its name
+  RuleNamed : RuleHead → Item  -- a rule, at its name
   TokenQuoted : Word → Item  -- a quoted token in a rule's body
-  Alternative : Word → List Token → Span → Item  -- a finished production of the rule of that name, and its span
+  Alternative : RuleHead → Body → Item  -- a finished production of the rule of that name

@@ -1,10 +1,11 @@
 -- What a list of items says: rules, tokens and productions, by first occurrences in the list.
-use Rattle.std.specs.Prelude.{ℕ, Bool, List, [], ◌∷◌, ◌++◌, map, filter, ◌+◌, ◌||◌, not, Option, Some, None, slice_get, if◌then◌else◌}
+use Rattle.std.specs.Prelude.{ℕ, Bool, List, map, filter, ◌||◌, not, Option, Some, None, slice_get, if◌then◌else◌}
 use Rattle.std.specs.List.{list_any, filter_map, position_or_len}
 use Rattle.std.specs.Str.{bytes_eq}
+use Rattle.lemmas.specs.Lists.{with_fronts, places}
 use Rattle.cfgbase.specs.declared.span.Span.{Span}
 use Rattle.cfgwords.specs.Words.{Word, Token, word_of}
-use Rattle.cfgast.specs.Items.{Item, TokenDeclared, StartDeclared, RuleNamed, TokenQuoted, Alternative}
+use Rattle.cfgast.specs.Items.{Item, RuleHead, Body, TokenDeclared, StartDeclared, RuleNamed, TokenQuoted, Alternative}
 
 -- a symbol of a production: the name of a rule or of a token, and its span
 pub data Symbol : Type 0 where
@@ -27,111 +28,95 @@ pub record Syntax : Type 0 where
   pub start : Option Word
   pub rules : List (List ℕ × Rule)
   pub productions : List Production
+  pub production_rules : List ℕ  -- the rule of each production, by its place in the list of rules
   pub tokens : List (List ℕ)
   pub spans : List Span
   pub token_directives : List ℕ
 
--- each element with those that stand before it
-abbrev pub with_fronts_from : {A : Type 0} → List A → List A → List (List A × A)
-with_fronts_from front [] = []
-with_fronts_from front (x ∷ xs) = (front, x) ∷ with_fronts_from (front ++ x ∷ []) xs
+abbrev pub word_name : Word → List ℕ
+word_name word = word.name
 
-abbrev pub with_fronts : {A : Type 0} → List A → List (List A × A)
-with_fronts xs = with_fronts_from [] xs
+abbrev pub head_name : RuleHead → List ℕ
+head_name head = head.name.name
 
--- the places of the elements that pass
-abbrev pub places_from : {A : Type 0} → ℕ → (A → Bool) → List A → List ℕ
-places_from i test [] = []
-places_from i test (x ∷ xs) = if test x then i ∷ places_from (i + 1) test xs else places_from (i + 1) test xs
+abbrev pub is_named : {A : Type 0} → (A → List ℕ) → List ℕ → List A → Bool
+is_named name_of name xs = list_any (λ x. bytes_eq name (name_of x)) xs
 
-abbrev pub places : {A : Type 0} → (A → Bool) → List A → List ℕ
-places test xs = places_from 0 test xs
+-- a first occurrence: nothing before it has its name
+abbrev pub is_first : {A : Type 0} → (A → List ℕ) → List A × A → Bool
+is_first name_of (front, x) = not (is_named name_of (name_of x) front)
 
-abbrev pub is_named : List ℕ → List Word → Bool
-is_named name words = list_any (λ w. bytes_eq name w.name) words
+unfoldable pub firsts : {A : Type 0} → (A → List ℕ) → List A → List A
+firsts name_of xs = map (λ x. x.1) (filter (is_first name_of) (with_fronts xs))
 
--- a first occurrence: no word before it has its name
-abbrev pub is_first : List Word × Word → Bool
-is_first (front, word) = not (is_named word.name front)
+-- the place of a name among names, and the places of several
+abbrev pub index_of : List ℕ → List (List ℕ) → ℕ
+index_of name names = position_or_len (bytes_eq name) names
 
-unfoldable pub firsts : List Word → List Word
-firsts words = map (λ x. x.1) (filter is_first (with_fronts words))
+abbrev pub indices_of : List (List ℕ) → List (List ℕ) → List ℕ
+indices_of some names = map (λ name. index_of name names) some
 
--- the words by which an item names a token, a declared token, the start and a rule
+-- What an item says: the words by which it names a token, a declared token and the start, and the rule that it names.
+
 abbrev pub token_named : Item → Option Word
 token_named (TokenDeclared word) = Some word
-token_named (StartDeclared word) = None
-token_named (RuleNamed word) = None
 token_named (TokenQuoted word) = Some word
-token_named (Alternative rule symbols span) = None
+token_named _ = None
 
 abbrev pub token_declared : Item → Option Word
 token_declared (TokenDeclared word) = Some word
-token_declared (StartDeclared word) = None
-token_declared (RuleNamed word) = None
-token_declared (TokenQuoted word) = None
-token_declared (Alternative rule symbols span) = None
+token_declared _ = None
 
 abbrev pub start_named : Item → Option Word
-start_named (TokenDeclared word) = None
 start_named (StartDeclared word) = Some word
-start_named (RuleNamed word) = Some word
-start_named (TokenQuoted word) = None
-start_named (Alternative rule symbols span) = Some rule
+start_named (RuleNamed head) = Some head.name
+start_named (Alternative head body) = Some head.name
+start_named _ = None
 
-abbrev pub rule_named : Item → Option Word
-rule_named (TokenDeclared word) = None
-rule_named (StartDeclared word) = None
-rule_named (RuleNamed word) = Some word
-rule_named (TokenQuoted word) = None
-rule_named (Alternative rule symbols span) = Some rule
+abbrev pub rule_named : Item → Option RuleHead
+rule_named (RuleNamed head) = Some head
+rule_named (Alternative head body) = Some head
+rule_named _ = None
 
 -- An unquoted word in a body is a token where a `%token` list before it has its name, and a rule where not.
-abbrev pub symbol_behind : List Item → Token → Symbol
-symbol_behind front token =
-    if token.quoted || is_named token.name (filter_map token_declared front)
-    then TokenSymbol (word_of token)
-    else RuleSymbol (word_of token)
+abbrev pub symbol_of : (List ℕ → Bool) → Token → Symbol
+symbol_of is_declared token = if token.quoted || is_declared token.name then TokenSymbol (word_of token) else RuleSymbol (word_of token)
 
--- a finished production, with the name of its rule
+abbrev pub production_of : (List ℕ → Bool) → Body → Production
+production_of is_declared body = record {
+  symbols = map (symbol_of is_declared) body.symbols;
+  precedence = body.precedence;
+  action = body.action;
+  span = body.span;
+}
+
+-- the production that an item finishes, behind the name of its rule
+abbrev pub finished : (List ℕ → Bool) → Item → Option (List ℕ × Production)
+finished is_declared (Alternative head body) = Some (head_name head, production_of is_declared body)
+finished is_declared _ = None
+
 abbrev pub alternative : List Item × Item → Option (List ℕ × Production)
-alternative (front, TokenDeclared word) = None
-alternative (front, StartDeclared word) = None
-alternative (front, RuleNamed word) = None
-alternative (front, TokenQuoted word) = None
-alternative (front, Alternative rule symbols span) = Some (
-  rule.name,
-  record {
-    symbols = map (symbol_behind front) symbols;
-    precedence = None;
-    action = None;
-    span = span;
-  },
-)
+alternative (front, item) = finished (λ name. is_named word_name name (filter_map token_declared front)) item
 
 unfoldable pub alternatives : List Item → List (List ℕ × Production)
 alternatives items = filter_map alternative (with_fronts items)
 
 unfoldable pub token_words : List Item → List Word
-token_words items = firsts (filter_map token_named items)
+token_words items = firsts word_name (filter_map token_named items)
 
 unfoldable pub declared_words : List Item → List Word
-declared_words items = firsts (filter_map token_declared items)
+declared_words items = firsts word_name (filter_map token_declared items)
 
-unfoldable pub rule_words : List Item → List Word
-rule_words items = firsts (filter_map rule_named items)
+unfoldable pub rule_heads : List Item → List RuleHead
+rule_heads items = firsts head_name (filter_map rule_named items)
 
--- the place of a name among names
-abbrev pub index_of : List ℕ → List (List ℕ) → ℕ
-index_of name names = position_or_len (λ other. bytes_eq name other) names
-
-abbrev pub rule_of : List (List ℕ × Production) → Word → List ℕ × Rule
-rule_of alternatives word = (
-  word.name,
+abbrev pub rule_of : List (List ℕ × Production) → RuleHead → List ℕ × Rule
+rule_of alternatives head = (
+  head_name head,
   record {
-    name = word;
-    productions = places (λ a. bytes_eq word.name a.0) alternatives;
-    action_type = None;
+    name = head.name;
+    productions = places (λ a. bytes_eq (head_name head) a.0) alternatives;
+    action_type = head.action_type;
   },
 )
 
@@ -141,9 +126,10 @@ rule_of alternatives word = (
 unfoldable pub syntax_of : List Item → Syntax
 syntax_of items = record {
   start = slice_get (filter_map start_named items) 0;
-  rules = map (rule_of (alternatives items)) (rule_words items);
+  rules = map (rule_of (alternatives items)) (rule_heads items);
   productions = map (λ a. a.1) (alternatives items);
-  tokens = map (λ w. w.name) (token_words items);
+  production_rules = indices_of (map (λ a. a.0) (alternatives items)) (map head_name (rule_heads items));
+  tokens = map word_name (token_words items);
   spans = map (λ w. w.span) (token_words items);
-  token_directives = map (λ w. index_of w.name (map (λ t. t.name) (token_words items))) (declared_words items);
+  token_directives = indices_of (map word_name (declared_words items)) (map word_name (token_words items));
 }

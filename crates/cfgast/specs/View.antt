@@ -11,7 +11,11 @@ use Rattle.cfgast.specs.declared.symbol.Symbol.TheVariants as symbols
 use Rattle.cfgast.specs.declared.production.Production.{Production}
 use Rattle.cfgast.specs.declared.rule.Rule.{Rule}
 use Rattle.cfgast.specs.declared.ast.GrammarAST.{GrammarAST}
+use Rattle.cfgast.specs.Items as items
 use Rattle.cfgast.specs.declared.builder.AstBuilder.{AstBuilder}
+use Rattle.cfgast.specs.declared.item.RuleHead.{RuleHead}
+use Rattle.cfgast.specs.declared.item.Body.{Body}
+use Rattle.cfgwords.specs.declared.words.Word.{Word as CodeWord}
 use Rattle.cfgwords.specs.declared.words.Token.{Token as CodeToken}
 
 -- a name and its span
@@ -55,6 +59,7 @@ syntax ast = record {
   start = option_map named_view ast.start;
   rules = map rule_entry ast.rules.entries;
   productions = map production_view ast.prods.items;
+  production_rules = ast.prods_rules.items;
   tokens = map string_bytes ast.tokens.keys;
   spans = ast.spans.items;
   token_directives = ast.token_directives.keys;
@@ -67,3 +72,18 @@ syntax_built builder = syntax builder.ast
 -- a token of a rule's body
 abbrev pub token_view : CodeToken → Token
 token_view token = record { name = token.name.now; span = token.span; quoted = token.quoted; end = token.end }
+
+-- a name in the text
+abbrev pub word_view : CodeWord → Word
+word_view word = record { name = word.name.now; span = word.span }
+
+abbrev pub head_view : RuleHead → items.RuleHead
+head_view head = record { name = word_view head.name; action_type = option_map (λ text. text.now) head.action_type }
+
+abbrev pub body_view : Body → items.Body
+body_view body = record {
+  symbols = map token_view body.symbols.now;
+  precedence = option_map (λ name. name.now) body.precedence;
+  action = option_map (λ action. (action.0.now, action.1)) body.action;
+  span = body.span;
+}

@@ -16,6 +16,7 @@ pub struct GrammarAST {
     pub(crate) start: Option<(String, Span)>,
     pub(crate) rules: IndexMap<String, Rule>,
     pub(crate) prods: Vec<Production>,
+    pub(crate) prods_rules: Vec<usize>,
     pub(crate) token_directives: IndexSet<usize>,
     pub(crate) tokens: IndexSet<String>,
     pub(crate) spans: Vec<Span>,
@@ -44,6 +45,13 @@ impl GrammarAST {
         ensures { map production_view result.now ≡ (syntax self.now).productions }
     {
         &self.prods
+    }
+
+    /// The rule of each production, by its index in the order of `rules`.
+    pub fn prods_rules(&self) -> &[usize]
+        ensures { result.now ≡ (syntax self.now).production_rules }
+    {
+        &self.prods_rules
     }
 
     /// The indices of the tokens that a `%token` declares.
@@ -93,6 +101,7 @@ impl Clone for GrammarAST {
             start: self.start.clone()?,
             rules: self.rules.clone()?,
             prods: self.prods.clone()?,
+            prods_rules: self.prods_rules.clone()?,
             token_directives: self.token_directives.clone()?,
             tokens: self.tokens.clone()?,
             spans: self.spans.clone()?,

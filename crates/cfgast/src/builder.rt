@@ -1,15 +1,16 @@
-ghost use Rattle.std.specs.Prelude.{◌≡◌, List, [], map, IfOk, OnOk};
+ghost use Rattle.std.specs.Prelude.{◌≡◌, List, [], map, Some, option_map, string_bytes, IfOk, OnOk};
 ghost use Rattle.cfgast.specs.Items.{Item, TokenDeclared, StartDeclared, RuleNamed, TokenQuoted, Alternative};
-ghost use Rattle.cfgast.specs.Syntax.{syntax_of, index_of};
-ghost use Rattle.cfgast.specs.Building.{add, adds, with_token, listed, is_declared, symbol_in};
+ghost use Rattle.cfgast.specs.Syntax.{syntax_of, symbol_of, production_of, head_name, index_of};
+ghost use Rattle.cfgast.specs.Building.{add, adds, with_rule, listed, is_declared};
 ghost use Rattle.cfgast.specs.WellFormed.{IsWellFormed};
 
 use crate::ast::GrammarAST;
+use crate::item::{Body, RuleHead};
 use crate::production::Production;
 use crate::rule::Rule;
 use crate::symbol::Symbol;
 use cfgbase::Span;
-use cfgwords::words::Token;
+use cfgwords::words::{Token, Word};
 use indexmap::{IndexMap, IndexSet};
 use std::alloc::{AllocError, Global};
 
@@ -21,9 +22,9 @@ pub struct AstBuilder {
     ast: GrammarAST,
 }
 
-#[tactic(auto, unfolding(crate::specs::View::syntax_built, crate::specs::View::syntax, crate::specs::Building::add, crate::specs::Building::with_start, crate::specs::Building::with_production))]
+#[tactic(auto, unfolding(crate::specs::View::syntax_built, crate::specs::View::syntax, crate::specs::Building::add))]
 impl AstBuilder {
-    ghost use Rattle.cfgast.specs.View.{syntax, syntax_built, symbol_view, token_view};
+    ghost use Rattle.cfgast.specs.View.{syntax, syntax_built, production_view, symbol_view, word_view, token_view, head_view, body_view};
 
     /// A builder that no item was added to.
     pub fn new(alloc: Global) -> Self
@@ -34,6 +35,7 @@ impl AstBuilder {
                 start: None,
                 rules: IndexMap::new(alloc),
                 prods: Vec::new(alloc),
+                prods_rules: Vec::new(alloc),
                 token_directives: IndexSet::new(alloc),
                 tokens: IndexSet::new(alloc),
                 spans: Vec::new(alloc),
@@ -56,90 +58,99 @@ impl AstBuilder {
     }
 
     /// Adds a token of a `%token` list.
-    pub fn declare_token(&mut self, alloc: Global, name: &str, span: Span) -> Result<(), AllocError>
-        ensures { OnOk result (syntax_built self.new
-            ≡ add (syntax_built self.old) (TokenDeclared (record { name = name.now; span = span }))) }
+    pub fn declare_token(&mut self, alloc: Global, word: Word<'_>) -> Result<(), AllocError>
+        ensures { OnOk result (syntax_built self.new ≡ add (syntax_built self.old) (TokenDeclared (word_view word.entry))) }
     {
-        let index = self.put_token(alloc, name, span)?;
+        let index = self.put_token(alloc, word)?;
         self.ast.token_directives.insert(index)?;
         Ok(())
     }
 
     /// Adds a quoted token of a rule's body.
-    pub fn quote_token(&mut self, alloc: Global, name: &str, span: Span) -> Result<(), AllocError>
-        ensures { OnOk result (syntax_built self.new
-            ≡ add (syntax_built self.old) (TokenQuoted (record { name = name.now; span = span }))) }
+    pub fn quote_token(&mut self, alloc: Global, word: Word<'_>) -> Result<(), AllocError>
+        ensures { OnOk result (syntax_built self.new ≡ add (syntax_built self.old) (TokenQuoted (word_view word.entry))) }
     {
-        self.put_token(alloc, name, span)?;
+        self.put_token(alloc, word)?;
         Ok(())
     }
 
     /// Adds the rule that a `%start` names: it is the start where no rule was named before.
-    pub fn declare_start(&mut self, alloc: Global, name: &str, span: Span) -> Result<(), AllocError>
-        ensures { OnOk result (syntax_built self.new
-            ≡ add (syntax_built self.old) (StartDeclared (record { name = name.now; span = span }))) }
+    pub fn declare_start(&mut self, alloc: Global, word: Word<'_>) -> Result<(), AllocError>
+        ensures { OnOk result (syntax_built self.new ≡ add (syntax_built self.old) (StartDeclared (word_view word.entry))) }
     {
         if self.ast.start.is_none() {
-            self.ast.start = Some((String::from_str(alloc, name)?, span));
+            self.ast.start = Some((String::from_str(alloc, word.name)?, word.span));
         }
         Ok(())
     }
 
     /// Adds a rule, at its name: it is the start where none was named before.
-    pub fn name_rule(&mut self, alloc: Global, name: &str, span: Span) -> Result<(), AllocError>
-        ensures { OnOk result (syntax_built self.new
-            ≡ add (syntax_built self.old) (RuleNamed (record { name = name.now; span = span }))) }
+    pub fn name_rule(&mut self, alloc: Global, head: RuleHead<'_>) -> Result<(), AllocError>
+        ensures { OnOk result (syntax_built self.new ≡ add (syntax_built self.old) (RuleNamed (head_view head.entry))) }
     {
-        self.declare_start(alloc, name, span)?;
-        if !self.ast.rules.contains_key(name) {
-            let rule = Rule {
-                name: (String::from_str(alloc, name)?, span),
-                pidxs: Vec::new(alloc),
-                actiont: None,
-            };
-            self.ast.rules.insert(String::from_str(alloc, name)?, rule)?;
-        }
+        self.declare_start(alloc, head.name)?;
+        self.put_rule(alloc, head)?;
         Ok(())
     }
 
-    /// Adds a finished production of the rule of the name `rule`, which is named as by `name_rule`.
-    /// Of `symbols`, those are tokens that are quoted or declared so far.
+    /// Adds a finished production of a rule, which is named as by `name_rule`. Of its symbols, those are tokens that
+    /// are quoted or declared so far.
     pub fn add_production(
         &mut self,
         alloc: Global,
-        rule: &str,
-        rule_span: Span,
-        symbols: &[Token<'_>],
-        span: Span,
+        head: RuleHead<'_>,
+        body: Body<'_, '_>,
     ) -> Result<(), AllocError>
         ensures { OnOk result (syntax_built self.new
-            ≡ add (syntax_built self.old)
-            (Alternative (record { name = rule.now; span = rule_span }) (map token_view symbols.now) span)) }
+            ≡ add (syntax_built self.old) (Alternative (head_view head.entry) (body_view body.entry))) }
     {
-        let symbols = self.symbols_of(alloc, symbols)?;
-        self.name_rule(alloc, rule, rule_span)?;
+        let production = self.production_of(alloc, body)?;
+        self.declare_start(alloc, head.name)?;
+        let rule = self.put_rule(alloc, head)?;
         let index = self.ast.prods.len();
-        self.list_production(rule, index)?;
-        self.ast.prods.push(Production {
-            symbols,
-            precedence: None,
-            action: None,
-            prod_span: span,
-        })?;
+        self.list_production(head.name.name, index)?;
+        self.ast.prods.push(production)?;
+        self.ast.prods_rules.push(rule)?;
         Ok(())
     }
 
     // The index of the token of this name, which is added where it is new.
-    fn put_token(&mut self, alloc: Global, name: &str, span: Span) -> Result<usize, AllocError>
-        ensures added { OnOk result (syntax_built self.new
-            ≡ with_token (record { name = name.now; span = span }) (syntax_built self.old)) }
-        ensures index { IfOk result (λ index. index ≡ index_of name.now (syntax_built self.new).tokens) }
+    fn put_token(&mut self, alloc: Global, word: Word<'_>) -> Result<usize, AllocError>
+        ensures added { OnOk result (syntax_built self.new ≡ add (syntax_built self.old) (TokenQuoted (word_view word.entry))) }
+        ensures index { IfOk result (λ index. index ≡ index_of word.entry.name.now (syntax_built self.new).tokens) }
     {
-        if let Some(index) = self.ast.tokens.get_index_of(name) {
+        if let Some(index) = self.ast.tokens.get_index_of(word.name) {
             return Ok(index);
         }
-        self.ast.spans.push(span)?;
-        let (index, _) = self.ast.tokens.insert_full(String::from_str(alloc, name)?)?;
+        self.ast.spans.push(word.span)?;
+        let (index, _) = self
+            .ast
+            .tokens
+            .insert_full(String::from_str(alloc, word.name)?)?;
+        Ok(index)
+    }
+
+    // The index of the rule of this name, which is added where it is new.
+    fn put_rule(&mut self, alloc: Global, head: RuleHead<'_>) -> Result<usize, AllocError>
+        ensures added { OnOk result (syntax_built self.new ≡ record (syntax_built self.old) {
+          rules = with_rule (Some (head_view head.entry)) (syntax_built self.old).rules;
+        }) }
+        ensures index { IfOk result (λ index. index
+            ≡ index_of (head_name (head_view head.entry)) (map (λ rule. rule.0) (syntax_built self.new).rules)) }
+    {
+        let Word { name, span } = head.name;
+        if let Some(index) = self.ast.rules.get_index_of(name) {
+            return Ok(index);
+        }
+        let rule = Rule {
+            name: (String::from_str(alloc, name)?, span),
+            pidxs: Vec::new(alloc),
+            actiont: copied(alloc, head.action_type)?,
+        };
+        let (index, _) = self
+            .ast
+            .rules
+            .insert_full(String::from_str(alloc, name)?, rule)?;
         Ok(index)
     }
 
@@ -155,9 +166,24 @@ impl AstBuilder {
         Ok(())
     }
 
+    fn production_of(&self, alloc: Global, body: Body<'_, '_>) -> Result<Production, AllocError>
+        ensures { IfOk result (λ made. production_view made ≡ production_of (is_declared (syntax_built self.now)) (body_view body.entry)) }
+    {
+        let action = match body.action {
+            Some((text, span)) => Some((String::from_str(alloc, text)?, span)),
+            None => None,
+        };
+        Ok(Production {
+            symbols: self.symbols_of(alloc, body.symbols)?,
+            precedence: copied(alloc, body.precedence)?,
+            action,
+            prod_span: body.span,
+        })
+    }
+
     fn symbols_of(&self, alloc: Global, body: &[Token<'_>]) -> Result<Vec<Symbol>, AllocError>
         ensures { IfOk result (λ symbols. map symbol_view symbols.items
-            ≡ map (symbol_in (syntax_built self.now)) (map token_view body.now)) }
+            ≡ map (symbol_of (is_declared (syntax_built self.now))) (map token_view body.now)) }
     {
         let mut symbols = Vec::with_capacity(alloc, body.len())?;
         for symbol in body {
@@ -168,7 +194,7 @@ impl AstBuilder {
 
     fn symbol_of(&self, alloc: Global, symbol: &Token<'_>) -> Result<Symbol, AllocError>
         ensures { IfOk result (λ made. symbol_view made
-            ≡ symbol_in (syntax_built self.now) (token_view symbol.now)) }
+            ≡ symbol_of (is_declared (syntax_built self.now)) (token_view symbol.now)) }
     {
         let name = String::from_str(alloc, symbol.name)?;
         if symbol.quoted || self.is_declared(symbol.name) {
@@ -180,12 +206,21 @@ impl AstBuilder {
 
     // Whether a `%token` declared the name.
     fn is_declared(&self, name: &str) -> bool
-        ensures { result ≡ is_declared name.now (syntax_built self.now) }
+        ensures { result ≡ is_declared (syntax_built self.now) name.now }
     {
         match self.ast.tokens.get_index_of(name) {
             Some(index) => self.ast.token_directives.contains(&index),
             None => false,
         }
+    }
+}
+
+fn copied(alloc: Global, text: Option<&str>) -> Result<Option<String>, AllocError>
+    ensures { IfOk result (λ copy. option_map string_bytes copy ≡ option_map (λ text. text.now) text.entry) }
+{
+    match text {
+        Some(text) => Ok(Some(String::from_str(alloc, text)?)),
+        None => Ok(None),
     }
 }
 

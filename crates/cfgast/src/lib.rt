@@ -2,12 +2,14 @@
 
 pub mod ast;
 pub mod builder;
+pub mod item;
 pub mod production;
 pub mod rule;
 pub mod symbol;
 
 pub use ast::GrammarAST;
 pub use builder::{AstBuilder, built_is_syntax, syntax_is_well_formed};
+pub use item::{Body, RuleHead};
 pub use production::Production;
 pub use rule::Rule;
 pub use symbol::Symbol;

@@ -1,7 +1,8 @@
 -- Lists of bits that are joined place by place.
-use Rattle.std.proofs.Common.{◌≡◌, ◌≢◌, ℕ, suc, zero, ◌+◌, ◌<◌, ◌≤◌, ◌||◌, ◌&&◌, Bool, true, false, not, List, [], ◌∷◌, map, length, get_or, MatchBool, arith, refl, sym, ap, ◌∙◌, subst, below_more, ext_get_or, get_or-set_same, get_or-set_other, length-set, true≢false, slice_set, slice_get, Some, unwrap_or}
-use Rattle.std.proofs.lemmas.List.{set-get_or, get_or_default}
-use Rattle.std.proofs.lemmas.Option.{slice_get-get_or}
+use Rattle.std.proofs.Common.{◌≡◌, ◌≢◌, ℕ, suc, zero, ◌+◌, ◌<◌, ◌≤◌, ◌||◌, Bool, true, false, not, List, [], ◌∷◌, map, length, get_or, MatchBool, arith, refl, sym, ap, ◌∙◌, subst, below_more, ext_get_or, get_or-set_same, get_or-set_other, length-set, true≢false, slice_set, slice_get, Some}
+use Rattle.std.proofs.lemmas.List.{get_or_default}
+use Rattle.std.proofs.lemmas.Option.{get_or_from_slice_get}
+use Rattle.lemmas.proofs.Elements.{set-slice_get}
 use Rattle.std.specs.List.{zip}
 
 -- each bit is on that is on in a or in b
@@ -53,20 +54,14 @@ joined_more i a b now next changed x y r is lt same w ex ey set = subst (λ l. I
     was : x ≡ get_or now i false
     was = ex ∙ get_or_default now i x false within
 
-    read : (bit : Bool) → slice_get now i ≡ Some bit → get_or now i false ≡ bit
-    read bit e = ap (λ o. unwrap_or o false) (sym (slice_get-get_or now i false within) ∙ e)
-
-    stays : (bit : Bool) → slice_get now i ≡ Some bit → slice_set now i bit ≡ now
-    stays bit e = ap (λ bit. slice_set now i bit) (sym (read bit e)) ∙ set-get_or now i false
-
     go : (c r x y : Bool) → x ≡ get_or now i false → MatchBool c (TurnedOn a now i) (now ≡ a)
         → MatchBool r (slice_get now i ≡ Some (not (x || y))) (slice_get now i ≡ Some (x || y))
         → MatchBool (c || r) (TurnedOn a (slice_set now i (x || y)) (i + 1)) (slice_set now i (x || y) ≡ a)
     go true r x y e g h = let ne : g.0 ≢ i = omega (arith, g.1) in (g.0, omega (arith, g.1), g.2, get_or-set_other now i g.0 _ false ne ∙ g.3)
-    go false false x y e g h = stays (x || y) h ∙ g
-    go false true true y e g h = absurd (true≢false (e ∙ read false h))
+    go false false x y e g h = set-slice_get now i (x || y) h ∙ g
+    go false true true y e g h = absurd (true≢false (e ∙ get_or_from_slice_get now i false false h))
     go false true false true e g h = (i, omega arith, sym (ap (λ l. get_or l i false) g) ∙ sym e, get_or-set_same now i true false within)
-    go false true false false e g h = absurd (true≢false (sym (read true h) ∙ sym e))
+    go false true false false e g h = absurd (true≢false (sym (get_or_from_slice_get now i true false h) ∙ sym e))
 
 pub joined_all : (i : ℕ) (a b now : List Bool) (changed : Bool) → i ≡ length a → length a ≡ length b → IsJoinedBelow i a b now changed → now ≡ joined a b
 joined_all i a b now changed end e w = ext_get_or false now (joined a b) (w.same_length ∙ sym (length-joined a b e))

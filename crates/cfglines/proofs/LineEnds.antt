@@ -1,10 +1,11 @@
 -- Where the lines of a text begin and end, by the places of its newlines.
-use Rattle.std.proofs.Common.{⊎_elim, subst, get_or-append-add, ◌≡◌, ℕ, suc, ◌+◌, ◌-◌, ◌<◌, ◌≤◌, Bool, true, false, not, cond, if◌then◌else◌, List, [], ◌∷◌, ◌++◌, map, reverse, length, take, drop, get_or, sym, ◌∙◌, ap, refl, length-take, length-drop, append-nil, add-zero, append_assoc, arith}
-use Rattle.std.proofs.lemmas.List.{reverse-append, reverse-reverse, get_or_append_left, get_or_push, length_push, length-take-le, map_push, take_more}
+use Rattle.std.proofs.Common.{⊎_elim, subst, get_or-append-add, ◌≡◌, ℕ, suc, ◌+◌, ◌-◌, ◌<◌, ◌≤◌, Bool, true, false, not, cond, if◌then◌else◌, List, [], ◌∷◌, ◌++◌, map, length, take, drop, get_or, ◌∙◌, ap, refl, length-take, length-drop, append-nil, add-zero, append_assoc, arith}
+use Rattle.std.proofs.lemmas.List.{reverse-append, get_or_append_left, get_or_push, length_push, length-take-le, map_push, take_more}
 use Rattle.std.proofs.Math.ListN.{get_or-map}
 use Rattle.std.proofs.lemmas.List.Sums.{prefix_len-le-length, suffix_len-le-length}
 use Rattle.std.proofs.lemmas.Bool.{cases_Bool}
 use Rattle.std.specs.List.{prefix_len, suffix_len, position_or_len}
+use Rattle.lemmas.proofs.Growing.{from_pushes}
 use Rattle.cfglines.specs.Lines.{is_newline, newlines_of, line_front, line_start, line_end}
 use Rattle.cfglines.proofs.Newlines.{newlines_of-append, newlines_of-split}
 
@@ -33,16 +34,6 @@ pub places_push : (places old : List ℕ) (start : ℕ) (text : List ℕ) (i : �
     → places ++ (start + i) ∷ [] ≡ old ++ map (λ place. start + place) (newlines_of (take (i + 1) text))
 places_push places old start text i within newline so_far =
     rw (newlines_of-take_newline text i within newline, map_push, so_far, append_assoc) refl
-
--- what holds of no text, and of a text with one more byte, holds of each text
-module _ (P : List ℕ → Type 0) (none : P []) (more : (text : List ℕ) (byte : ℕ) → P text → P (text ++ byte ∷ [])) where
-  by_backwards : (backwards : List ℕ) → P (reverse backwards)
-  by_backwards [] = none
-  by_backwards (byte ∷ backwards) =
-      subst P (sym (reverse-append (byte ∷ []) backwards)) (more (reverse backwards) byte (by_backwards backwards))
-
-  by_last_byte : (text : List ℕ) → P text
-  by_last_byte text = subst P (reverse-reverse text) (by_backwards (reverse text))
 
 abbrev pub is_other : ℕ → Bool
 is_other byte = not (is_newline byte)
@@ -81,7 +72,7 @@ unfolding newlines_of
 no_newline last some = omega arith
 
 last_line : (text : List ℕ) → LastLine text
-last_line = by_last_byte LastLine
+last_line = from_pushes LastLine
     (record { whole = λ none. refl; behind = λ last some. absurd (no_newline last some) })
     (λ text byte line. ⊎_elim (last_line_newline text byte) (λ h. last_line_other text byte h line) (cases_Bool (is_newline byte)))
 

@@ -2,17 +2,12 @@
 use Rattle.std.proofs.Common.{◌≡◌, ℕ, suc, ◌+◌, ◌-◌, ◌<◌, ◌≤◌, Bool, true, false, cond, ltb, ltb-true, ltb-false, lt-ltb, if◌then◌else◌, ⊎_elim, List, [], ◌∷◌, ◌++◌, map, length, take, drop, get_or, All, count_by, sym, ◌∙◌, ap, refl, append_assoc, take-append-drop, length-append, length-take, length-drop, lt_of_le_of_lt, arith}
 use Rattle.std.proofs.lemmas.List.{map-append, length-map, get_or_append_left, get_or-append_right}
 use Rattle.std.proofs.lemmas.List.Elements.{All-nil, All-append, All-map}
+use Rattle.std.proofs.lemmas.List.Folds.{map_fixed}
 use Rattle.std.proofs.lemmas.List.Sums.{sum_by-cons}
 use Rattle.std.proofs.lemmas.Bool.{cases_lt, cases_order}
 use Rattle.std.proofs.lemmas.Grind.{common_steps}
 use Rattle.std.specs.List.Sorted.{IsPartitionPoint, IsPartitionedBy}
 use Rattle.cfglines.specs.Lines.{Kept, StandsFor, is_newline, newlines_of}
-
-map-zero_add : (places : List ℕ) → places ≡ map (λ place. 0 + place) places
-map-zero_add [] = refl
-map-zero_add (place ∷ places) =
-    let here : place ≡ 0 + place = omega arith in
-    let others = map-zero_add places in cc
 
 map-suc-add : (n : ℕ) (places : List ℕ) → map suc (map (λ place. n + place) places) ≡ map (λ place. suc n + place) places
 map-suc-add n [] = refl
@@ -23,7 +18,7 @@ map-suc-add n (place ∷ places) =
 pub newlines_of-append : (front back : List ℕ)
     → newlines_of (front ++ back) ≡ newlines_of front ++ map (λ place. length front + place) (newlines_of back)
 unfolding newlines_of
-newlines_of-append [] back = map-zero_add _
+newlines_of-append [] back = sym (map_fixed (λ place. 0 + place) (newlines_of back) (λ k d within. omega arith))
 newlines_of-append (byte ∷ front) back =
     rw (newlines_of-append front back, map-append, map-suc-add (length front), append_assoc) refl
 

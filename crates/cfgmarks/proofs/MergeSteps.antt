@@ -1,10 +1,9 @@
 -- Merging one key after another is merging all keys.
-use Rattle.std.proofs.Common.{◌≡◌, Bool, true, false, cond, if◌then◌else◌, Option, None, Some, List, [], ◌∷◌, ◌++◌, refl, sym, ap, ◌∙◌, subst, append_assoc}
+use Rattle.std.proofs.Common.{◌≡◌, true, false, cond, if◌then◌else◌, Option, None, Some, List, [], ◌∷◌, ◌++◌, refl, sym, ap, ◌∙◌, subst, append_assoc}
 use Rattle.std.specs.declared.cmp.Ordering.{Ordering}
-use Rattle.std.specs.declared.cmp.Ordering.TheVariants.{Less, Equal, Greater}
-use Rattle.std.specs.Ordering.{is_eq, is_lt}
-use Rattle.std.specs.Cmp.{IsTotalOrder, tied_itself, eq_by_cmp_equiv, Equal-is}
-use Rattle.std.specs.List.{AllByRecursion}
+use Rattle.std.specs.declared.cmp.Ordering.TheVariants.{Equal}
+use Rattle.std.specs.Ordering.{is_lt}
+use Rattle.std.specs.Cmp.{IsTotalOrder, eq_by_cmp_equiv, Equal-is}
 use Rattle.std.specs.List.Sorted.{IsStrictlySortedBy}
 use Rattle.std.specs.Map.{keys_of, lookup}
 use Rattle.std.specs.BTreeMap.{is_at}
@@ -15,50 +14,8 @@ use Rattle.cfgmarks.specs.Marks.{Marks, entry_at}
 use Rattle.std.specs.Option.{ForSome}
 use Rattle.cfgmarks.specs.Merging.{wanted, CallableOnWanted, MergedAt, Merged}
 use Rattle.cfgmarks.specs.MergeFaults.{MergesKey, IsFaultAt, StopsAt}
-use Rattle.cfgmarks.proofs.MarkEntries.{none_above, below_all, lookup_congr}
-
-module _ {K X : Type 0} (test : K → Bool) where
-  lookup_after_none : (es fs : List (K × X)) → lookup test es ≡ None → lookup test (es ++ fs) ≡ lookup test fs
-  lookup_after_none [] fs none = refl
-  lookup_after_none (e ∷ es) fs none =
-      elim (test e.0) as (λ b. cond b (Some e.1) (lookup test es) ≡ None → cond b (Some e.1) (lookup test (es ++ fs)) ≡ lookup test fs) [
-        | true ↦ λ none. cc
-        | false ↦ λ none. lookup_after_none es fs none
-      ] none
-
-  lookup_before_none : (es fs : List (K × X)) → lookup test fs ≡ None → lookup test (es ++ fs) ≡ lookup test es
-  lookup_before_none [] fs none = none
-  lookup_before_none (e ∷ es) fs none = ap (cond (test e.0) (Some e.1)) (lookup_before_none es fs none)
-
-all_at : {K X : Type 0} (P : K → Type 0) (es fs : List (K × X)) (e : K × X) → AllByRecursion P (keys_of (es ++ e ∷ fs)) → P e.0
-all_at P [] fs e all = all.0
-all_at P (d ∷ es) fs e all = all_at P es fs e all.1
-
-module _ {K X : Type 0} (cmp : K → K → Ordering) (total : IsTotalOrder cmp) where
-  -- among entries in order, those before k are found at the keys below k
-  pub lookup_before : (es fs : List (K × X)) (k : K) (x : X) → IsStrictlySortedBy cmp (keys_of (es ++ (k, x) ∷ fs)) → (q : K)
-      → lookup (is_at (cmp q)) es ≡ (if is_lt (cmp q k) then lookup (is_at (cmp q)) (es ++ (k, x) ∷ fs) else None)
-  unfolding IsStrictlySortedBy
-  lookup_before [] fs k x ordered q =
-      elim (cmp q k) as (λ r. cmp q k ≡ r → None ≡ (if is_lt r then cond (is_eq r) (Some x) (lookup (is_at (cmp q)) fs) else None)) [
-        | Less ↦ λ is. sym (none_above cmp fs q (below_all cmp total (keys_of fs) q k is ordered.0))
-        | Equal ↦ λ is. refl
-        | Greater ↦ λ is. refl
-      ] refl
-  lookup_before (e ∷ es) fs k x ordered q =
-      let below : cmp e.0 k ≡ Less = all_at (λ y. cmp e.0 y ≡ Less) es fs (k, x) ordered.0 in
-      elim (cmp q e.0) as (λ r. cmp q e.0 ≡ r → cond (is_eq r) (Some e.1) (lookup (is_at (cmp q)) es)
-      ≡ (if is_lt (cmp q k) then cond (is_eq r) (Some e.1) (lookup (is_at (cmp q)) (es ++ (k, x) ∷ fs)) else None)) [
-        | Less ↦ λ is. lookup_before es fs k x ordered.1 q
-        | Equal ↦ λ is. rw (total.congr q e.0 k is, below)
-        | Greater ↦ λ is. lookup_before es fs k x ordered.1 q
-      ] refl
-
-  none_before : (es fs : List (K × X)) (k : K) (x : X) → IsStrictlySortedBy cmp (keys_of (es ++ (k, x) ∷ fs)) → lookup (is_at (cmp k)) es ≡ None
-  none_before es fs k x ordered = rw (lookup_before es fs k x ordered k, tied_itself total k)
-
-  found_here : (es fs : List (K × X)) (k : K) (x : X) → IsStrictlySortedBy cmp (keys_of (es ++ (k, x) ∷ fs)) → lookup (is_at (cmp k)) (es ++ (k, x) ∷ fs) ≡ Some x
-  found_here es fs k x ordered = lookup_after_none (is_at (cmp k)) es ((k, x) ∷ fs) (none_before es fs k x ordered) ∙ rw (tied_itself total k)
+use Rattle.lemmas.proofs.Lookups.{lookup_after_none, lookup_before_none}
+use Rattle.lemmas.proofs.Entries.{lookup_congr, lookup_before, none_before, found_here}
 
 module _ {K U V : Type 0} (cmp : K → K → Ordering) (total : IsTotalOrder cmp) (converts : U → V → Type 0) where
   -- the entries so far are merged

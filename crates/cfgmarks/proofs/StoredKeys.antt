@@ -1,13 +1,13 @@
 -- Which keys a map of marks stores after merging.
 use Rattle.std.proofs.Common.{◌≡◌, Bool, true, false, cond, if◌then◌else◌, Option, None, Some, IsSome, is_some, List, [], ◌∷◌, ◌++◌, refl, sym, ap, ◌∙◌, subst}
 use Rattle.std.specs.declared.cmp.Ordering.{Ordering}
-use Rattle.std.specs.declared.cmp.Ordering.TheVariants.{Less, Equal, Greater}
-use Rattle.std.specs.Ordering.{is_eq, match_ordering}
-use Rattle.std.specs.Cmp.{IsTotalOrder, tied_itself, eq_by_cmp_equiv}
+use Rattle.std.specs.Cmp.{IsTotalOrder, eq_by_cmp_equiv}
 use Rattle.std.specs.Map.{keys_of, lookup, lookup_key}
 use Rattle.std.specs.BTreeMap.{insert_entry, is_at}
 use Rattle.cfgmarks.specs.declared.markmap.marked.Marked.{Marked}
 use Rattle.cfgmarks.specs.Marks.{Marks, stored_at}
+use Rattle.lemmas.proofs.Lookups.{found-lookup_key, lookup_key_congr, lookup_key_by_keys}
+use Rattle.lemmas.proofs.Entries.{lookup_key_inserted, lookup_key_inserted_other}
 use Rattle.cfgmarks.specs.Merging.{first_of, KeepsStored}
 use Rattle.cfgmarks.specs.MergeFaults.{StoresKey}
 
@@ -42,64 +42,23 @@ module _ {K X : Type 0} (test : K → Bool) where
         | false ↦ lookup_key-append es fs
       ]
 
-  pub stored_where_found : (es : List (K × X)) → is_some (lookup_key test es) ≡ is_some (lookup test es)
-  stored_where_found [] = refl
-  stored_where_found (e ∷ es) =
-      elim (test e.0) as (λ b. is_some (cond b (Some e.0) (lookup_key test es)) ≡ is_some (cond b (Some e.1) (lookup test es))) [
-        | true ↦ refl
-        | false ↦ stored_where_found es
-      ]
-
-  pub lookup_key_congr : (other : K → Bool) (es : List (K × X)) → ((k : K) → test k ≡ other k) → lookup_key test es ≡ lookup_key other es
-  lookup_key_congr other [] same = refl
-  lookup_key_congr other (e ∷ es) same = rw (same e.0, lookup_key_congr other es same)
-
-  pub lookup_key_by_keys : {Y : Type 0} (es : List (K × X)) (fs : List (K × Y)) → keys_of es ≡ keys_of fs → lookup_key test es ≡ lookup_key test fs
-  lookup_key_by_keys [] [] same = refl
-  lookup_key_by_keys [] (f ∷ fs) same = cc
-  lookup_key_by_keys (e ∷ es) [] same = cc
-  lookup_key_by_keys (e ∷ es) (f ∷ fs) same =
-      let here : e.0 ≡ f.0 = cc in
-      let there : keys_of es ≡ keys_of fs = cc in
-      rw (here, lookup_key_by_keys es fs there)
-
 -- equal keys are equal to the same keys
 module _ {K : Type 0} (cmp : K → K → Ordering) (total : IsTotalOrder cmp) where
   alike : (k q : K) → is_at (cmp k) q ≡ true → (x : K) → is_at (cmp k) x ≡ is_at (cmp q) x
   alike k q is x = (eq_by_cmp_equiv total).congr k q x is
 
 module _ {K X : Type 0} (cmp : K → K → Ordering) (total : IsTotalOrder cmp) where
-  stored_new : (es : List (K × X)) (k : K) (w : X) → lookup (is_at (cmp k)) es ≡ None → lookup_key (is_at (cmp k)) (insert_entry cmp es k w) ≡ Some k
-  stored_new [] k w none = rw (tied_itself total k)
-  stored_new (e ∷ es) k w none =
-      elim (cmp k e.0) as (λ r. cmp k e.0 ≡ r → cond (is_eq r) (Some e.1) (lookup (is_at (cmp k)) es) ≡ None
-      → lookup_key (is_at (cmp k)) (match_ordering r ((k, w) ∷ e ∷ es) ((e.0, w) ∷ es) (e ∷ insert_entry cmp es k w)) ≡ Some k) [
-        | Less ↦ λ is none. rw (tied_itself total k)
-        | Equal ↦ λ is none. cc
-        | Greater ↦ λ is none. rw is (stored_new es k w none)
-      ] refl none
-
-  stored_other : (es : List (K × X)) (k q : K) (w : X) → is_at (cmp k) q ≡ false → lookup_key (is_at (cmp q)) (insert_entry cmp es k w) ≡ lookup_key (is_at (cmp q)) es
-  stored_other [] k q w apart = rw ((eq_by_cmp_equiv total).symm q k, apart)
-  stored_other (e ∷ es) k q w apart =
-      let back : is_at (cmp q) k ≡ false = (eq_by_cmp_equiv total).symm q k ∙ apart in
-      elim (cmp k e.0) as (λ r. cmp k e.0 ≡ r → lookup_key (is_at (cmp q)) (match_ordering r ((k, w) ∷ e ∷ es) ((e.0, w) ∷ es) (e ∷ insert_entry cmp es k w)) ≡ lookup_key (is_at (cmp q)) (e ∷ es)) [
-        | Less ↦ λ is. rw back
-        | Equal ↦ λ is. refl
-        | Greater ↦ λ is. ap (cond (is_at (cmp q) e.0) (Some e.0)) (stored_other es k q w apart)
-      ] refl
-
   -- an insertion stores the key, where none is equal to it
   pub stored_inserted : (es : List (K × X)) (k : K) (w : X) (q : K) → lookup (is_at (cmp k)) es ≡ None
       → lookup_key (is_at (cmp q)) (insert_entry cmp es k w) ≡ first_of (lookup_key (is_at (cmp q)) es) (if is_at (cmp k) q then Some k else None)
   stored_inserted es k w q none =
       elim (is_at (cmp k) q) as (λ b. is_at (cmp k) q ≡ b → lookup_key (is_at (cmp q)) (insert_entry cmp es k w) ≡ first_of (lookup_key (is_at (cmp q)) es) (if b then Some k else None)) [
         | true ↦ λ is.
-            let here : lookup_key (is_at (cmp q)) (insert_entry cmp es k w) ≡ Some k = sym (lookup_key_congr (is_at (cmp k)) (is_at (cmp q)) _ (alike cmp total k q is)) ∙ stored_new es k w none in
+            let here : lookup_key (is_at (cmp q)) (insert_entry cmp es k w) ≡ Some k = sym (lookup_key_congr (is_at (cmp k)) (is_at (cmp q)) _ (alike cmp total k q is)) ∙ lookup_key_inserted cmp total es k w none in
             let absent : is_some (lookup_key (is_at (cmp q)) es) ≡ false =
-            ap is_some (sym (lookup_key_congr (is_at (cmp k)) (is_at (cmp q)) es (alike cmp total k q is))) ∙ stored_where_found (is_at (cmp k)) es ∙ ap is_some none in
+            ap is_some (sym (lookup_key_congr (is_at (cmp k)) (is_at (cmp q)) es (alike cmp total k q is))) ∙ found-lookup_key (is_at (cmp k)) es ∙ ap is_some none in
             here ∙ sym (first_of_absent _ (Some k) absent)
-        | false ↦ λ is. stored_other es k q w is ∙ sym (first_of_none _)
+        | false ↦ λ is. lookup_key_inserted_other cmp total es k q w is ∙ sym (first_of_none _)
       ] refl
 
   -- where the key's entry is there, the stored keys stay
@@ -108,7 +67,7 @@ module _ {K X : Type 0} (cmp : K → K → Ordering) (total : IsTotalOrder cmp) 
   stored_kept es fs k q same found =
       lookup_key_by_keys (is_at (cmp q)) fs es same ∙ elim (is_at (cmp k) q) as (λ b. is_at (cmp k) q ≡ b → lookup_key (is_at (cmp q)) es ≡ first_of (lookup_key (is_at (cmp q)) es) (if b then Some k else None)) [
         | true ↦ λ is.
-            let stored : IsSome (lookup_key (is_at (cmp q)) es) = ap is_some (sym (lookup_key_congr (is_at (cmp k)) (is_at (cmp q)) es (alike cmp total k q is))) ∙ stored_where_found (is_at (cmp k)) es ∙ found in
+            let stored : IsSome (lookup_key (is_at (cmp q)) es) = ap is_some (sym (lookup_key_congr (is_at (cmp k)) (is_at (cmp q)) es (alike cmp total k q is))) ∙ found-lookup_key (is_at (cmp k)) es ∙ found in
             sym (first_of_some _ _ stored)
         | false ↦ λ is. sym (first_of_none _)
       ] refl
@@ -127,6 +86,6 @@ module _ {K U V : Type 0} (cmp : K → K → Ordering) (total : IsTotalOrder cmp
 
   pub keeps_stored : (mine : Marks K V) (theirs : Marks K U) (now : Marks K V) (done left : List (K × Marked U)) → theirs.entries ≡ done ++ left → StoredSoFar mine done now → KeepsStored cmp mine theirs now
   keeps_stored mine theirs now done left given so_far q there =
-      let stored : IsSome (stored_at cmp now q) = stored_where_found (is_at (cmp q)) now.entries ∙ there in
+      let stored : IsSome (stored_at cmp now q) = found-lookup_key (is_at (cmp q)) now.entries ∙ there in
       first_of_extends _ (stored_at cmp mine q) _ (lookup_key (is_at (cmp q)) left) (so_far q) stored
       ∙ ap (first_of (stored_at cmp mine q)) (sym (lookup_key-append (is_at (cmp q)) done left) ∙ ap (lookup_key (is_at (cmp q))) (sym given))

@@ -1,6 +1,6 @@
 -- The tables of a valid syntax, and what a constructor answers.
 use Rattle.std.proofs.Common.{◌≡◌, ℕ, List, [], ◌∷◌, ◌++◌, length, map, None, Err, String, Global, refl, sym, subst}
-use Rattle.std.specs.List.{zip, enumerate_from}
+use Rattle.std.specs.List.{zip}
 use Rattle.cfgindex.specs.declared.idxnewtype.PIdx.{PIdx}
 use Rattle.cfgast.specs.Syntax.{Syntax}
 use Rattle.cfgsyntax.specs.Errors.{GrammarError}
@@ -21,7 +21,7 @@ module _ {S : Type 0} (number : S → ℕ) (kind : YaccKind) (s : Syntax)
     (rules : List (String Global × RuleRow S)) (productions : List (ProductionRow S)) (tokens : List (String Global × TokenRow)) (start : PIdx S) where
   -- tables of these rows are the syntax numbered
   pub built : map (rule_view number) rules ≡ start_rule s ∷ map file_rule s.rules
-      → map (production_view number) productions ≡ map (file_production s) (enumerate_from 0 s.productions) ++ start_production s ∷ []
+      → map (production_view number) productions ≡ map (file_production s) (zip s.production_rules s.productions) ++ start_production s ∷ []
       → map token_view tokens ≡ map file_token (zip s.tokens s.spans) → number start.0 ≡ length s.productions
       → tables number rules productions tokens start ≡ numbered kind s
   unfolding tables numbered
@@ -41,7 +41,7 @@ module _ {S : Type 0} (number : S → ℕ) (kind : YaccKind) (s : Syntax)
   pub is_table : (max : ℕ) → IsSound s [] → LeavesRoom max s → tables number rules productions tokens start ≡ numbered kind s → IsTable max (tables number rules productions tokens start)
   is_table max sound room same = record {
     numbering = record { kind = kind; syntax = s; sound = sound; numbers = sym same };
-    fits = subst (Fits max) (sym same) (fits_from_room max s kind sound.well_formed.spans_as_long room);
+    fits = subst (Fits max) (sym same) (fits_from_room max s kind sound.well_formed room);
   }
 
 -- the errors of a text that has some
@@ -55,9 +55,9 @@ pub too_large : (max : ℕ) (kind : YaccKind) (s : Syntax) (errors : List Gramma
 too_large max kind s errors faults.OutOfMemory sound none no_room told = tt
 too_large max kind s errors (faults.Errors list) sound none no_room told =
     subst (λ e. IsRefused max e (numbered kind s) list.items) (sym none)
-    ((λ fits. no_room (room_from_fits max s kind sound.well_formed.spans_as_long fits)), told)
+    ((λ fits. no_room (room_from_fits max s kind sound.well_formed fits)), told)
 
 -- a grammar
 pub answered : (max : ℕ) (kind : YaccKind) (s : Syntax) (errors : List GrammarError) (g : Numbered) → IsSound s errors → errors ≡ [] → LeavesRoom max s → g ≡ numbered kind s
     → (errors ≡ []) × Fits max (numbered kind s) × (g ≡ numbered kind s)
-answered max kind s errors g sound none room same = (none, fits_from_room max s kind sound.well_formed.spans_as_long room, same)
+answered max kind s errors g sound none room same = (none, fits_from_room max s kind sound.well_formed room, same)

@@ -1,5 +1,5 @@
 -- Names that differ are found where they stand.
-use Rattle.std.proofs.Common.{◌≡◌, ℕ, zero, suc, ◌+◌, ◌<◌, not, false, cond, List, [], ◌∷◌, ◌++◌, length, map, position, get_or, slice_get, Some, None, option_map, refl, sym, ap, subst, ◌∙◌, arith}
+use Rattle.std.proofs.Common.{◌≡◌, ℕ, zero, suc, ◌+◌, ◌<◌, not, false, cond, List, [], ◌∷◌, ◌++◌, length, map, position, get_or, slice_get, Some, None, refl, sym, ap, subst, ◌∙◌, arith}
 use Rattle.std.specs.List.{position_or_len, zip, IsDistinct}
 use Rattle.std.specs.Str.{bytes_eq}
 use Rattle.std.specs.Cmp.Lexicographic.{nat_list_eq_equiv}
@@ -7,30 +7,19 @@ use Rattle.std.proofs.lemmas.List.{map-append}
 use Rattle.std.proofs.lemmas.List.Elements.{All-from_recursion}
 use Rattle.std.proofs.lemmas.List.Folds.{list_any_at}
 use Rattle.std.proofs.lemmas.Map.Keys.{IsDistinct-head, IsDistinct-tail}
-use Rattle.std.proofs.lemmas.Option.{get_or_from_slice_get}
+use Rattle.std.proofs.lemmas.Option.{get_or_from_slice_get, slice_get-map, slice_get_within}
 use Rattle.std.proofs.lemmas.Simd.{map-map}
 use Rattle.std.proofs.lemmas.Slice.Zip.{firsts-zip}
 use Rattle.cfgbase.specs.declared.span.Span.{Span}
 use Rattle.cfgast.specs.Syntax.{Syntax}
-use Rattle.cfgast.proofs.Views.{position-map}
+use Rattle.lemmas.proofs.Places.{position-map}
 use Rattle.cfgsyntax.specs.Sound.{IsSound}
 use Rattle.cfgsyntax.specs.declared.yacc.kind.YaccKind.{YaccKind}
 use Rattle.cfgrammar.specs.Numbered.{Numbered, NumberedRule, numbered, start_rule, file_rule, file_token, end_token}
 use Rattle.cfgrammar.specs.Numbering.{IsNumbering}
 use Rattle.cfgrammar.specs.Shown.{rule_at, token_at, has_token_name}
-use Rattle.cfgrammar.proofs.Lookups.{first_place, position-push}
+use Rattle.lemmas.proofs.Places.{first_place, position-push}
 use Rattle.cfgrammar.proofs.Rows.{rule_names, rule_names-distinct, name_shown}
-
--- an element at a place is within the list
-pub place_within : {A : Type 0} (xs : List A) (i : ℕ) (x : A) → slice_get xs i ≡ Some x → i < length xs
-place_within [] i x at = let no : None ≡ Some x = at in cc
-place_within (y ∷ xs) zero x at = omega arith
-place_within (y ∷ xs) (suc i) x at = omega (arith, place_within xs i x at)
-
-pub slice_get-map : {A B : Type 0} (f : A → B) (xs : List A) (i : ℕ) → slice_get (map f xs) i ≡ option_map f (slice_get xs i)
-slice_get-map f [] i = refl
-slice_get-map f (x ∷ xs) zero = refl
-slice_get-map f (x ∷ xs) (suc i) = slice_get-map f xs i
 
 position_or_len-distinct : (xs : List (List ℕ)) (i : ℕ) (d : List ℕ) → IsDistinct bytes_eq xs → i < length xs → position_or_len (bytes_eq (get_or xs i d)) xs ≡ i
 position_or_len-distinct [] i d distinct within = absurd (omega (arith, within))
@@ -46,7 +35,7 @@ position_or_len-distinct (x ∷ xs) (suc i) d distinct within =
 -- a name is found at its place
 found_at : (xs : List (List ℕ)) (i : ℕ) (name : List ℕ) → IsDistinct bytes_eq xs → slice_get xs i ≡ Some name → position (bytes_eq name) xs ≡ Some i
 found_at xs i name distinct at =
-    let within = place_within xs i name at in
+    let within = slice_get_within xs i name at in
     let is = get_or_from_slice_get xs i name name at in
     first_place (bytes_eq name) xs (list_any_at (bytes_eq name) xs i name within (ap (bytes_eq name) is ∙ nat_list_eq_equiv.refl name))
     ∙ ap Some (ap (λ n. position_or_len (bytes_eq n) xs) (sym is) ∙ position_or_len-distinct xs i name distinct within)

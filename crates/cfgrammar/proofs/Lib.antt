@@ -3,7 +3,7 @@ pub mod Found
 pub mod Listed
 pub mod Lookups
 pub mod NewKeys
-pub mod Owners
+pub mod Places
 pub mod Room
 pub mod Rows
 pub mod Shows

@@ -1,101 +1,135 @@
 -- Each production of a grammar stands in one rule's list, once.
-use Rattle.std.proofs.Common.{◌≡◌, ℕ, zero, suc, ◌+◌, ◌<◌, ◌==◌, ◌⊎◌, inl, inr, Bool, true, false, cond, List, [], ◌∷◌, ◌++◌, length, map, filter, get_or, slice_get, Some, None, All, option_map, if◌then◌else◌, refl, sym, ap, subst, ◌∙◌, arith}
-use Rattle.std.specs.List.{position_or_len, enumerate_from}
-use Rattle.std.proofs.lemmas.List.{length-map, map-append}
-use Rattle.std.proofs.lemmas.List.Elements.{All-head, All-tail}
-use Rattle.std.proofs.lemmas.Simd.{map-map}
+use Rattle.std.proofs.Common.{◌≡◌, ℕ, zero, suc, ◌+◌, ◌<◌, ◌==◌, Bool, true, false, cond, List, [], ◌∷◌, ◌++◌, map, length, filter, slice_get, Option, Some, None, option_map, if◌then◌else◌, refl, sym, ap, subst, ◌∙◌, arith, eq-eqb}
+use Rattle.std.specs.List.{zip}
+use Rattle.std.specs.Option.{option_map_or}
+use Rattle.std.proofs.lemmas.Bool.{ne_eqb}
 use Rattle.std.proofs.lemmas.Bool.Decides.{nat_tests}
-use Rattle.std.proofs.lemmas.Option.{slice_get-get_or}
+use Rattle.std.proofs.lemmas.List.{map-append}
+use Rattle.std.proofs.lemmas.Option.{slice_get-map}
+use Rattle.std.proofs.lemmas.Simd.{map-map}
+use Rattle.std.proofs.lemmas.Slice.Zip.{firsts-zip}
+use Rattle.cfgast.specs.Syntax as file
+use Rattle.lemmas.specs.Lists.{places_from}
 use Rattle.cfgast.specs.Syntax.{Syntax, Production}
-use Rattle.cfgast.specs.WellFormed.{IsWellFormed, times}
+use Rattle.cfgast.specs.WellFormed.{IsWellFormed}
 use Rattle.cfgsyntax.specs.declared.yacc.kind.YaccKind.{YaccKind}
-use Rattle.cfgrammar.specs.Numbered.{Numbered, NumberedRule, NumberedProduction, numbered, lists, rule_listing, start_rule, file_rule, start_production, file_production}
-use Rattle.cfgrammar.specs.Numbering.{IsNumbering}
+use Rattle.cfgrammar.specs.Numbered.{Numbered, NumberedRule, NumberedProduction, numbered, start_rule, file_rule, start_production, file_production}
+use Rattle.cfgrammar.specs.Numbering.{IsNumbering, times}
 use Rattle.cfgrammar.specs.Shown.{rule_at, production_at}
-use Rattle.cfgrammar.proofs.Found.{place_within, slice_get-map}
-use Rattle.cfgrammar.proofs.Owners.{none, no_production, lister_is}
 
--- what is not among places isn't there at all
-never : (i : ℕ) (places : List ℕ) → All (λ j. j < i) places → times i places ≡ 0
-never i [] below = refl
-never i (p ∷ ps) below =
-    let apart : (i == p) ≡ false = grind (arith, nat_tests, All-head (λ j. j < i) p ps below) in
-    ap (λ b. length (cond b (p ∷ filter (λ j. i == j) ps) (filter (λ j. i == j) ps))) apart ∙ never i ps (All-tail (λ j. j < i) p ps below)
+abbrev once_if : Bool → ℕ
+once_if b = if b then 1 else 0
 
-once_alone : (i n : ℕ) → times i (n ∷ []) ≡ (if i == n then 1 else 0)
-once_alone i n = go (i == n)
+-- a place before the first is not among the places
+times-before : {A : Type 0} (test : A → Bool) (n first : ℕ) (xs : List A) → n < first → times n (places_from first test xs) ≡ 0
+times-before test n first [] before = refl
+times-before {A} test n first (x ∷ xs) before = go (test x) (times-before test n (first + 1) xs (omega arith))
+  where
+    others : List ℕ
+    others = places_from (first + 1) test xs
+
+    go : (b : Bool) → times n others ≡ 0 → times n (cond b (first ∷ others) others) ≡ 0
+    go true rest =
+        let apart : (n ≡ first) → ⊥ = λ e. omega arith in
+        ap (λ b. length (cond b (first ∷ filter (λ j. n == j) others) (filter (λ j. n == j) others))) (ne_eqb n first apart) ∙ rest
+    go false rest = rest
+
+-- The place of an element that passes is there once; that of one that doesn't, and one at which there is none, not at all.
+times-places_from : {A : Type 0} (test : A → Bool) (first i : ℕ) (xs : List A)
+    → times (first + i) (places_from first test xs) ≡ option_map_or (λ x. once_if (test x)) (slice_get xs i) 0
+times-places_from test first i [] = refl
+times-places_from {A} test first zero (x ∷ xs) = go (test x) (times-before test (first + 0) (first + 1) xs (omega arith))
+  where
+    others : List ℕ
+    others = places_from (first + 1) test xs
+
+    kept : List ℕ
+    kept = filter (λ j. first + 0 == j) others
+
+    go : (b : Bool) → times (first + 0) others ≡ 0 → times (first + 0) (cond b (first ∷ others) others) ≡ cond b 1 0
+    go true rest = ap (λ b. length (cond b (first ∷ kept) kept)) (eq-eqb (first + 0) first (omega arith)) ∙ ap suc rest
+    go false rest = rest
+times-places_from {A} test first (suc i) (x ∷ xs) =
+    go (test x) (ap (λ n. times n others) (omega arith) ∙ times-places_from test (first + 1) i xs)
+  where
+    others : List ℕ
+    others = places_from (first + 1) test xs
+
+    kept : List ℕ
+    kept = filter (λ j. first + suc i == j) others
+
+    often : ℕ
+    often = option_map_or (λ x. once_if (test x)) (slice_get xs i) 0
+
+    go : (b : Bool) → times (first + suc i) others ≡ often → times (first + suc i) (cond b (first ∷ others) others) ≡ often
+    go true rest =
+        let apart : (first + suc i ≡ first) → ⊥ = λ e. omega arith in
+        ap (λ b. length (cond b (first ∷ kept) kept)) (ne_eqb (first + suc i) first apart) ∙ rest
+    go false rest = rest
+
+times-alone : (p n : ℕ) → times p (n ∷ []) ≡ once_if (p == n)
+times-alone p n = go (p == n)
   where
     go : (b : Bool) → length (cond b (n ∷ []) []) ≡ cond b 1 0
     go true = refl
     go false = refl
 
-same_option : {A : Type 0} {x y : A} → Some x ≡ Some y → x ≡ y
-same_option e = cc
+-- The owners of all productions: the rules of the file's, behind the start rule, and the start rule.
+abbrev owners : List ℕ → List ℕ
+owners rules = map suc rules ++ 0 ∷ []
 
--- a production of the file, or that of the start rule, which is the last
-kinds_of : {A : Type 0} (f : ℕ × Production → A) (last : A) (k : ℕ) (ps : List Production) (p : ℕ) (x : A)
-    → slice_get (map f (enumerate_from k ps) ++ last ∷ []) p ≡ Some x → ((p < length ps) × ((d : Production) → x ≡ f (k + p, get_or ps p d))) ⊎ ((p ≡ length ps) × (x ≡ last))
-kinds_of f last k [] zero x at = inr (refl, sym (same_option at))
-kinds_of f last k [] (suc p) x at = let no : None ≡ Some x = at in cc
-kinds_of f last k (y ∷ ps) zero x at = inl (omega arith, λ d. sym (same_option at) ∙ ap (λ n. f (n, y)) (omega arith))
-kinds_of {A} f last k (y ∷ ps) (suc p) x at = go (kinds_of f last (k + 1) ps p x at)
-  where
-    go : ((p < length ps) × ((d : Production) → x ≡ f (k + 1 + p, get_or ps p d))) ⊎ ((p ≡ length ps) × (x ≡ last))
-        → ((suc p < length (y ∷ ps)) × ((d : Production) → x ≡ f (k + suc p, get_or (y ∷ ps) (suc p) d))) ⊎ ((suc p ≡ length (y ∷ ps)) × (x ≡ last))
-    go (inl h) = inl (omega (arith, h.0), λ d. h.1 d ∙ ap (λ n. f (n, get_or ps p d)) (omega arith))
-    go (inr h) = inr (omega (arith, h.0), h.1)
+-- the start rule owns the last production alone
+start_owns : (rules : List ℕ) (p owner : ℕ) → slice_get (owners rules) p ≡ Some owner → (p == length rules) ≡ (0 == owner)
+start_owns [] zero owner at = let is : 0 ≡ owner = cc in grind (arith, nat_tests)
+start_owns [] (suc p) owner at = let no : None ≡ Some owner = at in cc
+start_owns (r ∷ rules) zero owner at = let is : suc r ≡ owner = cc in grind (arith, nat_tests)
+start_owns (r ∷ rules) (suc p) owner at = let rest = start_owns rules p owner at in grind (arith, nat_tests)
+
+-- a rule of the file owns the productions that are its own
+rule_owns : (r : ℕ) (rules : List ℕ) (p owner : ℕ) → slice_get (owners rules) p ≡ Some owner
+    → option_map_or (λ other. once_if (r == other)) (slice_get rules p) 0 ≡ once_if (suc r == owner)
+rule_owns r [] zero owner at =
+    let is : 0 ≡ owner = cc in
+    let other : false ≡ (suc r == owner) = grind (arith, nat_tests) in
+    ap once_if other
+rule_owns r [] (suc p) owner at = let no : None ≡ Some owner = at in cc
+rule_owns r (first ∷ rules) zero owner at =
+    let is : suc first ≡ owner = cc in
+    let same : (r == first) ≡ (suc r == owner) = grind (arith, nat_tests) in
+    ap once_if same
+rule_owns r (first ∷ rules) (suc p) owner at = rule_owns r rules p owner at
 
 module _ (s : Syntax) (well : IsWellFormed s) where
-  -- how often rule r lists a production of the file
-  in_file : (p : ℕ) → p < length s.productions → (r : ℕ) (listed : List ℕ)
-      → slice_get (map (λ rule. rule.productions) (start_rule s ∷ map file_rule s.rules)) r ≡ Some listed → times p listed ≡ (if r == rule_listing s p then 1 else 0)
-  in_file p within zero listed at =
-      let apart : (p == length s.productions) ≡ false = grind (arith, nat_tests, within) in
-      let other : (0 == rule_listing s p) ≡ false = grind (arith, nat_tests) in
-      ap (times p) (sym (same_option at)) ∙ once_alone p (length s.productions) ∙ ap (λ b. if b then 1 else 0) (apart ∙ sym other)
-  in_file p within (suc r) listed at =
-      let rule = get_or s.rules r none in
-      let there : r < length s.rules = omega (arith, place_within (map (λ (rule : NumberedRule). rule.productions) (map file_rule s.rules)) r listed at, length-map (map file_rule s.rules) (λ (rule : NumberedRule). rule.productions), length-map s.rules file_rule) in
-      let found : slice_get s.rules r ≡ Some rule = slice_get-get_or s.rules r none there in
-      let listed_is : rule.1.productions ≡ listed =
-      same_option (sym (slice_get-map (λ (rule : NumberedRule). rule.productions) (map file_rule s.rules) r ∙ ap (option_map (λ (rule : NumberedRule). rule.productions)) (slice_get-map file_rule s.rules r ∙ ap (option_map file_rule) found)) ∙ at) in
-      let lister : position_or_len (lists p) s.rules ≡ (well.productions_once p within).lister = lister_is s well p within in
-      let same : (r == (well.productions_once p within).lister) ≡ (suc r == rule_listing s p) = grind (arith, nat_tests, lister) in
-      ap (times p) (sym listed_is) ∙ (well.productions_once p within).once r rule found ∙ ap (λ b. if b then 1 else 0) same
+  owners_are : map (λ x. x.rule) (map (file_production s) (zip s.production_rules s.productions) ++ start_production s ∷ []) ≡ owners s.production_rules
+  owners_are =
+      let pairs = zip s.production_rules s.productions in
+      map-append (λ (x : NumberedProduction). x.rule) (map (file_production s) pairs) (start_production s ∷ [])
+      ∙ ap (λ rules. rules ++ 0 ∷ []) (map-map (λ (x : NumberedProduction). x.rule) (file_production s) pairs
+      ∙ sym (map-map suc (λ (pair : ℕ × Production). pair.0) pairs) ∙ ap (map suc) (firsts-zip s.production_rules s.productions (sym well.production_rules_as_long)))
 
-  -- how often rule r lists the start rule's production
-  at_start : (r : ℕ) (listed : List ℕ) → slice_get (map (λ rule. rule.productions) (start_rule s ∷ map file_rule s.rules)) r ≡ Some listed → times (length s.productions) listed ≡ (if r == 0 then 1 else 0)
-  at_start zero listed at =
-      let here : (length s.productions == length s.productions) ≡ true = grind (arith, nat_tests) in
-      ap (times (length s.productions)) (sym (same_option at)) ∙ once_alone (length s.productions) (length s.productions) ∙ ap (λ b. if b then 1 else 0) here
-  at_start (suc r) listed at =
-      let there : r < length s.rules = omega (arith, place_within (map (λ (rule : NumberedRule). rule.productions) (map file_rule s.rules)) r listed at, length-map (map file_rule s.rules) (λ (rule : NumberedRule). rule.productions), length-map s.rules file_rule) in
-      let found : slice_get s.rules r ≡ Some (get_or s.rules r none) = slice_get-get_or s.rules r none there in
-      let listed_is : (get_or s.rules r none).1.productions ≡ listed =
-      same_option (sym (slice_get-map (λ (rule : NumberedRule). rule.productions) (map file_rule s.rules) r ∙ ap (option_map (λ (rule : NumberedRule). rule.productions)) (slice_get-map file_rule s.rules r ∙ ap (option_map file_rule) found)) ∙ at) in
-      let other : false ≡ (suc r == 0) = grind (arith, nat_tests) in
-      ap (times (length s.productions)) (sym listed_is) ∙ never (length s.productions) (get_or s.rules r none).1.productions (well.productions_within r none there)
-      ∙ ap (λ b. if b then 1 else 0) other
+  -- how often the list of rule r has the production of an owner
+  listed_often : (p owner r : ℕ) (listed : List ℕ) → slice_get (owners s.production_rules) p ≡ Some owner → option_map (λ rule. rule.productions) (slice_get (start_rule s ∷ map file_rule s.rules) r) ≡ Some listed
+      → times p listed ≡ (if r == owner then 1 else 0)
+  listed_often p owner zero listed owned at =
+      let is : length s.productions ∷ [] ≡ listed = cc in
+      ap (times p) (sym is) ∙ times-alone p (length s.productions)
+      ∙ ap once_if (ap (λ n. p == n) (sym well.production_rules_as_long) ∙ start_owns s.production_rules p owner owned)
+  listed_often p owner (suc r) listed owned at =
+      go (slice_get s.rules r) refl (ap (option_map (λ (rule : NumberedRule). rule.productions)) (sym (slice_get-map file_rule s.rules r)) ∙ at)
+    where
+      go : (o : Option (List ℕ × file.Rule)) → slice_get s.rules r ≡ o → option_map (λ rule. rule.productions) (option_map file_rule o) ≡ Some listed → times p listed ≡ (if suc r == owner then 1 else 0)
+      go None found none = let no : None ≡ Some listed = none in cc
+      go (Some rule) found some =
+          let is : rule.1.productions ≡ listed = cc in
+          ap (times p) (sym is ∙ well.productions_listed r rule found) ∙ ap (λ n. times n (places_from 0 (λ other. r == other) s.production_rules)) (omega arith)
+          ∙ times-places_from (λ other. r == other) 0 p s.production_rules ∙ rule_owns r s.production_rules p owner owned
 
   listed_in : (kind : YaccKind) (p owner r : ℕ) (listed : List ℕ) → production_at (λ x. x.rule) (numbered kind s) p ≡ Some owner → rule_at (λ x. x.productions) (numbered kind s) r ≡ Some listed
       → times p listed ≡ (if r == owner then 1 else 0)
   unfolding numbered
-  listed_in kind p owner r listed owned at = go (kinds_of (λ x. (file_production s x).rule) 0 0 s.productions p owner owned_by)
-    where
-      owned_by : slice_get (map (λ x. (file_production s x).rule) (enumerate_from 0 s.productions) ++ 0 ∷ []) p ≡ Some owner
-      owned_by =
-          ap (λ ns. slice_get (ns ++ 0 ∷ []) p) (sym (map-map (λ (x : NumberedProduction). x.rule) (file_production s) (enumerate_from 0 s.productions)))
-          ∙ ap (λ ns. slice_get ns p) (sym (map-append (λ (x : NumberedProduction). x.rule) (map (file_production s) (enumerate_from 0 s.productions)) (start_production s ∷ [])))
-          ∙ slice_get-map (λ (x : NumberedProduction). x.rule) (map (file_production s) (enumerate_from 0 s.productions) ++ start_production s ∷ []) p ∙ owned
-
-      rules_at : slice_get (map (λ (rule : NumberedRule). rule.productions) (start_rule s ∷ map file_rule s.rules)) r ≡ Some listed
-      rules_at = slice_get-map (λ (rule : NumberedRule). rule.productions) (start_rule s ∷ map file_rule s.rules) r ∙ at
-
-      go : ((p < length s.productions) × ((d : Production) → owner ≡ rule_listing s (0 + p))) ⊎ ((p ≡ length s.productions) × (owner ≡ 0)) → times p listed ≡ (if r == owner then 1 else 0)
-      go (inl h) =
-          let owner_is : owner ≡ rule_listing s p = h.1 no_production ∙ ap (rule_listing s) (omega arith) in
-          in_file p h.0 r listed rules_at ∙ ap (λ o. if r == o then 1 else 0) (sym owner_is)
-      go (inr h) = ap (λ n. times n listed) h.0 ∙ at_start r listed rules_at ∙ ap (λ o. if r == o then 1 else 0) (sym h.1)
+  listed_in kind p owner r listed owned at =
+      let rows = map (file_production s) (zip s.production_rules s.productions) ++ start_production s ∷ [] in
+      listed_often p owner r listed (ap (λ rules. slice_get rules p) (sym owners_are) ∙ slice_get-map (λ (x : NumberedProduction). x.rule) rows p ∙ owned) at
 
 pub productions_listed : (g : Numbered) (p owner r : ℕ) (listed : List ℕ) → IsNumbering g → production_at (λ x. x.rule) g p ≡ Some owner → rule_at (λ x. x.productions) g r ≡ Some listed
     → times p listed ≡ (if r == owner then 1 else 0)

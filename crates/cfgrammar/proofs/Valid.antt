@@ -1,19 +1,21 @@
 -- In a syntax that was read without errors, every name is that of something that is there.
 use Rattle.std.proofs.Common.{◌≡◌, ℕ, ◌<◌, Bool, true, false, cond, List, [], ◌∷◌, length, get_or, Option, Some, None, All, refl, sym, ap, ◌∙◌}
+use Rattle.std.specs.Option.{option_or, option_and_then}
 use Rattle.std.proofs.lemmas.List.Elements.{All-nil, All-cons, All-contains}
+use Rattle.std.proofs.lemmas.Option.{slice_get-get_or}
 use Rattle.cfgwords.specs.Words.{Word}
 use Rattle.cfgast.specs.Syntax.{Syntax, Production}
-use Rattle.cfgsyntax.specs.Check.{is_rule, or_else, first_error, error_there, start_error, symbol_error, production_error, place_error, rule_error, check_of, error_at}
-use Rattle.cfgsyntax.specs.Errors.{GrammarError, InvalidStartRule}
+use Rattle.cfgsyntax.specs.Check.{is_rule, first_error, start_error, symbol_error, production_error, place_error, rule_error, check_of}
+use Rattle.cfgsyntax.specs.Errors.{GrammarError, InvalidStartRule, error_at}
 use Rattle.cfgsyntax.specs.Sound.{IsSound}
 use Rattle.cfgrammar.specs.Resolved.{IsResolved}
-use Rattle.std.proofs.lemmas.Option.{slice_get-get_or}
+use Rattle.cfgrammar.proofs.Places.{listed_somewhere}
 
-none_first : (a b : Option GrammarError) → or_else a b ≡ None → a ≡ None
+none_first : (a b : Option GrammarError) → option_or a b ≡ None → a ≡ None
 none_first None b e = refl
 none_first (Some x) b e = e
 
-none_second : (a b : Option GrammarError) → or_else a b ≡ None → b ≡ None
+none_second : (a b : Option GrammarError) → option_or a b ≡ None → b ≡ None
 none_second None b e = e
 none_second (Some x) b e = let no : Some x ≡ None = e in cc
 
@@ -51,9 +53,9 @@ resolved s sound = record {
 
     place_ok : (i : ℕ) → i < length s.productions → place_error s i ≡ None
     place_ok i within =
-        let at = sound.well_formed.productions_listed i within in
-        let rule_ok : rule_error s at.1 ≡ None = All-contains (λ rule. rule_error s rule ≡ None) s.rules at.1 rules_ok (at.0, at.2, at.3) in
-        All-contains (λ place. place_error s place ≡ None) at.1.1.productions i (no_errors (place_error s) at.1.1.productions rule_ok) at.4
+        let (rule, at, listed) = listed_somewhere s sound.well_formed i within in
+        let rule_ok : rule_error s rule ≡ None = All-contains (λ rule. rule_error s rule ≡ None) s.rules rule rules_ok at in
+        All-contains (λ place. place_error s place ≡ None) rule.1.productions i (no_errors (place_error s) rule.1.productions rule_ok) listed
 
     production_ok : (i : ℕ) (d : Production) → i < length s.productions → production_error s (get_or s.productions i d) ≡ None
-    production_ok i d within = sym (ap (error_there (production_error s)) (slice_get-get_or s.productions i d within)) ∙ place_ok i within
+    production_ok i d within = sym (ap (option_and_then (production_error s)) (slice_get-get_or s.productions i d within)) ∙ place_ok i within

@@ -1,31 +1,31 @@
 -- What a grammar refers to is there.
 use Rattle.std.proofs.Common.{◌≡◌, ◌↔◌, ℕ, zero, suc, ◌+◌, ◌<◌, Bool, true, false, cond, List, [], ◌∷◌, ◌++◌, length, map, get_or, slice_get, Option, Some, None, All, option_map, refl, sym, ap, subst, ◌∙◌, arith, ltb-true}
-use Rattle.std.specs.List.{zip, enumerate_from}
+use Rattle.std.specs.List.{zip}
 use Rattle.std.specs.Option.{option_to_list}
 use Rattle.std.specs.Str.{bytes_eq}
 use Rattle.std.proofs.lemmas.List.{length-map, length-append, map-append}
 use Rattle.std.proofs.lemmas.List.Elements.{All-nil, All-cons, All-append, All-map}
-use Rattle.std.proofs.lemmas.List.FromFn.{length-enumerate_from}
 use Rattle.std.proofs.lemmas.Simd.{map-map}
-use Rattle.std.proofs.lemmas.Slice.Zip.{firsts-zip}
+use Rattle.std.proofs.lemmas.Option.{slice_get-map}
+use Rattle.std.proofs.lemmas.Slice.Zip.{firsts-zip, length-zip}
 use Rattle.cfgbase.specs.declared.span.Span.{Span}
 use Rattle.cfgwords.specs.Words.{Word}
 use Rattle.derivation.specs.Grammar.{Rule, IsSymbolOf}
 use Rattle.cfgast.specs.Syntax as file
 use Rattle.cfgast.specs.Syntax.{Syntax, Production, Symbol, RuleSymbol, TokenSymbol}
-use Rattle.cfgast.proofs.Lists.{found-position}
-use Rattle.cfgsyntax.specs.Check.{is_rule, is_token, symbol_error, error_at}
-use Rattle.cfgsyntax.specs.Errors.{GrammarError, UnknownRuleRef, UnknownToken}
+use Rattle.lemmas.proofs.Places.{found-position}
+use Rattle.cfgsyntax.specs.Check.{is_rule, is_token, symbol_error}
+use Rattle.cfgsyntax.specs.Errors.{GrammarError, UnknownRuleRef, UnknownToken, error_at}
 use Rattle.cfgsyntax.specs.Sound.{IsSound}
 use Rattle.cfgsyntax.specs.declared.yacc.kind.YaccKind.{YaccKind}
-use Rattle.cfgrammar.specs.Numbered.{Numbered, NumberedProduction, core, production_core, numbered, file_symbol, rule_index, rule_listing, start_rule, file_rule, start_production, file_production, file_token, end_token}
+use Rattle.cfgrammar.specs.Numbered.{Numbered, NumberedProduction, core, production_core, numbered, file_symbol, rule_index, start_rule, file_rule, start_production, file_production, file_token, end_token}
 use Rattle.cfgrammar.specs.Numbering.{IsNumbering, IsWhole}
 use Rattle.cfgrammar.specs.Shown.{token_at}
-use Rattle.cfgrammar.proofs.Found.{slice_get-map}
-use Rattle.cfgrammar.proofs.Owners.{first_lister}
+use Rattle.cfgrammar.specs.Resolved.{Resolves}
+use Rattle.cfgrammar.proofs.Places.{listed_within}
 use Rattle.cfgrammar.proofs.Rows.{name_shown}
-use Rattle.cfgrammar.proofs.Turns.{length-pairs}
 use Rattle.cfgrammar.proofs.Valid.{resolved}
+use Rattle.lemmas.proofs.Zips.{All-zip}
 
 last_of : {A : Type 0} (xs : List A) (y : A) (n : ℕ) → n ≡ length xs → slice_get (xs ++ y ∷ []) n ≡ Some y
 last_of [] y zero e = refl
@@ -43,12 +43,6 @@ nameless [] (suc t) at = let no : None ≡ Some None = at in cc
 nameless (x ∷ xs) zero at = let no : Some (Some x) ≡ Some None = at in cc
 nameless (x ∷ xs) (suc t) at = omega (arith, nameless xs t at)
 
-enumerated : {A : Type 0} (P : ℕ × A → Type 0) (k : ℕ) (xs : List A) → ((i : ℕ) (d : A) → i < length xs → P (k + i, get_or xs i d)) → All P (enumerate_from k xs)
-enumerated P k [] each = All-nil P
-enumerated {A} P k (x ∷ xs) each =
-    All-cons P (k, x) (enumerate_from (k + 1) xs) (subst (λ n. P (n, x)) (omega arith) (each 0 x (omega arith)))
-    (enumerated P (k + 1) xs (λ i d within. subst (λ n. P (n, get_or xs i d)) (omega arith) (each (suc i) d (omega (arith, within)))))
-
 none_wrong : (b : Bool) (e : GrammarError) → cond b None (Some e) ≡ None → b ≡ true
 none_wrong true e h = refl
 none_wrong false e h = let no : Some e ≡ None = h in cc
@@ -63,11 +57,18 @@ module _ (kind : YaccKind) (s : Syntax) (sound : IsSound s []) where
 
   tokens_len : length g.tokens ≡ length s.tokens + 1
   unfolding numbered
-  tokens_len = omega (arith, length-append (map file_token (zip s.tokens s.spans)) (end_token ∷ []), length-map (zip s.tokens s.spans) file_token, length-pairs s.tokens s.spans sound.well_formed.spans_as_long)
+  tokens_len = omega (arith, length-append (map file_token (zip s.tokens s.spans)) (end_token ∷ []), length-map (zip s.tokens s.spans) file_token, length-zip s.tokens s.spans, sound.well_formed.spans_as_long)
+
+  -- the productions of the file, each with the place of its rule
+  abbrev pairs : List (ℕ × Production)
+  pairs = zip s.production_rules s.productions
+
+  file_productions_len : length (map (file_production s) pairs) ≡ length s.productions
+  file_productions_len = omega (arith, length-map pairs (file_production s), length-zip s.production_rules s.productions, sound.well_formed.production_rules_as_long)
 
   productions_len : length g.productions ≡ length s.productions + 1
   unfolding numbered
-  productions_len = omega (arith, length-append (map (file_production s) (enumerate_from 0 s.productions)) (start_production s ∷ []), length-map (enumerate_from 0 s.productions) (file_production s), length-enumerate_from 0 s.productions)
+  productions_len = omega (arith, length-append (map (file_production s) pairs) (start_production s ∷ []), file_productions_len)
 
   rule_there : (name : List ℕ) → is_rule s name ≡ true → rule_index s name < length g.rules
   rule_there name known =
@@ -100,31 +101,27 @@ module _ (kind : YaccKind) (s : Syntax) (sound : IsSound s []) where
         λ last. sym names ∙ last_of (map Some s.tokens) None t (omega (arith, last, tokens_len, length-map s.tokens some_name)),
       )
 
-  owner_there : (i : ℕ) → i < length s.productions → rule_listing s i < length g.rules
-  owner_there i within = omega (arith, (first_lister s sound.well_formed i within).0, rules_len)
+  known : All (λ pair. (pair.0 < length s.rules) × Resolves s pair.1) pairs
+  known = All-zip (λ r. r < length s.rules) (Resolves s) s.production_rules s.productions sound.well_formed.production_rules_within (resolved s sound).symbols
 
   owners : All (λ p. p.rule < length g.rules) g.productions
   unfolding numbered
-  owners = All-append (λ p. p.rule < length g.rules) (map (file_production s) (enumerate_from 0 s.productions)) (start_production s ∷ [])
-      (All-map (λ p. p.rule < length g.rules) (file_production s) (enumerate_from 0 s.productions)
-      (enumerated (λ x. rule_listing s x.0 < length g.rules) 0 s.productions (λ i d within.
-      subst (λ n. rule_listing s n < length g.rules) (omega arith) (owner_there i within))))
+  owners = All-append (λ p. p.rule < length g.rules) (map (file_production s) pairs) (start_production s ∷ [])
+      (All-map (λ p. p.rule < length g.rules) (file_production s) pairs (λ k d within. omega (arith, (known k d within).0, rules_len)))
       (All-cons (λ p. p.rule < length g.rules) (start_production s) [] (omega (arith, rules_len)) (All-nil (λ p. p.rule < length g.rules)))
 
   symbols : All (λ p. All (IsSymbolOf (core g)) p.symbols) g.productions
   unfolding numbered
-  symbols = All-append (λ p. All (IsSymbolOf (core g)) p.symbols) (map (file_production s) (enumerate_from 0 s.productions)) (start_production s ∷ [])
-      (All-map (λ p. All (IsSymbolOf (core g)) p.symbols) (file_production s) (enumerate_from 0 s.productions)
-      (enumerated (λ x. All (IsSymbolOf (core g)) (map (file_symbol s) x.1.symbols)) 0 s.productions (λ i d within.
-      All-map (IsSymbolOf (core g)) (file_symbol s) (get_or s.productions i d).symbols (λ k e there. symbol_there (get_or (get_or s.productions i d).symbols k e) ((resolved s sound).symbols i d within k e there)))))
+  symbols = All-append (λ p. All (IsSymbolOf (core g)) p.symbols) (map (file_production s) pairs) (start_production s ∷ [])
+      (All-map (λ p. All (IsSymbolOf (core g)) p.symbols) (file_production s) pairs (λ k d within.
+      All-map (IsSymbolOf (core g)) (file_symbol s) (get_or pairs k d).1.symbols (λ j e there. symbol_there (get_or (get_or pairs k d).1.symbols j e) ((known k d within).1 j e there))))
       (All-cons (λ p. All (IsSymbolOf (core g)) p.symbols) (start_production s) [] (start_there s.start (resolved s sound).starts) (All-nil (λ p. All (IsSymbolOf (core g)) p.symbols)))
 
   whole_in : IsWhole g
   unfolding numbered
   whole_in = record {
     start_rule = refl;
-    start_production = ap (option_map (λ (p : NumberedProduction). p.rule)) (last_of (map (file_production s) (enumerate_from 0 s.productions)) (start_production s) (length s.productions)
-        (omega (arith, length-map (enumerate_from 0 s.productions) (file_production s), length-enumerate_from 0 s.productions)));
+    start_production = ap (option_map (λ (p : NumberedProduction). p.rule)) (last_of (map (file_production s) pairs) (start_production s) (length s.productions) (sym file_productions_len));
     end_token = end_at;
     grammar = record {
       start = omega (arith, rules_len);
@@ -135,7 +132,7 @@ module _ (kind : YaccKind) (s : Syntax) (sound : IsSound s []) where
     lists = All-cons (λ rule. All (λ p. p < length g.productions) rule.productions) (start_rule s) (map file_rule s.rules)
         (All-cons (λ p. p < length g.productions) (length s.productions) [] (omega (arith, productions_len)) (All-nil (λ p. p < length g.productions)))
         (All-map (λ rule. All (λ p. p < length g.productions) rule.productions) file_rule s.rules (λ k d within j e there.
-        omega (arith, sound.well_formed.productions_within k d within j e there, productions_len)));
+        omega (arith, listed_within s sound.well_formed k d within j e there, productions_len)));
   }
 
 pub whole : (g : Numbered) → IsNumbering g → IsWhole g

@@ -1,7 +1,7 @@
 -- What a constructor of a grammar answers.
 use Rattle.std.specs.Prelude.{◌≡◌, ℕ, List, [], ◌∷◌, Result, Ok, Err}
-use Rattle.cfgsyntax.specs.Check.{error_at}
-use Rattle.cfgsyntax.specs.Errors.{GrammarError, StorageTooSmall}
+use Rattle.cfgsyntax.specs.Errors.{GrammarError, Nameless, error_at}
+use Rattle.cfgsyntax.specs.declared.yacc.parser.error.YaccGrammarErrorKind.TheVariants.{StorageTooSmall}
 use Rattle.cfgsyntax.specs.declared.yacc.parser.error.YaccFault.{YaccFault}
 use Rattle.cfgsyntax.specs.declared.yacc.parser.error.YaccFault.TheVariants as faults
 use Rattle.cfgrammar.specs.Numbered.{Numbered, nowhere}
@@ -9,7 +9,7 @@ use Rattle.cfgrammar.specs.Fits.{Fits}
 
 -- the error that the index type is too small, alone
 abbrev pub too_small : List GrammarError
-too_small = error_at StorageTooSmall nowhere ∷ []
+too_small = error_at (Nameless StorageTooSmall) nowhere ∷ []
 
 abbrev pub IsTooSmall : YaccFault → Type 0
 IsTooSmall faults.OutOfMemory = ⊥

@@ -3,7 +3,6 @@ pub mod Counting
 pub mod Fits
 pub mod Numbered
 pub mod Numbering
-pub mod Owned
 pub mod Resolved
 pub mod Shown
 pub mod View

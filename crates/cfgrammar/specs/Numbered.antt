@@ -1,6 +1,6 @@
 -- A grammar in numbers, and the one that a syntax makes: its rules, productions and tokens by their indices.
-use Rattle.std.specs.Prelude.{ℕ, suc, ◌==◌, Bool, false, List, [], ◌∷◌, ◌++◌, map, length, Option, Some, None, option_map, codes}
-use Rattle.std.specs.List.{list_any, zip, enumerate_from, position_or_len}
+use Rattle.std.specs.Prelude.{ℕ, suc, Bool, false, List, [], ◌∷◌, ◌++◌, map, length, Option, Some, None, option_map, codes}
+use Rattle.std.specs.List.{zip, position_or_len}
 use Rattle.std.specs.Option.{option_to_list}
 use Rattle.std.specs.Str.{bytes_eq}
 use Rattle.derivation.specs.Grammar.{Sym, Rule, Token, Production, Grammar}
@@ -78,14 +78,6 @@ abbrev pub file_symbol : Syntax → file.Symbol → Sym
 file_symbol s (RuleSymbol word) = Rule (rule_index s word.name)
 file_symbol s (TokenSymbol word) = Token (token_index s word.name)
 
--- whether a rule lists the production at the place
-abbrev pub lists : ℕ → List ℕ × file.Rule → Bool
-lists place rule = list_any (λ i. place == i) rule.1.productions
-
--- the rule of the production at the place
-abbrev pub rule_listing : Syntax → ℕ → ℕ
-rule_listing s place = suc (position_or_len (lists place) s.rules)
-
 -- the start rule, with one production: behind those of the file
 abbrev pub start_rule : Syntax → NumberedRule
 start_rule s = record { name = start_name; span = nowhere; productions = length s.productions ∷ []; action_type = None }
@@ -93,9 +85,10 @@ start_rule s = record { name = start_name; span = nowhere; productions = length 
 abbrev pub file_rule : List ℕ × file.Rule → NumberedRule
 file_rule rule = record { name = rule.0; span = rule.1.name.span; productions = rule.1.productions; action_type = rule.1.action_type }
 
+-- a production of the file, with the place of its rule
 abbrev pub file_production : Syntax → ℕ × file.Production → NumberedProduction
 file_production s production = record {
-  rule = rule_listing s production.0;
+  rule = suc production.0;
   symbols = map (file_symbol s) production.1.symbols;
   span = production.1.span;
   precedence = None;
@@ -126,7 +119,7 @@ unfoldable pub numbered : YaccKind → Syntax → Numbered
 numbered kind s = record {
   rules = start_rule s ∷ map file_rule s.rules;
   tokens = map file_token (zip s.tokens s.spans) ++ end_token ∷ [];
-  productions = map (file_production s) (enumerate_from 0 s.productions) ++ start_production s ∷ [];
+  productions = map (file_production s) (zip s.production_rules s.productions) ++ start_production s ∷ [];
   start_production = length s.productions;
   implicit_rule = None;
   parse_param = None;

@@ -1,5 +1,5 @@
 -- Which grammars there are: those of valid syntaxes.
-use Rattle.std.specs.Prelude.{◌≡◌, ◌↔◌, ℕ, ◌+◌, ◌<◌, [], ◌∷◌, length, All, Some, None}
+use Rattle.std.specs.Prelude.{◌≡◌, ◌↔◌, ℕ, ◌+◌, ◌<◌, ◌==◌, List, [], ◌∷◌, filter, length, All, Some, None}
 use Rattle.derivation.specs.Grammar.{IsGrammar}
 use Rattle.cfgast.specs.Syntax.{Syntax}
 use Rattle.cfgsyntax.specs.Sound.{IsSound}
@@ -23,3 +23,7 @@ pub record IsWhole (g : Numbered) : Type 0 where
   -- all indices are those of something that is there, and no production holds the end token
   pub grammar : IsGrammar (core g)
   pub lists : All (λ rule. All (λ p. p < length g.productions) rule.productions) g.rules
+
+-- how often a list of productions has one
+abbrev pub times : ℕ → List ℕ → ℕ
+times p productions = length (filter (λ other. p == other) productions)

@@ -1,10 +1,11 @@
 -- The spans of a text's errors begin and end at places of the text.
 use Rattle.std.proofs.Common.{ℕ, Bool, true, false, List, [], ◌∷◌, All, get_or, slice_get, option_map, Option, Some, None, Ok, Err, Result, subst, arith, if◌then◌else◌}
 use Rattle.std.specs.Prelude.{IfSome}
-use Rattle.std.specs.Option.{option_to_list}
+use Rattle.std.specs.Option.{option_or, option_and_then, option_to_list}
 use Rattle.std.specs.Str.{IsUtf8, IsCharBoundary}
 use Rattle.std.proofs.lemmas.Str.{IsCharBoundary-start}
 use Rattle.std.proofs.lemmas.List.Elements.{All-nil, All-cons, All-head, All-tail, All-append}
+use Rattle.lemmas.proofs.Options.{All-slice_get, All-option_to_list}
 use Rattle.cfgbase.specs.declared.span.Span.{Span}
 use Rattle.reading.specs.Read.{stop_of}
 use Rattle.reading.proofs.Yields.{EndsIn}
@@ -14,15 +15,18 @@ use Rattle.cfgwords.proofs.Cuts.{cut_here}
 use Rattle.cfgast.specs.Items.{Item}
 use Rattle.cfgast.specs.Syntax.{Symbol, RuleSymbol, TokenSymbol, Production, Rule, Syntax, syntax_of}
 use Rattle.cfgsyntax.specs.declared.yacc.kind.YaccKind.{YaccKind}
-use Rattle.cfgsyntax.specs.Errors.{ErrorKind, GrammarError, NoStartRule, InvalidStartRule, UnknownRuleRef, UnknownToken}
-use Rattle.cfgsyntax.specs.Check.{is_rule, is_token, error_at, or_else, first_error, error_there, start_error, symbol_error, production_error, place_error, rule_error, check_of}
+use Rattle.cfgsyntax.specs.declared.yacc.parser.error.YaccGrammarErrorKind.TheVariants.{NoStartRule}
+use Rattle.cfgsyntax.specs.Errors.{ErrorKind, GrammarError, InvalidStartRule, UnknownRuleRef, UnknownToken, Nameless, error_at}
+use Rattle.cfgsyntax.specs.Check.{is_rule, is_token, first_error, start_error, symbol_error, production_error, place_error, rule_error, check_of}
 use Rattle.cfgsyntax.specs.Faults.{error_of, errors_of}
 use Rattle.cfgast.specs.View.{symbol_word}
-use Rattle.cfgsyntax.specs.Places.{IsPiece, IsWordAt, IsProductionAt, AreAtPlaces}
+use Rattle.cfgwords.specs.Places.{IsPiece, IsWordAt}
+use Rattle.cfgsyntax.specs.Places.{IsProductionAt, AreAtPlaces}
 use Rattle.cfgsyntax.specs.Reads.{Reads}
-use Rattle.cfgsyntax.proofs.Kept.{file_kept}
-use Rattle.cfgsyntax.proofs.PlacesRead.{IsItemAt, IsReached, places_kept}
-use Rattle.cfgsyntax.proofs.SyntaxPlaces.{All-slice_get, syntax_at}
+use Rattle.cfgsyntax.proofs.Kept.{IsItemAt, file_kept}
+use Rattle.cfgwords.proofs.WordPlaces.{IsReached}
+use Rattle.cfgsyntax.proofs.SyntaxPlaces.{syntax_at, rules_are_names}
+use Rattle.cfgwords.proofs.NameStarts.{begins_as_name}
 
 -- an error's spans are pieces of the text
 abbrev pub IsErrorAt : List ℕ → GrammarError → Type 0
@@ -30,7 +34,7 @@ IsErrorAt text error = All (IsPiece text) error.spans
 
 -- The first error of several.
 
-first_of_two : (P : GrammarError → Type 0) (first second : Option GrammarError) → IfSome first P → IfSome second P → IfSome (or_else first second) P
+first_of_two : (P : GrammarError → Type 0) (first second : Option GrammarError) → IfSome first P → IfSome second P → IfSome (option_or first second) P
 first_of_two P (Some error) second h k = h
 first_of_two P None second h k = k
 
@@ -39,13 +43,9 @@ first_of_all P f [] all = tt
 first_of_all P f (x ∷ xs) all =
     first_of_two P (f x) (first_error f xs) (All-head (λ y. IfSome (f y) P) x xs all) (first_of_all P f xs (All-tail (λ y. IfSome (f y) P) x xs all))
 
-first_there : {A : Type 0} (P : GrammarError → Type 0) (f : A → Option GrammarError) (o : Option A) → IfSome o (λ x. IfSome (f x) P) → IfSome (error_there f o) P
+first_there : {A : Type 0} (P : GrammarError → Type 0) (f : A → Option GrammarError) (o : Option A) → IfSome o (λ x. IfSome (f x) P) → IfSome (option_and_then f o) P
 first_there P f None h = tt
 first_there P f (Some x) h = h
-
-listed : {A : Type 0} (P : A → Type 0) (o : Option A) → IfSome o P → All P (option_to_list o)
-listed P None h = All-nil P
-listed P (Some x) h = All-cons P x [] h (All-nil P)
 
 module _ (text : List ℕ) where
   one_span : (kind : ErrorKind) (span : Span) → IsPiece text span → IsErrorAt text (error_at kind span)
@@ -58,7 +58,7 @@ module _ (text : List ℕ) where
   start_error_at : IsUtf8 text → (s : Syntax) (start : Option Word) → IfSome start (IsWordAt text) → IfSome (start_error s start) (IsErrorAt text)
   start_error_at utf8 s None h =
       let first : IsCharBoundary text 0 = IsCharBoundary-start text utf8 in
-      one_span NoStartRule (record { start = 0; end = 0 }) (record { ordered = omega arith; begins_at = first; ends_at = first })
+      one_span (Nameless NoStartRule) (record { start = 0; end = 0 }) (record { ordered = omega arith; begins_at = first; ends_at = first })
   start_error_at utf8 s (Some word) h = unless_known (is_rule s word.name) (InvalidStartRule word.name) word.span h
 
   symbol_error_at : (s : Syntax) (symbol : Symbol) → IsWordAt text (symbol_word symbol) → IfSome (symbol_error s symbol) (IsErrorAt text)
@@ -98,7 +98,7 @@ pub record IsReadAt (text : List ℕ) (items : List Item) (stop : Option Fault) 
 read_at : (kind : YaccKind) (text : List ℕ) → IsUtf8 text → (items : List Item) (stop : Option Fault) → Reads kind text items stop → IsReadAt text items stop
 read_at kind text utf8 items stop reads =
     let start : IsReached text text text = record { origin = cut_here text; further = cut_here text } in
-    let kept = (file_kept (places_kept text utf8) text kind).passes text reads.read start reads.says in
+    let kept = (file_kept text utf8 text kind).passes text reads.read start reads.says in
     record {
       items_at = subst (All (IsItemAt text)) reads.items_are kept.items;
       stop_at = subst (λ s. IfSome s (λ fault. IsPiece text fault.span)) reads.stop_is (ended_at text (IsReached text text) (λ fault. IsPiece text fault.span) (λ _. Unit {0}) reads.read.outcome kept.outcome);
@@ -109,6 +109,10 @@ pub read_syntax_at : (kind : YaccKind) (text : List ℕ) → IsUtf8 text → (it
     → AreAtPlaces text (syntax_of items)
 read_syntax_at kind text utf8 items stop reads = syntax_at text items (read_at kind text utf8 items stop reads).items_at
 
+pub read_names : (kind : YaccKind) (text : List ℕ) → IsUtf8 text → (items : List Item) (stop : Option Fault) → Reads kind text items stop
+    → All (λ rule. begins_as_name rule.0) (syntax_of items).rules
+read_names kind text utf8 items stop reads = rules_are_names text items (read_at kind text utf8 items stop reads).items_at
+
 -- of the errors of every reading
 pub read_errors_at : (kind : YaccKind) (text : List ℕ) → IsUtf8 text → (items : List Item) (stop : Option Fault) → Reads kind text items stop
     → All (IsErrorAt text) (errors_of items stop)
@@ -116,5 +120,5 @@ read_errors_at kind text utf8 items stop reads =
     let read = read_at kind text utf8 items stop reads in
     let second : Option GrammarError = check_of (syntax_of items) in
     All-append (IsErrorAt text) (option_to_list (option_map error_of stop)) (option_to_list second)
-    (listed (IsErrorAt text) (option_map error_of stop) (stop_error_at text stop read.stop_at))
-    (listed (IsErrorAt text) second (check_at text utf8 (syntax_of items) (syntax_at text items read.items_at)))
+    (All-option_to_list (IsErrorAt text) (option_map error_of stop) (stop_error_at text stop read.stop_at))
+    (All-option_to_list (IsErrorAt text) second (check_at text utf8 (syntax_of items) (syntax_at text items read.items_at)))

@@ -1,12 +1,9 @@
 pub mod Blanks
-pub mod CheckLemmas
 pub mod ErrorLemmas
 pub mod ErrorPlaces
 pub mod Kept
 pub mod Loops
-pub mod NamesRead
 pub mod OneReading
-pub mod PlacesRead
 pub mod SoundLemmas
 pub mod Steps
 pub mod Symbols

@@ -1,19 +1,8 @@
--- Places of a text: where a character begins, and the text's end. A span goes from a place to another that isn't
--- before it, so what it names is a piece of the text.
-use Rattle.std.specs.Prelude.{ℕ, ◌≤◌, List, All, IfSome}
-use Rattle.std.specs.Str.{IsCharBoundary}
-use Rattle.cfgbase.specs.declared.span.Span.{Span}
-use Rattle.cfgwords.specs.Words.{Word}
+-- The spans of a syntax are pieces of the text that it was read of.
+use Rattle.std.specs.Prelude.{ℕ, List, All, IfSome}
+use Rattle.cfgwords.specs.Places.{IsPiece, IsWordAt}
 use Rattle.cfgast.specs.Syntax.{Production, Syntax}
 use Rattle.cfgast.specs.View.{symbol_word}
-
-pub record IsPiece (text : List ℕ) (span : Span) : Type 0 where
-  pub ordered : span.start ≤ span.end
-  pub begins_at : IsCharBoundary text span.start
-  pub ends_at : IsCharBoundary text span.end
-
-abbrev pub IsWordAt : List ℕ → Word → Type 0
-IsWordAt text word = IsPiece text word.span
 
 pub record IsProductionAt (text : List ℕ) (production : Production) : Type 0 where
   pub itself : IsPiece text production.span

@@ -2,7 +2,7 @@
 
 ghost use Rattle.std.specs.Prelude.{◌≡◌, ◌++◌, All, IfOk, OnOk, string_bytes};
 ghost use Rattle.cfglines.specs.Lines.{StandsFor};
-ghost use Rattle.cfgsyntax.specs.Places.{IsPiece};
+ghost use Rattle.cfgwords.specs.Places.{IsPiece};
 ghost use Rattle.cfgtool.specs.Report.{error_line, error_lines, error_place, production_lines};
 
 use cfgrammar::yacc::{YaccGrammar, YaccGrammarError};

@@ -3,6 +3,7 @@ use Rattle.std.proofs.Common.{◌≡◌, ℕ, zero, suc, ◌<◌, ◌≤◌, Boo
 use Rattle.std.specs.List.{list_any}
 use Rattle.reading.specs.Graph.{IsGraph}
 use Rattle.reading.specs.Turns.{again, after, turns, all_turns}
+use Rattle.reading.proofs.Lengths.{left_same}
 use Rattle.reading.proofs.Graphs.{Shrinks, turns_graph, turns_next}
 use Rattle.cfgwords.specs.declared.fault.Fault.{Fault}
 use Rattle.cfgwords.specs.declared.fault.FaultKind.{FaultKind}
@@ -12,10 +13,6 @@ use Rattle.cfgwords.specs.Bytes.{holds}
 use Rattle.cfgwords.specs.Text.{fault_at}
 use Rattle.cfgwords.specs.Blank.{Front, Gap, LineComment, BlockComment, OpenComment, Bare, IsFront, part_of, turn_of, IsPart, Blank, front_of, blank_step, blank}
 pub use Rattle.cfgwords.proofs.Fronts.{front_graph}
-
--- what two equal results leave
-left_same : {text rest : List ℕ} {u v : Unit {0}} → ◌≡◌ {A = Result (Unit {0} × List ℕ) Fault} (Ok (u, text)) (Ok (v, rest)) → rest ≡ text
-left_same {text = text} {rest = rest} {u = u} {v = v} e = let both : (v, rest) ≡ (u, text) = cc in ap (λ (x : Unit {0} × List ℕ). x.1) both
 
 -- a step of a blank is one thing
 pub blank_step_graph : (len : ℕ) (lines : Bool) → IsGraph (IsPart len lines) (blank_step len lines)
@@ -95,14 +92,14 @@ blank_stops len lines text kind e = blank_by_part len lines text (Err kind) e
 blank_less : (len : ℕ) (lines : Bool) (n : ℕ) (text rest : List ℕ) (u : Unit {0})
     → turns (blank_step len lines) (Ok (tt, [])) n text ≡ Ok (u, rest) → length rest ≤ length text
 unfolding turns blank_step
-blank_less len lines zero text rest u e = omega (arith, ap length (left_same e))
+blank_less len lines zero text rest u e = omega (arith, ap (λ (x : Unit {0} × List ℕ). length x.1) (left_same e))
 blank_less len lines (suc n) text rest u e = go (λ mid. blank_less len lines n mid rest u) (part_of lines (front_of text)) refl e
   where
     go : ((mid : List ℕ) → turns (blank_step len lines) (Ok (tt, [])) n mid ≡ Ok (u, rest) → length rest ≤ length mid)
         → (o : Result (Option (List ℕ)) FaultKind) → part_of lines (front_of text) ≡ o
         → after (turns (blank_step len lines) (Ok (tt, [])) n) (turn_of len text o) ≡ Ok (u, rest) → length rest ≤ length text
     go ih (Ok (Some mid)) e1 e2 = omega (arith, part_shorter lines text mid e1, ih mid e2)
-    go ih (Ok None) e1 e2 = omega (arith, ap length (left_same e2))
+    go ih (Ok None) e1 e2 = omega (arith, ap (λ (x : Unit {0} × List ℕ). length x.1) (left_same e2))
     go ih (Err kind) e1 e2 = cc
 
 -- a blank leaves no more

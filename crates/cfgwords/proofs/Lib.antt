@@ -5,6 +5,8 @@ pub mod Cuts
 pub mod Finders
 pub mod Fronts
 pub mod NameFinders
+pub mod NameStarts
 pub mod Quoted
 pub mod QuotedFinder
 pub mod TokenFinder
+pub mod WordPlaces

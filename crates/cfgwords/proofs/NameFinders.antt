@@ -1,6 +1,8 @@
 -- `name_of` and `identifier_of` find the names and the identifiers, and nothing else; each leaves less.
-use Rattle.std.proofs.Common.{◌≡◌, ℕ, ◌+◌, Bool, true, false, cond, List, [], ◌∷◌, length, Option, Some, None, refl, ap, subst, ◌∙◌, arith, length-append}
+use Rattle.std.proofs.Common.{◌≡◌, ℕ, ◌+◌, true, cond, List, [], ◌∷◌, length, Some, None, ap, subst, ◌∙◌, arith, length-append}
 use Rattle.std.proofs.lemmas.Bool.Decides.{nat_tests}
+use Rattle.std.proofs.lemmas.Option.{some_pair_parts}
+use Rattle.lemmas.proofs.Options.{chosen}
 use Rattle.reading.specs.Pieces.{starts, IsRun, run}
 use Rattle.reading.proofs.PiecesLemmas.{IsRun-run, run_only, run_shorter}
 use Rattle.reading.specs.Finder.{IsFinder}
@@ -10,24 +12,13 @@ use Rattle.cfgwords.specs.declared.bytes.ByteClass.TheVariants as bytes
 use Rattle.cfgwords.specs.Bytes.{holds}
 use Rattle.cfgwords.specs.Words.{IsRunFrom, IsName, IsIdentifier, run_from, name_of, identifier_of}
 
--- what a choice that gives something chose
-pub chosen : {A : Type 0} (t : Bool) (o : Option A) (x : A) → cond t o None ≡ Some x → (t ≡ true) × (o ≡ Some x)
-chosen true o x e = (refl, e)
-chosen false o x e = cc
-
--- two equal finds
-pub found_same : {W : Type 0} {word word' : W} {rest rest' : List ℕ} → ◌≡◌ {A = Option (W × List ℕ)} (Some (word, rest)) (Some (word', rest'))
-    → (word ≡ word') × (rest ≡ rest')
-found_same {W = W} {word = word} {word' = word'} {rest = rest} {rest' = rest'} e =
-    let both : (word, rest) ≡ (word', rest') = cc in (ap (λ (x : W × List ℕ). x.0) both, ap (λ (x : W × List ℕ). x.1) both)
-
 -- a longest run that begins with a byte of another class
 pub run_from_finder : (first others : ByteClass) → IsFinder (IsRunFrom first others) (run_from first others)
 unfolding run_from
 run_from_finder first others = record {
   sound = λ text word rest e.
       let c = chosen (starts (holds first) text) (Some (run (holds others) text)) (word, rest) e in
-      let same = found_same c.1 in
+      let same = some_pair_parts _ _ _ _ c.1 in
       record { begins = c.0; run = subst (λ x. IsRun (holds others) text x rest) same.0 (subst (IsRun (holds others) text _) same.1 (IsRun-run (holds others) text)) };
   only = λ text word rest r.
       ap (λ t. cond t (Some (run (holds others) text)) None) r.begins ∙ ap Some (run_only (holds others) text word rest r.run);
@@ -39,7 +30,7 @@ unfolding run_from
 run_from_shorter first others part = record {
   less = λ text word rest e.
       let c = chosen (starts (holds first) text) (Some (run (holds others) text)) (word, rest) e in
-      let same = found_same c.1 in
+      let same = some_pair_parts _ _ _ _ c.1 in
       let less = run_shorter (holds others) text (begins text c.0) in omega (arith, ap length same.1);
 }
   where

@@ -1,6 +1,6 @@
 -- Where a quoted token ends, by its bytes.
-use Rattle.std.proofs.Common.{◌≡◌, ◌≢◌, ℕ, suc, ◌+◌, ◌-◌, ◌<◌, ◌≤◌, ◌==◌, true, false, List, [], ◌∷◌, length, take, drop, get_or, Some, None, refl, ◌∙◌, arith, add-one, drop-cons, eq-eqb, length-drop}
-use Rattle.std.proofs.lemmas.List.{drop-drop, drop_all, take_all}
+use Rattle.std.proofs.Common.{◌≡◌, ◌≢◌, ℕ, suc, ◌+◌, ◌<◌, ◌≤◌, ◌==◌, true, false, List, [], ◌∷◌, length, take, drop, get_or, Some, None, refl, ◌∙◌, arith, add-one, drop-cons, eq-eqb, length-drop}
+use Rattle.std.proofs.lemmas.List.{drop-drop, drop_all}
 use Rattle.reading.specs.Pieces.{run}
 use Rattle.std.specs.List.{prefix_len}
 use Rattle.std.specs.Str.{IsUtf8, IsCharBoundary}
@@ -64,10 +64,6 @@ quoted_other_end text two quote line n e within other =
     let tail = at_inside text n within in
     quoted_opened text two ∙ opened_with (get_or text 0 0) (get_or text 1 0) (drop 2 text) quote line
     ∙ closed_elsewhere (get_or text 0 0) (get_or text 1 0) (get_or text (2 + n) 0) _ _ (drop (3 + n) text) (rw (← e) tail) other
-
--- what `&text[2..]` is
-pub behind_two : (text : List ℕ) → take (length text - 2) (drop 2 text) ≡ drop 2 text
-behind_two text = take_all _ (drop 2 text) (omega (arith, length-drop 2 text))
 
 ascii_quote : (b : ℕ) → holds bytes.Quote b ≡ true → b < 128
 ascii_quote b h = grind (arith, nat_tests)

@@ -1,5 +1,8 @@
 -- `quoted_of` finds the quoted tokens, and nothing else.
-use Rattle.std.proofs.Common.{◌≡◌, ℕ, ◌+◌, Bool, true, false, cond, not, ◌&&◌, ◌==◌, List, [], ◌∷◌, ◌++◌, length, Some, None, refl, ap, ap₂, sym, ◌∙◌, arith, eqb-true, eq-eqb, length-append}
+use Rattle.std.proofs.Common.{◌≡◌, ℕ, ◌+◌, cond, not, ◌&&◌, ◌==◌, List, [], ◌∷◌, ◌++◌, length, Some, None, refl, ap, ap₂, sym, ◌∙◌, arith, eqb-true, eq-eqb, length-append}
+use Rattle.std.proofs.lemmas.Bool.{and_parts, not-true}
+use Rattle.std.proofs.lemmas.Option.{some_pair_parts}
+use Rattle.lemmas.proofs.Options.{chosen}
 use Rattle.reading.specs.Pieces.{IsRun, run}
 use Rattle.reading.proofs.PiecesLemmas.{IsRun-run, run_only}
 use Rattle.reading.specs.Finder.{IsFinder}
@@ -7,7 +10,6 @@ use Rattle.reading.specs.Finder.{IsShorter}
 use Rattle.cfgwords.specs.declared.bytes.ByteClass.TheVariants as bytes
 use Rattle.cfgwords.specs.Bytes.{holds}
 use Rattle.cfgwords.specs.Words.{is_inside, IsQuoted, closed, quoted_of}
-use Rattle.cfgwords.proofs.NameFinders.{chosen, found_same}
 
 -- the parts of a quoted token, where the closing quote stands
 closed_parts : (quote first : ℕ) (others tail word rest : List ℕ) → closed quote first (others, tail) ≡ Some (word, rest)
@@ -15,16 +17,8 @@ closed_parts : (quote first : ℕ) (others tail word rest : List ℕ) → closed
 closed_parts quote first others [] word rest e = cc
 closed_parts quote first others (b ∷ mid) word rest e =
     let c = chosen (b == quote) (Some (first ∷ others, mid)) (word, rest) e in
-    let same = found_same c.1 in
+    let same = some_pair_parts _ _ _ _ c.1 in
     (sym same.0, ap₂ (λ x y. x ∷ y) (eqb-true b quote c.0) same.1)
-
-both_true : (a b : Bool) → (a && b) ≡ true → (a ≡ true) × (b ≡ true)
-both_true true b e = (refl, e)
-both_true false b e = cc
-
-not_true : (a : Bool) → not a ≡ true → a ≡ false
-not_true true e = cc
-not_true false e = refl
 
 -- what `quoted_of` finds is a quoted token
 quoted_sound : (text word rest : List ℕ) → quoted_of text ≡ Some (word, rest) → IsQuoted text word rest
@@ -34,7 +28,7 @@ quoted_sound (quote ∷ []) word rest e = cc
 quoted_sound (quote ∷ first ∷ text) word rest e =
     let split = run (is_inside quote) text in
     let c = chosen (holds bytes.Quote quote && not (first == 10)) (closed quote first split) (word, rest) e in
-    let tests = both_true (holds bytes.Quote quote) (not (first == 10)) c.0 in
+    let tests = and_parts (holds bytes.Quote quote) (not (first == 10)) c.0 in
     let parts = closed_parts quote first split.0 split.1 word rest c.1 in
     let r = IsRun-run (is_inside quote) text in
     record {
@@ -42,7 +36,7 @@ quoted_sound (quote ∷ first ∷ text) word rest e =
       first = first;
       others = split.0;
       is_quote = tests.0;
-      line = not_true (first == 10) tests.1;
+      line = not-true (first == 10) tests.1;
       inside = r.passes;
       word_is = parts.0;
       whole = ap (λ x. quote ∷ first ∷ x) (r.whole ∙ ap (λ x. split.0 ++ x) parts.1);

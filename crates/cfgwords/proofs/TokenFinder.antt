@@ -2,13 +2,14 @@
 use Rattle.std.proofs.Common.{◌≡◌, ℕ, ◌+◌, ◌<◌, Bool, true, false, cond, List, [], ◌∷◌, length, Option, Some, None, refl, ap, ap₂, sym, ◌∙◌, arith}
 use Rattle.std.specs.Prelude.{if◌then◌else◌}
 use Rattle.std.proofs.lemmas.Bool.Decides.{nat_tests}
+use Rattle.std.proofs.lemmas.Option.{some_pair_parts}
 use Rattle.reading.specs.Pieces.{starts}
 use Rattle.reading.specs.Finder.{IsFinder}
 use Rattle.reading.specs.Finder.{IsShorter}
 use Rattle.cfgwords.specs.declared.bytes.ByteClass.TheVariants as bytes
 use Rattle.cfgwords.specs.Bytes.{holds}
 use Rattle.cfgwords.specs.Words.{TokenText, IsToken, identifier_of, quoted_of, token_text, token_of}
-use Rattle.cfgwords.proofs.NameFinders.{found_same, identifier_finder, identifier_length, identifier_shorter}
+use Rattle.cfgwords.proofs.NameFinders.{identifier_finder, identifier_length, identifier_shorter}
 use Rattle.cfgwords.proofs.QuotedFinder.{quoted_finder, quoted_length, quoted_shorter}
 
 -- a token's text and what is left come from a name
@@ -16,7 +17,7 @@ token_parts : (quoted : Bool) (o : Option (List ℕ × List ℕ)) (token : Token
     → (token.quoted ≡ quoted) × (o ≡ Some (token.name, rest))
 token_parts quoted None token rest e = cc
 token_parts quoted (Some (name, mid)) token rest e =
-    let same = found_same e in
+    let same = some_pair_parts _ _ _ _ e in
     (sym (ap (λ (x : TokenText). x.quoted) same.0), ap₂ (λ x y. Some (x, y)) (ap (λ (x : TokenText). x.name) same.0) same.1)
 
 -- what a quote opens begins with no letter

@@ -1,4 +1,5 @@
-pub mod Text
-pub mod Bytes
 pub mod Blank
+pub mod Bytes
+pub mod Places
+pub mod Text
 pub mod Words

@@ -25,6 +25,18 @@ pub struct Token<'a> {
     pub end: usize,
 }
 
+impl<'a> Token<'a> {
+    /// The name, with the span of its bytes.
+    pub fn word(&self) -> Word<'a>
+        ensures { result ≡ record { name = self.now.name; span = self.now.span } }
+    {
+        Word {
+            name: self.name,
+            span: self.span,
+        }
+    }
+}
+
 #[tactic(auto, unfolding(crate::specs::Words::run_from))]
 fn run_from(text: &str, first: ByteClass, others: ByteClass) -> Option<(&str, &str)>
     ensures exact { option_map (λ x. (x.0.now, x.1.now)) result ≡ run_from first others text.now }

@@ -8,7 +8,8 @@ ghost use Rattle.cfgast.specs.Items.{Item};
 ghost use Rattle.cfgast.specs.Syntax.{syntax_of};
 ghost use Rattle.cfgast.specs.View.{syntax};
 ghost use Rattle.cfgsyntax.specs.Faults.{errors_of};
-ghost use Rattle.cfgsyntax.specs.Places.{IsPiece, AreAtPlaces};
+ghost use Rattle.cfgsyntax.specs.Places.{AreAtPlaces};
+ghost use Rattle.cfgwords.specs.Places.{IsPiece};
 ghost use Rattle.cfgsyntax.specs.Reads.{Reads, HasOneReading};
 ghost use Rattle.cfgsyntax.specs.Sound.{IsSound};
 

@@ -1,16 +1,13 @@
 //! The numbering of a file's syntax that passed validation.
 
-ghost use Rattle.std.specs.Prelude.{◌≡◌, ◌↔◌, ◌<◌, ◌≤◌, ◌∷◌, ◌++◌, [], ℕ, List, true, false, All, None, length, map, get_or, option_map, string_bytes, IfOk, IsTrue, OnOk};
-ghost use Rattle.std.specs.List.{enumerate_from, list_any, zip};
+ghost use Rattle.std.specs.Prelude.{◌≡◌, ◌↔◌, ◌<◌, ◌≤◌, ◌∷◌, ◌++◌, [], suc, true, false, All, None, length, map, option_map, string_bytes, IfOk, IsTrue, OnOk};
+ghost use Rattle.std.specs.List.{list_any, zip};
 ghost use Rattle.std.specs.Str.{bytes_eq};
-ghost use Rattle.cfgbase.specs.declared.span.Span.{Span};
-ghost use Rattle.cfgast.specs.Syntax.{Rule as SyntaxRule, Production as SyntaxProduction};
-ghost use Rattle.cfgast.specs.View.{syntax, symbol_view};
+ghost use Rattle.cfgast.specs.View.{syntax, symbol_view, rule_view as plain_rule, production_view as plain_production};
 ghost use Rattle.cfgsyntax.specs.Check.{is_rule, is_token, symbol_error};
 ghost use Rattle.cfgsyntax.specs.Sound.{IsSound};
-ghost use Rattle.cfgrammar.specs.Numbered.{rule_index, token_index, file_symbol, rule_listing, start_rule, file_rule, start_production, file_production, file_token};
+ghost use Rattle.cfgrammar.specs.Numbered.{rule_index, token_index, file_symbol, start_rule, file_rule, start_production, file_production, file_token};
 ghost use Rattle.cfgrammar.specs.Fits.{LeavesRoom};
-ghost use Rattle.cfgrammar.specs.Owned.{Hands};
 ghost use Rattle.cfgrammar.specs.Resolved.{IsResolved, Resolves};
 ghost use Rattle.cfganalysis.specs.Symbols.{sym_of};
 ghost use Rattle.cfgrammar.specs.View.{names, rule_view, production_view, token_view};
@@ -70,27 +67,25 @@ pub(super) fn rule_rows<S: Storage>(
         String::from_str(alloc, START_RULE)?,
         start_rule_row(alloc, ast)?,
     )?;
-    for place in 0..ast.rules().len() {
-        put_rule(alloc, &mut rows, ast, place)?;
+    for (name, rule) in ast.rules() {
+        put_rule(alloc, &mut rows, name.as_str(), rule)?;
     }
     Ok(rows)
 }
 
-/// Puts the rule at this place of the file behind the rows.
+/// Puts a rule of the file behind the rows.
 fn put_rule<S: Storage>(
     alloc: Global,
     rows: &mut IndexMap<String, RuleRow<S>>,
-    ast: &GrammarAST,
-    place: usize,
+    name: &str,
+    rule: &Rule,
 ) -> Result<(), AllocError>
-    requires within { place < length (syntax ast.now).rules }
-    requires new { (d : List ℕ × SyntaxRule) → list_any (bytes_eq (get_or (syntax ast.now).rules place d).0) (names rows.old.entries) ≡ false }
-    requires places { (d : List ℕ × SyntaxRule) → All (λ i. i ≤ S.MAX) (get_or (syntax ast.now).rules place d).1.productions }
-    ensures { OnOk result ((d : List ℕ × SyntaxRule) → map (rule_view S.number) rows.new.entries
-        ≡ map (rule_view S.number) rows.old.entries ++ file_rule (get_or (syntax ast.now).rules place d) ∷ []) }
+    requires new { list_any (bytes_eq name.now) (names rows.old.entries) ≡ false }
+    requires places { All (λ place. place ≤ S.MAX) rule.now.pidxs.items }
+    ensures { OnOk result (map (rule_view S.number) rows.new.entries
+        ≡ map (rule_view S.number) rows.old.entries ++ file_rule (name.now, plain_rule rule.now) ∷ []) }
 {
-    let (name, rule) = ast.rules().get_index(place).unwrap();
-    rows.insert(name.clone()?, rule_row(alloc, rule)?)?;
+    rows.insert(String::from_str(alloc, name)?, rule_row(alloc, rule)?)?;
     Ok(())
 }
 
@@ -146,62 +141,33 @@ pub(super) fn production_rows<S: Storage>(
     requires resolved { IsResolved (syntax ast.now) }
     requires room { LeavesRoom S.MAX (syntax ast.now) }
     ensures { IfOk result (λ rows. map (production_view S.number) rows.items
-        ≡ map (file_production (syntax ast.now)) (enumerate_from 0 (syntax ast.now).productions) ++ start_production (syntax ast.now) ∷ []) }
+        ≡ map (file_production (syntax ast.now)) (zip (syntax ast.now).production_rules (syntax ast.now).productions) ++ start_production (syntax ast.now) ∷ []) }
 {
-    let owners = owners(alloc, ast)?;
     let mut rows = Vec::new(alloc);
-    for place in 0..ast.prods().len() {
-        rows.push(production_row(alloc, ast, place, owners[place])?)?;
+    for (rule, production) in ast.prods_rules().iter().zip(ast.prods()) {
+        rows.push(production_row(alloc, ast, *rule, production)?)?;
     }
     rows.push(start_production_row(alloc, ast)?)?;
     Ok(rows)
 }
 
-/// The rule of each production of the file.
-fn owners<S: Storage>(alloc: Global, ast: &GrammarAST) -> Result<Vec<RIdx<S>>, AllocError>
-    requires sound { IsSound (syntax ast.now) [] }
-    requires room { LeavesRoom S.MAX (syntax ast.now) }
-    ensures as_long { IfOk result (λ owners. length owners.items ≡ length (syntax ast.now).productions) }
-    ensures owner { IfOk result (λ owners. (i : ℕ) (d : RIdx S) → i < length (syntax ast.now).productions
-        → S.number (get_or owners.items i d).0 ≡ rule_listing (syntax ast.now) i) }
-{
-    let mut owners = vec![in alloc; RIdx(stored(0)); ast.prods().len()]?;
-    for place in 0..ast.rules().len() {
-        let (_, rule) = ast.rules().get_index(place).unwrap();
-        hand(&mut owners, &rule.pidxs, RIdx(stored(place + 1)));
-    }
-    Ok(owners)
-}
-
-/// Hands the productions at these places to the owner.
-fn hand<S: Storage>(owners: &mut Vec<RIdx<S>>, places: &[usize], owner: RIdx<S>)
-    requires { All (λ place. place < length owners.old.items) places.now }
-    ensures { Hands places.now owner owners.old.items owners.new.items }
-{
-    for place in places {
-        owners[*place] = owner;
-    }
-}
-
-/// The production at this place of the file, of this rule.
+/// A production of the file, of the rule at this place.
 fn production_row<S: Storage>(
     alloc: Global,
     ast: &GrammarAST,
-    place: usize,
-    rule: RIdx<S>,
+    rule: usize,
+    production: &Production,
 ) -> Result<ProductionRow<S>, AllocError>
-    requires within { place < length (syntax ast.now).productions }
-    requires resolved { All (Resolves (syntax ast.now)) (syntax ast.now).productions }
+    requires rule { rule < length (syntax ast.now).rules }
+    requires resolved { Resolves (syntax ast.now) (plain_production production.now) }
     requires room { LeavesRoom S.MAX (syntax ast.now) }
-    requires owner { S.number rule.0 ≡ rule_listing (syntax ast.now) place }
-    ensures { IfOk result (λ row. (d : SyntaxProduction) → production_view S.number row
-        ≡ file_production (syntax ast.now) (place, get_or (syntax ast.now).productions place d)) }
+    ensures { IfOk result (λ row. production_view S.number row
+        ≡ file_production (syntax ast.now) (rule, plain_production production.now)) }
 {
-    let production = &ast.prods()[place];
     let symbols = numbered_symbols(alloc, ast, &production.symbols)?;
     let (action, action_span) = action_parts(production)?;
     Ok(ProductionRow {
-        rule,
+        rule: rule_at(rule),
         symbols,
         span: production.prod_span,
         action,
@@ -276,7 +242,14 @@ fn rule_of<S: Storage>(ast: &GrammarAST, name: &str) -> RIdx<S>
     requires room { LeavesRoom S.MAX (syntax ast.now) }
     ensures { S.number result.0 ≡ rule_index (syntax ast.now) name.now }
 {
-    let place = ast.rules().get_index_of(name).unwrap();
+    rule_at(ast.rules().get_index_of(name).unwrap())
+}
+
+/// The rule at this place of the file: the start rule stands before all of them.
+fn rule_at<S: Storage>(place: usize) -> RIdx<S>
+    requires { place < S.MAX }
+    ensures { S.number result.0 ≡ suc place }
+{
     prove!(place < S::MAX);
     RIdx(stored(place + 1))
 }
@@ -301,26 +274,23 @@ pub(super) fn token_rows(
         ≡ map file_token (zip (syntax ast.now).tokens (syntax ast.now).spans)) }
 {
     let mut rows = IndexMap::new(alloc);
-    for place in 0..ast.tokens().len() {
-        put_token(&mut rows, ast, place)?;
+    for (name, span) in ast.tokens().iter().zip(ast.spans()) {
+        put_token(alloc, &mut rows, name.as_str(), *span)?;
     }
     Ok(rows)
 }
 
-/// Puts the token at this place behind the rows.
+/// Puts a token behind the rows.
 fn put_token(
+    alloc: Global,
     rows: &mut IndexMap<String, TokenRow>,
-    ast: &GrammarAST,
-    place: usize,
+    name: &str,
+    span: Span,
 ) -> Result<(), AllocError>
-    requires within { place < length (syntax ast.now).tokens }
-    requires as_long { length (syntax ast.now).spans ≡ length (syntax ast.now).tokens }
-    requires new { (d : List ℕ) → list_any (bytes_eq (get_or (syntax ast.now).tokens place d)) (names rows.old.entries) ≡ false }
-    ensures { OnOk result ((d : List ℕ × Span) → map token_view rows.new.entries
-        ≡ map token_view rows.old.entries ++ file_token (get_or (zip (syntax ast.now).tokens (syntax ast.now).spans) place d) ∷ []) }
+    requires { list_any (bytes_eq name.now) (names rows.old.entries) ≡ false }
+    ensures { OnOk result (map token_view rows.new.entries
+        ≡ map token_view rows.old.entries ++ file_token (name.now, span) ∷ []) }
 {
-    let name = ast.tokens().get_index(place).unwrap();
-    let span = ast.spans()[place];
-    rows.insert(name.clone()?, TokenRow { span })?;
+    rows.insert(String::from_str(alloc, name)?, TokenRow { span })?;
     Ok(())
 }

@@ -2,9 +2,8 @@
 
 ghost use Rattle.std.specs.Prelude.{◌≡◌, ◌==◌, ℕ, List, Some, position, if◌then◌else◌};
 ghost use Rattle.std.specs.Str.{bytes_eq};
-ghost use Rattle.cfgast.specs.WellFormed.{times};
 ghost use Rattle.cfgrammar.specs.Numbered.{Numbered};
-ghost use Rattle.cfgrammar.specs.Numbering.{IsNumbering, IsWhole};
+ghost use Rattle.cfgrammar.specs.Numbering.{IsNumbering, IsWhole, times};
 ghost use Rattle.cfgrammar.specs.Shown.{has_token_name, production_at, rule_at, token_at};
 
 /// Every rule is found by its name: `rule_idx` of `rule_name_str` of a rule is that rule.

@@ -16,7 +16,7 @@ impl Reader<'_> {
         ensures { Builds (λ x. x) self.old self.new result (listed_token self.old.len) }
     {
         let token = self.token()?;
-        self.tree.declare_token(self.alloc, token.name, token.span)?;
+        self.tree.declare_token(self.alloc, token.word())?;
         self.blank(true)
     }
 
@@ -56,7 +56,7 @@ impl Reader<'_> {
     {
         self.blank(false)?;
         let name = self.name()?;
-        self.tree.declare_start(self.alloc, name.name, name.span)?;
+        self.tree.declare_start(self.alloc, name)?;
         self.blank(true)
     }
 

@@ -1,11 +1,11 @@
-ghost use Rattle.std.specs.Prelude.{◌≡◌, ◌↔◌, IsTrue, Some};
+ghost use Rattle.std.specs.Prelude.{◌≡◌, ◌↔◌, IsTrue, IfOk, Some};
 ghost use Rattle.std.specs.Cmp.{partial_equiv_from_equiv};
-ghost use Rattle.cfgsyntax.specs.Errors.{kind_view, same_error, same_error-equivalence, spanskind_of};
+ghost use Rattle.cfgsyntax.specs.Errors.{error_at, kind_view, same_error, same_error-equivalence, spanskind_of};
 ghost use Rattle.cfgsyntax.specs.Texts.{error_text};
 ghost use Rattle.cfgsyntax.specs.declared.yacc.parser.error.YaccFault.TheVariants.{OutOfMemory};
 
 use cfgbase::{Span, Spanned, SpansKind};
-use std::alloc::{AllocError, AllocFailed};
+use std::alloc::{AllocError, AllocFailed, Global};
 use std::error::Error;
 use std::fmt;
 use std::marker::Model;
@@ -164,6 +164,19 @@ impl YaccGrammarError {
         ensures { result ≡ record { kind = kind_view kind; spans = spans.items } }
     {
         YaccGrammarError { kind, spans }
+    }
+
+    /// An error at one span.
+    pub(crate) fn at(
+        alloc: Global,
+        kind: YaccGrammarErrorKind,
+        span: Span,
+    ) -> Result<Self, AllocError>
+        ensures { IfOk result (λ error. error ≡ error_at (kind_view kind) span) }
+    {
+        let mut spans = Vec::new(alloc);
+        spans.push(span)?;
+        Ok(YaccGrammarError::new(kind, spans))
     }
 
     /// What is wrong.

@@ -29,7 +29,5 @@ impl From<FaultKind> for YaccGrammarErrorKind {
 pub(crate) fn error_of(alloc: Global, fault: Fault) -> Result<YaccGrammarError, AllocError>
     ensures { IfOk result (λ error. error ≡ error_of fault) }
 {
-    let mut spans = Vec::new(alloc);
-    spans.push(fault.span)?;
-    Ok(YaccGrammarError::new(fault.kind.into(), spans))
+    YaccGrammarError::at(alloc, fault.kind.into(), fault.span)
 }

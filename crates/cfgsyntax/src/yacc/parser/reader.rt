@@ -61,8 +61,8 @@ pub(crate) struct Reader<'a> {
 }
 
 impl<'a> Reader<'a> {
-    ghost use Rattle.cfgsyntax.specs.Builds.{Builds, Grows, IsPartHere, IsTokenHere, word_view};
-    ghost use Rattle.cfgast.specs.View.{syntax, syntax_built, token_view};
+    ghost use Rattle.cfgsyntax.specs.Builds.{Builds, Grows, IsPartHere, IsTokenHere};
+    ghost use Rattle.cfgast.specs.View.{syntax, syntax_built, word_view, token_view};
     ghost use Rattle.cfgast.specs.Syntax.{syntax_of};
 
     /// At the front of the text, with nothing read.

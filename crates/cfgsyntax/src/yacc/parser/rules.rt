@@ -9,13 +9,14 @@ ghost use Rattle.cfgsyntax.specs.Grammar.{end_of, is_open, body_fault, symbol, a
 
 use super::reader::{ReadError, Reader};
 use crate::yacc::kind::YaccKind;
+use cfgast::{Body, RuleHead};
 use cfgbase::Span;
 use cfgwords::fault::FaultKind;
-use cfgwords::words::{Token, Word};
+use cfgwords::words::Token;
 
 impl<'a> Reader<'a> {
-    ghost use Rattle.cfgsyntax.specs.Builds.{Builds, word_view, tokens_view};
-    ghost use Rattle.cfgast.specs.View.{token_view};
+    ghost use Rattle.cfgsyntax.specs.Builds.{Builds, tokens_view};
+    ghost use Rattle.cfgast.specs.View.{token_view, head_view, body_view};
 
     /// The fault where a symbol, `|` or `;` must stand.
     fn body_fault(&self) -> ReadError
@@ -50,7 +51,7 @@ impl<'a> Reader<'a> {
             Some(token) => {
                 self.blank(true)?;
                 if token.quoted {
-                    self.tree.quote_token(self.alloc, token.name, token.span)?;
+                    self.tree.quote_token(self.alloc, token.word())?;
                 }
                 Ok(Some(token))
             }
@@ -87,18 +88,12 @@ impl<'a> Reader<'a> {
 
     /// Notes the production that ends here, and tells whether another one follows.
     #[tactic(auto, unfolding(crate::specs::Grammar::finish, cfgast::specs::Building::adds))]
-    fn finish(
-        &mut self,
-        rule: Word<'a>,
-        symbols: &[Token<'a>],
-        span: Span,
-    ) -> Result<bool, ReadError>
+    fn finish(&mut self, head: RuleHead<'a>, body: Body<'_, 'a>) -> Result<bool, ReadError>
         ensures { Builds goes_on self.old self.new result
-            (finish self.old.len (Alternative (word_view rule.entry) (map token_view symbols.now) span)) }
+            (finish self.old.len (Alternative (head_view head.entry) (body_view body.entry))) }
     {
         let follows = self.another()?;
-        self.tree
-            .add_production(self.alloc, rule.name, rule.span, symbols, span)?;
+        self.tree.add_production(self.alloc, head, body)?;
         self.blank(true)?;
         Ok(follows)
     }
@@ -116,20 +111,25 @@ impl<'a> Reader<'a> {
 
     /// Passes a production of the rule and what ends it, and tells whether another one follows.
     #[tactic(auto, unfolding(crate::specs::Grammar::production, cfgast::specs::Building::adds))]
-    fn production(&mut self, rule: Word<'a>) -> Result<bool, ReadError>
-        ensures { Builds goes_on self.old self.new result (production self.old.len (word_view rule.entry)) }
+    fn production(&mut self, head: RuleHead<'a>) -> Result<bool, ReadError>
+        ensures { Builds goes_on self.old self.new result (production self.old.len (head_view head.entry)) }
     {
         let start = self.place();
         let symbols = self.symbols()?;
-        let span = self.span_of(start, &symbols);
-        self.finish(rule, &symbols, span)
+        let body = Body {
+            symbols: &symbols,
+            precedence: None,
+            action: None,
+            span: self.span_of(start, &symbols),
+        };
+        self.finish(head, body)
     }
 
     /// Passes the productions of a rule.
-    fn productions(&mut self, rule: Word<'a>) -> Result<(), ReadError>
-        ensures { Builds (λ x. x) self.old self.new result (repeat (production self.old.len (word_view rule.entry))) }
+    fn productions(&mut self, head: RuleHead<'a>) -> Result<(), ReadError>
+        ensures { Builds (λ x. x) self.old self.new result (repeat (production self.old.len (head_view head.entry))) }
     {
-        while self.production(rule)? {}
+        while self.production(head)? {}
         Ok(())
     }
 
@@ -138,12 +138,15 @@ impl<'a> Reader<'a> {
     fn rule(&mut self) -> Result<(), ReadError>
         ensures { Builds (λ x. x) self.old self.new result (rule self.old.len) }
     {
-        let name = self.name()?;
-        self.tree.name_rule(self.alloc, name.name, name.span)?;
+        let head = RuleHead {
+            name: self.name()?,
+            action_type: None,
+        };
+        self.tree.name_rule(self.alloc, head)?;
         self.blank(true)?;
         self.colon()?;
         self.blank(true)?;
-        self.productions(name)
+        self.productions(head)
     }
 
     /// Whether the text goes on here.

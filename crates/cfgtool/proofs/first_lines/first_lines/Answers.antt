@@ -1,12 +1,12 @@
-use Rattle.std.proofs.Common.{◌≡◌, ◌+◌, ◌++◌, take, string_bytes, sym, ap, ◌∙◌, arith}
+use Rattle.std.proofs.Common.{◌≡◌, ◌+◌, ◌++◌, take, sym, ap, ◌∙◌, arith}
 use Rattle.std.specs.List.{flat_map, enumerate_from}
 use Rattle.std.proofs.lemmas.List.FromFn.{length-enumerate_from}
 use Rattle.cfganalysis.specs.Firsts.{epsilon_bit}
 use Rattle.cfganalysis.specs.Table.{bit}
 use Rattle.cfgrammar.specs.Counting.{Left}
-use Rattle.cfgrammar.proofs.Turns.{all_taken}
+use Rattle.std.proofs.lemmas.List.{take_all}
 use Rattle.cfgtool.specs.FirstLines.{first_line}
-use Rattle.cfgtool.proofs.Told.{one_more_shown}
+use Rattle.lemmas.proofs.Taken.{one_more_shown}
 use Rattle.cfgtool.proofs.first_lines.first_lines.Goals as goal
 
 pub write_line-requires : goal.write_line-requires
@@ -41,4 +41,4 @@ returns c =
     let before = c.loop-ridx.invariant in
     let (over, _) = c.in-None.ensures.steps in
     before.told ∙ ap (flat_map (first_line c.args.grammar.now (bit firsts.firsts) (epsilon_bit firsts)))
-    (all_taken counted c.loop-ridx.ridx-iterator.next (omega (arith, over, before.all, length-enumerate_from 0 c.args.grammar.now.rules)))
+    (take_all c.loop-ridx.ridx-iterator.next counted (omega (arith, over, before.all, length-enumerate_from 0 c.args.grammar.now.rules)))

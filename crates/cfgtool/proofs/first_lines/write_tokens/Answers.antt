@@ -3,10 +3,9 @@ use Rattle.std.specs.List.{flat_map, enumerate_from}
 use Rattle.std.proofs.lemmas.List.FromFn.{length-enumerate_from}
 use Rattle.cfganalysis.specs.Table.{bit}
 use Rattle.cfgrammar.specs.Counting.{Left}
-use Rattle.cfgrammar.specs.Shown.{token_at}
-use Rattle.cfgrammar.proofs.Turns.{all_taken}
+use Rattle.std.proofs.lemmas.List.{take_all}
 use Rattle.cfgtool.specs.FirstLines.{token_word}
-use Rattle.cfgtool.proofs.Told.{one_more_shown}
+use Rattle.lemmas.proofs.Taken.{one_more_shown}
 use Rattle.cfgtool.proofs.first_lines.write_tokens.Goals as goal
 
 pub loop-tidx-init : goal.loop-tidx-init
@@ -53,4 +52,4 @@ returns c =
     let before = c.loop-tidx.invariant in
     let (over, _) = c.in-None.ensures.steps in
     before.told ∙ ap (λ t. string_bytes c.args.lines.now ++ flat_map word t)
-    (all_taken counted c.loop-tidx.tidx-iterator.next (omega (arith, over, before.all, length-enumerate_from 0 c.args.grammar.now.tokens)))
+    (take_all c.loop-tidx.tidx-iterator.next counted (omega (arith, over, before.all, length-enumerate_from 0 c.args.grammar.now.tokens)))

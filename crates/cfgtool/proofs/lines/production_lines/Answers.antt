@@ -4,7 +4,7 @@ use Rattle.std.specs.Fmt.{decimal}
 use Rattle.std.proofs.lemmas.List.FromFn.{length-enumerate_from}
 use Rattle.cfgrammar.specs.Counting.{Left}
 use Rattle.cfgrammar.specs.Shown.{production_at, production_text}
-use Rattle.cfgrammar.proofs.Turns.{all_taken}
+use Rattle.std.proofs.lemmas.List.{take_all}
 use Rattle.cfgtool.specs.Report.{production_line}
 use Rattle.cfgtool.proofs.Told.{one_more_production}
 use Rattle.cfgtool.proofs.lines.production_lines.Goals as goal
@@ -36,4 +36,4 @@ returns c =
     let counted = enumerate_from 0 g.productions in
     let before = c.loop-pidx.invariant in
     let (over, _) = c.in-None.ensures.steps in
-    before.told ∙ ap (flat_map (production_line g)) (all_taken counted c.loop-pidx.pidx-iterator.next (omega (arith, over, before.all, length-enumerate_from 0 g.productions)))
+    before.told ∙ ap (flat_map (production_line g)) (take_all c.loop-pidx.pidx-iterator.next counted (omega (arith, over, before.all, length-enumerate_from 0 g.productions)))

@@ -1,14 +1,15 @@
 use Rattle.std.proofs.Common.{arith, ◌≡◌, ℕ, List, ◌-◌, take, length, drop, get_or, sym, ◌∙◌, length-drop}
 use Rattle.std.specs.List.{prefix_len}
+use Rattle.std.proofs.lemmas.List.{take_rest}
 use Rattle.std.proofs.lemmas.List.Sums.{prefix_len-le-length}
 use Rattle.cfgwords.specs.Words.{is_inside}
-use Rattle.cfgwords.proofs.Quoted.{behind_two, quoted_short, quoted_other, quoted_line, quoted_open, quoted_other_end, quoted_found}
+use Rattle.cfgwords.proofs.Quoted.{quoted_short, quoted_other, quoted_line, quoted_open, quoted_other_end, quoted_found}
 use Rattle.cfgwords.proofs.words.quoted_len.Goals as goal
 use Rattle.cfgwords.proofs.words.quoted_len.Goals.{then-bytes-lt2-via-then-bytes-lt2, then-bytes-lt2-via-else-bytes-lt2+then-not-holds, then-bytes-lt2-via-else-bytes-lt2+else-not-holds+then-bytes-eq10, else-len-bytes-via-then-len-bytes+else-bytes-len, else-len-bytes-via-else-len-bytes}
 
 inside_is : (text : List ℕ) (n : ℕ) → n ≡ prefix_len (is_inside (get_or text 0 0)) (take (length text - 2) (drop 2 text))
     → n ≡ prefix_len (is_inside (get_or text 0 0)) (drop 2 text)
-inside_is text n e = rw behind_two at e
+inside_is text n e = rw take_rest at e
 
 pub returns-then-bytes-lt2 : goal.returns-then-bytes-lt2
 returns-then-bytes-lt2 c = elim c.then-bytes-lt2.branch [

@@ -1,9 +1,9 @@
 use Rattle.std.proofs.Common.{◌≡◌, Option, Some, None, option_map, bytes_eq, string_bytes, refl, sym, ap, ◌∙◌}
 use Rattle.std.specs.Borrow.{Bor}
 use Rattle.std.specs.Option.{option_copied}
+use Rattle.lemmas.proofs.Lookups.{lookup-map}
 use Rattle.cfgast.specs.View.{syntax, rule_view}
 use Rattle.cfgast.specs.declared.rule.Rule.{Rule}
-use Rattle.cfgast.proofs.Views.{lookup-map}
 use Rattle.cfgast.proofs.ast.GrammarAST.get_rule.Goals as goal
 
 behind : (found : Option (Bor Rule)) → option_map (λ (rule : Bor Rule). rule_view rule.now) found ≡ option_map rule_view (option_copied found)

@@ -1,9 +1,9 @@
 use Rattle.std.proofs.Common.{ℕ, false, ◌==◌, Option, bytes_eq, string_bytes, sym, ap, ◌∙◌}
 use Rattle.std.specs.List.{list_any}
 use Rattle.std.specs.Option.{option_map_or}
+use Rattle.lemmas.proofs.Places.{position-map}
 use Rattle.cfgast.specs.Building.{is_declared}
 use Rattle.cfgast.specs.View.{syntax, syntax_built}
-use Rattle.cfgast.proofs.Views.{position-map}
 use Rattle.cfgast.proofs.builder.AstBuilder.is_declared.Goals as goal
 
 pub returns-in-Some : goal.returns-in-Some

@@ -1,7 +1,8 @@
 use Rattle.std.proofs.Common.{◌≡◌, map, take}
-use Rattle.cfgast.specs.Building.{symbol_in}
+use Rattle.cfgast.specs.Syntax.{symbol_of}
+use Rattle.cfgast.specs.Building.{is_declared}
 use Rattle.cfgast.specs.View.{syntax_built, symbol_view, token_view}
 use Rattle.cfgast.proofs.builder.AstBuilder.symbols_of.Given as goal
 
 abbrev pub invariant-loop-symbol : goal.invariant-loop-symbol
-invariant-loop-symbol l = map symbol_view l.symbols.items ≡ map (symbol_in (syntax_built l.self)) (map token_view (take l.symbol-index l.body))
+invariant-loop-symbol l = map symbol_view l.symbols.items ≡ map (symbol_of (is_declared (syntax_built l.self))) (map token_view (take l.symbol-index l.body))

@@ -2,7 +2,7 @@ use Rattle.std.proofs.Common.{if◌then◌else◌, Some, None, [], ◌∷◌, �
 use Rattle.std.proofs.lemmas.List.{map-append}
 use Rattle.std.specs.Map.Iter.{deref_pair}
 use Rattle.cfgmarks.specs.Marks.{missing_key}
-use Rattle.cfgmarks.proofs.MarkLists.{given_step, picked, passed_over}
+use Rattle.lemmas.proofs.Growing.{given_step, picked, passed_over}
 use Rattle.cfgmarks.proofs.markmap.MarkMap.missing.Goals as goal
 
 pub loop-key-preserved-in-Continue-1 : goal.loop-key-preserved-in-Continue-1

@@ -1,7 +1,8 @@
 use Rattle.std.proofs.Common.{if◌then◌else◌, Some, None, sym, ap, ◌∙◌}
 use Rattle.std.specs.Map.Iter.{deref_pair}
 use Rattle.cfgmarks.specs.Marks.{unused_key}
-use Rattle.cfgmarks.proofs.MarkLists.{given_step, picked, passed_over, AllZip-push}
+use Rattle.lemmas.proofs.Growing.{given_step, picked, passed_over}
+use Rattle.std.proofs.lemmas.List.Elements.{AllZip-push}
 use Rattle.cfgmarks.proofs.markmap.MarkMap.unused.Goals as goal
 
 pub loop-key-preserved-in_ok-push : goal.loop-key-preserved-in_ok-push

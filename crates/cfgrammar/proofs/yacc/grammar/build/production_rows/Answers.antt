@@ -1,23 +1,43 @@
-use Rattle.std.proofs.Common.{◌<◌, ◌∷◌, ◌++◌, [], length, map, take, arith, ap, ◌∙◌}
-use Rattle.std.specs.List.{enumerate_from}
-use Rattle.std.proofs.lemmas.List.{map-append}
+use Rattle.std.proofs.Common.{ℕ, ◌<◌, ◌∷◌, ◌++◌, [], length, map, ap, ◌∙◌}
+use Rattle.std.specs.Iterator.Adapters.{zip_first, zip_second}
+use Rattle.std.specs.Slice.Iter.{iter_rest}
+use Rattle.std.proofs.lemmas.Iterator.Consumers.{YieldsList-end}
+use Rattle.cfgast.specs.Syntax.{Production}
 use Rattle.cfgast.specs.View.{syntax}
-use Rattle.cfgast.specs.View as tree
 use Rattle.cfgrammar.specs.Numbered.{file_production}
+use Rattle.cfgrammar.specs.Resolved.{Resolves}
 use Rattle.cfgrammar.specs.View.{production_view}
-use Rattle.cfgrammar.proofs.Owners.{no_production}
-use Rattle.cfgrammar.proofs.Turns.{as_long, more_counted}
+use Rattle.lemmas.proofs.Roads.{item_holds, more_shown, pushed_shown}
+use Rattle.cfgrammar.proofs.Rows.{production_seen, productions_road}
+use Rattle.lemmas.proofs.Zips.{All-zip}
 use Rattle.cfgrammar.proofs.yacc.grammar.build.production_rows.Goals as goal
 
-pub loop-place-preserved : goal.loop-place-preserved
-loop-place-preserved g c =
+pub production_row-requires : goal.production_row-requires
+production_row-requires g c =
     let s = syntax c.args.ast.now in
-    let shown = production_view g.S.Storage.number in
-    let row = c.in_ok-production_row.field-0 in
-    let place = c.loop-place.place in
-    let within : place < length s.productions = omega (arith, c.loop-place-test.true, as_long tree.production_view c.prods-place-end.result.now s.productions c.prods-place-end.ensures) in
-    ap (map shown) c.in_ok-push.ensures.items
-    ∙ map-append shown c.loop-place.rows.items (row ∷ [])
-    ∙ ap (λ rows. rows ++ shown row ∷ []) c.loop-place.invariant
-    ∙ ap (λ last. map (file_production s) (enumerate_from 0 (take place s.productions)) ++ last ∷ []) (c.in_ok-production_row.ensures no_production)
-    ∙ more_counted (file_production s) s.productions place no_production within
+    let from = c.into_iter-rule-iterator.ensures.into_iter_gives in
+    let road = productions_road s c.into_iter-rule-iterator.result c.prods.result.now c.prods.ensures
+    (ap (λ it. iter_rest (zip_first it)) from ∙ ap iter_rest c.zip-rule-items.ensures.first ∙ c.iter.ensures.rest ∙ c.prods_rules.ensures)
+    (ap (λ it. iter_rest (zip_second it)) from ∙ c.zip-rule-items.ensures.second.0) in
+    let known = item_holds road c.loop-rule.yielded c.loop-rule.rule-iterator c.loop-rule.yielded_by _ c.next.new.self (c.in-Some.rule, c.in-Some.production) c.in-Some.is c.next.ensures.steps
+    (λ (pair : ℕ × Production). (pair.0 < length s.rules) × Resolves s pair.1)
+    (All-zip (λ r. r < length s.rules) (Resolves s) s.production_rules s.productions c.requires.sound.well_formed.production_rules_within c.requires.resolved.symbols) in
+    record { rule = known.0; resolved = known.1; room = c.requires.room }
+
+pub loop-rule-preserved : goal.loop-rule-preserved
+loop-rule-preserved g c =
+    pushed_shown (production_view g.S.Storage.number) c.loop-rule.rows.items c.push.new.self.items c.in_ok-production_row.field-0 c.in_ok-push.ensures.items
+    ∙ (λ i. c.loop-rule.invariant i ++ c.in_ok-production_row.ensures i ∷ [])
+    ∙ more_shown (file_production (syntax c.args.ast.now)) production_seen c.loop-rule.yielded (c.in-Some.rule, c.in-Some.production)
+
+pub returns : goal.returns
+returns g c =
+    let s = syntax c.args.ast.now in
+    let from = c.into_iter-rule-iterator.ensures.into_iter_gives in
+    let road = productions_road s c.into_iter-rule-iterator.result c.prods.result.now c.prods.ensures
+    (ap (λ it. iter_rest (zip_first it)) from ∙ ap iter_rest c.zip-rule-items.ensures.first ∙ c.iter.ensures.rest ∙ c.prods_rules.ensures)
+    (ap (λ it. iter_rest (zip_second it)) from ∙ c.zip-rule-items.ensures.second.0) in
+    let all = YieldsList-end road c.loop-rule.yielded c.loop-rule.rule-iterator c.loop-rule.yielded_by _ c.next.new.self c.in-None.is c.next.ensures.steps in
+    let rows_are = c.loop-rule.invariant ∙ ap (map (file_production s)) all.0 in
+    pushed_shown (production_view g.S.Storage.number) c.loop-rule.rows.items c.push-2.new.self.items c.in_ok-start_production_row.field-0 c.in_ok-push-2.ensures.items
+    ∙ (λ i. rows_are i ++ c.in_ok-start_production_row.ensures i ∷ [])

@@ -1,20 +1,41 @@
-use Rattle.std.proofs.Common.{◌<◌, ◌∷◌, ◌++◌, [], length, get_or, arith, ap, ◌∙◌}
-use Rattle.cfgast.specs.View.{syntax, rule_entry}
-use Rattle.cfgrammar.specs.Numbered.{start_rule, file_rule}
-use Rattle.cfgrammar.proofs.Owners.{none}
-use Rattle.cfgrammar.proofs.Rows.{rule_is_new}
-use Rattle.cfgrammar.proofs.Turns.{as_long, more_shown}
+use Rattle.std.proofs.Common.{ℕ, List, ◌∷◌, ◌++◌, [], ◌<◌, length, map, All, arith, ap, ◌∙◌}
+use Rattle.std.specs.List.{list_any}
+use Rattle.std.specs.Str.{bytes_eq}
+use Rattle.std.proofs.lemmas.Iterator.Consumers.{YieldsList-end}
+use Rattle.cfgast.specs.Syntax.{Rule}
+use Rattle.cfgast.specs.View.{syntax, rule_view as plain_rule}
+use Rattle.cfgrammar.specs.Numbered.{start_name, start_rule, file_rule}
+use Rattle.cfgrammar.proofs.Places.{listed_within}
+use Rattle.lemmas.proofs.Roads.{item_holds, more_shown, name_is_new}
+use Rattle.cfgrammar.proofs.Rows.{rule_names-distinct, rule_names_shown, rule_seen, rules_road}
 use Rattle.cfgrammar.proofs.yacc.grammar.build.rule_rows.Goals as goal
 
 pub put_rule-requires-clause-new : goal.put_rule-requires-clause-new
-put_rule-requires-clause-new g c = λ d.
+put_rule-requires-clause-new g c =
     let s = syntax c.args.ast.now in
-    let within : c.loop-place.place < length s.rules = omega (arith, c.loop-place-test.true, c.len-place-end.ensures.len, as_long rule_entry c.rules.result.now.entries s.rules c.rules.ensures) in
-    rule_is_new g.S.Storage.number s c.requires.sound c.loop-place.rows.entries c.loop-place.place d within c.loop-place.invariant
+    let road = rules_road s c.rules-name-items.result.now.entries c.rules-name-items.ensures c.into_iter-name-iterator.ensures.into_iter_gives.0 in
+    let names_are = rule_names_shown g.S.Storage.number s c.loop-name.rows.entries (map rule_seen c.loop-name.yielded) c.loop-name.invariant in
+    (λ i. list_any (bytes_eq (c.as_str.ensures.value i)) (names_are i))
+    ∙ name_is_new road c.loop-name.yielded _ c.loop-name.yielded_by _ _ (c.in-Some.name, c.in-Some.rule) c.in-Some.is c.next.ensures.steps
+    (start_name ∷ []) (λ (rule : List ℕ × Rule). rule.0) (rule_names-distinct s c.requires.sound)
 
-pub loop-place-preserved : goal.loop-place-preserved
-loop-place-preserved g c =
+pub put_rule-requires-clause-places : goal.put_rule-requires-clause-places
+put_rule-requires-clause-places g c =
     let s = syntax c.args.ast.now in
-    let within : c.loop-place.place < length s.rules = omega (arith, c.loop-place-test.true, c.len-place-end.ensures.len, as_long rule_entry c.rules.result.now.entries s.rules c.rules.ensures) in
-    c.in_ok-put_rule.ensures none ∙ ap (λ rows. rows ++ file_rule (get_or s.rules c.loop-place.place none) ∷ []) c.loop-place.invariant
-    ∙ ap (λ rows. start_rule s ∷ rows) (more_shown file_rule s.rules c.loop-place.place none within)
+    let road = rules_road s c.rules-name-items.result.now.entries c.rules-name-items.ensures c.into_iter-name-iterator.ensures.into_iter_gives.0 in
+    let within = item_holds road c.loop-name.yielded _ c.loop-name.yielded_by _ _ (c.in-Some.name, c.in-Some.rule) c.in-Some.is c.next.ensures.steps
+    (λ (rule : List ℕ × Rule). All (λ place. place < length s.productions) rule.1.productions) (listed_within s c.requires.sound.well_formed) in
+    λ k d there. omega (arith, within k d there, c.requires.room.productions)
+
+pub loop-name-preserved : goal.loop-name-preserved
+loop-name-preserved g c =
+    c.in_ok-put_rule.ensures
+    ∙ (λ i. c.loop-name.invariant i ++ file_rule (c.as_str.ensures.value i, plain_rule c.in-Some.rule.now) ∷ [])
+    ∙ ap (λ rules. start_rule (syntax c.args.ast.now) ∷ rules) (more_shown file_rule rule_seen c.loop-name.yielded (c.in-Some.name, c.in-Some.rule))
+
+pub returns : goal.returns
+returns g c =
+    let s = syntax c.args.ast.now in
+    let road = rules_road s c.rules-name-items.result.now.entries c.rules-name-items.ensures c.into_iter-name-iterator.ensures.into_iter_gives.0 in
+    c.loop-name.invariant
+    ∙ ap (λ rules. start_rule s ∷ map file_rule rules) (YieldsList-end road c.loop-name.yielded _ c.loop-name.yielded_by _ _ c.in-None.is c.next.ensures.steps).0

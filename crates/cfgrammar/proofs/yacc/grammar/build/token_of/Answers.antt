@@ -1,6 +1,7 @@
 use Rattle.std.proofs.Common.{sym, ap, ◌∙◌, is_some}
+use Rattle.std.proofs.lemmas.Option.{same_Some}
 use Rattle.cfgast.specs.View.{syntax}
-use Rattle.cfgrammar.proofs.Lookups.{token_place, same_some}
+use Rattle.cfgrammar.proofs.Lookups.{token_place}
 use Rattle.cfgrammar.proofs.yacc.grammar.build.token_of.Goals as goal
 
 pub unwrap-place-requires : goal.unwrap-place-requires
@@ -9,5 +10,5 @@ unwrap-place-requires g c = ap is_some (c.get_index_of.ensures.index ∙ token_p
 pub returns : goal.returns
 returns g c =
     c.stored.ensures
-    ∙ same_some (sym c.unwrap-place.ensures ∙ c.get_index_of.ensures.index
+    ∙ same_Some _ _ (sym c.unwrap-place.ensures ∙ c.get_index_of.ensures.index
     ∙ token_place c.args.name.now (syntax c.args.ast.now) c.tokens.result.now.keys c.tokens.ensures c.requires.known)

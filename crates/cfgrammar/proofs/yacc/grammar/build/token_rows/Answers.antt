@@ -1,31 +1,39 @@
-use Rattle.std.proofs.Common.{◌<◌, ◌∷◌, ◌++◌, [], ℕ, List, length, map, get_or, string_bytes, arith, ap, ◌∙◌}
-use Rattle.std.specs.List.{zip}
+use Rattle.std.proofs.Common.{ℕ, List, ◌∷◌, ◌++◌, [], map, sym, ap, subst, ◌∙◌}
+use Rattle.std.specs.Iterator.Adapters.{zip_first, zip_second}
+use Rattle.std.specs.List.{list_any, IsDistinct}
+use Rattle.std.specs.Slice.Iter.{iter_rest}
+use Rattle.std.specs.Str.{bytes_eq}
+use Rattle.std.proofs.lemmas.Iterator.Consumers.{YieldsList-end}
+use Rattle.std.proofs.lemmas.Slice.Zip.{firsts-zip}
 use Rattle.cfgbase.specs.declared.span.Span.{Span}
 use Rattle.cfgast.specs.View.{syntax}
 use Rattle.cfgrammar.specs.Numbered.{file_token}
-use Rattle.cfgrammar.proofs.Rows.{token_is_new}
-use Rattle.cfgrammar.proofs.Turns.{all_taken, as_long, length-pairs, more_shown}
+use Rattle.lemmas.proofs.Roads.{more_shown, name_is_new}
+use Rattle.cfgrammar.proofs.Rows.{token_names_shown, token_seen, tokens_road}
 use Rattle.cfgrammar.proofs.yacc.grammar.build.token_rows.Goals as goal
 
-none : List ℕ × Span
-none = ([], record { start = 0; end = 0 })
-
-pub put_token-requires-clause-new : goal.put_token-requires-clause-new
-put_token-requires-clause-new c = λ d.
+pub put_token-requires : goal.put_token-requires
+put_token-requires c =
     let s = syntax c.args.ast.now in
-    let within : c.loop-place.place < length s.tokens = omega (arith, c.loop-place-test.true, c.len-place-end.ensures.len, as_long string_bytes c.tokens.result.now.keys s.tokens c.tokens.ensures) in
-    token_is_new s c.requires.sound c.loop-place.rows.entries c.loop-place.place d within c.loop-place.invariant
+    let from = c.into_iter-name-iterator.ensures.into_iter_gives in
+    let road = tokens_road s c.into_iter-name-iterator.result c.tokens.result.now.keys c.tokens.ensures (ap zip_first from ∙ c.zip-name-items.ensures.first ∙ c.iter.ensures.rest)
+    (ap (λ it. iter_rest (zip_second it)) from ∙ c.zip-name-items.ensures.second.0 ∙ c.spans.ensures) in
+    let distinct = subst (IsDistinct bytes_eq) (sym (firsts-zip s.tokens s.spans c.requires.sound.well_formed.spans_as_long)) c.requires.sound.well_formed.tokens_distinct in
+    let names_are = token_names_shown c.loop-name.rows.entries (map token_seen c.loop-name.yielded) c.loop-name.invariant in
+    (λ i. list_any (bytes_eq (c.as_str.ensures.value i)) (names_are i))
+    ∙ name_is_new road c.loop-name.yielded c.loop-name.name-iterator c.loop-name.yielded_by _ c.next.new.self (c.in-Some.name, c.in-Some.span) c.in-Some.is c.next.ensures.steps
+    [] (λ (token : List ℕ × Span). token.0) distinct
 
-pub loop-place-preserved : goal.loop-place-preserved
-loop-place-preserved c =
-    let s = syntax c.args.ast.now in
-    let within : c.loop-place.place < length (zip s.tokens s.spans) =
-    omega (arith, c.loop-place-test.true, c.len-place-end.ensures.len, as_long string_bytes c.tokens.result.now.keys s.tokens c.tokens.ensures, length-pairs s.tokens s.spans c.requires.sound.well_formed.spans_as_long) in
-    c.in_ok-put_token.ensures none ∙ ap (λ rows. rows ++ file_token (get_or (zip s.tokens s.spans) c.loop-place.place none) ∷ []) c.loop-place.invariant
-    ∙ more_shown file_token (zip s.tokens s.spans) c.loop-place.place none within
+pub loop-name-preserved : goal.loop-name-preserved
+loop-name-preserved c =
+    c.in_ok-put_token.ensures
+    ∙ (λ i. c.loop-name.invariant i ++ file_token (c.as_str.ensures.value i, c.in-Some.span.now) ∷ [])
+    ∙ more_shown file_token token_seen c.loop-name.yielded (c.in-Some.name, c.in-Some.span)
 
 pub returns : goal.returns
 returns c =
     let s = syntax c.args.ast.now in
-    c.loop-place.invariant ∙ ap (map file_token) (all_taken (zip s.tokens s.spans) c.loop-place.place
-    (omega (arith, c.loop-place-test.false, c.len-place-end.ensures.len, as_long string_bytes c.tokens.result.now.keys s.tokens c.tokens.ensures, length-pairs s.tokens s.spans c.requires.sound.well_formed.spans_as_long)))
+    let from = c.into_iter-name-iterator.ensures.into_iter_gives in
+    let road = tokens_road s c.into_iter-name-iterator.result c.tokens.result.now.keys c.tokens.ensures (ap zip_first from ∙ c.zip-name-items.ensures.first ∙ c.iter.ensures.rest)
+    (ap (λ it. iter_rest (zip_second it)) from ∙ c.zip-name-items.ensures.second.0 ∙ c.spans.ensures) in
+    c.loop-name.invariant ∙ ap (map file_token) (YieldsList-end road c.loop-name.yielded c.loop-name.name-iterator c.loop-name.yielded_by _ c.next.new.self c.in-None.is c.next.ensures.steps).0

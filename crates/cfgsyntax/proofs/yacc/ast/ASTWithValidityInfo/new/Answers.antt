@@ -2,9 +2,9 @@ use Rattle.std.proofs.Common.{All, sym, subst}
 use Rattle.cfgsyntax.specs.Check.{check_of}
 use Rattle.cfgast.specs.WellFormed.{IsWellFormed}
 use Rattle.cfgast.proofs.WellFormedLemmas.{syntax_of-IsWellFormed}
-use Rattle.cfgsyntax.proofs.NamesRead.{begins_as_name, rules_are_names}
+use Rattle.cfgwords.proofs.NameStarts.{begins_as_name}
 use Rattle.cfgsyntax.specs.Places.{AreAtPlaces}
-use Rattle.cfgsyntax.proofs.ErrorPlaces.{IsErrorAt, read_syntax_at, read_errors_at}
+use Rattle.cfgsyntax.proofs.ErrorPlaces.{IsErrorAt, read_syntax_at, read_names, read_errors_at}
 use Rattle.cfgsyntax.proofs.SoundLemmas.{of_reading, checked, errors_read}
 use Rattle.cfgsyntax.proofs.yacc.ast.ASTWithValidityInfo.new.Goals as goal
 
@@ -30,7 +30,7 @@ pub invariant_of-result : goal.invariant_of-result
 invariant_of-result c =
     let read = of_reading c.args.kind c.args.text.now _ (λ s. IsWellFormed s × All (λ rule. begins_as_name rule.0) s.rules)
     c.in_ok-ast.ensures.one (λ items stop reads. (c.in_ok-ast.ensures.read items stop reads).0)
-    (λ items stop reads. (syntax_of-IsWellFormed items, rules_are_names c.args.kind c.args.text.now items stop reads)) in
+    (λ items stop reads. (syntax_of-IsWellFormed items, read_names c.args.kind c.args.text.now c.utf8.text items stop reads)) in
     record {
       well_formed = read.0;
       rules_are_names = read.1;

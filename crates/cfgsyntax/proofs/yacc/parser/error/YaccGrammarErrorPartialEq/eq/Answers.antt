@@ -9,4 +9,4 @@ returns-then-eq c =
     let value =
     c.eq-then-eq.ensures ∙ ap (λ (b : Bool). b && same_spans c.self.inside.spans.items c.other.inside.spans.items) (sym same)
     in
-    rw (← c.self.view_is, ← c.other.view_is) (record { value = value; same = rw value (same_error_iff _ _) })
+    rw (← c.self.view_is, ← c.other.view_is) (record { value = value; same = rw value (same_error_iff c.self.inside.kind c.other.inside.kind c.self.inside.spans.items c.other.inside.spans.items) })

@@ -1,10 +1,10 @@
 use Rattle.std.proofs.Common.{length}
 use Rattle.cfgsyntax.specs.Grammar.{declaration}
-use Rattle.cfgsyntax.proofs.Loops.{KeepsOn}
+use Rattle.cfgsyntax.proofs.Loops.{Gathers}
 use Rattle.cfgsyntax.proofs.yacc.parser.reader.Reader.declaration_list.Given as goal
 
 abbrev pub invariant-loop : goal.invariant-loop
-invariant-loop l = KeepsOn declaration l.fn.self l.self
+invariant-loop l = Gathers declaration l.fn.self l.self
 
 abbrev pub decreases-loop : goal.decreases-loop
 decreases-loop l = length l.self.rest.now

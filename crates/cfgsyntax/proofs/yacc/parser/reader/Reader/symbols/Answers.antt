@@ -1,4 +1,4 @@
-use Rattle.std.proofs.Common.{ap, arith, option_map, refl}
+use Rattle.std.proofs.Common.{ap, arith, option_map}
 use Rattle.std.proofs.lemmas.Result.{err_from_is_err_and}
 use Rattle.cfgast.specs.View.{token_view}
 use Rattle.reading.proofs.Agree.{leaves}
@@ -27,7 +27,7 @@ returns-in_err-symbol-clause-read c =
 
 pub returns-clause-read : goal.returns-clause-read
 returns-clause-read c = many_done c.loop-symbols.invariant.gathers c.symbol.new.self (option_map token_view) c.in_ok-symbol.field-0 c.in_ok-symbol.ensures.read
-    tokens_view c.loop-symbols.symbols refl (ap (option_map token_view) c.in_default.is)
+    tokens_view c.loop-symbols.symbols c.loop-symbols.invariant.values (ap (option_map token_view) c.in_default.is)
 
 pub returns-clause-shorter : goal.returns-clause-shorter
 returns-clause-shorter c = omega (arith, c.loop-symbols.invariant.shorter, (leaves (symbol c.loop-symbols.self.len)).least c.loop-symbols.self.rest.now _ _ c.in_ok-symbol.ensures.read.0)

@@ -1,24 +1,20 @@
--- Whatever is read stands between places of the text.
-use Rattle.std.proofs.Common.{◌≡◌, ℕ, ◌+◌, ◌-◌, ◌≤◌, Bool, true, false, List, ◌∷◌, ◌++◌, length, All, slice_get, Option, Some, None, refl, ap, subst, arith, length-append, ltb-true, MatchBool, if◌then◌else◌}
-use Rattle.std.specs.Option.{option_map_or}
+-- Words stand between places of the text.
+use Rattle.std.proofs.Common.{◌≡◌, ℕ, ◌+◌, ◌≤◌, Bool, true, false, List, ◌∷◌, ◌++◌, length, Result, refl, ap, subst, arith, length-append, ltb-true, MatchBool, if◌then◌else◌}
+use Rattle.std.specs.List.{list_all}
+use Rattle.std.specs.Prelude.{nat_lt}
 use Rattle.std.specs.Str.{IsUtf8, IsCharBoundary}
-use Rattle.std.proofs.lemmas.Option.{slice_get_within, get_or_from_slice_get}
-use Rattle.cfgwords.specs.Text.{place, span_of}
+use Rattle.reading.proofs.Yields.{EndsIn}
+use Rattle.cfgwords.specs.declared.fault.Fault.{Fault}
+use Rattle.cfgwords.specs.declared.fault.FaultKind.{FaultKind}
+use Rattle.cfgwords.specs.Blank.{Blank}
+use Rattle.cfgwords.specs.Text.{place, span_of, fault_at}
 use Rattle.cfgwords.specs.Words.{TokenText, Token, IsName, IsIdentifier, IsQuoted, IsToken, word_at, token_at, word_of}
 use Rattle.cfgwords.proofs.Cuts.{IsCut, cut_here, cut_on, cut_same, cut_word, name_cut, identifier_cut, opened_cut, inside_cut, closed_cut, place_cut, boundary_cut}
 use Rattle.cfgwords.proofs.BlankCuts.{blank_ends_at}
-use Rattle.cfgast.specs.Items.{Item, TokenDeclared, StartDeclared, RuleNamed, TokenQuoted, Alternative}
-use Rattle.cfgsyntax.specs.Grammar.{end_of}
-use Rattle.cfgsyntax.specs.Places.{IsPiece, IsWordAt}
-use Rattle.cfgsyntax.proofs.Kept.{IsKept}
+use Rattle.cfgwords.specs.Places.{IsPiece, IsWordAt}
 
--- an item's spans are pieces of the text
-abbrev pub IsItemAt : List ℕ → Item → Type 0
-IsItemAt whole (TokenDeclared word) = IsWordAt whole word
-IsItemAt whole (StartDeclared word) = IsWordAt whole word
-IsItemAt whole (RuleNamed word) = IsWordAt whole word
-IsItemAt whole (TokenQuoted word) = IsWordAt whole word
-IsItemAt whole (Alternative rule symbols span) = IsWordAt whole rule × All (λ token. IsWordAt whole (word_of token)) symbols × IsPiece whole span
+abbrev pub is_ascii_word : List ℕ → Bool
+is_ascii_word word = list_all (λ b. nat_lt b 128) word
 
 -- two places of the text, one behind the other
 pub record IsReached (whole from text : List ℕ) : Type 0 where
@@ -32,7 +28,7 @@ pub record IsTokenBehind (whole from : List ℕ) (token : Token) : Type 0 where
   pub ends_at : IsCharBoundary whole token.end
 
 module _ (whole : List ℕ) (utf8 : IsUtf8 whole) where
-  reached : (from text : List ℕ) → IsReached whole from text → IsCut whole text
+  pub reached : (from text : List ℕ) → IsReached whole from text → IsCut whole text
   reached from text t = cut_on whole from text t.origin t.further
 
   goes_on : (from text rest : List ℕ) → IsReached whole from text → IsCut text rest → IsReached whole from rest
@@ -49,7 +45,7 @@ module _ (whole : List ℕ) (utf8 : IsUtf8 whole) where
       at : place (length whole) rest ≡ place (length whole) text + length word
       at = omega (arith, place_cut whole text cut, ap length e, length-append word rest)
 
-  name_at : (from text word rest : List ℕ) → IsReached whole from text → IsName text word rest
+  pub name_at : (from text word rest : List ℕ) → IsReached whole from text → IsName text word rest
       → IsReached whole from rest × IsWordAt whole (word_at (length whole) text word rest)
   name_at from text word rest t is =
       let cut = name_cut text word rest is in
@@ -99,7 +95,7 @@ module _ (whole : List ℕ) (utf8 : IsUtf8 whole) where
       let cut = identifier_cut text word rest is in
       token_behind from text (record { name = word; quoted = false }) rest t cut (between text word rest (reached from text t) is.run.whole cut)
 
-  token_is_at : (from text : List ℕ) (token : TokenText) (rest : List ℕ) → IsReached whole from text → IsToken text token rest
+  pub token_is_at : (from text : List ℕ) (token : TokenText) (rest : List ℕ) → IsReached whole from text → IsToken text token rest
       → IsReached whole from rest × IsTokenBehind whole from (token_at (length whole) text token rest)
   token_is_at from text token rest t is = go token.quoted is
     where
@@ -108,43 +104,22 @@ module _ (whole : List ℕ) (utf8 : IsUtf8 whole) where
       go true is = quoted_at from text token.name rest t is
       go false is = identifier_at from text token.name rest t is
 
-  -- a production goes from where it begins to the end of its last symbol, or to here
-  production_at : (symbols : List Token) (from text : List ℕ) → IsReached whole from text → All (IsTokenBehind whole from) symbols
-      → IsPiece whole (record { start = place (length whole) from; end = end_of symbols (place (length whole) text) })
-  production_at symbols from text t each = go (slice_get symbols last) refl
-    where
-      last : ℕ
-      last = length symbols - 1
+  -- What the parts of constructs keep.
 
-      go : (o : Option Token) → slice_get symbols last ≡ o
-          → IsPiece whole (record { start = place (length whole) from; end = option_map_or (λ token. token.end) o (place (length whole) text) })
-      go None e = record {
-        ordered = omega (arith, place_cut from text t.further);
-        begins_at = boundary_cut whole from utf8 t.origin;
-        ends_at = boundary_cut whole text utf8 (reached from text t);
-      }
-      go (Some token) e =
-          let here = subst (IsTokenBehind whole from) (get_or_from_slice_get symbols last token token e) (each last token (slice_get_within symbols last token e)) in
-          record { ordered = here.behind; begins_at = boundary_cut whole from utf8 t.origin; ends_at = here.ends_at }
+  pub reached_here : (from text : List ℕ) → IsReached whole from text → IsReached whole text text
+  reached_here from text t = record { origin = reached from text t; further = cut_here text }
 
-  pub places_kept : IsKept (length whole) (IsReached whole) (IsItemAt whole) (λ fault. IsPiece whole fault.span) (IsWordAt whole) (IsTokenBehind whole)
-  places_kept = record {
-    here = λ from text t. record { origin = reached from text t; further = cut_here text };
-    on = λ from text rest t u. goes_on from text rest t u.further;
-    behind = λ word ascii from text rest t e.
-        goes_on from text rest t (cut_same text (word ++ rest) rest e (cut_word _ (λ b h. ltb-true b 128 h) word rest ascii));
-    blank = λ lines from. blank_ends_at (IsReached whole from) (λ fault. IsPiece whole fault.span) (length whole) lines (goes_on from) (λ kind text t. here_at from text t);
-    name = name_at;
-    token = token_is_at;
-    fault = λ kind from text t. here_at from text t;
-    declared = λ from token q. q.piece;
-    quoted = λ from token q. q.piece;
-    start = λ name n. n;
-    rule = λ name n. n;
-    alternative = λ rule symbols from text n t each. (n, λ k d h. (each k d h).piece, production_at symbols from text t each);
-  }
-    where
-      here_at : (from text : List ℕ) → IsReached whole from text → IsPiece whole (record { start = place (length whole) text; end = place (length whole) text })
-      here_at from text t =
-          let at = boundary_cut whole text utf8 (reached from text t) in
-          record { ordered = omega arith; begins_at = at; ends_at = at }
+  pub reached_on : (from text rest : List ℕ) → IsReached whole from text → IsReached whole text rest → IsReached whole from rest
+  reached_on from text rest t u = goes_on from text rest t u.further
+
+  pub word_passed : (word : List ℕ) → is_ascii_word word ≡ true → (from text rest : List ℕ) → IsReached whole from text → text ≡ word ++ rest → IsReached whole from rest
+  word_passed word ascii from text rest t e = goes_on from text rest t (cut_same text (word ++ rest) rest e (cut_word _ (λ b h. ltb-true b 128 h) word rest ascii))
+
+  pub fault_is_at : (kind : FaultKind) (from text : List ℕ) → IsReached whole from text → IsPiece whole (fault_at (length whole) kind text).span
+  fault_is_at kind from text t =
+      let at = boundary_cut whole text utf8 (reached from text t) in
+      record { ordered = omega arith; begins_at = at; ends_at = at }
+
+  pub blank_is_at : (lines : Bool) (from text : List ℕ) (o : Result (Unit {0} × List ℕ) Fault) → IsReached whole from text → Blank (length whole) lines text o
+      → EndsIn (IsReached whole from) (λ fault. IsPiece whole fault.span) (λ _. Unit {0}) o
+  blank_is_at lines from = blank_ends_at (IsReached whole from) (λ fault. IsPiece whole fault.span) (length whole) lines (goes_on from) (λ kind text t. fault_is_at kind from text t)

@@ -1,0 +1,24 @@
+-- A list of what is there, behind which stands one that isn't.
+use Rattle.std.proofs.Common.{◌≡◌, ℕ, zero, suc, List, [], ◌∷◌, ◌++◌, map, length, slice_get, Option, Some, None, refl, arith}
+
+module _ {A : Type 0} where
+  pub somes_same : (xs ys : List A) → map Some xs ≡ map Some ys → xs ≡ ys
+  somes_same [] [] e = refl
+  somes_same [] (y ∷ ys) e = let no : [] ≡ Some y ∷ map Some ys = e in cc
+  somes_same (x ∷ xs) [] e = let no : Some x ∷ map Some xs ≡ [] = e in cc
+  somes_same (x ∷ xs) (y ∷ ys) e =
+      let heads : x ≡ y = cc in
+      let tails : map Some xs ≡ map Some ys = cc in
+      λ i. heads i ∷ somes_same xs ys tails i
+
+  pub some_before_end : (xs : List A) (i : ℕ) (x : A) → slice_get (map Some xs ++ None ∷ []) i ≡ Some (Some x) → slice_get xs i ≡ Some x
+  some_before_end [] zero x at = let no : Some None ≡ Some (Some x) = at in cc
+  some_before_end [] (suc i) x at = let no : None ≡ Some (Some x) = at in cc
+  some_before_end (y ∷ xs) zero x at = let same : Some (Some y) ≡ Some (Some x) = at in cc
+  some_before_end (y ∷ xs) (suc i) x at = some_before_end xs i x at
+
+  pub none_at_end : (xs : List A) (i : ℕ) → slice_get (map Some xs ++ None ∷ []) i ≡ Some None → i ≡ length xs
+  none_at_end [] zero at = refl
+  none_at_end [] (suc i) at = let no : ◌≡◌ {A = Option (Option A)} None (Some None) = at in cc
+  none_at_end (x ∷ xs) zero at = let no : Some (Some x) ≡ Some None = at in cc
+  none_at_end (x ∷ xs) (suc i) at = omega (arith, none_at_end xs i at)

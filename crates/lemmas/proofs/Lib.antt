@@ -1,0 +1,17 @@
+pub mod Copies
+pub mod Counted
+pub mod Elements
+pub mod Ended
+pub mod Entries
+pub mod Fronts
+pub mod Growing
+pub mod Lookups
+pub mod Options
+pub mod Passing
+pub mod Places
+pub mod Pushed
+pub mod Roads
+pub mod Taken
+pub mod Tests
+pub mod Variants
+pub mod Zips
