@@ -12,7 +12,7 @@ use Rattle.derivation.proofs.Firsts.{vanishes_map, begins_map, closed_first, clo
 use Rattle.cfganalysis.specs.Table.{IsTable, bit}
 use Rattle.cfganalysis.specs.Firsts.{FirstSets, FitsGrammar, AreFirsts, SayFirsts, HaveFirstsOf, IsAmongFirsts, IsEpsilon, epsilon_bit, no_firsts, with_first, with_epsilon, vanishes, begins, vanishes_by, begins_by}
 use Rattle.cfganalysis.specs.Rounds.{IsSettled}
-use Rattle.cfganalysis.proofs.OneBit.{bit_in_columns, bit-with_bit, IsTable-with_bit, bit-blank, IsTable-blank}
+use Rattle.cfganalysis.proofs.OneBit.{bit_in_columns, bit-with_bit, IsTable-with_bit, bit-no_bits, IsTable-no_bits}
 
 -- the tests are the equations
 vanishes_true : (e : ℕ → Bool) (a : List Sym) → vanishes e a ≡ true → Vanishes (λ r. IsTrue (e r)) a
@@ -86,10 +86,10 @@ module _ (g : Grammar) (rule : ℕ) (symbols : List Sym) (x : FirstSets) (is : I
 pub say_none : (g : Grammar) (rules tokens : ℕ) → rules ≡ g.rules → tokens ≡ g.tokens → SayFirsts g (no_firsts rules tokens)
 say_none g rules tokens e h = record {
   fits = record {
-    table = subst (λ n. IsTable n g.tokens (no_firsts rules tokens).firsts) e (subst (λ n. IsTable rules n (no_firsts rules tokens).firsts) h (IsTable-blank rules tokens));
+    table = subst (λ n. IsTable n g.tokens (no_firsts rules tokens).firsts) e (subst (λ n. IsTable rules n (no_firsts rules tokens).firsts) h (IsTable-no_bits rules tokens));
     epsilons = length-replicate rules false ∙ e;
   };
-  first = λ r t on. absurd (true≢false (sym on ∙ bit-blank rules tokens r t));
+  first = λ r t on. absurd (true≢false (sym on ∙ bit-no_bits rules tokens r t));
   empty = λ r on. absurd (true≢false (sym on ∙ get_or-replicate_default rules r false));
 }
 

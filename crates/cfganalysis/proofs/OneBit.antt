@@ -4,7 +4,7 @@ use Rattle.std.proofs.lemmas.List.Sums.{sum_by-set}
 use Rattle.std.proofs.lemmas.List.Elements.{All-get_or, All-set, All-replicate}
 use Rattle.std.proofs.lemmas.List.{length-replicate}
 use Rattle.lemmas.proofs.Elements.{within_from_get_or, get_or-replicate_default, get_or-set}
-use Rattle.cfganalysis.specs.Table.{Table, IsTable, row_of, bit, blank, bits_on, count_of, with_bit}
+use Rattle.cfganalysis.specs.Table.{Table, IsTable, row_of, bit, no_bits, bits_on, count_of, with_bit}
 
 pub row_wide : (rows columns : ℕ) (x : Table) → IsTable rows columns x → (r : ℕ) → r < rows → length (row_of x r) ≡ columns
 row_wide rows columns x is r h = All-get_or (λ row. length row ≡ columns) x.rows r [] (subst (λ n. r < n) (sym is.height) h) is.all_wide
@@ -44,14 +44,14 @@ count_of-with_bit rows columns x r c is h k off =
     let e = sum_by-set bits_on x.rows r (slice_set (row_of x r) c true) [] (subst (λ n. r < n) (sym is.height) h) in
     omega (arith, e, row)
 
--- no bit of a blank table is on
-pub bit-blank : (rows columns r k : ℕ) → bit (blank rows columns) r k ≡ false
-bit-blank zero columns r k = refl
-bit-blank (suc n) columns zero k = get_or-replicate_default columns k false
-bit-blank (suc n) columns (suc r) k = bit-blank n columns r k
+-- no bit of a table with no bit on is on
+pub bit-no_bits : (rows columns r k : ℕ) → bit (no_bits rows columns) r k ≡ false
+bit-no_bits zero columns r k = refl
+bit-no_bits (suc n) columns zero k = get_or-replicate_default columns k false
+bit-no_bits (suc n) columns (suc r) k = bit-no_bits n columns r k
 
-pub IsTable-blank : (rows columns : ℕ) → IsTable rows columns (blank rows columns)
-IsTable-blank rows columns = record {
+pub IsTable-no_bits : (rows columns : ℕ) → IsTable rows columns (no_bits rows columns)
+IsTable-no_bits rows columns = record {
   width = refl;
   height = length-replicate rows _;
   all_wide = All-replicate (λ row. length row ≡ columns) rows _ (length-replicate columns false);

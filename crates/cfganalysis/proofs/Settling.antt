@@ -4,14 +4,14 @@ use Rattle.std.proofs.Math.Nat.{mul-le-mul_left}
 use Rattle.std.proofs.lemmas.Bool.{or_parts}
 use Rattle.std.proofs.lemmas.List.Elements.{Contains-get_or}
 use Rattle.derivation.specs.Grammar.{Grammar, Production, IsGrammar}
-use Rattle.cfganalysis.specs.Openings.{production_at, OpensOne}
+use Rattle.cfganalysis.specs.Openings.{nth_production, OpensOne}
 use Rattle.cfganalysis.specs.Rounds.{TakesIn, Sweeps, IsSettled, OpensEach}
 
 same_production : (p q : Production) → p.rule ≡ q.rule → p.symbols ≡ q.symbols → p ≡ q
 same_production p q e h = ap (λ r. record { rule = r; symbols = p.symbols }) e ∙ ap (λ s. record { rule = q.rule; symbols = s }) h
 
-pub at_place : (g : Grammar) (n : ℕ) (p : Production) → n < length g.productions → p.rule ≡ (production_at g n).rule → p.symbols ≡ (production_at g n).symbols → Contains g.productions p
-at_place g n p lt e h = subst (λ q. Contains g.productions q) (sym (same_production p (production_at g n) e h)) (Contains-get_or g.productions n _ lt)
+pub at_place : (g : Grammar) (n : ℕ) (p : Production) → n < length g.productions → p.rule ≡ (nth_production g n).rule → p.symbols ≡ (nth_production g n).symbols → Contains g.productions p
+at_place g n p lt e h = subst (λ q. Contains g.productions q) (sym (same_production p (nth_production g n) e h)) (Contains-get_or g.productions n _ lt)
 
 pub opens_none : (g : Grammar) (opened : ℕ → ℕ) (all : ℕ) → OpensEach 0 g g opened opened all all
 opens_none g opened all = record { stays = refl; below = λ q h. absurd (omega (arith, h)); above = λ q h. refl; together = omega arith }
@@ -39,14 +39,14 @@ module _ {X : Type 0} (holds : Grammar → X → Type 0) (covers : X → Product
   sweep_none g x = record { sound = λ h. h; more = λ e. absurd (true≢false (sym e)); same = λ e. refl; closed = λ e q h. absurd (omega (arith, h)) }
 
   pub sweep_one : (g : Grammar) (n : ℕ) (p : Production) (old mid new : X) (c r : Bool) → IsGrammar g → n < length g.productions
-      → p.rule ≡ (production_at g n).rule → p.symbols ≡ (production_at g n).symbols
+      → p.rule ≡ (nth_production g n).rule → p.symbols ≡ (nth_production g n).symbols
       → Sweeps holds covers bits g n old mid c → TakesIn holds covers bits p mid new r → Sweeps holds covers bits g (n + 1) old new (c || r)
   sweep_one g n p old mid new c r is lt e h w t = record {
     sound = λ k. t.sound g is (at_place g n p lt e h) (w.sound k);
     more = grown bits old mid new c r w.more w.same t.more t.same;
     same = λ k. let b = or_parts c r k in t.same b.1 ∙ w.same b.0;
     closed = λ k. let b = or_parts c r k in below_more _ _ (w.closed b.0)
-        (subst (λ x. covers x (production_at g n)) (w.same b.0) (subst (λ q. covers mid q) (same_production p (production_at g n) e h) (t.closed b.1)));
+        (subst (λ x. covers x (nth_production g n)) (w.same b.0) (subst (λ q. covers mid q) (same_production p (nth_production g n) e h) (t.closed b.1)));
   }
 
   -- between rounds: each production was opened once in each round

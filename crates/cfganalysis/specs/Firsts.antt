@@ -3,7 +3,7 @@ use Rattle.std.specs.Prelude.{◌≡◌, ◌↔◌, ◌&&◌, ◌||◌, ◌==◌
 use Rattle.derivation.specs.Grammar.{Sym, Rule, Token, Grammar, Production, HasProduction}
 use Rattle.derivation.specs.First.{First, Empty}
 use Rattle.derivation.specs.FirstSets.{Covers}
-use Rattle.cfganalysis.specs.Table.{Table, IsTable, HasBit, bit, blank, bits_on, count_of, with_bit}
+use Rattle.cfganalysis.specs.Table.{Table, IsTable, HasBit, bit, no_bits, bits_on, count_of, with_bit}
 
 -- a row of tokens for each rule, and a bit for each rule that is empty
 pub record FirstSets : Type 0 where
@@ -45,7 +45,7 @@ abbrev pub count_firsts : FirstSets → ℕ
 count_firsts x = count_of x.firsts + bits_on x.epsilons
 
 abbrev pub no_firsts : ℕ → ℕ → FirstSets
-no_firsts rules tokens = record { firsts = blank rules tokens; epsilons = replicate rules false }
+no_firsts rules tokens = record { firsts = no_bits rules tokens; epsilons = replicate rules false }
 
 -- with this token in the rule's set
 abbrev pub with_first : FirstSets → ℕ → ℕ → FirstSets

@@ -2,8 +2,8 @@
 use Rattle.std.specs.Prelude.{◌≡◌, ◌≢◌, ℕ, ◌+◌, List, [], slice_index_or}
 use Rattle.derivation.specs.Grammar.{Grammar, Production}
 
-abbrev pub production_at : Grammar → ℕ → Production
-production_at g p = slice_index_or g.productions p (record { rule = 0; symbols = [] })
+abbrev pub nth_production : Grammar → ℕ → Production
+nth_production g p = slice_index_or g.productions p (record { rule = 0; symbols = [] })
 
 -- a grammar, how often each of its productions was opened, and all of them together
 pub record Counts : Type 0 where

@@ -1,7 +1,7 @@
 -- Sets that grow by what productions give, till none gives more.
 use Rattle.std.specs.Prelude.{◌≡◌, ℕ, ◌<◌, ◌≤◌, ◌+◌, ◌*◌, Bool, true, false, length, Contains}
 use Rattle.derivation.specs.Grammar.{Grammar, Production, IsGrammar}
-use Rattle.cfganalysis.specs.Openings.{production_at}
+use Rattle.cfganalysis.specs.Openings.{nth_production}
 
 -- of sets: what they say is so, they have all that a production gives, how many bits are on
 module _ {X : Type 0} (holds : Grammar → X → Type 0) (covers : X → Production → Type 0) (bits : X → ℕ) where
@@ -17,11 +17,11 @@ module _ {X : Type 0} (holds : Grammar → X → Type 0) (covers : X → Product
     pub sound : holds g old → holds g new
     pub more : changed ≡ true → bits old < bits new
     pub same : changed ≡ false → new ≡ old
-    pub closed : changed ≡ false → (q : ℕ) → q < n → covers old (production_at g q)
+    pub closed : changed ≡ false → (q : ℕ) → q < n → covers old (nth_production g q)
 
 -- no production gives more
 abbrev pub IsSettled : {X : Type 0} → (X → Production → Type 0) → Grammar → X → Type 0
-IsSettled covers g x = (q : ℕ) → q < length g.productions → covers x (production_at g q)
+IsSettled covers g x = (q : ℕ) → q < length g.productions → covers x (nth_production g q)
 
 -- the first n productions were opened once more each
 pub record OpensEach (n : ℕ) (g g' : Grammar) (opened opened' : ℕ → ℕ) (all all' : ℕ) : Type 0 where

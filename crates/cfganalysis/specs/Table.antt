@@ -29,8 +29,8 @@ abbrev pub count_of : Table → ℕ
 count_of x = sum_by bits_on x.rows
 
 -- with no bit on
-abbrev pub blank : ℕ → ℕ → Table
-blank rows columns = record { columns = columns; rows = replicate rows (replicate columns false) }
+abbrev pub no_bits : ℕ → ℕ → Table
+no_bits rows columns = record { columns = columns; rows = replicate rows (replicate columns false) }
 
 -- with this bit on
 abbrev pub with_bit : Table → ℕ → ℕ → Table

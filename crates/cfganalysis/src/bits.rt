@@ -1,7 +1,7 @@
 //! Tables of bits.
 
 ghost use Rattle.std.specs.Prelude.{◌≡◌, ◌<◌, false, true, length, IfOk, MatchBool};
-ghost use Rattle.cfganalysis.specs.Table.{bit, blank, row_of, with_bit};
+ghost use Rattle.cfganalysis.specs.Table.{bit, no_bits, row_of, with_bit};
 
 use cfgindex::Vob;
 use std::alloc::{AllocError, Global};
@@ -32,7 +32,7 @@ impl BitTable {
     ///
     /// Want of memory.
     pub fn new(alloc: Global, rows: usize, columns: usize) -> Result<Self, AllocError>
-        ensures { IfOk result (λ x. x ≡ blank rows columns) }
+        ensures { IfOk result (λ x. x ≡ no_bits rows columns) }
     {
         let mut table = Vec::new(alloc);
         for _row in 0..rows {

@@ -2,7 +2,7 @@
 
 ghost use Rattle.std.specs.Prelude.{◌≡◌, ◌<◌, ◌≤◌, All, length, map, replicate, IfOk};
 ghost use Rattle.derivation.specs.Grammar.{Grammar, IsGrammar};
-ghost use Rattle.cfganalysis.specs.Openings.{production_at};
+ghost use Rattle.cfganalysis.specs.Openings.{nth_production};
 ghost use Rattle.cfganalysis.specs.Symbols.{sym_of};
 
 use crate::productions::Productions;
@@ -32,24 +32,24 @@ pub trait Tables<S: Storage> {
     /// The rule that a production belongs to.
     fn prod_to_rule(&self, pidx: PIdx<S>) -> RIdx<S>
         requires { S.number pidx.0 < length (grammar self.now).productions }
-        ensures { S.number result.0 ≡ (production_at (grammar self.now) (S.number pidx.0)).rule };
+        ensures { S.number result.0 ≡ (nth_production (grammar self.now) (S.number pidx.0)).rule };
 
     /// The symbols of a production.
     fn prod(&self, pidx: PIdx<S>) -> &[Symbol<S>]
         requires { S.number pidx.0 < length (grammar self.now).productions }
-        ensures { map (sym_of S.number) result.now ≡ (production_at (grammar self.now) (S.number pidx.0)).symbols };
+        ensures { map (sym_of S.number) result.now ≡ (nth_production (grammar self.now) (S.number pidx.0)).symbols };
 }
 
 /// The productions of borrowed tables, with a count for each.
 #[derive(Drop)]
-pub struct Counted<'a, S: Storage, T: Tables<S>> {
+pub struct CountedTables<'a, S: Storage, T: Tables<S>> {
     tables: &'a T,
     prods_len: PIdx<S>,
     opened: Vec<u64>,
     opened_all: u128,
 }
 
-impl<'a, S: Storage, T: Tables<S>> Model for Counted<'a, S, T> {
+impl<'a, S: Storage, T: Tables<S>> Model for CountedTables<'a, S, T> {
     ghost use Rattle.std.specs.Prelude.{◌≡◌, length};
     ghost use Rattle.cfganalysis.specs.Openings.{Counts};
 
@@ -61,7 +61,7 @@ impl<'a, S: Storage, T: Tables<S>> Model for Counted<'a, S, T> {
         × (S.number x.prods_len.0 ≡ length (T.grammar x.tables.now).productions) };
 }
 
-impl<'a, S: Storage, T: Tables<S>> Counted<'a, S, T> {
+impl<'a, S: Storage, T: Tables<S>> CountedTables<'a, S, T> {
     /// The productions of the tables, none of which was opened.
     ///
     /// # Errors
@@ -76,7 +76,7 @@ impl<'a, S: Storage, T: Tables<S>> Counted<'a, S, T> {
     {
         let prods_len = tables.prods_len();
         let opened = vec![in alloc; 0; usize::from(prods_len)]?;
-        Ok(Counted {
+        Ok(CountedTables {
             tables,
             prods_len,
             opened,
@@ -85,14 +85,14 @@ impl<'a, S: Storage, T: Tables<S>> Counted<'a, S, T> {
     }
 }
 
-impl<'a, S: Storage, T: Tables<S>> Productions<S> for Counted<'a, S, T> {
+impl<'a, S: Storage, T: Tables<S>> Productions<S> for CountedTables<'a, S, T> {
     ghost use mir.Syntax.{named};
     ghost use Rattle.std.specs.Prelude.{◌≡◌, ◌-◌, ◌^◌, ◌<◌, [], length, map, slice_index};
     ghost use Rattle.std.specs.Borrow.{sem};
     ghost use Rattle.std.specs.Io.BufRead.{Rests};
-    ghost use Rattle.cfganalysis.specs.Openings.{production_at, OpensOne};
+    ghost use Rattle.cfganalysis.specs.Openings.{nth_production, OpensOne};
     ghost use Rattle.cfganalysis.specs.Symbols.{sym_of};
-    ghost use Rattle.cfganalysis.specs.contracts.counted.Counted.{the_row};
+    ghost use Rattle.cfganalysis.specs.contracts.counted.CountedTables.{the_row};
 
     ghost content = { λ x. x.grammar };
 
@@ -114,7 +114,7 @@ impl<'a, S: Storage, T: Tables<S>> Productions<S> for Counted<'a, S, T> {
 
     fn rule_of(&self, p: PIdx<S>) -> RIdx<S>
         requires { S.number p.0 < length self.now.grammar.productions }
-        ensures { S.number result.0 ≡ (production_at self.now.grammar (S.number p.0)).rule }
+        ensures { S.number result.0 ≡ (nth_production self.now.grammar (S.number p.0)).rule }
     {
         self.tables.prod_to_rule(p)
     }
@@ -134,7 +134,7 @@ impl<'a, S: Storage, T: Tables<S>> Productions<S> for Counted<'a, S, T> {
         requires in_range { S.number p.0 < length self.old.grammar.productions }
         requires countable { slice_index self.old.opened (S.number p.0) < 2 ^ 64 - 1 }
         requires all_countable { self.old.opened_all < 2 ^ 128 - 1 }
-        ensures symbols { map (sym_of S.number) result.now ≡ (production_at self.old.grammar (S.number p.0)).symbols }
+        ensures symbols { map (sym_of S.number) result.now ≡ (nth_production self.old.grammar (S.number p.0)).symbols }
         ensures* counts { sem 𝓛 (Rests (the_row (record { mir = named 1; lft = [] }) S.row T.row S.Storage.own S.Ord.own S.PartialEq.own S.PartialOrd.own S.Hash.own T.Tables.own) self.entry (λ new.
             OpensOne (S.number p.0) self.old.grammar new.grammar (slice_index self.old.opened) (slice_index new.opened)
             self.old.opened_all new.opened_all)) }

@@ -9,7 +9,7 @@ ghost use Rattle.cfganalysis.specs.Table.{bit, row_of};
 ghost use Rattle.cfganalysis.specs.Bounds.{firsts_bounded};
 
 use crate::bits::BitTable;
-use crate::counted::{Counted, Tables};
+use crate::counted::{CountedTables, Tables};
 use crate::productions::Productions;
 use crate::rounds::{Analysis, settle};
 use cfgindex::{RIdx, Storage, Symbol, TIdx, Vob};
@@ -41,12 +41,12 @@ impl<S: Storage> YaccFirsts<S> {
     pub fn new<T: Tables<S>>(alloc: Global, tables: &T) -> Result<Self, AllocError>
         ensures { IfOk result (AreFirsts (T.grammar tables.now)) }
     {
-        let mut productions = Counted::new(alloc, tables)?;
+        let mut productions = CountedTables::new(alloc, tables)?;
         firsts_over(alloc, &mut productions)
     }
 
     /// Sets in which nothing is.
-    fn blank(alloc: Global, rules: usize, tokens: usize) -> Result<Self, AllocError>
+    fn empty(alloc: Global, rules: usize, tokens: usize) -> Result<Self, AllocError>
         ensures { IfOk result (λ x. x ≡ no_firsts rules tokens) }
     {
         Ok(YaccFirsts {
@@ -182,7 +182,7 @@ pub fn firsts_over<S: Storage, P: Productions<S>>(
 {
     let rules = productions.rules_len().0.to_usize();
     let tokens = productions.tokens_len().0.to_usize();
-    let mut firsts = YaccFirsts::blank(alloc, rules, tokens)?;
+    let mut firsts = YaccFirsts::empty(alloc, rules, tokens)?;
     settle(productions, &mut firsts);
     Ok(firsts)
 }

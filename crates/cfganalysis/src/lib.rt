@@ -8,7 +8,7 @@ pub mod productions;
 pub mod rounds;
 
 pub use bits::BitTable;
-pub use counted::{Counted, Tables};
+pub use counted::{CountedTables, Tables};
 pub use firsts::{YaccFirsts, firsts_over};
 pub use productions::Productions;
 pub use rounds::{Analysis, settle};

@@ -4,7 +4,7 @@ ghost use Rattle.std.specs.Prelude.{◌≡◌, ℕ, ◌-◌, ◌^◌, ◌<◌, �
 ghost use Rattle.std.specs.Borrow.{sem};
 ghost use Rattle.std.specs.Io.BufRead.{Rests};
 ghost use Rattle.derivation.specs.Grammar.{Grammar, IsGrammar};
-ghost use Rattle.cfganalysis.specs.Openings.{production_at, OpensOne};
+ghost use Rattle.cfganalysis.specs.Openings.{nth_production, OpensOne};
 ghost use Rattle.cfganalysis.specs.Symbols.{sym_of};
 
 use cfgindex::{PIdx, RIdx, Storage, Symbol, TIdx};
@@ -37,7 +37,7 @@ pub trait Productions<S: Storage> {
     /// The rule that a production belongs to.
     fn rule_of(&self, p: PIdx<S>) -> RIdx<S>
         requires { S.number p.0 < length (content self.now).productions }
-        ensures { S.number result.0 ≡ (production_at (content self.now) (S.number p.0)).rule };
+        ensures { S.number result.0 ≡ (nth_production (content self.now) (S.number p.0)).rule };
 
     /// How often a production was opened.
     fn opened(&self, p: PIdx<S>) -> u64
@@ -53,7 +53,7 @@ pub trait Productions<S: Storage> {
         requires in_range { S.number p.0 < length (content self.old).productions }
         requires countable { opened self.old (S.number p.0) < 2 ^ 64 - 1 }
         requires all_countable { opened_all self.old < 2 ^ 128 - 1 }
-        ensures symbols { map (sym_of S.number) result.now ≡ (production_at (content self.old) (S.number p.0)).symbols }
+        ensures symbols { map (sym_of S.number) result.now ≡ (nth_production (content self.old) (S.number p.0)).symbols }
         ensures* counts { sem 𝓛 (Rests Self.row self.entry (λ new.
             OpensOne (S.number p.0) (content self.old) (content new) (opened self.old) (opened new)
             (opened_all self.old) (opened_all new))) };

@@ -2,12 +2,12 @@
 
 ghost use Rattle.std.specs.Prelude.{◌≡◌, ℕ, ◌+◌, ◌-◌, ◌*◌, ◌^◌, ◌<◌, ◌≤◌, List, length, map, All, Contains};
 ghost use Rattle.derivation.specs.Grammar.{Grammar, Production, IsGrammar};
-ghost use Rattle.cfganalysis.specs.Openings.{production_at};
+ghost use Rattle.cfganalysis.specs.Openings.{nth_production};
 ghost use Rattle.cfganalysis.specs.Rounds.{IsSettled, OpensEach, Sweeps, TakesIn, most_openings};
 ghost use Rattle.cfganalysis.specs.Symbols.{sym_of};
 
 use crate::productions::Productions;
-use cfgindex::{PIdx, RIdx, Storage, Symbol};
+use cfgindex::{PIdx, RIdx, Storage, Symbol, to_storage};
 
 /// Sets of tokens that grow by what productions give.
 pub trait Analysis<S: Storage> {
@@ -31,14 +31,6 @@ pub trait Analysis<S: Storage> {
     ghost bounded: { (g : Grammar) (x : Self) → holds g x → bits x ≤ g.rules * (g.tokens + 1) };
 }
 
-/// The value that stores a number.
-fn stored<S: Storage>(number: usize) -> S
-    requires { number ≤ S.MAX }
-    ensures { S.number result ≡ number }
-{
-    S::from_usize(number).unwrap()
-}
-
 /// One round over all productions. It tells whether that changed anything.
 fn sweep<S: Storage, P: Productions<S>, A: Analysis<S>>(
     productions: &mut P,
@@ -58,7 +50,7 @@ fn sweep<S: Storage, P: Productions<S>, A: Analysis<S>>(
 {
     let mut changed = false;
     for number in 0..prods_len {
-        let p = PIdx(stored(number));
+        let p = PIdx(to_storage(number));
         let rule = productions.rule_of(p);
         changed |= analysis.visit(rule, productions.open(p));
     }

@@ -8,7 +8,7 @@ use Rattle.std.proofs.lemmas.List.Sums.{fold_push}
 use Rattle.lemmas.proofs.Growing.{from_pushes}
 use Rattle.lemmas.proofs.Places.{found-position}
 use Rattle.cfgast.specs.Items.{Item}
-use Rattle.cfgast.specs.Syntax.{word_name, is_named, token_declared, start_named, declared_words, index_of, indices_of, finished, syntax_of}
+use Rattle.cfgast.specs.Syntax.{word_name, is_named, token_declared, start_named, declared_words, index_of, indices_of, finished, no_settings, syntax_of}
 use Rattle.cfgast.specs.Building.{has_name, is_declared, grown, add, adds}
 use Rattle.cfgast.proofs.Names.{is_named-firsts, has_name-names, noted}
 use Rattle.cfgast.proofs.Fields.{tokens, declared, declared_token, first-push, rules-push, productions-push, production_rules-push, tokens-push, spans-push, directives-push}
@@ -43,6 +43,7 @@ syntax_of-push items item = (λ i. record {
   tokens = tokens-push items item i;
   spans = spans-push items item i;
   token_directives = directives-push items item i;
+  settings = no_settings;
 }) ∙ ap (grown (syntax_of items) item) (λ i. finished (λ name. is_declared-syntax_of items name i) item)
 
 -- all items, added one after the other, say what their list says

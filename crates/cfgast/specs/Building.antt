@@ -73,6 +73,7 @@ grown s item production =
       tokens = tokens;
       spans = with_span (token_named item) s.tokens s.spans;
       token_directives = with_directive (option_map word_name (token_declared item)) tokens s.token_directives;
+      settings = s.settings;
     }
 
 unfoldable pub add : Syntax → Item → Syntax

@@ -1,5 +1,5 @@
 -- What a list of items says: rules, tokens and productions, by first occurrences in the list.
-use Rattle.std.specs.Prelude.{ℕ, Bool, List, map, filter, ◌||◌, not, Option, Some, None, slice_get, if◌then◌else◌}
+use Rattle.std.specs.Prelude.{ℕ, Bool, List, All, map, filter, ◌||◌, not, Option, Some, None, IfSome, slice_get, if◌then◌else◌}
 use Rattle.std.specs.List.{list_any, filter_map, position_or_len}
 use Rattle.std.specs.Str.{bytes_eq}
 use Rattle.lemmas.specs.Lists.{with_fronts, places}
@@ -24,6 +24,19 @@ pub record Rule : Type 0 where
   pub productions : List ℕ
   pub action_type : Option (List ℕ)
 
+-- what a file says of its grammar as a whole: how many conflicts it expects, its parser's parameter by name and type, the
+-- generics, and the programs
+pub record Settings : Type 0 where
+  pub expect : Option (ℕ × Span)
+  pub expect_reduce_reduce : Option (ℕ × Span)
+  pub parse_param : Option (List ℕ × List ℕ)
+  pub parse_generics : Option (List ℕ)
+  pub programs : Option (List ℕ)
+
+-- no item speaks of them yet
+abbrev pub no_settings : Settings
+no_settings = record { expect = None; expect_reduce_reduce = None; parse_param = None; parse_generics = None; programs = None }
+
 pub record Syntax : Type 0 where
   pub start : Option Word
   pub rules : List (List ℕ × Rule)
@@ -32,6 +45,24 @@ pub record Syntax : Type 0 where
   pub tokens : List (List ℕ)
   pub spans : List Span
   pub token_directives : List ℕ
+  pub settings : Settings
+
+-- the name of a symbol, and its span
+abbrev pub symbol_word : Symbol → Word
+symbol_word (RuleSymbol word) = word
+symbol_word (TokenSymbol word) = word
+
+-- what holds of each span of a production, and of each span of a syntax
+pub record EachProductionSpan (P : Span → Type 0) (production : Production) : Type 0 where
+  pub itself : P production.span
+  pub symbols : All (λ symbol. P (symbol_word symbol).span) production.symbols
+  pub action : IfSome production.action (λ action. P action.1)
+
+pub record EachSpan (P : Span → Type 0) (syntax : Syntax) : Type 0 where
+  pub start : IfSome syntax.start (λ word. P word.span)
+  pub rules : All (λ rule. P rule.1.name.span) syntax.rules
+  pub productions : All (EachProductionSpan P) syntax.productions
+  pub tokens : All P syntax.spans
 
 abbrev pub word_name : Word → List ℕ
 word_name word = word.name
@@ -132,4 +163,5 @@ syntax_of items = record {
   tokens = map word_name (token_words items);
   spans = map (λ w. w.span) (token_words items);
   token_directives = indices_of (map word_name (declared_words items)) (map word_name (token_words items));
+  settings = no_settings;
 }

@@ -10,6 +10,7 @@ use Rattle.cfgast.specs.declared.symbol.Symbol.{Symbol}
 use Rattle.cfgast.specs.declared.symbol.Symbol.TheVariants as symbols
 use Rattle.cfgast.specs.declared.production.Production.{Production}
 use Rattle.cfgast.specs.declared.rule.Rule.{Rule}
+use Rattle.cfgast.specs.declared.settings.Settings.{Settings}
 use Rattle.cfgast.specs.declared.ast.GrammarAST.{GrammarAST}
 use Rattle.cfgast.specs.Items as items
 use Rattle.cfgast.specs.declared.builder.AstBuilder.{AstBuilder}
@@ -30,11 +31,6 @@ abbrev pub symbol_view : Symbol → plain.Symbol
 symbol_view (symbols.Rule name span) = RuleSymbol (named_view (name, span))
 symbol_view (symbols.Token name span) = TokenSymbol (named_view (name, span))
 
--- the name of a symbol, and its span
-abbrev pub symbol_word : plain.Symbol → Word
-symbol_word (RuleSymbol word) = word
-symbol_word (TokenSymbol word) = word
-
 abbrev pub production_view : Production → plain.Production
 production_view production = record {
   symbols = map symbol_view production.symbols.items;
@@ -54,6 +50,15 @@ rule_view rule = record {
 abbrev pub rule_entry : String Global × Rule → List ℕ × plain.Rule
 rule_entry entry = (string_bytes entry.0, rule_view entry.1)
 
+abbrev pub settings_view : Settings → plain.Settings
+settings_view settings = record {
+  expect = settings.expect;
+  expect_reduce_reduce = settings.expectrr;
+  parse_param = option_map (λ param. (string_bytes param.0, string_bytes param.1)) settings.parse_param;
+  parse_generics = option_map string_bytes settings.parse_generics;
+  programs = option_map string_bytes settings.programs;
+}
+
 unfoldable pub syntax : GrammarAST → Syntax
 syntax ast = record {
   start = option_map named_view ast.start;
@@ -63,6 +68,7 @@ syntax ast = record {
   tokens = map string_bytes ast.tokens.keys;
   spans = ast.spans.items;
   token_directives = ast.token_directives.keys;
+  settings = settings_view ast.settings;
 }
 
 -- what was built so far

@@ -1,11 +1,12 @@
-ghost use Rattle.std.specs.Prelude.{◌≡◌, ◌↔◌, map, option_map, IsTrue, Contains};
+ghost use Rattle.std.specs.Prelude.{◌≡◌, ◌↔◌, map, option_map, IfOk, IsTrue, Contains};
 ghost use Rattle.std.specs.Map.{lookup};
 ghost use Rattle.std.specs.Str.{bytes_eq};
 ghost use Rattle.std.specs.String.{string_bytes};
-ghost use Rattle.cfgast.specs.View.{production_view, rule_view, named_view, rule_entry};
+ghost use Rattle.cfgast.specs.View.{production_view, rule_view, named_view, rule_entry, settings_view};
 
 use crate::production::Production;
 use crate::rule::Rule;
+use crate::settings::Settings;
 use cfgbase::Span;
 use indexmap::{IndexMap, IndexSet};
 use std::alloc::AllocError;
@@ -20,6 +21,7 @@ pub struct GrammarAST {
     pub(crate) token_directives: IndexSet<usize>,
     pub(crate) tokens: IndexSet<String>,
     pub(crate) spans: Vec<Span>,
+    pub(crate) settings: Settings,
 }
 
 #[tactic(auto, unfolding(crate::specs::View::syntax))]
@@ -75,6 +77,13 @@ impl GrammarAST {
         &self.spans
     }
 
+    /// What the file says of its grammar as a whole.
+    pub fn settings(&self) -> &Settings
+        ensures { settings_view result.now ≡ (syntax self.now).settings }
+    {
+        &self.settings
+    }
+
     /// The rule of this name.
     pub fn get_rule(&self, name: &str) -> Option<&Rule>
         ensures { option_map (λ rule. rule_view rule.now) result
@@ -91,20 +100,59 @@ impl GrammarAST {
     }
 }
 
+// A copy is made in parts: what one call copies, its refusal has to drop.
+#[tactic(auto, unfolding(crate::specs::View::syntax))]
+impl GrammarAST {
+    ghost use Rattle.cfgast.specs.View.{syntax};
+
+    // Copies of the rules, of the productions, and of the productions' rules.
+    fn clone_rules(
+        &self,
+    ) -> Result<(IndexMap<String, Rule>, Vec<Production>, Vec<usize>), AllocError>
+        ensures rules { IfOk result (λ copy. map rule_entry copy.0.entries ≡ (syntax self.now).rules) }
+        ensures productions { IfOk result (λ copy. map production_view copy.1.items ≡ (syntax self.now).productions) }
+        ensures production_rules { IfOk result (λ copy. copy.2.items ≡ (syntax self.now).production_rules) }
+    {
+        let production_rules = self.prods_rules.clone()?;
+        let productions = self.prods.clone()?;
+        let rules = self.rules.clone()?;
+        Ok((rules, productions, production_rules))
+    }
+
+    // Copies of the tokens, of their spans, and of the directives.
+    fn clone_tokens(
+        &self,
+    ) -> Result<(IndexSet<String>, Vec<Span>, IndexSet<usize>), AllocError>
+        ensures tokens { IfOk result (λ copy. map string_bytes copy.0.keys ≡ (syntax self.now).tokens) }
+        ensures spans { IfOk result (λ copy. copy.1.items ≡ (syntax self.now).spans) }
+        ensures token_directives { IfOk result (λ copy. copy.2.keys ≡ (syntax self.now).token_directives) }
+    {
+        let token_directives = self.token_directives.clone()?;
+        let spans = self.spans.clone()?;
+        let tokens = self.tokens.clone()?;
+        Ok((tokens, spans, token_directives))
+    }
+}
+
 impl Clone for GrammarAST {
     ghost use Rattle.cfgast.specs.View.{syntax};
 
     ghost is_clone = { λ ast copy. syntax copy ≡ syntax ast };
 
     fn clone(&self) -> Result<GrammarAST, AllocError> {
+        let start = self.start.clone()?;
+        let settings = self.settings.clone()?;
+        let (tokens, spans, token_directives) = self.clone_tokens()?;
+        let (rules, prods, prods_rules) = self.clone_rules()?;
         Ok(GrammarAST {
-            start: self.start.clone()?,
-            rules: self.rules.clone()?,
-            prods: self.prods.clone()?,
-            prods_rules: self.prods_rules.clone()?,
-            token_directives: self.token_directives.clone()?,
-            tokens: self.tokens.clone()?,
-            spans: self.spans.clone()?,
+            start,
+            rules,
+            prods,
+            prods_rules,
+            token_directives,
+            tokens,
+            spans,
+            settings,
         })
     }
 }

@@ -8,6 +8,7 @@ use crate::ast::GrammarAST;
 use crate::item::{Body, RuleHead};
 use crate::production::Production;
 use crate::rule::Rule;
+use crate::settings::Settings;
 use crate::symbol::Symbol;
 use cfgbase::Span;
 use cfgwords::words::{Token, Word};
@@ -39,6 +40,7 @@ impl AstBuilder {
                 token_directives: IndexSet::new(alloc),
                 tokens: IndexSet::new(alloc),
                 spans: Vec::new(alloc),
+                settings: Settings::none(),
             },
         }
     }
@@ -145,7 +147,7 @@ impl AstBuilder {
         let rule = Rule {
             name: (String::from_str(alloc, name)?, span),
             pidxs: Vec::new(alloc),
-            actiont: copied(alloc, head.action_type)?,
+            actiont: copy_of(alloc, head.action_type)?,
         };
         let (index, _) = self
             .ast
@@ -175,7 +177,7 @@ impl AstBuilder {
         };
         Ok(Production {
             symbols: self.symbols_of(alloc, body.symbols)?,
-            precedence: copied(alloc, body.precedence)?,
+            precedence: copy_of(alloc, body.precedence)?,
             action,
             prod_span: body.span,
         })
@@ -215,7 +217,7 @@ impl AstBuilder {
     }
 }
 
-fn copied(alloc: Global, text: Option<&str>) -> Result<Option<String>, AllocError>
+fn copy_of(alloc: Global, text: Option<&str>) -> Result<Option<String>, AllocError>
     ensures { IfOk result (λ copy. option_map string_bytes copy ≡ option_map (λ text. text.now) text.entry) }
 {
     match text {

@@ -4,14 +4,14 @@ use cfgbase::Span;
 use cfgwords::words::{Token, Word};
 
 /// What stands before a rule's colon: its name, and the type that its actions answer, where the file says one.
-#[derive(Clone, Copy, Debug)]
+#[derive(Clone, Copy)]
 pub struct RuleHead<'a> {
     pub name: Word<'a>,
     pub action_type: Option<&'a str>,
 }
 
 /// A production as it is read.
-#[derive(Clone, Copy, Debug)]
+#[derive(Clone, Copy)]
 pub struct Body<'t, 'a> {
     /// The symbols, in order.
     pub symbols: &'t [Token<'a>],

@@ -5,6 +5,7 @@ pub mod builder;
 pub mod item;
 pub mod production;
 pub mod rule;
+pub mod settings;
 pub mod symbol;
 
 pub use ast::GrammarAST;
@@ -12,4 +13,5 @@ pub use builder::{AstBuilder, built_is_syntax, syntax_is_well_formed};
 pub use item::{Body, RuleHead};
 pub use production::Production;
 pub use rule::Rule;
+pub use settings::Settings;
 pub use symbol::Symbol;

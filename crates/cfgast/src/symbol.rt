@@ -28,7 +28,8 @@ impl Clone for Symbol {
 
 impl fmt::Display for Symbol {
     ghost use Rattle.std.specs.Prelude.{Some};
-    ghost use Rattle.cfgast.specs.View.{symbol_view, symbol_word};
+    ghost use Rattle.cfgast.specs.Syntax.{symbol_word};
+    ghost use Rattle.cfgast.specs.View.{symbol_view};
 
     ghost output = { λ symbol. Some (symbol_word (symbol_view symbol)).name };
 

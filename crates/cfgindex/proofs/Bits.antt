@@ -1,4 +1,4 @@
--- Lists of bits that are joined place by place.
+-- Lists of bits that are union place by place.
 use Rattle.std.proofs.Common.{◌≡◌, ◌≢◌, ℕ, suc, zero, ◌+◌, ◌<◌, ◌≤◌, ◌||◌, Bool, true, false, not, List, [], ◌∷◌, map, length, get_or, MatchBool, arith, refl, sym, ap, ◌∙◌, subst, below_more, ext_get_or, get_or-set_same, get_or-set_other, length-set, true≢false, slice_set, slice_get, Some}
 use Rattle.std.proofs.lemmas.List.{get_or_default}
 use Rattle.std.proofs.lemmas.Option.{get_or_from_slice_get}
@@ -6,26 +6,26 @@ use Rattle.lemmas.proofs.Elements.{set-slice_get}
 use Rattle.std.specs.List.{zip}
 
 -- each bit is on that is on in a or in b
-abbrev pub joined : List Bool → List Bool → List Bool
-joined a b = map (λ pair. pair.0 || pair.1) (zip a b)
+abbrev pub union : List Bool → List Bool → List Bool
+union a b = map (λ pair. pair.0 || pair.1) (zip a b)
 
-length-joined : (a b : List Bool) → length a ≡ length b → length (joined a b) ≡ length a
-length-joined [] b e = refl
-length-joined (x ∷ a) [] e = absurd (omega (arith, e))
-length-joined (x ∷ a) (y ∷ b) e = ap suc (length-joined a b (omega (arith, e)))
+length-union : (a b : List Bool) → length a ≡ length b → length (union a b) ≡ length a
+length-union [] b e = refl
+length-union (x ∷ a) [] e = absurd (omega (arith, e))
+length-union (x ∷ a) (y ∷ b) e = ap suc (length-union a b (omega (arith, e)))
 
-get_or-joined : (a b : List Bool) → length a ≡ length b → (k : ℕ) → get_or (joined a b) k false ≡ (get_or a k false || get_or b k false)
-get_or-joined [] [] e k = refl
-get_or-joined [] (y ∷ b) e k = absurd (omega (arith, e))
-get_or-joined (x ∷ a) [] e k = absurd (omega (arith, e))
-get_or-joined (x ∷ a) (y ∷ b) e zero = refl
-get_or-joined (x ∷ a) (y ∷ b) e (suc k) = get_or-joined a b (omega (arith, e)) k
+get_or-union : (a b : List Bool) → length a ≡ length b → (k : ℕ) → get_or (union a b) k false ≡ (get_or a k false || get_or b k false)
+get_or-union [] [] e k = refl
+get_or-union [] (y ∷ b) e k = absurd (omega (arith, e))
+get_or-union (x ∷ a) [] e k = absurd (omega (arith, e))
+get_or-union (x ∷ a) (y ∷ b) e zero = refl
+get_or-union (x ∷ a) (y ∷ b) e (suc k) = get_or-union a b (omega (arith, e)) k
 
 -- some bit below i, which a has off, is on
 abbrev pub TurnedOn : List Bool → List Bool → ℕ → Type 0
 TurnedOn a now i = (k : ℕ) × (k < i) × (get_or a k false ≡ false) × (get_or now k false ≡ true)
 
--- a is joined with b below i
+-- a is union with b below i
 pub record IsJoinedBelow (i : ℕ) (a b now : List Bool) (changed : Bool) : Type 0 where
   pub same_length : length now ≡ length a
   pub below : (k : ℕ) → k < i → get_or now k false ≡ (get_or a k false || get_or b k false)
@@ -63,9 +63,9 @@ joined_more i a b now next changed x y r is lt same w ex ey set = subst (λ l. I
     go false true false true e g h = (i, omega arith, sym (ap (λ l. get_or l i false) g) ∙ sym e, get_or-set_same now i true false within)
     go false true false false e g h = absurd (true≢false (sym (get_or_from_slice_get now i true false h) ∙ sym e))
 
-pub joined_all : (i : ℕ) (a b now : List Bool) (changed : Bool) → i ≡ length a → length a ≡ length b → IsJoinedBelow i a b now changed → now ≡ joined a b
-joined_all i a b now changed end e w = ext_get_or false now (joined a b) (w.same_length ∙ sym (length-joined a b e))
-    (λ k h. w.below k (let same = w.same_length in omega arith) ∙ sym (get_or-joined a b e k))
+pub joined_all : (i : ℕ) (a b now : List Bool) (changed : Bool) → i ≡ length a → length a ≡ length b → IsJoinedBelow i a b now changed → now ≡ union a b
+joined_all i a b now changed end e w = ext_get_or false now (union a b) (w.same_length ∙ sym (length-union a b e))
+    (λ k h. w.below k (let same = w.same_length in omega arith) ∙ sym (get_or-union a b e k))
 
 pub joined_grew : (i : ℕ) (a b now : List Bool) (changed : Bool) → IsJoinedBelow i a b now changed → MatchBool changed (now ≢ a) (now ≡ a)
 joined_grew i a b now true w = λ e. true≢false (sym w.grew.3 ∙ ap (λ l. get_or l w.grew.0 false) e ∙ w.grew.2)

@@ -6,5 +6,5 @@ pub mod storage;
 pub mod vob;
 
 pub use idxnewtype::{PIdx, RIdx, SIdx, Symbol, TIdx};
-pub use storage::Storage;
+pub use storage::{Storage, to_storage};
 pub use vob::Vob;

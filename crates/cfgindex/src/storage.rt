@@ -31,6 +31,14 @@ pub trait Storage: Copy + Ord + Hash {
     ghost ordered: { (x y : Self) → Self.cmp x y ≡ nat_cmp (number x) (number y) };
 }
 
+/// The value that stores a number.
+pub fn to_storage<S: Storage>(number: usize) -> S
+    requires { number ≤ S.MAX }
+    ensures { S.number result ≡ number }
+{
+    S::from_usize(number).unwrap()
+}
+
 impl Storage for u8 {
     const MAX: usize = u8::MAX as usize;
 

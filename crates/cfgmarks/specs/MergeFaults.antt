@@ -1,5 +1,6 @@
 -- Where merging stops, and why.
 use Rattle.std.specs.Prelude.{◌≡◌, true, false, if◌then◌else◌, Option, Some, None, IsSomeAnd, ⊤}
+use Rattle.std.specs.Option.{option_or}
 use Rattle.std.specs.BTreeMap.{is_at}
 use Rattle.std.specs.declared.cmp.Ordering.{Ordering}
 use Rattle.cfgmarks.specs.declared.markmap.behavior.MergeBehavior.{MergeBehavior}
@@ -10,7 +11,7 @@ use Rattle.cfgmarks.specs.declared.markmap.fault.MergeFault.TheVariants.{Conflic
 use Rattle.cfgmarks.specs.declared.markmap.merge.Refusal.{Refusal}
 use Rattle.cfgmarks.specs.declared.markmap.merge.Refusal.TheVariants as refusal
 use Rattle.cfgmarks.specs.Marks.{Marks, entry_at, stored_at}
-use Rattle.cfgmarks.specs.Merging.{first_of, conflicts, conflicts_at, stays, wanted, MergedAt, Merged}
+use Rattle.cfgmarks.specs.Merging.{conflicts, conflicts_at, stays, wanted, MergedAt, Merged}
 
 module _ {U V E : Type 0} (converts : U → V → Type 0) (refuses : U → E → Type 0) where
   -- why the marks of a key that both know weren't merged
@@ -37,7 +38,7 @@ MergesKey {K} cmp converts k theirs before after = (after.behavior ≡ before.be
 
 -- the key becomes a stored one where none is equal to it
 abbrev pub StoresKey : {K V : Type 0} → (K → K → Ordering) → K → Marks K V → Marks K V → Type 0
-StoresKey {K} cmp k before after = (q : K) → stored_at cmp after q ≡ first_of (stored_at cmp before q) (if is_at (cmp k) q then Some k else None)
+StoresKey {K} cmp k before after = (q : K) → stored_at cmp after q ≡ option_or (stored_at cmp before q) (if is_at (cmp k) q then Some k else None)
 
 -- the fault of a conflict at the key, or want of memory for it
 abbrev pub IsConflict : {K V E : Type 0} → K → V → MergeFault K V E → Type 0

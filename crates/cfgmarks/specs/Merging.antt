@@ -1,7 +1,7 @@
 -- Merging a map of marks, theirs, into another, mine, key by key.
 use Rattle.std.specs.Prelude.{◌≡◌, Bool, true, false, ◌||◌, ◌&&◌, if◌then◌else◌, Option, Some, None, is_some, is_none, IsSome, unwrap_or, IsSomeAnd, MatchOption}
 use Rattle.std.specs.Bool.{MatchBool}
-use Rattle.std.specs.Option.{ForSome}
+use Rattle.std.specs.Option.{ForSome, option_or}
 use Rattle.std.specs.Ordering.{is_lt}
 use Rattle.std.specs.declared.cmp.Ordering.{Ordering}
 use Rattle.cfgmarks.specs.declared.markmap.behavior.MergeBehavior.{MergeBehavior}
@@ -27,8 +27,8 @@ module _ {U V : Type 0} where
   conflicts MutuallyExclusive mine theirs = is_some mine.value && is_some theirs.value
 
   -- the marks of both, and my behaviour
-  abbrev pub joined : Marked V → Marked U → Option V → Marked V
-  joined mine theirs value =
+  abbrev pub combined : Marked V → Marked U → Option V → Marked V
+  combined mine theirs value =
       record { used = mine.used || theirs.used; required = mine.required || theirs.required; behavior = mine.behavior; value = value }
 
   -- their marks, their behaviour too
@@ -42,7 +42,7 @@ module _ {U V : Type 0} where
   -- what a key that both know has after merging
   abbrev pub MergesInto : (U → V → Type 0) → MergeBehavior → Marked V → Marked U → Marked V → Type 0
   MergesInto converts behavior mine theirs now =
-      MatchBool (stays behavior mine theirs) (now ≡ mine) ((conflicts behavior mine theirs ≡ false) × (now ≡ joined mine theirs now.value) × Takes converts mine.value theirs.value now.value)
+      MatchBool (stays behavior mine theirs) (now ≡ mine) ((conflicts behavior mine theirs ≡ false) × (now ≡ combined mine theirs now.value) × Takes converts mine.value theirs.value now.value)
 
   -- what a key has after merging, where either map may have no entry for it
   abbrev pub MergedAt : (U → V → Type 0) → MergeBehavior → Option (Marked V) → Option (Marked U) → Option (Marked V) → Type 0
@@ -78,11 +78,6 @@ module _ {K U V : Type 0} (cmp : K → K → Ordering) (converts : U → V → T
 abbrev pub CallableOnWanted : {K U V : Type 0} → (K → K → Ordering) → (U → Type 0) → Marks K V → Marks K U → Type 0
 CallableOnWanted {K} {U} cmp may_convert mine theirs = (q : K) (x : Marked U) → entry_at cmp theirs q ≡ Some x → ForSome (wanted mine.behavior (entry_at cmp mine q) x) may_convert
 
--- the first if there is one, else the second
-abbrev pub first_of : {X : Type 0} → Option X → Option X → Option X
-first_of (Some x) other = Some x
-first_of None other = other
-
 -- each stored key is mine where I have one, and else theirs
 abbrev pub KeepsStored : {K U V : Type 0} → (K → K → Ordering) → Marks K V → Marks K U → Marks K V → Type 0
-KeepsStored {K} cmp mine theirs now = (q : K) → IsSome (entry_at cmp now q) → stored_at cmp now q ≡ first_of (stored_at cmp mine q) (stored_at cmp theirs q)
+KeepsStored {K} cmp mine theirs now = (q : K) → IsSome (entry_at cmp now q) → stored_at cmp now q ≡ option_or (stored_at cmp mine q) (stored_at cmp theirs q)

@@ -2,7 +2,9 @@
 use Rattle.std.proofs.Common.{◌≡◌, ℕ, List, [], ◌∷◌, ◌++◌, length, map, None, Err, String, Global, refl, sym, subst}
 use Rattle.std.specs.List.{zip}
 use Rattle.cfgindex.specs.declared.idxnewtype.PIdx.{PIdx}
+use Rattle.cfgast.specs.declared.settings.Settings.{Settings}
 use Rattle.cfgast.specs.Syntax.{Syntax}
+use Rattle.cfgast.specs.View.{settings_view}
 use Rattle.cfgsyntax.specs.Errors.{GrammarError}
 use Rattle.cfgsyntax.specs.Sound.{IsSound}
 use Rattle.cfgsyntax.specs.declared.yacc.kind.YaccKind.{YaccKind}
@@ -18,27 +20,23 @@ use Rattle.cfgrammar.specs.declared.yacc.grammar.rows.TokenRow.{TokenRow}
 use Rattle.cfgrammar.proofs.Room.{fits_from_room, room_from_fits}
 
 module _ {S : Type 0} (number : S → ℕ) (kind : YaccKind) (s : Syntax)
-    (rules : List (String Global × RuleRow S)) (productions : List (ProductionRow S)) (tokens : List (String Global × TokenRow)) (start : PIdx S) where
+    (rules : List (String Global × RuleRow S)) (productions : List (ProductionRow S)) (tokens : List (String Global × TokenRow)) (start : PIdx S) (settings : Settings) where
   -- tables of these rows are the syntax numbered
   pub built : map (rule_view number) rules ≡ start_rule s ∷ map file_rule s.rules
       → map (production_view number) productions ≡ map (file_production s) (zip s.production_rules s.productions) ++ start_production s ∷ []
-      → map token_view tokens ≡ map file_token (zip s.tokens s.spans) → number start.0 ≡ length s.productions
-      → tables number rules productions tokens start ≡ numbered kind s
+      → map token_view tokens ≡ map file_token (zip s.tokens s.spans) → number start.0 ≡ length s.productions → settings_view settings ≡ s.settings
+      → tables number rules productions tokens start settings ≡ numbered kind s
   unfolding tables numbered
-  built rules_are productions_are tokens_are start_is = λ i. record {
+  built rules_are productions_are tokens_are start_is settings_are = λ i. record {
     rules = rules_are i;
     tokens = tokens_are i ++ end_token ∷ [];
     productions = productions_are i;
     start_production = start_is i;
     implicit_rule = None;
-    parse_param = None;
-    parse_generics = None;
-    programs = None;
-    expect = None;
-    expect_reduce_reduce = None;
+    settings = settings_are i;
   }
 
-  pub is_table : (max : ℕ) → IsSound s [] → LeavesRoom max s → tables number rules productions tokens start ≡ numbered kind s → IsTable max (tables number rules productions tokens start)
+  pub is_table : (max : ℕ) → IsSound s [] → LeavesRoom max s → tables number rules productions tokens start settings ≡ numbered kind s → IsTable max (tables number rules productions tokens start settings)
   is_table max sound room same = record {
     numbering = record { kind = kind; syntax = s; sound = sound; numbers = sym same };
     fits = subst (Fits max) (sym same) (fits_from_room max s kind sound.well_formed room);

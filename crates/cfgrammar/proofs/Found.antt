@@ -17,7 +17,7 @@ use Rattle.cfgsyntax.specs.Sound.{IsSound}
 use Rattle.cfgsyntax.specs.declared.yacc.kind.YaccKind.{YaccKind}
 use Rattle.cfgrammar.specs.Numbered.{Numbered, NumberedRule, numbered, start_rule, file_rule, file_token, end_token}
 use Rattle.cfgrammar.specs.Numbering.{IsNumbering}
-use Rattle.cfgrammar.specs.Shown.{rule_at, token_at, has_token_name}
+use Rattle.cfgrammar.specs.Shown.{rule_part, token_part, has_token_name}
 use Rattle.lemmas.proofs.Places.{first_place, position-push}
 use Rattle.cfgrammar.proofs.Rows.{rule_names, rule_names-distinct, name_shown}
 
@@ -48,7 +48,7 @@ some_name (x ∷ xs) zero name at = let same : Some (Some x) ≡ Some (Some name
 some_name (x ∷ xs) (suc t) name at = some_name xs t name at
 
 module _ (kind : YaccKind) (s : Syntax) (sound : IsSound s []) where
-  rules_found_in : (r : ℕ) (name : List ℕ) → rule_at (λ rule. rule.name) (numbered kind s) r ≡ Some name → position (λ rule. bytes_eq name rule.name) (numbered kind s).rules ≡ Some r
+  rules_found_in : (r : ℕ) (name : List ℕ) → rule_part (λ rule. rule.name) (numbered kind s) r ≡ Some name → position (λ rule. bytes_eq name rule.name) (numbered kind s).rules ≡ Some r
   unfolding numbered
   rules_found_in r name at =
       let rules = start_rule s ∷ map file_rule s.rules in
@@ -56,7 +56,7 @@ module _ (kind : YaccKind) (s : Syntax) (sound : IsSound s []) where
       sym (position-map (bytes_eq name) (λ (rule : NumberedRule). rule.name) rules) ∙ ap (position (bytes_eq name)) names_are
       ∙ found_at (rule_names s) r name (rule_names-distinct s sound) (ap (λ ns. slice_get ns r) (sym names_are) ∙ slice_get-map (λ (rule : NumberedRule). rule.name) rules r ∙ at)
 
-  tokens_found_in : (t : ℕ) (name : List ℕ) → token_at (λ token. token.name) (numbered kind s) t ≡ Some (Some name) → position (has_token_name name) (numbered kind s).tokens ≡ Some t
+  tokens_found_in : (t : ℕ) (name : List ℕ) → token_part (λ token. token.name) (numbered kind s) t ≡ Some (Some name) → position (has_token_name name) (numbered kind s).tokens ≡ Some t
   unfolding numbered
   tokens_found_in t name at =
       let rows = zip s.tokens s.spans in
@@ -69,14 +69,14 @@ module _ (kind : YaccKind) (s : Syntax) (sound : IsSound s []) where
       ∙ position-map (has_token_name name) file_token rows ∙ sym (position-map (bytes_eq name) (λ (row : List ℕ × Span). row.0) rows) ∙ ap (position (bytes_eq name)) names_are
       ∙ found_at s.tokens t name sound.well_formed.tokens_distinct named
 
-pub rules_found : (g : Numbered) (r : ℕ) (name : List ℕ) → IsNumbering g → rule_at (λ rule. rule.name) g r ≡ Some name
+pub rules_found : (g : Numbered) (r : ℕ) (name : List ℕ) → IsNumbering g → rule_part (λ rule. rule.name) g r ≡ Some name
     → position (λ rule. bytes_eq name rule.name) g.rules ≡ Some r
 rules_found g r name is =
-    subst (λ (h : Numbered). rule_at (λ rule. rule.name) h r ≡ Some name → position (λ rule. bytes_eq name rule.name) h.rules ≡ Some r) is.numbers
+    subst (λ (h : Numbered). rule_part (λ rule. rule.name) h r ≡ Some name → position (λ rule. bytes_eq name rule.name) h.rules ≡ Some r) is.numbers
     (rules_found_in is.kind is.syntax is.sound r name)
 
-pub tokens_found : (g : Numbered) (t : ℕ) (name : List ℕ) → IsNumbering g → token_at (λ token. token.name) g t ≡ Some (Some name)
+pub tokens_found : (g : Numbered) (t : ℕ) (name : List ℕ) → IsNumbering g → token_part (λ token. token.name) g t ≡ Some (Some name)
     → position (has_token_name name) g.tokens ≡ Some t
 tokens_found g t name is =
-    subst (λ (h : Numbered). token_at (λ token. token.name) h t ≡ Some (Some name) → position (has_token_name name) h.tokens ≡ Some t) is.numbers
+    subst (λ (h : Numbered). token_part (λ token. token.name) h t ≡ Some (Some name) → position (has_token_name name) h.tokens ≡ Some t) is.numbers
     (tokens_found_in is.kind is.syntax is.sound t name)

@@ -4,9 +4,10 @@ use Rattle.std.specs.Map.{values_of}
 use Rattle.std.proofs.lemmas.List.{get_or-map, length-map}
 use Rattle.std.proofs.lemmas.Option.{slice_get-get_or}
 use Rattle.cfgindex.specs.declared.idxnewtype.PIdx.{PIdx}
+use Rattle.cfgast.specs.declared.settings.Settings.{Settings}
 use Rattle.cfgrammar.specs.Numbered.{Numbered, NumberedRule, NumberedProduction}
 use Rattle.cfgrammar.specs.Fits.{Fits}
-use Rattle.cfgrammar.specs.Shown.{rule_at, production_at}
+use Rattle.cfgrammar.specs.Shown.{rule_part, production_part}
 use Rattle.cfgrammar.specs.View.{rule_view, production_view, tables}
 use Rattle.cfganalysis.specs.Symbols.{sym_of}
 use Rattle.cfgrammar.specs.declared.yacc.grammar.rows.RuleRow.{RuleRow}
@@ -20,14 +21,14 @@ module _ {S A : Type 0} (number : S → ℕ) (part : NumberedRule → A) (row : 
   row_shown (e ∷ es) (suc i) at = row_shown es i at
 
   -- a part of a rule that its row shows
-  pub rule_shown : (rules : List (String Global × RuleRow S)) (productions : List (ProductionRow S)) (tokens : List (String Global × TokenRow)) (start : PIdx S) (g : Numbered)
-      → tables number rules productions tokens start ≡ g → (i r : ℕ) → i ≡ r → slice_get (values_of rules) i ≡ Some row → rule_at part g r ≡ Some x
+  pub rule_shown : (rules : List (String Global × RuleRow S)) (productions : List (ProductionRow S)) (tokens : List (String Global × TokenRow)) (start : PIdx S) (settings : Settings) (g : Numbered)
+      → tables number rules productions tokens start settings ≡ g → (i r : ℕ) → i ≡ r → slice_get (values_of rules) i ≡ Some row → rule_part part g r ≡ Some x
   unfolding tables
-  rule_shown rules productions tokens start g view_is i r same at =
-      ap (λ (t : Numbered). rule_at part t r) (sym view_is) ∙ ap (λ k. option_map part (slice_get (map (rule_view number) rules) k)) (sym same) ∙ row_shown rules i at
+  rule_shown rules productions tokens start settings g view_is i r same at =
+      ap (λ (t : Numbered). rule_part part t r) (sym view_is) ∙ ap (λ k. option_map part (slice_get (map (rule_view number) rules) k)) (sym same) ∙ row_shown rules i at
 
-module _ {S : Type 0} (number : S → ℕ) (rules : List (String Global × RuleRow S)) (productions : List (ProductionRow S)) (tokens : List (String Global × TokenRow)) (start : PIdx S) (g : Numbered)
-    (view_is : tables number rules productions tokens start ≡ g) where
+module _ {S : Type 0} (number : S → ℕ) (rules : List (String Global × RuleRow S)) (productions : List (ProductionRow S)) (tokens : List (String Global × TokenRow)) (start : PIdx S) (settings : Settings) (g : Numbered)
+    (view_is : tables number rules productions tokens start settings ≡ g) where
   -- a place is that of a row
   pub row_within : (r : ℕ) → r < length g.productions → r < length productions
   unfolding tables
@@ -35,15 +36,15 @@ module _ {S : Type 0} (number : S → ℕ) (rules : List (String Global × RuleR
 
   -- a part of a production
   pub production_shown : {A : Type 0} (part : NumberedProduction → A) (row : ProductionRow S) (i r : ℕ) → i ≡ r → r < length g.productions → row ≡ get_or productions i row
-      → production_at part g r ≡ Some (part (production_view number row))
+      → production_part part g r ≡ Some (part (production_view number row))
   unfolding tables
   production_shown part row i r same within is =
-      ap (λ (t : Numbered). production_at part t r) (sym view_is)
+      ap (λ (t : Numbered). production_part part t r) (sym view_is)
       ∙ ap (option_map part) (slice_get-get_or (map (production_view number) productions) r (production_view number row) (omega (arith, row_within r within, length-map productions (production_view number))))
       ∙ ap (λ p. Some (part p)) (get_or-map (production_view number) productions r row (production_view number row) (row_within r within) ∙ ap (production_view number) (sym (is ∙ ap (λ k. get_or productions k row) same)))
 
   -- its symbols can be counted
-  pub symbols_counted : (max : ℕ) → Fits max (tables number rules productions tokens start) → (row : ProductionRow S) (i r : ℕ) → i ≡ r → r < length g.productions → row ≡ get_or productions i row → length row.symbols.items ≤ max
+  pub symbols_counted : (max : ℕ) → Fits max (tables number rules productions tokens start settings) → (row : ProductionRow S) (i r : ℕ) → i ≡ r → r < length g.productions → row ≡ get_or productions i row → length row.symbols.items ≤ max
   unfolding tables
   symbols_counted max fits row i r same within is =
       let there = row_within r within in

@@ -20,7 +20,7 @@ use Rattle.cfgsyntax.specs.Sound.{IsSound}
 use Rattle.cfgsyntax.specs.declared.yacc.kind.YaccKind.{YaccKind}
 use Rattle.cfgrammar.specs.Numbered.{Numbered, NumberedProduction, core, production_core, numbered, file_symbol, rule_index, start_rule, file_rule, start_production, file_production, file_token, end_token}
 use Rattle.cfgrammar.specs.Numbering.{IsNumbering, IsWhole}
-use Rattle.cfgrammar.specs.Shown.{token_at}
+use Rattle.cfgrammar.specs.Shown.{token_part}
 use Rattle.cfgrammar.specs.Resolved.{Resolves}
 use Rattle.cfgrammar.proofs.Places.{listed_within}
 use Rattle.cfgrammar.proofs.Rows.{name_shown}
@@ -93,7 +93,7 @@ module _ (kind : YaccKind) (s : Syntax) (sound : IsSound s []) where
       ∙ ap (λ ns. ns ++ None ∷ []) (map-map name_shown file_token (zip s.tokens s.spans) ∙ sym (map-map Some (λ (row : List ℕ × Span). row.0) (zip s.tokens s.spans))
       ∙ ap (map Some) (firsts-zip s.tokens s.spans sound.well_formed.spans_as_long))
 
-  end_at : (t : ℕ) → (token_at (λ token. token.name) g t ≡ Some None) ↔ (t + 1 ≡ length g.tokens)
+  end_at : (t : ℕ) → (token_part (λ token. token.name) g t ≡ Some None) ↔ (t + 1 ≡ length g.tokens)
   unfolding numbered
   end_at t =
       let names = ap (λ ns. slice_get ns t) (sym names_are) ∙ slice_get-map name_shown (map file_token (zip s.tokens s.spans) ++ end_token ∷ []) t in (

@@ -6,7 +6,7 @@ use Rattle.std.specs.Str.{bytes_eq}
 use Rattle.derivation.specs.Grammar.{Sym, Rule, Token, Production, Grammar}
 use Rattle.cfgbase.specs.declared.span.Span.{Span}
 use Rattle.cfgast.specs.Syntax as file
-use Rattle.cfgast.specs.Syntax.{Syntax, RuleSymbol, TokenSymbol, index_of}
+use Rattle.cfgast.specs.Syntax.{Settings, Syntax, RuleSymbol, TokenSymbol, index_of}
 use Rattle.cfgsyntax.specs.declared.yacc.kind.YaccKind.{YaccKind}
 
 pub data Associativity : Type 0 where
@@ -46,11 +46,7 @@ pub record Numbered : Type 0 where
   pub productions : List NumberedProduction
   pub start_production : ℕ  -- the one production of rule 0, which is the start rule
   pub implicit_rule : Option ℕ
-  pub parse_param : Option (List ℕ × List ℕ)
-  pub parse_generics : Option (List ℕ)
-  pub programs : Option (List ℕ)
-  pub expect : Option ℕ
-  pub expect_reduce_reduce : Option ℕ
+  pub settings : Settings
 
 -- what derivations go by: the symbols of productions
 abbrev pub production_core : NumberedProduction → Production
@@ -122,9 +118,5 @@ numbered kind s = record {
   productions = map (file_production s) (zip s.production_rules s.productions) ++ start_production s ∷ [];
   start_production = length s.productions;
   implicit_rule = None;
-  parse_param = None;
-  parse_generics = None;
-  programs = None;
-  expect = None;
-  expect_reduce_reduce = None;
+  settings = s.settings;
 }

@@ -5,7 +5,7 @@ use Rattle.cfgast.specs.Syntax.{Syntax}
 use Rattle.cfgsyntax.specs.Sound.{IsSound}
 use Rattle.cfgsyntax.specs.declared.yacc.kind.YaccKind.{YaccKind}
 use Rattle.cfgrammar.specs.Numbered.{Numbered, core, numbered}
-use Rattle.cfgrammar.specs.Shown.{production_at, rule_at, token_at}
+use Rattle.cfgrammar.specs.Shown.{production_part, rule_part, token_part}
 
 -- the numbers of a syntax that was read without errors
 pub record IsNumbering (g : Numbered) : Type 0 where
@@ -16,10 +16,10 @@ pub record IsNumbering (g : Numbered) : Type 0 where
 
 pub record IsWhole (g : Numbered) : Type 0 where
   -- rule 0 is the start rule, and has one production
-  pub start_rule : rule_at (λ rule. rule.productions) g 0 ≡ Some (g.start_production ∷ [])
-  pub start_production : production_at (λ p. p.rule) g g.start_production ≡ Some 0
+  pub start_rule : rule_part (λ rule. rule.productions) g 0 ≡ Some (g.start_production ∷ [])
+  pub start_production : production_part (λ p. p.rule) g g.start_production ≡ Some 0
   -- the last token, and no other, is the end token
-  pub end_token : (t : ℕ) → (token_at (λ token. token.name) g t ≡ Some None) ↔ (t + 1 ≡ length g.tokens)
+  pub end_token : (t : ℕ) → (token_part (λ token. token.name) g t ≡ Some None) ↔ (t + 1 ≡ length g.tokens)
   -- all indices are those of something that is there, and no production holds the end token
   pub grammar : IsGrammar (core g)
   pub lists : All (λ rule. All (λ p. p < length g.productions) rule.productions) g.rules

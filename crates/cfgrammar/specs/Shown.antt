@@ -6,21 +6,21 @@ use Rattle.std.specs.Str.{bytes_eq}
 use Rattle.derivation.specs.Grammar.{Sym, Rule, Token}
 use Rattle.cfgrammar.specs.Numbered.{Numbered, NumberedRule, NumberedToken, NumberedProduction}
 
-abbrev pub rule_at : {A : Type 0} → (NumberedRule → A) → Numbered → ℕ → Option A
-rule_at part g r = option_map part (slice_get g.rules r)
+abbrev pub rule_part : {A : Type 0} → (NumberedRule → A) → Numbered → ℕ → Option A
+rule_part part g r = option_map part (slice_get g.rules r)
 
-abbrev pub token_at : {A : Type 0} → (NumberedToken → A) → Numbered → ℕ → Option A
-token_at part g t = option_map part (slice_get g.tokens t)
+abbrev pub token_part : {A : Type 0} → (NumberedToken → A) → Numbered → ℕ → Option A
+token_part part g t = option_map part (slice_get g.tokens t)
 
-abbrev pub production_at : {A : Type 0} → (NumberedProduction → A) → Numbered → ℕ → Option A
-production_at part g p = option_map part (slice_get g.productions p)
+abbrev pub production_part : {A : Type 0} → (NumberedProduction → A) → Numbered → ℕ → Option A
+production_part part g p = option_map part (slice_get g.productions p)
 
 -- the end token has no name
 abbrev pub has_token_name : List ℕ → NumberedToken → Bool
 has_token_name name token = option_map_or (bytes_eq name) token.name false
 
 abbrev pub sym_name : Numbered → Sym → List ℕ
-sym_name g (Rule r) = unwrap_or (rule_at (λ rule. rule.name) g r) []
+sym_name g (Rule r) = unwrap_or (rule_part (λ rule. rule.name) g r) []
 sym_name g (Token t) = option_map_or (λ token. unwrap_or token.name []) (slice_get g.tokens t) []
 
 -- ` "NAME"`

@@ -2,6 +2,8 @@
 use Rattle.std.specs.Prelude.{ℕ, List, String, ◌∷◌, [], ◌++◌, map, None, option_map, string_bytes}
 use Rattle.std.specs.declared.alloc.Global.{Global}
 use Rattle.cfgindex.specs.declared.idxnewtype.PIdx.{PIdx}
+use Rattle.cfgast.specs.declared.settings.Settings.{Settings}
+use Rattle.cfgast.specs.View.{settings_view}
 use Rattle.cfganalysis.specs.Symbols.{sym_of}
 use Rattle.cfgrammar.specs.Numbered.{Numbered, NumberedRule, NumberedToken, NumberedProduction, file_token, end_token}
 use Rattle.cfgrammar.specs.Fits.{Fits}
@@ -35,18 +37,14 @@ production_view number row = record {
 abbrev pub token_view : String Global × TokenRow → NumberedToken
 token_view entry = file_token (string_bytes entry.0, entry.1.span)
 
-unfoldable pub tables : {S : Type 0} → (S → ℕ) → List (String Global × RuleRow S) → List (ProductionRow S) → List (String Global × TokenRow) → PIdx S → Numbered
-tables number rules productions tokens start_production = record {
+unfoldable pub tables : {S : Type 0} → (S → ℕ) → List (String Global × RuleRow S) → List (ProductionRow S) → List (String Global × TokenRow) → PIdx S → Settings → Numbered
+tables number rules productions tokens start_production settings = record {
   rules = map (rule_view number) rules;
   tokens = map token_view tokens ++ end_token ∷ [];
   productions = map (production_view number) productions;
   start_production = number start_production.0;
   implicit_rule = None;
-  parse_param = None;
-  parse_generics = None;
-  programs = None;
-  expect = None;
-  expect_reduce_reduce = None;
+  settings = settings_view settings;
 }
 
 -- Tables hold the numbers of a valid syntax, which the index type can count.

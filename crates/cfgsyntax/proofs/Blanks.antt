@@ -4,8 +4,8 @@ use Rattle.cfgwords.specs.Blank.{blank, part_of, front_of}
 use Rattle.cfgwords.proofs.Blanks.{blank_next, blank_ends, blank_stops}
 use Rattle.cfgast.specs.View.{syntax_built}
 use Rattle.cfgsyntax.specs.declared.yacc.parser.reader.Reader.{Reader}
-use Rattle.cfgsyntax.specs.declared.yacc.parser.reader.ReadError.{ReadError}
-use Rattle.cfgsyntax.specs.declared.yacc.parser.reader.ReadError.TheVariants as errors
+use Rattle.cfgsyntax.specs.declared.yacc.parser.reader.ReadFault.{ReadFault}
+use Rattle.cfgsyntax.specs.declared.yacc.parser.reader.ReadFault.TheVariants as errors
 use Rattle.cfgsyntax.specs.Builds.{IsPartHere, Fails, Builds, Grows}
 use Rattle.cfgsyntax.specs.Grammar.{blank_here}
 use Rattle.cfgsyntax.proofs.Steps.{adds_none}
@@ -22,7 +22,7 @@ grown start now e = ap syntax_built e ∙ sym (adds_none (syntax_built start.tre
 whole : (lines : Bool) (start now : Reader) → KeepsBlank lines start now → blank start.len lines start.rest.now ≡ blank now.len lines now.rest.now
 whole lines start now keeps = ap (λ len. blank len lines start.rest.now) (sym keeps.len) ∙ sym keeps.ends
 
-pub blank_fails : (lines : Bool) (start now : Reader) (e : ReadError) → KeepsBlank lines start now → IsPartHere lines now (Err e)
+pub blank_fails : (lines : Bool) (start now : Reader) (e : ReadFault) → KeepsBlank lines start now → IsPartHere lines now (Err e)
     → Fails start now e (blank_here start.len lines)
 blank_fails lines start now errors.OutOfMemory keeps here = tt
 blank_fails lines start now (errors.Fault fault) keeps (kind, stops, is) =

@@ -13,15 +13,13 @@ use Rattle.cfgwords.specs.declared.fault.Fault.{Fault}
 use Rattle.cfgwords.specs.Words.{Word}
 use Rattle.cfgwords.proofs.Cuts.{cut_here}
 use Rattle.cfgast.specs.Items.{Item}
-use Rattle.cfgast.specs.Syntax.{Symbol, RuleSymbol, TokenSymbol, Production, Rule, Syntax, syntax_of}
+use Rattle.cfgast.specs.Syntax.{Symbol, RuleSymbol, TokenSymbol, EachProductionSpan, EachSpan, symbol_word, Production, Rule, Syntax, syntax_of}
 use Rattle.cfgsyntax.specs.declared.yacc.kind.YaccKind.{YaccKind}
 use Rattle.cfgsyntax.specs.declared.yacc.parser.error.YaccGrammarErrorKind.TheVariants.{NoStartRule}
 use Rattle.cfgsyntax.specs.Errors.{ErrorKind, GrammarError, InvalidStartRule, UnknownRuleRef, UnknownToken, Nameless, error_at}
 use Rattle.cfgsyntax.specs.Check.{is_rule, is_token, first_error, start_error, symbol_error, production_error, place_error, rule_error, check_of}
 use Rattle.cfgsyntax.specs.Faults.{error_of, errors_of}
-use Rattle.cfgast.specs.View.{symbol_word}
 use Rattle.cfgwords.specs.Places.{IsPiece, IsWordAt}
-use Rattle.cfgsyntax.specs.Places.{IsProductionAt, AreAtPlaces}
 use Rattle.cfgsyntax.specs.Reads.{Reads}
 use Rattle.cfgsyntax.proofs.Kept.{IsItemAt, file_kept}
 use Rattle.cfgwords.proofs.WordPlaces.{IsReached}
@@ -65,18 +63,18 @@ module _ (text : List ℕ) where
   symbol_error_at s (RuleSymbol word) h = unless_known (is_rule s word.name) (UnknownRuleRef word.name) word.span h
   symbol_error_at s (TokenSymbol word) h = unless_known (is_token s word.name) (UnknownToken word.name) word.span h
 
-  production_error_at : (s : Syntax) (production : Production) → IsProductionAt text production → IfSome (production_error s production) (IsErrorAt text)
+  production_error_at : (s : Syntax) (production : Production) → EachProductionSpan (IsPiece text) production → IfSome (production_error s production) (IsErrorAt text)
   production_error_at s production h =
       first_of_all (IsErrorAt text) (symbol_error s) production.symbols (λ k d lt. symbol_error_at s (get_or production.symbols k d) (h.symbols k d lt))
 
-  place_error_at : (s : Syntax) → AreAtPlaces text s → (place : ℕ) → IfSome (place_error s place) (IsErrorAt text)
+  place_error_at : (s : Syntax) → EachSpan (IsPiece text) s → (place : ℕ) → IfSome (place_error s place) (IsErrorAt text)
   place_error_at s at place = first_there (IsErrorAt text) (production_error s) (slice_get s.productions place)
       (All-slice_get (λ production. IfSome (production_error s production) (IsErrorAt text)) s.productions place (λ k d lt. production_error_at s (get_or s.productions k d) (at.productions k d lt)))
 
-  rule_error_at : (s : Syntax) → AreAtPlaces text s → (rule : List ℕ × Rule) → IfSome (rule_error s rule) (IsErrorAt text)
+  rule_error_at : (s : Syntax) → EachSpan (IsPiece text) s → (rule : List ℕ × Rule) → IfSome (rule_error s rule) (IsErrorAt text)
   rule_error_at s at rule = first_of_all (IsErrorAt text) (place_error s) rule.1.productions (λ k d lt. place_error_at s at (get_or rule.1.productions k d))
 
-  check_at : IsUtf8 text → (s : Syntax) → AreAtPlaces text s → IfSome (check_of s) (IsErrorAt text)
+  check_at : IsUtf8 text → (s : Syntax) → EachSpan (IsPiece text) s → IfSome (check_of s) (IsErrorAt text)
   unfolding check_of
   check_at utf8 s at = first_of_two (IsErrorAt text) (start_error s s.start) (first_error (rule_error s) s.rules)
       (start_error_at utf8 s s.start at.start)
@@ -106,7 +104,7 @@ read_at kind text utf8 items stop reads =
 
 -- of the syntax of every reading
 pub read_syntax_at : (kind : YaccKind) (text : List ℕ) → IsUtf8 text → (items : List Item) (stop : Option Fault) → Reads kind text items stop
-    → AreAtPlaces text (syntax_of items)
+    → EachSpan (IsPiece text) (syntax_of items)
 read_syntax_at kind text utf8 items stop reads = syntax_at text items (read_at kind text utf8 items stop reads).items_at
 
 pub read_names : (kind : YaccKind) (text : List ℕ) → IsUtf8 text → (items : List Item) (stop : Option Fault) → Reads kind text items stop

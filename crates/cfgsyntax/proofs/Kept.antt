@@ -101,9 +101,9 @@ module _ (whole : List ℕ) (utf8 : IsUtf8 whole) where
       (λ token. given_passes (IsReached whole) (IsItemAt whole) IsAt (reached_here whole utf8) (reached_on whole utf8) (symbol len) from (λ o. IfSome o (IsTokenBehind whole from)) (symbol_kept from (λ o. IfSome o (IsTokenBehind whole from)) (λ token q. q) tt) (Some token)) symbols
 
   -- a production goes from where it begins to the end of its last symbol, or to here
-  production_at : (symbols : List Token) (from text : List ℕ) → IsReached whole from text → All (IsTokenBehind whole from) symbols
+  production_is_at : (symbols : List Token) (from text : List ℕ) → IsReached whole from text → All (IsTokenBehind whole from) symbols
       → IsPiece whole (record { start = place (length whole) from; end = end_of symbols (place (length whole) text) })
-  production_at symbols from text t each = go (slice_get symbols last) refl
+  production_is_at symbols from text t each = go (slice_get symbols last) refl
     where
       last : ℕ
       last = length symbols - 1
@@ -125,7 +125,7 @@ module _ (whole : List ℕ) (utf8 : IsUtf8 whole) where
     symbol_kept text (λ _. Unit {0}) (λ _ _. tt) tt,
     λ symbols qs behind u.
         let each = symbols_kept text symbols qs in
-        finish_kept behind _ (n, λ k d h. (each k d h).piece, tt, production_at symbols text behind u each),
+        finish_kept behind _ (n, λ k d h. (each k d h).piece, tt, production_is_at symbols text behind u each),
   )
 
   rule_kept : (from : List ℕ) (Q : Unit {0} → Type 0) → Q tt → KeepsPlaces (rule len) from Q

@@ -4,7 +4,6 @@ pub mod Errors
 pub mod Faults
 pub mod Grammar
 pub mod Parsed
-pub mod Places
 pub mod Reads
 pub mod Sound
 pub mod Texts

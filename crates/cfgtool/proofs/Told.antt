@@ -4,11 +4,11 @@ use Rattle.std.specs.List.{flat_map, enumerate_from}
 use Rattle.std.specs.Fmt.{decimal}
 use Rattle.lemmas.proofs.Taken.{one_more_shown}
 use Rattle.cfgrammar.specs.Numbered.{Numbered}
-use Rattle.cfgrammar.specs.Shown.{production_at, production_text}
+use Rattle.cfgrammar.specs.Shown.{production_part, production_text}
 use Rattle.cfgtool.specs.Report.{production_line}
 
 -- one more production
-pub one_more_production : (g : Numbered) (n : ℕ) (text : List ℕ) → production_at (production_text g) g n ≡ Some text
+pub one_more_production : (g : Numbered) (n : ℕ) (text : List ℕ) → production_part (production_text g) g n ≡ Some text
     → flat_map (production_line g) (take n (enumerate_from 0 g.productions)) ++ (decimal n ++ (codes " " ++ (text ++ codes "\n")))
     ≡ flat_map (production_line g) (take (n + 1) (enumerate_from 0 g.productions))
 one_more_production g n text shown =

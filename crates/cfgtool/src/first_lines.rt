@@ -4,7 +4,7 @@ ghost use Rattle.std.specs.Prelude.{◌≡◌, ◌++◌, ◌<◌, length, IfOk, 
 ghost use Rattle.std.specs.List.{enumerate_from, flat_map};
 ghost use Rattle.cfganalysis.specs.Firsts.{epsilon_bit};
 ghost use Rattle.cfganalysis.specs.Table.{bit};
-ghost use Rattle.cfgrammar.specs.Shown.{rule_at, token_at};
+ghost use Rattle.cfgrammar.specs.Shown.{rule_part, token_part};
 ghost use Rattle.cfgtool.specs.FirstLines.{Adds, empty_word, first_line, first_lines, token_word};
 
 use cfgrammar::yacc::YaccGrammar;
@@ -36,7 +36,7 @@ fn write_line(
     ridx: RIdx<u32>,
 ) -> Result<(), AllocError>
     requires { ridx.0 < length grammar.now.rules }
-    ensures { OnOk result (Adds (rule_at (λ rule. first_line grammar.now (bit firsts.now.firsts) (epsilon_bit firsts.now) (ridx.0, rule)) grammar.now ridx.0)
+    ensures { OnOk result (Adds (rule_part (λ rule. first_line grammar.now (bit firsts.now.firsts) (epsilon_bit firsts.now) (ridx.0, rule)) grammar.now ridx.0)
         (string_bytes lines.old) (string_bytes lines.new)) }
 {
     lines.push_str(grammar.rule_name_str(ridx))?;
@@ -71,7 +71,7 @@ fn write_token(
     tidx: TIdx<u32>,
 ) -> Result<(), AllocError>
     requires { tidx.0 < length grammar.now.tokens }
-    ensures { OnOk result (Adds (token_at (λ token. token_word (bit firsts.now.firsts ridx.0) (tidx.0, token)) grammar.now tidx.0)
+    ensures { OnOk result (Adds (token_part (λ token. token_word (bit firsts.now.firsts ridx.0) (tidx.0, token)) grammar.now tidx.0)
         (string_bytes lines.old) (string_bytes lines.new)) }
 {
     if !firsts.is_set(ridx, tidx) {

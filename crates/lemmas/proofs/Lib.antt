@@ -1,5 +1,4 @@
 pub mod Copies
-pub mod Counted
 pub mod Elements
 pub mod Ended
 pub mod Entries

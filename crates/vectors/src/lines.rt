@@ -27,7 +27,7 @@ pub(crate) fn tell(
     out.push_str(answers.as_str())?;
     let ways = ways(alloc, row, text)?;
     for way in &ways {
-        let is_same = match fed(alloc, text, way) {
+        let is_same = match feed_pieces(alloc, text, way) {
             Ok(Some(cache)) => self::answers(alloc, row, &cache, text)? == answers,
             Ok(None) => false,
             Err(_) => return Err(AllocError),
@@ -64,7 +64,7 @@ fn ways(alloc: Global, row: &Row<'_>, text: &str) -> Result<Vec<Vec<usize>>, All
 
 /// The cache of a text that is fed in pieces: these lengths, and then the rest. There is none where a character would be
 /// cut.
-fn fed(alloc: Global, text: &str, lengths: &[usize]) -> Result<Option<NewlineCache>, FeedError>
+fn feed_pieces(alloc: Global, text: &str, lengths: &[usize]) -> Result<Option<NewlineCache>, FeedError>
     ensures { IfOk result (λ fed. IfSome fed (λ cache. StandsFor cache text.now)) }
 {
     let mut cache = NewlineCache::new(alloc);

@@ -26,15 +26,15 @@ fn main(rt: HostRuntime) -> io::Result<()> {
     for name in env::args(&rt)?.skip(1) {
         let text = fs::read_to_string(&rt, name.as_str())?;
         for row in rows(rt.alloc(), text.as_str())?.iter() {
-            let told = told(&rt, row)?;
-            println!(rt; "== {}\n{told}", row.name)?;
+            let answers = answers_of(&rt, row)?;
+            println!(rt; "== {}\n{answers}", row.name)?;
         }
     }
     Ok(())
 }
 
 /// What is written of a row, behind its name.
-fn told(rt: &HostRuntime, row: &Row<'_>) -> io::Result<String> {
+fn answers_of(rt: &HostRuntime, row: &Row<'_>) -> io::Result<String> {
     let alloc = rt.alloc();
     let mut out = String::new(alloc);
     for (word, rest) in &row.lines {

@@ -30,7 +30,7 @@ pub(crate) fn tell(
     let words = row.first("words").unwrap_or("");
     let mut output = Narrow::of_row(alloc, row, "out");
     let mut errors = Narrow::of_row(alloc, row, "err");
-    let status = ended(alloc, row, text, &mut output, &mut errors)?;
+    let status = run_over(alloc, row, text, &mut output, &mut errors)?;
     writeln!(out, "cfgtool {words}")?;
     writeln!(out, "status {status}")?;
     write_taken(out, "output", &output)?;
@@ -45,7 +45,7 @@ pub(crate) fn tell(
 }
 
 /// Runs the program over two writers, and answers its status. The writers then know their faults.
-fn ended(
+fn run_over(
     alloc: Global,
     row: &Row<'_>,
     text: &str,
@@ -83,7 +83,7 @@ fn write_rooms(
     for room in 0..=whole.len() {
         let mut output = Narrow::new(alloc, step, room, takes_none);
         let mut errors = Narrow::new(alloc, usize::MAX, usize::MAX, false);
-        let status = ended(alloc, row, text, &mut output, &mut errors)?;
+        let status = run_over(alloc, row, text, &mut output, &mut errors)?;
         pen::numbers(out, (" ", output.bytes().len()), (":", usize::from(status)))?;
         if !whole.starts_with(output.bytes()) {
             out.push_str(" (no beginning)")?;

@@ -11,11 +11,11 @@ pub(crate) fn write_syntax(
     alloc: Global,
     parsed: &ASTWithValidityInfo,
 ) -> Result<(), AllocError> {
-    let told = told(alloc, parsed.ast())?;
+    let shown = syntax_text(alloc, parsed.ast())?;
     out.push_str("syntax\n")?;
-    out.push_str(told.as_str())?;
+    out.push_str(shown.as_str())?;
     let copy = parsed.ast().clone()?;
-    if self::told(alloc, &copy)? != told {
+    if syntax_text(alloc, &copy)? != shown {
         out.push_str("    and a copy that isn't the same\n")?;
     }
     Ok(())
@@ -33,7 +33,7 @@ pub(crate) fn write_lengths(out: &mut String, ast: &GrammarAST) -> Result<(), Al
     )
 }
 
-fn told(alloc: Global, ast: &GrammarAST) -> Result<String, AllocError> {
+fn syntax_text(alloc: Global, ast: &GrammarAST) -> Result<String, AllocError> {
     let mut out = String::new(alloc);
     if let Some((name, span)) = ast.start() {
         pen::name(&mut out, "    start ", name.as_str())?;

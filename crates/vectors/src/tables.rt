@@ -19,9 +19,9 @@ pub(crate) fn write_tables(
     text: &str,
     parsed: &ASTWithValidityInfo,
 ) -> Result<(), AllocError> {
-    let narrow = told::<u8>(alloc, text, parsed)?;
-    let middle = told::<u16>(alloc, text, parsed)?;
-    let wide = told::<u32>(alloc, text, parsed)?;
+    let narrow = tables_text::<u8>(alloc, text, parsed)?;
+    let middle = tables_text::<u16>(alloc, text, parsed)?;
+    let wide = tables_text::<u32>(alloc, text, parsed)?;
     write_once(out, narrow.as_str(), middle.as_str(), wide.as_str())
 }
 
@@ -37,27 +37,27 @@ fn write_once(out: &mut String, narrow: &str, middle: &str, wide: &str) -> Resul
 }
 
 /// The tables of a text that was read, by both calls that make them.
-fn told<S: Storage>(
+fn tables_text<S: Storage>(
     alloc: Global,
     text: &str,
     parsed: &ASTWithValidityInfo,
 ) -> Result<String, AllocError> {
-    let mut told = match YaccGrammar::<S>::new_with_storaget(alloc, parsed.yacc_kind(), text) {
-        Ok(grammar) => described(alloc, &grammar)?,
-        Err(fault) => refused(alloc, text, parsed, fault)?,
+    let mut tables = match YaccGrammar::<S>::new_with_storaget(alloc, parsed.yacc_kind(), text) {
+        Ok(grammar) => grammar_text(alloc, &grammar)?,
+        Err(fault) => fault_text(alloc, text, parsed, fault)?,
     };
     let of_syntax = match YaccGrammar::<S>::new_from_ast_with_validity_info(alloc, parsed) {
-        Ok(grammar) => described(alloc, &grammar)?,
-        Err(fault) => refused(alloc, text, parsed, fault)?,
+        Ok(grammar) => grammar_text(alloc, &grammar)?,
+        Err(fault) => fault_text(alloc, text, parsed, fault)?,
     };
-    if of_syntax != told {
-        write!(told, "and of its syntax{of_syntax}")?;
+    if of_syntax != tables {
+        write!(tables, "and of its syntax{of_syntax}")?;
     }
-    Ok(told)
+    Ok(tables)
 }
 
 /// Why there are no tables: the text's errors, or others, each in a line.
-fn refused(
+fn fault_text(
     alloc: Global,
     text: &str,
     parsed: &ASTWithValidityInfo,
@@ -74,7 +74,7 @@ fn refused(
 }
 
 /// All that a grammar holds.
-fn described<S: Storage>(alloc: Global, grammar: &YaccGrammar<S>) -> Result<String, AllocError> {
+fn grammar_text<S: Storage>(alloc: Global, grammar: &YaccGrammar<S>) -> Result<String, AllocError> {
     let mut out = String::from_str(alloc, "\n")?;
     write_lengths(&mut out, grammar)?;
     write_rules(&mut out, grammar)?;
@@ -279,14 +279,14 @@ pub(crate) fn write_lengths_of_all(
     text: &str,
     parsed: &ASTWithValidityInfo,
 ) -> Result<(), AllocError> {
-    let narrow = lengths_told::<u8>(alloc, text, parsed)?;
-    let middle = lengths_told::<u16>(alloc, text, parsed)?;
-    let wide = lengths_told::<u32>(alloc, text, parsed)?;
+    let narrow = lengths_text::<u8>(alloc, text, parsed)?;
+    let middle = lengths_text::<u16>(alloc, text, parsed)?;
+    let wide = lengths_text::<u32>(alloc, text, parsed)?;
     write_once(out, narrow.as_str(), middle.as_str(), wide.as_str())
 }
 
 /// How much there is in the tables of a text that was read, and in their FIRST sets.
-fn lengths_told<S: Storage>(
+fn lengths_text<S: Storage>(
     alloc: Global,
     text: &str,
     parsed: &ASTWithValidityInfo,
@@ -298,6 +298,6 @@ fn lengths_told<S: Storage>(
             firsts::write_lengths(&mut out, alloc, &grammar)?;
             Ok(out)
         }
-        Err(fault) => refused(alloc, text, parsed, fault),
+        Err(fault) => fault_text(alloc, text, parsed, fault),
     }
 }

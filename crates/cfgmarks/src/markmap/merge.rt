@@ -2,7 +2,7 @@
 ghost use Rattle.std.specs.Prelude.{◌≡◌, true, false, is_some, if◌then◌else◌, Some, None, Ok, Err, IsSomeAnd, IfErr, IfOk, OnOk, OnErr, MatchResult};
 ghost use Rattle.std.specs.Option.{ForSome};
 ghost use Rattle.cfgmarks.specs.Marks.{marks, entry_at};
-ghost use Rattle.cfgmarks.specs.Merging.{stays, conflicts, joined, adopted, behavior_of, Takes, MergesInto, AllMerged, KeepsStored, wanted, CallableOnWanted};
+ghost use Rattle.cfgmarks.specs.Merging.{stays, conflicts, combined, adopted, behavior_of, Takes, MergesInto, AllMerged, KeepsStored, wanted, CallableOnWanted};
 ghost use Rattle.cfgmarks.specs.MergeFaults.{IsRefusal, IsConflict, IsFaultAt, MergesKey, StoresKey, StopsAt};
 
 use super::{MarkMap, Marked, MergeBehavior, MergeError, MergeFault};
@@ -84,7 +84,7 @@ impl<K: Ord + Clone, V: Drop> MarkMap<K, V> {
         ensures fault { IfErr result (IsFaultAt (λ u v. F.post convert.now u (Ok v)) (λ u e. F.post convert.now u (Err e))
             (marks self.old).behavior key None theirs) }
     {
-        let marked = match converted(theirs, convert) {
+        let marked = match convert_value(theirs, convert) {
             Ok(marked) => marked,
             Err(e) => return Err(MergeFault::Convert(key, e)),
         };
@@ -113,7 +113,7 @@ impl<V: Drop> Marked<V> {
         if self.stays(behavior, &theirs) {
             return Ok(());
         }
-        let theirs = match converted(theirs, convert) {
+        let theirs = match convert_value(theirs, convert) {
             Ok(theirs) => theirs,
             Err(e) => return Err(Refusal::Convert(e)),
         };
@@ -137,7 +137,7 @@ impl<V: Drop> Marked<V> {
     /// Joins other marks, and takes their value, where the behavior doesn't forbid it. A forbidden value comes back.
     fn join(&mut self, theirs: Marked<V>, behavior: MergeBehavior) -> Result<(), V>
         ensures ok { OnOk result ((conflicts behavior self.old theirs ≡ false)
-            × (self.new ≡ joined self.old theirs (if is_some theirs.value then theirs.value else self.old.value))) }
+            × (self.new ≡ combined self.old theirs (if is_some theirs.value then theirs.value else self.old.value))) }
         ensures err { OnErr result (self.new ≡ self.old) }
         ensures conflict { IfErr result (λ value. (conflicts behavior self.old theirs ≡ true) × (theirs.value ≡ Some value)) }
     {
@@ -160,7 +160,7 @@ impl<V: Drop> Marked<V> {
 }
 
 /// The same marks, with the value converted.
-fn converted<U: Drop, V: Drop, E: Drop, F: Fn(U) -> Result<V, E>>(
+fn convert_value<U: Drop, V: Drop, E: Drop, F: Fn(U) -> Result<V, E>>(
     theirs: Marked<U>,
     convert: &F,
 ) -> Result<Marked<V>, E>

@@ -5,10 +5,9 @@ mod check;
 ghost use Rattle.std.specs.Prelude.{◌≡◌, ◌↔◌, [], List, Option, IsTrue, IfOk, All};
 ghost use Rattle.cfgwords.specs.declared.fault.Fault.{Fault};
 ghost use Rattle.cfgast.specs.Items.{Item};
-ghost use Rattle.cfgast.specs.Syntax.{syntax_of};
+ghost use Rattle.cfgast.specs.Syntax.{EachSpan, syntax_of};
 ghost use Rattle.cfgast.specs.View.{syntax};
 ghost use Rattle.cfgsyntax.specs.Faults.{errors_of};
-ghost use Rattle.cfgsyntax.specs.Places.{AreAtPlaces};
 ghost use Rattle.cfgwords.specs.Places.{IsPiece};
 ghost use Rattle.cfgsyntax.specs.Reads.{Reads, HasOneReading};
 ghost use Rattle.cfgsyntax.specs.Sound.{IsSound};
@@ -57,7 +56,7 @@ impl ASTWithValidityInfo {
         ensures errors { IfOk result (λ parsed. (items : List Item) (stop : Option Fault) → Reads kind text.now items stop
             → parsed.errors ≡ errors_of items stop) }
         ensures places { IfOk result (λ parsed. All (λ error. All (IsPiece text.now) error.spans) parsed.errors) }
-        ensures syntax_places { IfOk result (λ parsed. AreAtPlaces text.now parsed.syntax) }
+        ensures syntax_places { IfOk result (λ parsed. EachSpan (IsPiece text.now) parsed.syntax) }
     {
         let (ast, stop) = read(alloc, kind, text)?;
         let errors = errors_found(alloc, &ast, stop)?;

@@ -28,7 +28,7 @@ impl<'a, K: Ord + Clone, V: Drop> VacantEntry<'a, K, V> {
         ensures absent { OnErr result (entry_at K.cmp (vacant_map self.entry) (vacant_key self.entry) ≡ None) }
     {
         let VacantEntry { map, key } = self;
-        let place = match placed(map, key) {
+        let place = match ensure_entry(map, key) {
             Ok(place) => place,
             Err(key) => return Err((key, value)),
         };
@@ -49,7 +49,7 @@ impl<'a, K: Ord + Clone, V: Drop> VacantEntry<'a, K, V> {
         ensures absent { OnErr result (entry_at K.cmp (vacant_map self.entry) (vacant_key self.entry) ≡ None) }
     {
         let VacantEntry { map, key } = self;
-        let place = match placed(map, key) {
+        let place = match ensure_entry(map, key) {
             Ok(place) => place,
             Err(key) => return Err((key, value)),
         };
@@ -83,7 +83,7 @@ impl<'a, K: Ord + Clone, V: Drop> VacantEntry<'a, K, V> {
 }
 
 /// A clone of the key. One that isn't equal to the key is refused as if there were no memory for it.
-fn copied<K: Ord + Clone>(key: &K) -> Result<K, AllocError>
+fn copy_of<K: Ord + Clone>(key: &K) -> Result<K, AllocError>
     ensures { IfOk result (λ copy. K.cmp key.now copy ≡ Equal) }
 {
     let copy = key.clone()?;
@@ -94,7 +94,7 @@ fn copied<K: Ord + Clone>(key: &K) -> Result<K, AllocError>
 }
 
 /// Gives the key an entry where it has none, and answers a key that is equal to it. A refused key comes back.
-fn placed<K: Ord + Clone, V: Drop>(map: &mut MarkMap<K, V>, key: K) -> Result<K, K>
+fn ensure_entry<K: Ord + Clone, V: Drop>(map: &mut MarkMap<K, V>, key: K) -> Result<K, K>
     ensures place { IfOk result (λ place. K.cmp key place ≡ Equal) }
     ensures there { IfOk result (λ place. IsSome (entry_at K.cmp (marks map.new) place)) }
     ensures map { IfOk result (λ place. (f : _)
@@ -106,7 +106,7 @@ fn placed<K: Ord + Clone, V: Drop>(map: &mut MarkMap<K, V>, key: K) -> Result<K,
     if map.has_entry(&key) {
         return Ok(key);
     }
-    match copied(&key) {
+    match copy_of(&key) {
         Ok(copy) => {
             map.add_unmarked(key)?;
             Ok(copy)

@@ -5,13 +5,13 @@ ghost use Rattle.cfganalysis.specs.Firsts.{AreFirsts};
 ghost use Rattle.cfgrammar.specs.Numbered.{core};
 
 use super::tables::YaccGrammar;
-use cfganalysis::{Counted, Tables, YaccFirsts};
+use cfganalysis::{CountedTables, Tables, YaccFirsts};
 use cfgindex::{PIdx, RIdx, Storage, Symbol, TIdx};
 use std::alloc::{AllocError, Global};
 
 impl<S: Storage> Tables<S> for YaccGrammar<S> {
     ghost use Rattle.std.specs.Prelude.{◌≡◌, ◌<◌, length, map};
-    ghost use Rattle.cfganalysis.specs.Openings.{production_at};
+    ghost use Rattle.cfganalysis.specs.Openings.{nth_production};
     ghost use Rattle.cfganalysis.specs.Symbols.{sym_of};
 
     ghost grammar = { core };
@@ -31,14 +31,14 @@ impl<S: Storage> Tables<S> for YaccGrammar<S> {
 
     fn prod_to_rule(&self, pidx: PIdx<S>) -> RIdx<S>
         requires { S.number pidx.0 < length (core self.now).productions }
-        ensures { S.number result.0 ≡ (production_at (core self.now) (S.number pidx.0)).rule }
+        ensures { S.number result.0 ≡ (nth_production (core self.now) (S.number pidx.0)).rule }
     {
         self.prod_to_rule(pidx)
     }
 
     fn prod(&self, pidx: PIdx<S>) -> &[Symbol<S>]
         requires { S.number pidx.0 < length (core self.now).productions }
-        ensures { map (sym_of S.number) result.now ≡ (production_at (core self.now) (S.number pidx.0)).symbols }
+        ensures { map (sym_of S.number) result.now ≡ (nth_production (core self.now) (S.number pidx.0)).symbols }
     {
         self.prod(pidx)
     }
@@ -62,13 +62,13 @@ impl<S: Storage> YaccGrammar<S> {
     /// # Errors
     ///
     /// Want of memory.
-    pub fn productions(&self, alloc: Global) -> Result<Counted<'_, S, YaccGrammar<S>>, AllocError>
+    pub fn productions(&self, alloc: Global) -> Result<CountedTables<'_, S, YaccGrammar<S>>, AllocError>
         ensures { IfOk result (λ x. x ≡ record {
           grammar = core self.now;
           opened = replicate (length self.now.productions) 0;
           opened_all = 0;
         }) }
     {
-        Counted::new(alloc, self)
+        CountedTables::new(alloc, self)
     }
 }

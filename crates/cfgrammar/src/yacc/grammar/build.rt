@@ -13,9 +13,8 @@ ghost use Rattle.cfganalysis.specs.Symbols.{sym_of};
 ghost use Rattle.cfgrammar.specs.View.{names, rule_view, production_view, token_view};
 
 use super::rows::{ProductionRow, RuleRow, TokenRow};
-use super::stored::stored;
 use cfgbase::Span;
-use cfgindex::{PIdx, RIdx, Storage, Symbol, TIdx};
+use cfgindex::{PIdx, RIdx, Storage, Symbol, TIdx, to_storage};
 use cfgsyntax::yacc::ast;
 use cfgsyntax::yacc::ast::{GrammarAST, Production, Rule};
 use indexmap::IndexMap;
@@ -97,7 +96,7 @@ fn start_rule_row<S: Storage>(alloc: Global, ast: &GrammarAST) -> Result<RuleRow
     ensures action_type { IfOk result (λ row. row.actiont ≡ None) }
 {
     let mut prods = Vec::new(alloc);
-    prods.push(PIdx(stored(ast.prods().len())))?;
+    prods.push(PIdx(to_storage(ast.prods().len())))?;
     Ok(RuleRow {
         span: Span::new(0, 0),
         prods,
@@ -127,7 +126,7 @@ fn stored_places<S: Storage>(alloc: Global, places: &[usize]) -> Result<Vec<PIdx
 {
     let mut prods = Vec::with_capacity(alloc, places.len())?;
     for place in places {
-        prods.push(PIdx(stored(*place)))?;
+        prods.push(PIdx(to_storage(*place)))?;
     }
     Ok(prods)
 }
@@ -217,7 +216,7 @@ fn start_production_row<S: Storage>(
         symbols.push(Symbol::Rule(rule_of(ast, name.as_str())))?;
     }
     Ok(ProductionRow {
-        rule: RIdx(stored(0)),
+        rule: RIdx(to_storage(0)),
         symbols,
         span: Span::new(0, 0),
         action: None,
@@ -251,7 +250,7 @@ fn rule_at<S: Storage>(place: usize) -> RIdx<S>
     ensures { S.number result.0 ≡ suc place }
 {
     prove!(place < S::MAX);
-    RIdx(stored(place + 1))
+    RIdx(to_storage(place + 1))
 }
 
 /// The token of this name.
@@ -261,7 +260,7 @@ fn token_of<S: Storage>(ast: &GrammarAST, name: &str) -> TIdx<S>
     ensures { S.number result.0 ≡ token_index (syntax ast.now) name.now }
 {
     let place = ast.tokens().get_index_of(name).unwrap();
-    TIdx(stored(place))
+    TIdx(to_storage(place))
 }
 
 /// The tokens that have a name.

@@ -6,9 +6,8 @@ mod fault;
 mod iter;
 pub mod laws;
 mod rows;
-mod stored;
 mod tables;
 
-pub use cfganalysis::{Counted, Productions, Tables};
+pub use cfganalysis::{CountedTables, Productions, Tables};
 pub use iter::{PIdxIter, RIdxIter, TIdxIter};
 pub use tables::YaccGrammar;

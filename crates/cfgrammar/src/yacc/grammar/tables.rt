@@ -17,15 +17,15 @@ ghost use Rattle.cfgrammar.specs.Answer.{IsAnswer};
 ghost use Rattle.cfgrammar.specs.Fits.{Fits, LeavesRoom};
 ghost use Rattle.cfgrammar.specs.Numbered.{numbered};
 ghost use Rattle.cfgrammar.specs.Numbering.{IsNumbering};
-ghost use Rattle.cfgrammar.specs.Shown.{has_token_name, production_at, production_text, rule_at, sym_name, sym_text, token_at};
+ghost use Rattle.cfgrammar.specs.Shown.{has_token_name, production_part, production_text, rule_part, sym_name, sym_text, token_part};
 
 use super::build;
 use super::fault::storage_too_small;
 use super::iter::{PIdxIter, RIdxIter, TIdxIter};
 use super::rows::{ProductionRow, RuleRow, TokenRow};
-use super::stored::stored;
+use cfgast::Settings;
 use cfgbase::Span;
-use cfgindex::{PIdx, RIdx, SIdx, Storage, Symbol, TIdx};
+use cfgindex::{PIdx, RIdx, SIdx, Storage, Symbol, TIdx, to_storage};
 use cfgsyntax::yacc::YaccKind;
 use cfgsyntax::yacc::ast::{ASTWithValidityInfo, GrammarAST};
 use cfgsyntax::yacc::parser::{YaccFault, YaccGrammarResult};
@@ -43,6 +43,7 @@ pub struct YaccGrammar<S: Storage> {
     prods: Vec<ProductionRow<S>>,
     tokens: IndexMap<String, TokenRow>,
     start_prod: PIdx<S>,
+    settings: Settings,
 }
 
 impl<S: Storage> Model for YaccGrammar<S> {
@@ -51,9 +52,9 @@ impl<S: Storage> Model for YaccGrammar<S> {
 
     ghost Value = { Numbered };
 
-    ghost view = { λ x. tables S.number x.rules.entries x.prods.items x.tokens.entries x.start_prod };
+    ghost view = { λ x. tables S.number x.rules.entries x.prods.items x.tokens.entries x.start_prod x.settings };
 
-    ghost invariant = { λ x. IsTable S.MAX (tables S.number x.rules.entries x.prods.items x.tokens.entries x.start_prod) };
+    ghost invariant = { λ x. IsTable S.MAX (tables S.number x.rules.entries x.prods.items x.tokens.entries x.start_prod x.settings) };
 }
 
 impl YaccGrammar<u32> {
@@ -122,7 +123,8 @@ impl<S: Storage> YaccGrammar<S> {
             rules: build::rule_rows(alloc, ast)?,
             prods: build::production_rows(alloc, ast)?,
             tokens: build::token_rows(alloc, ast)?,
-            start_prod: PIdx(stored(ast.prods().len())),
+            start_prod: PIdx(to_storage(ast.prods().len())),
+            settings: ast.settings().clone()?,
         })
     }
 }
@@ -144,7 +146,7 @@ impl<S: Storage> YaccGrammar<S> {
     pub fn prods_len(&self) -> PIdx<S>
         ensures { S.number result.0 ≡ length self.now.productions }
     {
-        PIdx(stored(self.prods.len()))
+        PIdx(to_storage(self.prods.len()))
     }
 
     /// The productions' indices, in order.
@@ -157,7 +159,7 @@ impl<S: Storage> YaccGrammar<S> {
     /// The symbols of a production.
     pub fn prod(&self, pidx: PIdx<S>) -> &[Symbol<S>]
         requires { S.number pidx.0 < length self.now.productions }
-        ensures { production_at (λ x. x.symbols) self.now (S.number pidx.0) ≡ Some (map (sym_of S.number) result.now) }
+        ensures { production_part (λ x. x.symbols) self.now (S.number pidx.0) ≡ Some (map (sym_of S.number) result.now) }
     {
         self.prods[usize::from(pidx)].symbols.as_slice()
     }
@@ -165,15 +167,15 @@ impl<S: Storage> YaccGrammar<S> {
     /// How many symbols a production has.
     pub fn prod_len(&self, pidx: PIdx<S>) -> SIdx<S>
         requires { S.number pidx.0 < length self.now.productions }
-        ensures { production_at (λ x. length x.symbols) self.now (S.number pidx.0) ≡ Some (S.number result.0) }
+        ensures { production_part (λ x. length x.symbols) self.now (S.number pidx.0) ≡ Some (S.number result.0) }
     {
-        SIdx(stored(self.prods[usize::from(pidx)].symbols.len()))
+        SIdx(to_storage(self.prods[usize::from(pidx)].symbols.len()))
     }
 
     /// The rule that a production belongs to.
     pub fn prod_to_rule(&self, pidx: PIdx<S>) -> RIdx<S>
         requires { S.number pidx.0 < length self.now.productions }
-        ensures { production_at (λ x. x.rule) self.now (S.number pidx.0) ≡ Some (S.number result.0) }
+        ensures { production_part (λ x. x.rule) self.now (S.number pidx.0) ≡ Some (S.number result.0) }
     {
         self.prods[usize::from(pidx)].rule
     }
@@ -181,7 +183,7 @@ impl<S: Storage> YaccGrammar<S> {
     /// The place of a production in the file, (0,0) for one that the file does not have.
     pub fn prod_span(&self, pidx: PIdx<S>) -> Span
         requires { S.number pidx.0 < length self.now.productions }
-        ensures { production_at (λ x. x.span) self.now (S.number pidx.0) ≡ Some result }
+        ensures { production_part (λ x. x.span) self.now (S.number pidx.0) ≡ Some result }
     {
         self.prods[usize::from(pidx)].span
     }
@@ -189,7 +191,7 @@ impl<S: Storage> YaccGrammar<S> {
     /// The text of a production's action.
     pub fn action(&self, pidx: PIdx<S>) -> &Option<String>
         requires { S.number pidx.0 < length self.now.productions }
-        ensures { production_at (λ x. x.action) self.now (S.number pidx.0) ≡ Some (option_map string_bytes result.now) }
+        ensures { production_part (λ x. x.action) self.now (S.number pidx.0) ≡ Some (option_map string_bytes result.now) }
     {
         &self.prods[usize::from(pidx)].action
     }
@@ -197,7 +199,7 @@ impl<S: Storage> YaccGrammar<S> {
     /// The place of a production's action in the file.
     pub fn action_span(&self, pidx: PIdx<S>) -> Option<Span>
         requires { S.number pidx.0 < length self.now.productions }
-        ensures { production_at (λ x. x.action_span) self.now (S.number pidx.0) ≡ Some result }
+        ensures { production_part (λ x. x.action_span) self.now (S.number pidx.0) ≡ Some result }
     {
         self.prods[usize::from(pidx)].action_span
     }
@@ -213,7 +215,7 @@ impl<S: Storage> YaccGrammar<S> {
     pub fn rules_len(&self) -> RIdx<S>
         ensures { S.number result.0 ≡ length self.now.rules }
     {
-        RIdx(stored(self.rules.len()))
+        RIdx(to_storage(self.rules.len()))
     }
 
     /// The rules' indices, in order.
@@ -226,7 +228,7 @@ impl<S: Storage> YaccGrammar<S> {
     /// The productions of a rule.
     pub fn rule_to_prods(&self, ridx: RIdx<S>) -> &[PIdx<S>]
         requires { S.number ridx.0 < length self.now.rules }
-        ensures { rule_at (λ x. x.productions) self.now (S.number ridx.0) ≡ Some (map (λ p. S.number p.0) result.now) }
+        ensures { rule_part (λ x. x.productions) self.now (S.number ridx.0) ≡ Some (map (λ p. S.number p.0) result.now) }
     {
         self.rules[usize::from(ridx)].prods.as_slice()
     }
@@ -235,7 +237,7 @@ impl<S: Storage> YaccGrammar<S> {
     #[deprecated(note = "use rule_name_str")]
     pub fn rule_name(&self, ridx: RIdx<S>) -> &str
         requires { S.number ridx.0 < length self.now.rules }
-        ensures { rule_at (λ x. x.name) self.now (S.number ridx.0) ≡ Some result.now }
+        ensures { rule_part (λ x. x.name) self.now (S.number ridx.0) ≡ Some result.now }
     {
         self.rule_name_str(ridx)
     }
@@ -243,7 +245,7 @@ impl<S: Storage> YaccGrammar<S> {
     /// The name of a rule.
     pub fn rule_name_str(&self, ridx: RIdx<S>) -> &str
         requires { S.number ridx.0 < length self.now.rules }
-        ensures { rule_at (λ x. x.name) self.now (S.number ridx.0) ≡ Some result.now }
+        ensures { rule_part (λ x. x.name) self.now (S.number ridx.0) ≡ Some result.now }
     {
         let (name, _) = self.rules.get_index(usize::from(ridx)).unwrap();
         name.as_str()
@@ -252,7 +254,7 @@ impl<S: Storage> YaccGrammar<S> {
     /// The place of a rule's name in the file, (0,0) for a rule that the file does not have.
     pub fn rule_name_span(&self, ridx: RIdx<S>) -> Span
         requires { S.number ridx.0 < length self.now.rules }
-        ensures { rule_at (λ x. x.span) self.now (S.number ridx.0) ≡ Some result }
+        ensures { rule_part (λ x. x.span) self.now (S.number ridx.0) ≡ Some result }
     {
         self.rules[usize::from(ridx)].span
     }
@@ -260,7 +262,7 @@ impl<S: Storage> YaccGrammar<S> {
     /// The type of what a rule's actions answer.
     pub fn actiontype(&self, ridx: RIdx<S>) -> &Option<String>
         requires { S.number ridx.0 < length self.now.rules }
-        ensures { rule_at (λ x. x.action_type) self.now (S.number ridx.0) ≡ Some (option_map string_bytes result.now) }
+        ensures { rule_part (λ x. x.action_type) self.now (S.number ridx.0) ≡ Some (option_map string_bytes result.now) }
     {
         &self.rules[usize::from(ridx)].actiont
     }
@@ -278,7 +280,7 @@ impl<S: Storage> YaccGrammar<S> {
         ensures { option_map (λ x. S.number x.0) result ≡ position (λ rule. bytes_eq name.now rule.name) self.now.rules }
     {
         match self.rules.get_index_of(name) {
-            Some(index) => Some(RIdx(stored(index))),
+            Some(index) => Some(RIdx(to_storage(index))),
             None => None,
         }
     }
@@ -287,14 +289,14 @@ impl<S: Storage> YaccGrammar<S> {
     pub fn start_rule_idx(&self) -> RIdx<S>
         ensures { S.number result.0 ≡ 0 }
     {
-        RIdx(stored(0))
+        RIdx(to_storage(0))
     }
 
     /// How many tokens there are, with the end token.
     pub fn tokens_len(&self) -> TIdx<S>
         ensures { S.number result.0 ≡ length self.now.tokens }
     {
-        TIdx(stored(self.tokens.len() + 1))
+        TIdx(to_storage(self.tokens.len() + 1))
     }
 
     /// The tokens' indices, in order.
@@ -308,13 +310,13 @@ impl<S: Storage> YaccGrammar<S> {
     pub fn eof_token_idx(&self) -> TIdx<S>
         ensures { S.number result.0 + 1 ≡ length self.now.tokens }
     {
-        TIdx(stored(self.tokens.len()))
+        TIdx(to_storage(self.tokens.len()))
     }
 
     /// The name of a token; the end token has none.
     pub fn token_name(&self, tidx: TIdx<S>) -> Option<&str>
         requires { S.number tidx.0 < length self.now.tokens }
-        ensures { token_at (λ x. x.name) self.now (S.number tidx.0) ≡ Some (option_map (λ name. name.now) result) }
+        ensures { token_part (λ x. x.name) self.now (S.number tidx.0) ≡ Some (option_map (λ name. name.now) result) }
     {
         match self.tokens.get_index(usize::from(tidx)) {
             Some((name, _)) => Some(name.as_str()),
@@ -325,7 +327,7 @@ impl<S: Storage> YaccGrammar<S> {
     /// The place of a token's name in the file; the end token has none.
     pub fn token_span(&self, tidx: TIdx<S>) -> Option<Span>
         requires { S.number tidx.0 < length self.now.tokens }
-        ensures { token_at (λ x. x.span) self.now (S.number tidx.0) ≡ Some result }
+        ensures { token_part (λ x. x.span) self.now (S.number tidx.0) ≡ Some result }
     {
         match self.tokens.get_index(usize::from(tidx)) {
             Some((_, row)) => Some(row.span),
@@ -338,7 +340,7 @@ impl<S: Storage> YaccGrammar<S> {
         ensures { option_map (λ x. S.number x.0) result ≡ position (has_token_name name.now) self.now.tokens }
     {
         match self.tokens.get_index_of(name) {
-            Some(index) => Some(TIdx(stored(index))),
+            Some(index) => Some(TIdx(to_storage(index))),
             None => None,
         }
     }
@@ -346,7 +348,7 @@ impl<S: Storage> YaccGrammar<S> {
     /// A production as text: the rule's name and a colon, and for each symbol a space and the name in double quotes.
     pub fn pp_prod(&self, alloc: Global, pidx: PIdx<S>) -> Result<String, AllocError>
         requires { S.number pidx.0 < length self.now.productions }
-        ensures { IfOk result (λ text. production_at (production_text self.now) self.now (S.number pidx.0) ≡ Some (string_bytes text)) }
+        ensures { IfOk result (λ text. production_part (production_text self.now) self.now (S.number pidx.0) ≡ Some (string_bytes text)) }
     {
         let mut text = String::from_str(alloc, self.name_at(self.prod_to_rule(pidx)))?;
         text.push_str(":")?;

@@ -4,7 +4,7 @@ ghost use Rattle.std.specs.Prelude.{◌≡◌, codes};
 ghost use Rattle.reading.specs.Construct.{expect, goes_on, repeat, while_test};
 ghost use Rattle.cfgsyntax.specs.Grammar.{is_listed, separator_fault, listed_token, token_declaration, start_declaration, declaration, start_and_more, declarations};
 
-use super::reader::{ReadError, Reader};
+use super::reader::{ReadFault, Reader};
 use cfgwords::fault::FaultKind;
 
 impl Reader<'_> {
@@ -12,7 +12,7 @@ impl Reader<'_> {
 
     /// Passes a token of a `%token` list and the blank behind it.
     #[tactic(auto, unfolding(crate::specs::Grammar::listed_token, cfgast::specs::Building::adds))]
-    fn listed_token(&mut self) -> Result<(), ReadError>
+    fn listed_token(&mut self) -> Result<(), ReadFault>
         ensures { Builds (λ x. x) self.old self.new result (listed_token self.old.len) }
     {
         let token = self.token()?;
@@ -31,7 +31,7 @@ impl Reader<'_> {
     }
 
     /// Passes the tokens of a `%token` list.
-    fn token_list(&mut self) -> Result<(), ReadError>
+    fn token_list(&mut self) -> Result<(), ReadFault>
         ensures { Builds (λ x. x) self.old self.new result (repeat (while_test is_listed (listed_token self.old.len))) }
     {
         while self.is_listed() {
@@ -42,7 +42,7 @@ impl Reader<'_> {
 
     /// Passes what follows `%token`.
     #[tactic(auto, unfolding(crate::specs::Grammar::token_declaration, cfgast::specs::Building::adds))]
-    fn token_declaration(&mut self) -> Result<(), ReadError>
+    fn token_declaration(&mut self) -> Result<(), ReadFault>
         ensures { Builds (λ x. x) self.old self.new result (token_declaration self.old.len) }
     {
         self.blank(false)?;
@@ -51,7 +51,7 @@ impl Reader<'_> {
 
     /// Passes what follows `%start`.
     #[tactic(auto, unfolding(crate::specs::Grammar::start_declaration, cfgast::specs::Building::adds))]
-    fn start_declaration(&mut self) -> Result<(), ReadError>
+    fn start_declaration(&mut self) -> Result<(), ReadFault>
         ensures { Builds (λ x. x) self.old self.new result (start_declaration self.old.len) }
     {
         self.blank(false)?;
@@ -62,7 +62,7 @@ impl Reader<'_> {
 
     /// Passes a declaration other than `%start`, and tells whether one stands here.
     #[tactic(auto, unfolding(crate::specs::Grammar::declaration, cfgast::specs::Building::adds))]
-    fn declaration(&mut self) -> Result<bool, ReadError>
+    fn declaration(&mut self) -> Result<bool, ReadFault>
         ensures { Builds goes_on self.old self.new result (declaration self.old.len) }
     {
         if self.accept("%token") {
@@ -73,7 +73,7 @@ impl Reader<'_> {
         }
     }
 
-    fn declaration_list(&mut self) -> Result<(), ReadError>
+    fn declaration_list(&mut self) -> Result<(), ReadFault>
         ensures { Builds (λ x. x) self.old self.new result (repeat (declaration self.old.len)) }
     {
         while self.declaration()? {}
@@ -81,7 +81,7 @@ impl Reader<'_> {
     }
 
     #[tactic(auto, unfolding(crate::specs::Grammar::start_and_more, cfgast::specs::Building::adds))]
-    fn start_and_more(&mut self) -> Result<(), ReadError>
+    fn start_and_more(&mut self) -> Result<(), ReadFault>
         ensures { Builds (λ x. x) self.old self.new result (start_and_more self.old.len) }
     {
         self.start_declaration()?;
@@ -90,7 +90,7 @@ impl Reader<'_> {
 
     /// Passes all declarations. `%start` may stand once.
     #[tactic(auto, unfolding(crate::specs::Grammar::declarations, cfgast::specs::Building::adds))]
-    pub(super) fn declarations(&mut self) -> Result<(), ReadError>
+    pub(super) fn declarations(&mut self) -> Result<(), ReadFault>
         ensures { Builds (λ x. x) self.old self.new result (declarations self.old.len) }
     {
         self.declaration_list()?;
@@ -103,7 +103,7 @@ impl Reader<'_> {
 
     /// Passes the `%%` behind the declarations.
     #[tactic(auto, unfolding(cfgast::specs::Building::adds))]
-    pub(super) fn separator(&mut self) -> Result<(), ReadError>
+    pub(super) fn separator(&mut self) -> Result<(), ReadFault>
         ensures { Builds (λ x. x) self.old self.new result (expect (codes "%%") (separator_fault self.old.len)) }
     {
         if self.accept("%%") {

@@ -7,7 +7,7 @@ ghost use Rattle.cfgast.specs.Syntax.{syntax_of};
 ghost use Rattle.cfgast.specs.View.{syntax};
 ghost use Rattle.cfgsyntax.specs.Reads.{Reads, HasOneReading};
 
-use super::reader::{ReadError, Reader};
+use super::reader::{ReadFault, Reader};
 use crate::yacc::kind::YaccKind;
 use cfgast::GrammarAST;
 use cfgwords::fault::Fault;
@@ -26,8 +26,8 @@ pub(crate) fn read(
     let mut reader = Reader::new(alloc, text);
     let stop = match reader.file(kind) {
         Ok(()) => None,
-        Err(ReadError::Fault(fault)) => Some(fault),
-        Err(ReadError::OutOfMemory) => return Err(AllocError),
+        Err(ReadFault::Fault(fault)) => Some(fault),
+        Err(ReadFault::OutOfMemory) => return Err(AllocError),
     };
     Ok((reader.into_tree(), stop))
 }

@@ -15,38 +15,38 @@ use std::alloc::{AllocError, AllocFailed, Global};
 
 /// Why a reader stopped.
 #[derive(Drop)]
-pub(crate) enum ReadError {
+pub(crate) enum ReadFault {
     OutOfMemory,
     Fault(Fault),
 }
 
-impl From<Fault> for ReadError {
-    ghost use Rattle.cfgsyntax.specs.declared.yacc.parser.reader.ReadError.TheVariants as errors;
+impl From<Fault> for ReadFault {
+    ghost use Rattle.cfgsyntax.specs.declared.yacc.parser.reader.ReadFault.TheVariants as errors;
 
     ghost from_gives = { λ fault e. e ≡ errors.Fault fault };
 
-    fn from(fault: Fault) -> ReadError {
-        ReadError::Fault(fault)
+    fn from(fault: Fault) -> ReadFault {
+        ReadFault::Fault(fault)
     }
 }
 
-impl From<AllocError> for ReadError {
-    ghost use Rattle.cfgsyntax.specs.declared.yacc.parser.reader.ReadError.TheVariants.{OutOfMemory};
+impl From<AllocError> for ReadFault {
+    ghost use Rattle.cfgsyntax.specs.declared.yacc.parser.reader.ReadFault.TheVariants.{OutOfMemory};
 
     ghost from_gives = { λ _ e. e ≡ OutOfMemory };
 
-    fn from(_error: AllocError) -> ReadError {
-        ReadError::OutOfMemory
+    fn from(_error: AllocError) -> ReadFault {
+        ReadFault::OutOfMemory
     }
 }
 
-impl<T: Drop> From<AllocFailed<T>> for ReadError {
-    ghost use Rattle.cfgsyntax.specs.declared.yacc.parser.reader.ReadError.TheVariants.{OutOfMemory};
+impl<T: Drop> From<AllocFailed<T>> for ReadFault {
+    ghost use Rattle.cfgsyntax.specs.declared.yacc.parser.reader.ReadFault.TheVariants.{OutOfMemory};
 
     ghost from_gives = { λ _ e. e ≡ OutOfMemory };
 
-    fn from(_error: AllocFailed<T>) -> ReadError {
-        ReadError::OutOfMemory
+    fn from(_error: AllocFailed<T>) -> ReadFault {
+        ReadFault::OutOfMemory
     }
 }
 
@@ -93,11 +93,11 @@ impl<'a> Reader<'a> {
     }
 
     /// A fault right here.
-    pub(super) fn fault(&self, kind: FaultKind) -> ReadError
-        ensures { result ≡ ReadError.Fault (fault_at self.now.len kind self.now.rest.now) }
+    pub(super) fn fault(&self, kind: FaultKind) -> ReadFault
+        ensures { result ≡ ReadFault.Fault (fault_at self.now.len kind self.now.rest.now) }
     {
         let place = self.place();
-        ReadError::Fault(Fault {
+        ReadFault::Fault(Fault {
             kind,
             span: Span::new(place, place),
         })
@@ -119,7 +119,7 @@ impl<'a> Reader<'a> {
     }
 
     /// The next part of a blank: what is left behind it, or None where the blank ends here.
-    fn part(&self, lines: bool) -> Result<Option<&'a str>, ReadError>
+    fn part(&self, lines: bool) -> Result<Option<&'a str>, ReadFault>
         ensures { IsPartHere lines self.now result }
     {
         match Front::of(self.rest).part(lines) {
@@ -129,7 +129,7 @@ impl<'a> Reader<'a> {
     }
 
     /// Passes the blank that begins here; where `lines` is false, it may not pass a line's end.
-    pub(super) fn blank(&mut self, lines: bool) -> Result<(), ReadError>
+    pub(super) fn blank(&mut self, lines: bool) -> Result<(), ReadFault>
         ensures { Builds (λ x. x) self.old self.new result (blank_here self.old.len lines) }
     {
         while let Some(rest) = self.part(lines)? {
@@ -140,7 +140,7 @@ impl<'a> Reader<'a> {
 
     /// Passes the name that must stand here.
     #[tactic(auto, unfolding(cfgast::specs::Building::adds))]
-    pub(super) fn name(&mut self) -> Result<Word<'a>, ReadError>
+    pub(super) fn name(&mut self) -> Result<Word<'a>, ReadFault>
         ensures { Builds word_view self.old self.new result (name_here self.old.len) }
     {
         match leading_name(self.rest) {
@@ -177,7 +177,7 @@ impl<'a> Reader<'a> {
 
     /// Passes the token that must stand here.
     #[tactic(auto, unfolding(cfgast::specs::Building::adds))]
-    pub(super) fn token(&mut self) -> Result<Token<'a>, ReadError>
+    pub(super) fn token(&mut self) -> Result<Token<'a>, ReadFault>
         ensures { Builds token_view self.old self.new result (token_here self.old.len) }
     {
         match self.next_token() {

@@ -7,7 +7,7 @@ ghost use Rattle.cfgwords.specs.declared.fault.FaultKind.TheVariants.{MissingCol
 ghost use Rattle.cfgast.specs.Items.{Alternative};
 ghost use Rattle.cfgsyntax.specs.Grammar.{end_of, is_open, body_fault, symbol, another, finish, production, rule, file};
 
-use super::reader::{ReadError, Reader};
+use super::reader::{ReadFault, Reader};
 use crate::yacc::kind::YaccKind;
 use cfgast::{Body, RuleHead};
 use cfgbase::Span;
@@ -19,8 +19,8 @@ impl<'a> Reader<'a> {
     ghost use Rattle.cfgast.specs.View.{token_view, head_view, body_view};
 
     /// The fault where a symbol, `|` or `;` must stand.
-    fn body_fault(&self) -> ReadError
-        ensures { result ≡ ReadError.Fault (body_fault self.now.len self.now.rest.now) }
+    fn body_fault(&self) -> ReadFault
+        ensures { result ≡ ReadFault.Fault (body_fault self.now.len self.now.rest.now) }
     {
         if self.rest.is_empty() {
             self.fault(FaultKind::IncompleteRule)
@@ -31,7 +31,7 @@ impl<'a> Reader<'a> {
 
     /// Passes the colon behind a rule's name.
     #[tactic(auto, unfolding(cfgast::specs::Building::adds))]
-    fn colon(&mut self) -> Result<(), ReadError>
+    fn colon(&mut self) -> Result<(), ReadFault>
         ensures { Builds (λ x. x) self.old self.new result (expect (codes ":") (fault_at self.old.len MissingColon)) }
     {
         if self.accept(":") {
@@ -43,7 +43,7 @@ impl<'a> Reader<'a> {
 
     /// Passes the symbol that stands here, if one does, and the blank behind it; a quoted token is noted.
     #[tactic(auto, unfolding(crate::specs::Grammar::symbol, cfgast::specs::Building::adds))]
-    fn symbol(&mut self) -> Result<Option<Token<'a>>, ReadError>
+    fn symbol(&mut self) -> Result<Option<Token<'a>>, ReadFault>
         ensures read { Builds (option_map token_view) self.old self.new result (symbol self.old.len) }
         ensures after { IfOk result (λ symbol. IfSome symbol (λ token. place self.old.len self.old.rest.now ≤ token.end)) }
     {
@@ -60,7 +60,7 @@ impl<'a> Reader<'a> {
     }
 
     /// Passes the symbols of a production.
-    fn symbols(&mut self) -> Result<Vec<Token<'a>>, ReadError>
+    fn symbols(&mut self) -> Result<Vec<Token<'a>>, ReadFault>
         ensures read { Builds tokens_view self.old self.new result (many (symbol self.old.len)) }
         ensures ends { IfOk result (λ symbols. All (λ symbol. place self.old.len self.old.rest.now ≤ symbol.end) symbols.items) }
         ensures shorter { OnOk result (length self.new.rest.now ≤ length self.old.rest.now) }
@@ -74,7 +74,7 @@ impl<'a> Reader<'a> {
 
     /// Passes the `|` before another production, or the `;` that ends a rule, and tells whether it was `|`.
     #[tactic(auto, unfolding(crate::specs::Grammar::another, cfgast::specs::Building::adds))]
-    fn another(&mut self) -> Result<bool, ReadError>
+    fn another(&mut self) -> Result<bool, ReadFault>
         ensures { Builds (λ x. x) self.old self.new result (another self.old.len) }
     {
         if self.accept("|") {
@@ -88,7 +88,7 @@ impl<'a> Reader<'a> {
 
     /// Notes the production that ends here, and tells whether another one follows.
     #[tactic(auto, unfolding(crate::specs::Grammar::finish, cfgast::specs::Building::adds))]
-    fn finish(&mut self, head: RuleHead<'a>, body: Body<'_, 'a>) -> Result<bool, ReadError>
+    fn finish(&mut self, head: RuleHead<'a>, body: Body<'_, 'a>) -> Result<bool, ReadFault>
         ensures { Builds goes_on self.old self.new result
             (finish self.old.len (Alternative (head_view head.entry) (body_view body.entry))) }
     {
@@ -111,7 +111,7 @@ impl<'a> Reader<'a> {
 
     /// Passes a production of the rule and what ends it, and tells whether another one follows.
     #[tactic(auto, unfolding(crate::specs::Grammar::production, cfgast::specs::Building::adds))]
-    fn production(&mut self, head: RuleHead<'a>) -> Result<bool, ReadError>
+    fn production(&mut self, head: RuleHead<'a>) -> Result<bool, ReadFault>
         ensures { Builds goes_on self.old self.new result (production self.old.len (head_view head.entry)) }
     {
         let start = self.place();
@@ -126,7 +126,7 @@ impl<'a> Reader<'a> {
     }
 
     /// Passes the productions of a rule.
-    fn productions(&mut self, head: RuleHead<'a>) -> Result<(), ReadError>
+    fn productions(&mut self, head: RuleHead<'a>) -> Result<(), ReadFault>
         ensures { Builds (λ x. x) self.old self.new result (repeat (production self.old.len (head_view head.entry))) }
     {
         while self.production(head)? {}
@@ -135,7 +135,7 @@ impl<'a> Reader<'a> {
 
     /// Passes a rule and the blank behind it.
     #[tactic(auto, unfolding(crate::specs::Grammar::rule, cfgast::specs::Building::adds))]
-    fn rule(&mut self) -> Result<(), ReadError>
+    fn rule(&mut self) -> Result<(), ReadFault>
         ensures { Builds (λ x. x) self.old self.new result (rule self.old.len) }
     {
         let head = RuleHead {
@@ -157,7 +157,7 @@ impl<'a> Reader<'a> {
     }
 
     /// Passes rules up to the end.
-    fn rules(&mut self) -> Result<(), ReadError>
+    fn rules(&mut self) -> Result<(), ReadFault>
         ensures { Builds (λ x. x) self.old self.new result (repeat (while_test is_open (rule self.old.len))) }
     {
         while self.is_open() {
@@ -168,7 +168,7 @@ impl<'a> Reader<'a> {
 
     /// Passes a whole file.
     #[tactic(auto, unfolding(crate::specs::Grammar::file, cfgast::specs::Building::adds))]
-    pub(super) fn file(&mut self, kind: YaccKind) -> Result<(), ReadError>
+    pub(super) fn file(&mut self, kind: YaccKind) -> Result<(), ReadFault>
         ensures { Builds (λ x. x) self.old self.new result (file kind self.old.len) }
     {
         self.blank(true)?;

@@ -3,7 +3,7 @@ use Rattle.std.specs.List.{flat_map, enumerate_from}
 use Rattle.std.specs.Fmt.{decimal}
 use Rattle.std.proofs.lemmas.List.FromFn.{length-enumerate_from}
 use Rattle.cfgrammar.specs.Counting.{Left}
-use Rattle.cfgrammar.specs.Shown.{production_at, production_text}
+use Rattle.cfgrammar.specs.Shown.{production_part, production_text}
 use Rattle.std.proofs.lemmas.List.{take_all}
 use Rattle.cfgtool.specs.Report.{production_line}
 use Rattle.cfgtool.proofs.Told.{one_more_production}
@@ -19,7 +19,7 @@ loop-pidx-preserved c =
     let (number, inside, left) = c.in-Some.ensures.steps in
     let after : c.next.new.self.next ≡ next + 1 = ap (λ (l : Left). l.next) left in
     let end : c.next.new.self.end ≡ c.loop-pidx.pidx-iterator.end = ap (λ (l : Left). l.end) left in
-    let shown = subst (λ k. production_at (production_text g) g k ≡ Some text) number c.in_ok-text.ensures in
+    let shown = subst (λ k. production_part (production_text g) g k ≡ Some text) number c.in_ok-text.ensures in
     record {
       all = end ∙ before.all;
       within = omega arith;

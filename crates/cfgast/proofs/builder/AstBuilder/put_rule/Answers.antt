@@ -32,7 +32,7 @@ grown c =
     let name = c.args.head.name.name.now in
     let old = c.args.self.now.ast.rules in
     let key = c.in_ok-from_str-2.field-0 in
-    let rule : Rule = record { name = (c.in_ok-from_str.field-0, c.args.head.name.span); pidxs = c.new.result; actiont = c.in_ok-copied.field-0 } in
+    let rule : Rule = record { name = (c.in_ok-from_str.field-0, c.args.head.name.span); pidxs = c.new.result; actiont = c.in_ok-copy_of.field-0 } in
     let absent : lookup (string_eq key) old.entries ≡ None =
     ap (λ n. lookup (is_key n) old.entries) c.in_ok-from_str-2.ensures.ok ∙ None-from_is_some _ (sym c.in_default.ensures.found) in
     let entry : rule_entry (key, rule) ≡ new_rule (head_view c.args.head) = λ i. (
@@ -40,7 +40,7 @@ grown c =
       record {
         name = record { name = c.in_ok-from_str.ensures.ok i; span = c.args.head.name.span };
         productions = c.new.ensures.items i;
-        action_type = c.in_ok-copied.ensures i;
+        action_type = c.in_ok-copy_of.ensures i;
       },
     ) in
     ap (map rule_entry) (c.in_ok-index.ensures.entries ∙ insert_entry-new string_eq old key rule absent)

@@ -6,7 +6,7 @@ use Rattle.cfgmarks.proofs.markmap.entry.VacantEntry.insert_entry.Goals as goal
 pub invariant_of-result : goal.invariant_of-result
 invariant_of-result g c = record {
   held =
-      held_after g.K.Ord.cmp g.met.K.Ord.total (marks c.placed.new.map) (marks c.replace_value.new.self) c.in-Ok.place c.args.value c.replace_value.ensures.map;
+      held_after g.K.Ord.cmp g.met.K.Ord.total (marks c.ensure_entry.new.map) (marks c.replace_value.new.self) c.in-Ok.place c.args.value c.replace_value.ensures.map;
 }
 
 pub returns : goal.returns

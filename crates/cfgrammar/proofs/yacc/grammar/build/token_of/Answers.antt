@@ -9,6 +9,6 @@ unwrap-place-requires g c = ap is_some (c.get_index_of.ensures.index ∙ token_p
 
 pub returns : goal.returns
 returns g c =
-    c.stored.ensures
+    c.to_storage.ensures
     ∙ same_Some _ _ (sym c.unwrap-place.ensures ∙ c.get_index_of.ensures.index
     ∙ token_place c.args.name.now (syntax c.args.ast.now) c.tokens.result.now.keys c.tokens.ensures c.requires.known)

@@ -3,7 +3,8 @@ use Rattle.cfgsyntax.specs.Check.{check_of}
 use Rattle.cfgast.specs.WellFormed.{IsWellFormed}
 use Rattle.cfgast.proofs.WellFormedLemmas.{syntax_of-IsWellFormed}
 use Rattle.cfgwords.proofs.NameStarts.{begins_as_name}
-use Rattle.cfgsyntax.specs.Places.{AreAtPlaces}
+use Rattle.cfgwords.specs.Places.{IsPiece}
+use Rattle.cfgast.specs.Syntax.{EachSpan}
 use Rattle.cfgsyntax.proofs.ErrorPlaces.{IsErrorAt, read_syntax_at, read_names, read_errors_at}
 use Rattle.cfgsyntax.proofs.SoundLemmas.{of_reading, checked, errors_read}
 use Rattle.cfgsyntax.proofs.yacc.ast.ASTWithValidityInfo.new.Goals as goal
@@ -23,7 +24,7 @@ returns-clause-places c =
 
 pub returns-clause-syntax_places : goal.returns-clause-syntax_places
 returns-clause-syntax_places c =
-    of_reading c.args.kind c.args.text.now _ (AreAtPlaces c.args.text.now) c.in_ok-ast.ensures.one
+    of_reading c.args.kind c.args.text.now _ (EachSpan (IsPiece c.args.text.now)) c.in_ok-ast.ensures.one
     (λ items stop reads. (c.in_ok-ast.ensures.read items stop reads).0) (read_syntax_at c.args.kind c.args.text.now c.utf8.text)
 
 pub invariant_of-result : goal.invariant_of-result

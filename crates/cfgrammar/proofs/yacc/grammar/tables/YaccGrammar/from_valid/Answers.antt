@@ -17,15 +17,15 @@ production_rows-requires-clause-resolved g c = resolved (syntax c.args.ast.now) 
 pub invariant_of-result : goal.invariant_of-result
 invariant_of-result g c =
     let s = syntax c.args.ast.now in
-    is_table g.S.Storage.number any_kind s c.in_ok-rule_rows.field-0.entries c.in_ok-production_rows.field-0.items c.in_ok-token_rows.field-0.entries (record { 0 = c.stored.result })
+    is_table g.S.Storage.number any_kind s c.in_ok-rule_rows.field-0.entries c.in_ok-production_rows.field-0.items c.in_ok-token_rows.field-0.entries (record { 0 = c.to_storage.result }) c.in_ok-clone.field-0
     g.S.Storage.MAX c.requires.sound c.requires.room
-    (built g.S.Storage.number any_kind s c.in_ok-rule_rows.field-0.entries c.in_ok-production_rows.field-0.items c.in_ok-token_rows.field-0.entries (record { 0 = c.stored.result })
+    (built g.S.Storage.number any_kind s c.in_ok-rule_rows.field-0.entries c.in_ok-production_rows.field-0.items c.in_ok-token_rows.field-0.entries (record { 0 = c.to_storage.result }) c.in_ok-clone.field-0
     c.in_ok-rule_rows.ensures c.in_ok-production_rows.ensures c.in_ok-token_rows.ensures
-    (c.stored.ensures ∙ sym (as_long production_view c.prods.result.now s.productions c.prods.ensures)))
+    (c.to_storage.ensures ∙ sym (as_long production_view c.prods.result.now s.productions c.prods.ensures)) (c.in_ok-clone.ensures.cases ∙ c.settings.ensures))
 
 pub returns : goal.returns
 returns g c = λ kind.
     let s = syntax c.args.ast.now in
-    built g.S.Storage.number kind s c.in_ok-rule_rows.field-0.entries c.in_ok-production_rows.field-0.items c.in_ok-token_rows.field-0.entries (record { 0 = c.stored.result })
+    built g.S.Storage.number kind s c.in_ok-rule_rows.field-0.entries c.in_ok-production_rows.field-0.items c.in_ok-token_rows.field-0.entries (record { 0 = c.to_storage.result }) c.in_ok-clone.field-0
     c.in_ok-rule_rows.ensures c.in_ok-production_rows.ensures c.in_ok-token_rows.ensures
-    (c.stored.ensures ∙ sym (as_long production_view c.prods.result.now s.productions c.prods.ensures))
+    (c.to_storage.ensures ∙ sym (as_long production_view c.prods.result.now s.productions c.prods.ensures)) (c.in_ok-clone.ensures.cases ∙ c.settings.ensures)

@@ -8,7 +8,7 @@ use Rattle.cfgrammar.proofs.yacc.grammar.tables.YaccGrammar.rule_idx.Goals as go
 pub returns-in-Some : goal.returns-in-Some
 unfolding tables
 returns-in-Some g c =
-    ap Some c.stored.ensures ∙ c.in-Some.ensures.index
+    ap Some c.to_storage.ensures ∙ c.in-Some.ensures.index
     ∙ rule_position g.S.Storage.number c.args.name.now c.self.inside.rules.entries
     ∙ ap (λ (g : Numbered). position (λ (rule : NumberedRule). bytes_eq c.args.name.now rule.name) g.rules) c.self.view_is
 

@@ -8,7 +8,7 @@ use Rattle.cfgrammar.proofs.yacc.grammar.tables.YaccGrammar.token_idx.Goals as g
 pub returns-in-Some : goal.returns-in-Some
 unfolding tables
 returns-in-Some g c =
-    ap Some c.stored.ensures ∙ c.in-Some.ensures.index
+    ap Some c.to_storage.ensures ∙ c.in-Some.ensures.index
     ∙ token_position c.args.name.now c.self.inside.tokens.entries
     ∙ ap (λ (g : Numbered). position (has_token_name c.args.name.now) g.tokens) c.self.view_is
 

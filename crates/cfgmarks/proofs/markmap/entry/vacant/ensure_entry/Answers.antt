@@ -1,7 +1,7 @@
 use Rattle.std.proofs.Common.{◌≡◌, None, is_some, ap, rules}
 use Rattle.cfgmarks.specs.Marks.{marks, entry_at}
 use Rattle.cfgmarks.proofs.MarkEntries.{added_is, changed_after_adding}
-use Rattle.cfgmarks.proofs.markmap.entry.vacant.placed.Goals as goal
+use Rattle.cfgmarks.proofs.markmap.entry.vacant.ensure_entry.Goals as goal
 
 pub returns-in_ok-add_unmarked-in-Ok-clause-there : goal.returns-in_ok-add_unmarked-in-Ok-clause-there
 returns-in_ok-add_unmarked-in-Ok-clause-there g c =

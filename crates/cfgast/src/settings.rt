@@ -1,0 +1,53 @@
+ghost use Rattle.std.specs.Prelude.{◌≡◌};
+
+use cfgbase::Span;
+use std::alloc::AllocError;
+
+/// What a file says of its grammar as a whole. No declaration that is read so far says any of it.
+#[derive(Debug, Drop)]
+pub struct Settings {
+    /// How many conflicts between shifting and reducing `%expect` allows (Bison), and where it says so.
+    pub expect: Option<(usize, Span)>,
+    /// How many conflicts between reductions `%expect-rr` allows (Bison), and where it says so.
+    pub expectrr: Option<(usize, Span)>,
+    /// The name and the type of the parser's parameter.
+    pub parse_param: Option<(String, String)>,
+    /// The parser's generic parameters.
+    pub parse_generics: Option<String>,
+    /// The text of the programs part.
+    pub programs: Option<String>,
+}
+
+impl Settings {
+    ghost use Rattle.cfgast.specs.Syntax.{no_settings};
+    ghost use Rattle.cfgast.specs.View.{settings_view};
+
+    /// None of them.
+    pub fn none() -> Self
+        ensures { settings_view result ≡ no_settings }
+    {
+        Settings {
+            expect: None,
+            expectrr: None,
+            parse_param: None,
+            parse_generics: None,
+            programs: None,
+        }
+    }
+}
+
+impl Clone for Settings {
+    ghost use Rattle.cfgast.specs.View.{settings_view};
+
+    ghost is_clone = { λ settings copy. settings_view copy ≡ settings_view settings };
+
+    fn clone(&self) -> Result<Settings, AllocError> {
+        Ok(Settings {
+            expect: self.expect,
+            expectrr: self.expectrr,
+            parse_param: self.parse_param.clone()?,
+            parse_generics: self.parse_generics.clone()?,
+            programs: self.programs.clone()?,
+        })
+    }
+}
