@@ -24,18 +24,16 @@ pub record Rule : Type 0 where
   pub productions : List ℕ
   pub action_type : Option (List ℕ)
 
--- what a file says of its grammar as a whole: how many conflicts it expects, its parser's parameter by name and type, the
--- generics, and the programs
+-- what a file says of its grammar as a whole: how many conflicts it expects, the generics of its parser, and the programs
 pub record Settings : Type 0 where
   pub expect : Option (ℕ × Span)
   pub expect_reduce_reduce : Option (ℕ × Span)
-  pub parse_param : Option (List ℕ × List ℕ)
   pub parse_generics : Option (List ℕ)
   pub programs : Option (List ℕ)
 
 -- no item speaks of them yet
 abbrev pub no_settings : Settings
-no_settings = record { expect = None; expect_reduce_reduce = None; parse_param = None; parse_generics = None; programs = None }
+no_settings = record { expect = None; expect_reduce_reduce = None; parse_generics = None; programs = None }
 
 pub record Syntax : Type 0 where
   pub start : Option Word

@@ -54,7 +54,6 @@ abbrev pub settings_view : Settings → plain.Settings
 settings_view settings = record {
   expect = settings.expect;
   expect_reduce_reduce = settings.expectrr;
-  parse_param = option_map (λ param. (string_bytes param.0, string_bytes param.1)) settings.parse_param;
   parse_generics = option_map string_bytes settings.parse_generics;
   programs = option_map string_bytes settings.programs;
 }

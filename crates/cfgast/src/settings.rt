@@ -10,8 +10,6 @@ pub struct Settings {
     pub expect: Option<(usize, Span)>,
     /// How many conflicts between reductions `%expect-rr` allows (Bison), and where it says so.
     pub expectrr: Option<(usize, Span)>,
-    /// The name and the type of the parser's parameter.
-    pub parse_param: Option<(String, String)>,
     /// The parser's generic parameters.
     pub parse_generics: Option<String>,
     /// The text of the programs part.
@@ -29,7 +27,6 @@ impl Settings {
         Settings {
             expect: None,
             expectrr: None,
-            parse_param: None,
             parse_generics: None,
             programs: None,
         }
@@ -45,7 +42,6 @@ impl Clone for Settings {
         Ok(Settings {
             expect: self.expect,
             expectrr: self.expectrr,
-            parse_param: self.parse_param.clone()?,
             parse_generics: self.parse_generics.clone()?,
             programs: self.programs.clone()?,
         })

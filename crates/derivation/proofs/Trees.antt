@@ -50,7 +50,7 @@ module _ (P : ℕ → List Sym → Type 0) where
       (subst (Yields P (s.before ++ (Rule s.rule ∷ s.after))) (sym p.whole)
       (trees_join p.first (opened s.has q.first q.second q.whole)))
 
-  trees_before : {a b : List Sym} (w : List ℕ) → Derives P a b → Yields P b w → Yields P a w
+  pub trees_before : {a b : List Sym} (w : List ℕ) → Derives P a b → Yields P b w → Yields P a w
   trees_before w none h = h
   trees_before w (next s d) h = tree_before w s (trees_before w d h)
 

@@ -1,4 +1,5 @@
--- The least and the greatest cost of a rule's sentences.
+-- The least and the greatest cost of a rule's sentences. The least is that of Knuth, A generalization of Dijkstra's
+-- algorithm (1977), where a production costs what its symbols cost together.
 use Rattle.std.specs.Prelude.{ℕ, ◌<◌, ◌≤◌, List}
 use Rattle.derivation.specs.Grammar.{Sym}
 use Rattle.derivation.specs.Sentence.{Sentence, cost_of, HasSentenceOf}

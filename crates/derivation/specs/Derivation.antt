@@ -1,4 +1,5 @@
--- Derivations. `P r symbols` says that rule r has a production of these symbols; of a grammar it is `HasProduction g`.
+-- Derivations, as in Aho, Lam, Sethi and Ullman, Compilers, section 4.2. `P r symbols` says that rule r has a
+-- production of these symbols; of a grammar it is `HasProduction g`.
 use Rattle.std.specs.Prelude.{◌≡◌, ℕ, List, ◌∷◌, ◌++◌}
 use Rattle.derivation.specs.Grammar.{Sym, Rule}
 

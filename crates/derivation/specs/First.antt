@@ -1,4 +1,5 @@
--- What a rule's derivations begin with.
+-- What a rule's derivations begin with: FIRST of Aho, Lam, Sethi and Ullman, Compilers, section 4.4. There the empty
+-- list is a member of FIRST where the rule derives it; here that stands by itself.
 use Rattle.std.specs.Prelude.{ℕ, List, [], ◌∷◌}
 use Rattle.derivation.specs.Grammar.{Sym, Rule, Token}
 use Rattle.derivation.specs.Derivation.{Derives}

@@ -1,4 +1,6 @@
--- The equations of FIRST. E says which rules are empty, F which tokens a rule begins with.
+-- The equations of FIRST: the rules by which Aho, Lam, Sethi and Ullman, Compilers, section 4.4, compute it. E says
+-- which rules are empty, F which tokens a rule begins with. The sets that are closed under them and so hold all that
+-- derivations show are, in the laws of src/lib.rt, tables of truth values.
 use Rattle.std.specs.Prelude.{◌≡◌, ℕ, List, [], ◌∷◌, ◌⊎◌}
 use Rattle.derivation.specs.Grammar.{Sym, Rule, Token}
 

@@ -1,4 +1,6 @@
--- What stands right after a rule.
+-- What stands right after a rule: FOLLOW of Aho, Lam, Sethi and Ullman, Compilers, section 4.4. There derivations
+-- begin with the start rule; here they may begin with any rule, also with one that the start rule never leads to. Only
+-- the end token asks for the start rule.
 use Rattle.std.specs.Prelude.{◌≡◌, ℕ, ◌+◌, List, [], ◌∷◌, ◌++◌, ◌⊎◌}
 use Rattle.derivation.specs.Grammar.{Sym, Grammar, Rule, Token, HasProduction}
 use Rattle.derivation.specs.Derivation.{Derives}

@@ -1,4 +1,6 @@
--- The equations of FOLLOW. E and F are as in the equations of FIRST, W says which tokens follow a rule.
+-- The equations of FOLLOW: the rules by which Aho, Lam, Sethi and Ullman, Compilers, section 4.4, compute it. E and F
+-- are as in the equations of FIRST, W says which tokens follow a rule. In the laws of src/lib.rt a closed W too is a
+-- table of truth values.
 use Rattle.std.specs.Prelude.{ℕ, List, [], ◌∷◌}
 use Rattle.derivation.specs.Grammar.{Sym, Rule, Token}
 use Rattle.derivation.specs.FirstSets.{Vanishes, Begins}

@@ -1,6 +1,7 @@
 -- Paths from rule to rule.
-use Rattle.std.specs.Prelude.{ℕ, List, Contains}
+use Rattle.std.specs.Prelude.{ℕ, List, [], ◌∷◌, ◌++◌, Contains}
 use Rattle.derivation.specs.Grammar.{Sym, Rule}
+use Rattle.derivation.specs.Derivation.{Step, Derives}
 
 -- a production of one rule holds the other
 pub record Holds (P : ℕ → List Sym → Type 0) (a b : ℕ) : Type 0 where
@@ -12,3 +13,11 @@ pub record Holds (P : ℕ → List Sym → Type 0) (a b : ℕ) : Type 0 where
 pub data Path (P : ℕ → List Sym → Type 0) : ℕ → ℕ → Type 0 where
   one : {a b : ℕ} → Holds P a b → Path P a b
   more : {a b c : ℕ} → Holds P a b → Path P b c → Path P a c
+
+-- by one or more steps the rule derives a list with the other in it
+pub record LeadsTo (P : ℕ → List Sym → Type 0) (a b : ℕ) : Type 0 where
+  pub middle : List Sym
+  pub before : List Sym
+  pub after : List Sym
+  pub first : Step P (Rule a ∷ []) middle
+  pub leads : Derives P middle (before ++ (Rule b ∷ after))

@@ -3,8 +3,8 @@
 //! The definitions stand in `specs`; the laws are the contracts of functions that do nothing.
 #![tactic(auto)]
 
-ghost use Rattle.std.specs.Prelude.{◌≡◌, ◌↔◌, ℕ, ◌+◌, Bool, IsTrue, List, ◌++◌, map};
-ghost use Rattle.derivation.specs.Grammar.{Grammar, HasProduction, Sym, Token};
+ghost use Rattle.std.specs.Prelude.{◌≡◌, ◌↔◌, ℕ, ◌+◌, ◌<◌, ◌≤◌, Bool, IsTrue, List, [], ◌∷◌, ◌++◌, Contains, map};
+ghost use Rattle.derivation.specs.Grammar.{Grammar, HasProduction, Sym, Rule, Token};
 ghost use Rattle.derivation.specs.Derivation.{Derives};
 ghost use Rattle.derivation.specs.Concatenation.{DerivedInParts};
 ghost use Rattle.derivation.specs.Tree.{Yields};
@@ -12,6 +12,10 @@ ghost use Rattle.derivation.specs.First.{First, Empty};
 ghost use Rattle.derivation.specs.FirstSets.{IsClosed};
 ghost use Rattle.derivation.specs.Follow.{MayFollow};
 ghost use Rattle.derivation.specs.FollowSets.{IsFollowClosed};
+ghost use Rattle.derivation.specs.Sentence.{Sentence, cost_of};
+ghost use Rattle.derivation.specs.Path.{Path, LeadsTo};
+ghost use Rattle.derivation.specs.Costs.{Least, Minimal, Greatest, Unbounded};
+ghost use Rattle.derivation.specs.Cycles.{GrowingCycle, Meets};
 
 /// What a concatenation derives is what its parts derive, one after the other.
 pub fn concatenations_derive_in_parts()
@@ -61,4 +65,56 @@ pub fn follow_is_closed()
     ensures closed { (g : Grammar)
         → IsFollowClosed (HasProduction g) (Empty (HasProduction g)) (First (HasProduction g)) (MayFollow g) }
     ensures end { (g : Grammar) (t : ℕ) → t + 1 ≡ g.tokens → MayFollow g 0 t }
+{}
+
+/// A rule has one least cost at most, and its sentences of that cost are those that no other costs less than.
+pub fn minimal_sentences_cost_the_least()
+    ensures least { (g : Grammar) (cost : ℕ → ℕ) (r : ℕ) (w : List ℕ) → Minimal (HasProduction g) cost r w
+        → Least (HasProduction g) cost r (cost_of cost w) }
+    ensures minimal { (g : Grammar) (cost : ℕ → ℕ) (r c : ℕ) (w : List ℕ) → Least (HasProduction g) cost r c
+        → Minimal (HasProduction g) cost r w ↔ (Sentence (HasProduction g) r w × (cost_of cost w ≡ c)) }
+    ensures one { (g : Grammar) (cost : ℕ → ℕ) (r c d : ℕ) → Least (HasProduction g) cost r c
+        → Least (HasProduction g) cost r d → c ≡ d }
+{}
+
+/// A rule with a greatest cost has no other, no least cost above it, and no sentences that cost more and more.
+pub fn a_greatest_cost_bounds()
+    ensures bounded { (g : Grammar) (cost : ℕ → ℕ) (r c : ℕ) → Greatest (HasProduction g) cost r c
+        → Unbounded (HasProduction g) cost r → ⊥ }
+    ensures one { (g : Grammar) (cost : ℕ → ℕ) (r c d : ℕ) → Greatest (HasProduction g) cost r c
+        → Greatest (HasProduction g) cost r d → c ≡ d }
+    ensures above { (g : Grammar) (cost : ℕ → ℕ) (r c d : ℕ) → Least (HasProduction g) cost r c
+        → Greatest (HasProduction g) cost r d → c ≤ d }
+{}
+
+/// A rule has a path to another exactly if by one or more steps it derives a list with the other in it.
+pub fn paths_are_derivations()
+    ensures { (g : Grammar) (a b : ℕ) → Path (HasProduction g) a b ↔ LeadsTo (HasProduction g) a b }
+{}
+
+/// A rule that meets a growing cycle has sentences that cost more than any number.
+pub fn growing_cycles_unbound()
+    ensures { (g : Grammar) (cost : ℕ → ℕ) (r x : ℕ) → Meets (HasProduction g) r x
+        → GrowingCycle (HasProduction g) cost x → Unbounded (HasProduction g) cost r }
+{}
+
+/// What a sentence costs that no other costs less than is the least cost, and what one costs that no other costs more
+/// than is the greatest.
+pub fn extreme_sentences_cost_the_extremes()
+    ensures least { (g : Grammar) (cost : ℕ → ℕ) (r : ℕ) (w : List ℕ) → Sentence (HasProduction g) r w
+        → ((v : List ℕ) → Sentence (HasProduction g) r v → cost_of cost w ≤ cost_of cost v)
+        → Least (HasProduction g) cost r (cost_of cost w) }
+    ensures greatest { (g : Grammar) (cost : ℕ → ℕ) (r : ℕ) (w : List ℕ) → Sentence (HasProduction g) r w
+        → ((v : List ℕ) → Sentence (HasProduction g) r v → cost_of cost v ≤ cost_of cost w)
+        → Greatest (HasProduction g) cost r (cost_of cost w) }
+{}
+
+/// A rule meets each rule that stands in a list on the way to one of its sentences. One that leads to itself, beside
+/// symbols that derive tokens which cost something, has a growing cycle.
+pub fn derivations_show_cycles()
+    ensures meets { (g : Grammar) (r x : ℕ) (l : List Sym) (w : List ℕ) → Derives (HasProduction g) (Rule r ∷ []) l
+        → Contains l (Rule x) → Derives (HasProduction g) l (map Token w) → Meets (HasProduction g) r x }
+    ensures grows { (g : Grammar) (cost : ℕ → ℕ) (x : ℕ) (w : List ℕ) (l : LeadsTo (HasProduction g) x x)
+        → Derives (HasProduction g) (l.before ++ l.after) (map Token w) → 0 < cost_of cost w
+        → GrowingCycle (HasProduction g) cost x }
 {}

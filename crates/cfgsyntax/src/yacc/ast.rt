@@ -14,7 +14,7 @@ ghost use Rattle.cfgsyntax.specs.Sound.{IsSound};
 
 use crate::yacc::kind::YaccKind;
 use crate::yacc::parser::{YaccGrammarError, read};
-pub use cfgast::{GrammarAST, Production, Rule, Symbol};
+pub use cfgast::{GrammarAST, Production, Rule, Settings, Symbol};
 use check::errors_found;
 use std::alloc::{AllocError, Global};
 use std::marker::Model;
