@@ -1,1 +1,2 @@
+pub mod FeedTexts
 pub mod Lines

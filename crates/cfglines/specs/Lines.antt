@@ -1,5 +1,6 @@
 -- Lines and columns of a text, which is the list of its bytes in UTF-8. A line ends in a LF, which is part of it. A CR alone ends no line.
-use Rattle.std.specs.Prelude.{◌≡◌, ℕ, suc, ◌+◌, ◌-◌, Bool, ◌&&◌, ◌==◌, nat_lt, if◌then◌else◌, List, [], ◌∷◌, ◌++◌, map, length, take, drop, slice_index}
+use Rattle.std.specs.Prelude.{◌≡◌, ℕ, suc, ◌+◌, ◌-◌, Bool, ◌&&◌, ◌==◌, nat_lt, if◌then◌else◌, List, [], ◌∷◌, ◌++◌, map, length, take, drop, slice_index, Contains, Option}
+use Rattle.std.specs.Iterator.{Yields}
 use Rattle.std.specs.List.{concat, count_by, before_first, after_last}
 use Rattle.std.specs.Borrow.{Bor}
 use Rattle.std.specs.Str.{chars}
@@ -7,6 +8,10 @@ use Rattle.std.specs.Str.{chars}
 -- whether a byte is a LF
 abbrev pub is_newline : ℕ → Bool
 is_newline byte = byte == 10
+
+-- a LF stands in the text
+abbrev pub HasNewline : List ℕ → Type 0
+HasNewline text = Contains text 10
 
 -- whether the byte at b is a LF right after a CR
 abbrev pub ends_crlf : List ℕ → ℕ → Bool
@@ -54,3 +59,8 @@ pub record StandsFor (cache : Kept) (text : List ℕ) : Type 0 where
 -- the pieces one after another
 abbrev pub joined : List (Bor (List ℕ)) → List ℕ
 joined pieces = concat (map (λ piece. piece.now) pieces)
+
+-- the pieces are taken up to one, that with it: P holds of the text before it and of its own
+abbrev pub StopsAt : {S : Type 0} → (S → Option (Bor (List ℕ)) → S → Type 0) → S → (List ℕ → List ℕ → Type 0) → Type 0
+StopsAt {S} gives pieces P = (before : List (Bor (List ℕ))) × (piece : Bor (List ℕ)) × (rest : S) × Yields gives pieces (before ++ piece ∷ []) rest
+    × P (joined before) piece.now

@@ -1,12 +1,15 @@
-ghost use Rattle.std.specs.Prelude.{◌≡◌, ◌+◌, ◌^◌, ◌<◌, ◌≤◌, ◌↔◌, ℕ, List, [], ◌++◌, map, length, take, IfOk, OnOk, OnErr, IsErrOf, IsOkUnless, SomeIff};
-ghost use Rattle.std.specs.Iterator.{Drains, IsFinite, Yields};
+ghost use Rattle.std.specs.Prelude.{◌≡◌, ◌+◌, ◌^◌, ◌<◌, ◌≤◌, ◌↔◌, ℕ, List, [], ◌++◌, map, length, take, Some, IfOk, OnOk, OnErr, IsErrOf, IsOkUnless, SomeIff};
+ghost use Rattle.std.specs.Iterator.{Drains, IsFinite};
 ghost use Rattle.std.specs.List.{after_last};
 ghost use Rattle.std.specs.Str.{IsCharBoundary};
 ghost use Rattle.cfglines.specs.declared.newlinecache.FeedError.TheVariants.{OutOfMemory};
-ghost use Rattle.cfglines.specs.Lines.{Kept, StandsFor, character_count, column, ends_crlf, is_newline, joined, line_end, line_number, line_start, newlines_of};
+ghost use Rattle.cfglines.specs.FeedTexts.{feed_error_text};
+ghost use Rattle.cfglines.specs.Lines.{HasNewline, Kept, StandsFor, StopsAt, character_count, column, ends_crlf, is_newline, joined, line_end, line_number, line_start, newlines_of};
 
 use cfgbase::Span;
 use std::alloc::{AllocError, Global};
+use std::error::Error;
+use std::fmt;
 use std::marker::Model;
 
 /// Why a text was not fed.
@@ -25,6 +28,19 @@ impl From<AllocError> for FeedError {
         FeedError::OutOfMemory
     }
 }
+
+impl fmt::Display for FeedError {
+    ghost output = { λ error. Some (feed_error_text error) };
+
+    fn fmt<W: fmt::Write>(&self, f: &mut fmt::Formatter<W>) -> fmt::Result {
+        f.write_str(match self {
+            FeedError::TooLong => "the text is too long",
+            FeedError::OutOfMemory => "out of memory",
+        })
+    }
+}
+
+impl Error for FeedError {}
 
 /// The lines of a text that is fed in pieces. A cache does not keep the text: it holds how many bytes were fed,
 /// and the places of their newlines.
@@ -54,17 +70,19 @@ impl NewlineCache {
         }
     }
 
-    /// The cache of `text`.
+    /// The cache of `text`. Only a newline takes memory.
     pub fn from_str(alloc: Global, text: &str) -> Result<Self, FeedError>
         ensures ok { IfOk result (λ cache. StandsFor cache text.now) }
         ensures err { IsOkUnless result FeedError.OutOfMemory }
+        ensures grows { OnErr result (HasNewline text.now) }
     {
         let mut cache = NewlineCache::new(alloc);
         cache.feed(text)?;
         Ok(cache)
     }
 
-    /// The cache of the pieces joined. A text that is too long is refused at the first piece that makes it so.
+    /// The cache of the pieces joined. A text that is too long is refused at the first piece that makes it so, and no
+    /// piece behind that one is taken. Only a newline takes memory.
     pub fn from_pieces<'a, I: Iterator<Item = &'a str> + Drop>(
         alloc: Global,
         pieces: I,
@@ -73,8 +91,10 @@ impl NewlineCache {
         requires ends { IsFinite (I.remaining pieces) }
         ensures ok { IfOk result (λ cache. (items : _) × Drains I.next_gives pieces items
             × StandsFor cache (joined items) × (length (joined items) ≤ usize.MAX)) }
-        ensures too_long { IsErrOf result FeedError.TooLong → (items : _) × (rest : _)
-            × Yields I.next_gives pieces items rest × (usize.MAX < length (joined items)) }
+        ensures too_long { IsErrOf result FeedError.TooLong → StopsAt I.next_gives pieces (λ fed piece.
+            (length fed ≤ usize.MAX) × (usize.MAX < length fed + length piece)) }
+        ensures grows { IsErrOf result FeedError.OutOfMemory → StopsAt I.next_gives pieces (λ fed piece.
+            (length fed + length piece ≤ usize.MAX) × HasNewline piece) }
     {
         let mut cache = NewlineCache::new(alloc);
         for piece in pieces {
@@ -83,12 +103,13 @@ impl NewlineCache {
         Ok(cache)
     }
 
-    /// Adds `text` to the end of the fed text.
+    /// Adds `text` to the end of the fed text. Only a newline takes memory.
     pub fn feed(&mut self, text: &str) -> Result<(), FeedError>
         ensures ok { OnOk result ((before : List ℕ) → StandsFor self.old before
             → StandsFor self.new (before ++ text.now)) }
         ensures err { OnErr result (self.new ≡ self.old) }
         ensures too_long { IsErrOf result FeedError.TooLong ↔ (usize.MAX < self.old.bytes + length text.now) }
+        ensures grows { IsErrOf result FeedError.OutOfMemory → HasNewline text.now }
     {
         let Some(len) = self.len.checked_add(text.len()) else {
             return Err(FeedError::TooLong);
@@ -171,6 +192,7 @@ fn add_newlines(newlines: &mut Vec<usize>, start: usize, text: &str) -> Result<(
     ensures ok { OnOk result (newlines.new.items
         ≡ newlines.old.items ++ map (λ place. start + place) (newlines_of text.now)) }
     ensures err { OnErr result (newlines.new.items ≡ newlines.old.items) }
+    ensures grows { OnErr result (HasNewline text.now) }
 {
     let known = newlines.len();
     let bytes = text.as_bytes();

@@ -1,4 +1,5 @@
 pub mod MarkEntries
+pub mod MarkIdentity
 pub mod MarkLists
 pub mod MergeSteps
 pub mod StoredKeys

@@ -1,4 +1,4 @@
-use Rattle.std.proofs.Common.{◌≡◌, None, Some, List, [], ◌∷◌}
+use Rattle.std.proofs.Common.{◌≡◌, ◌≢◌, None, Some, Option, List, [], ◌∷◌, ◌++◌, map, filter_map, Result, Ok, Err, OnErr, ap, sym, ◌∙◌}
 use Rattle.std.specs.Option.{option_map}
 use Rattle.std.specs.List.{cons_option}
 use Rattle.std.specs.List.Sorted.{IsStrictlySortedBy}
@@ -7,6 +7,8 @@ use Rattle.std.specs.Map.{keys_of}
 use Rattle.std.specs.declared.cmp.Ordering.{Ordering}
 use Rattle.std.specs.declared.cmp.Ordering.TheVariants.{Less}
 use Rattle.cfgmarks.specs.declared.markmap.marked.Marked.{Marked}
+use Rattle.std.proofs.lemmas.List.Elements.{filter_map-append}
+use Rattle.lemmas.proofs.Growing.{given_step, picked}
 use Rattle.cfgmarks.specs.Marks.{held_among}
 
 -- the keys that hold a value ascend as all keys do
@@ -27,3 +29,20 @@ module _ {K V : Type 0} (cmp : K → K → Ordering) where
         | None ↦ held_ordered es ordered.1
         | Some v ↦ (above_held e.0 es ordered.0, held_ordered es ordered.1)
       ]
+
+-- where a walk over es comes to an item that h gives something of, h gives something of es
+pub found_one : {A B C : Type 0} (f : A → B) (h : B → Option C) (es : List B) (ys : List A) (y : A) (it rest : List B) (c : C) → es ≡ map f ys ++ it → it ≡ f y ∷ rest → h (f y) ≡ Some c
+    → filter_map h es ≢ []
+found_one f h es ys y it rest c given step is none =
+    let here : filter_map h es ≡ (filter_map h (map f ys) ++ c ∷ []) ++ filter_map h rest =
+    ap (filter_map h) (given_step f es ys y it rest given step) ∙ filter_map-append h _ rest ∙ ap (λ cs. cs ++ filter_map h rest) (picked f h ys y c is) in
+    not_empty (filter_map h (map f ys)) c (filter_map h rest) (sym here ∙ none)
+  where
+    not_empty : {C : Type 0} (front : List C) (c : C) (back : List C) → (front ++ c ∷ []) ++ back ≢ []
+    not_empty [] c back none = cc
+    not_empty (d ∷ front) c back none = cc
+
+-- a fact that always holds, after an error too
+pub on_err : {T E P : Type 0} (r : Result T E) → P → OnErr r P
+on_err (Ok x) h = tt
+on_err (Err e) h = h

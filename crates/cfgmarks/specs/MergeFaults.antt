@@ -1,5 +1,5 @@
 -- Where merging stops, and why.
-use Rattle.std.specs.Prelude.{◌≡◌, true, false, if◌then◌else◌, Option, Some, None, IsSomeAnd, ⊤}
+use Rattle.std.specs.Prelude.{◌≡◌, true, false, if◌then◌else◌, ◌||◌, Option, Some, None, is_none, IfSome, IsSomeAnd, ⊤}
 use Rattle.std.specs.Option.{option_or}
 use Rattle.std.specs.BTreeMap.{is_at}
 use Rattle.std.specs.declared.cmp.Ordering.{Ordering}
@@ -19,11 +19,15 @@ module _ {U V E : Type 0} (converts : U → V → Type 0) (refuses : U → E →
   IsRefusal behavior mine theirs (refusal.Conflict v) = (conflicts behavior mine theirs ≡ true) × IsSomeAnd theirs.value (λ u. converts u v)
   IsRefusal behavior mine theirs (refusal.Convert e) = (stays behavior mine theirs ≡ false) × IsSomeAnd theirs.value (λ u. refuses u e)
 
-  -- the fault is true of a key's entries: the value that merging takes or that conflicts isn't converted, else it conflicts
+  -- merging takes memory at a key: for a new entry, or to box a value that conflicts. Their value is converted by then
+  abbrev pub WantsMemory : MergeBehavior → Option (Marked V) → Marked U → Type 0
+  WantsMemory default mine theirs = (is_none mine || conflicts_at default mine theirs ≡ true) × IfSome theirs.value (λ u. (v : V) × converts u v)
+
+  -- the fault is true of a key's entries: the value that merging takes or that conflicts isn't converted, else it conflicts, else memory is wanted
   abbrev pub IsFaultAt : {K : Type 0} → MergeBehavior → K → Option (Marked V) → Marked U → MergeFault K V E → Type 0
   IsFaultAt default k mine theirs (Conflict (Exclusivity key value)) = (key ≡ k) × (conflicts_at default mine theirs ≡ true) × IsSomeAnd theirs.value (λ u. converts u value.value)
   IsFaultAt default k mine theirs (Convert key e) = (key ≡ k) × IsSomeAnd (wanted default mine theirs) (λ u. refuses u e)
-  IsFaultAt default k mine theirs OutOfMemory = ⊤
+  IsFaultAt default k mine theirs OutOfMemory = WantsMemory default mine theirs
 
   -- merging stops at the fault: exactly the keys of theirs below its own are merged
   abbrev pub StopsAt : {K : Type 0} → (K → K → Ordering) → Marks K V → Marks K U → MergeFault K V E → Marks K V → Type 0

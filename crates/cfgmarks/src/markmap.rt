@@ -17,12 +17,12 @@ pub use behavior::MergeBehavior;
 pub use entry::{Entry, OccupiedEntry, VacantEntry};
 pub use fault::{MergeError, MergeFault};
 pub use iter::{Keys, MarkMapIterRef};
-use marked::Marked;
+use marked::{Marked, behavior_word};
 use std::alloc::Global;
 use std::collections::BTreeMap;
 
 /// A map from keys to marks and values, in the order of its keys.
-#[derive(Debug, PartialEq, Eq, Drop)]
+#[derive(Debug, Drop)]
 pub struct MarkMap<K: Ord, V> {
     contents: BTreeMap<K, Marked<V>>,
     default_behavior: MergeBehavior,
@@ -93,4 +93,32 @@ impl<K: Ord + Clone, V: Drop> MarkMap<K, V> {
             None => 0,
         }
     }
+}
+
+impl<K: Ord, V: PartialEq> PartialEq for MarkMap<K, V> {
+    ghost use Rattle.std.specs.Prelude.{◌↔◌, IsTrue};
+    ghost use Rattle.cfgmarks.specs.Marks.{marks};
+    ghost use Rattle.cfgmarks.specs.MarkSame.{IsIdentity, same_marks, same_marks_per};
+    ghost use Rattle.std.specs.Cmp.{on_per};
+
+    ghost eq = { λ m n. same_marks K.eq V.eq (marks m) (marks n) };
+
+    ghost laws = { on_per marks (same_marks_per K.PartialEq.laws V.laws) };
+
+    fn eq(&self, other: &Self) -> bool
+        ensures value { result ≡ same_marks K.eq V.eq (marks self.now) (marks other.now) }
+        ensures same { IsIdentity K.eq → IsIdentity V.eq → (IsTrue result ↔ (marks self.now ≡ marks other.now)) }
+    {
+        self.contents == other.contents
+            && behavior_word(Some(self.default_behavior))
+                == behavior_word(Some(other.default_behavior))
+    }
+}
+
+impl<K: Ord, V: Eq> Eq for MarkMap<K, V> {
+    ghost use Rattle.cfgmarks.specs.Marks.{marks};
+    ghost use Rattle.cfgmarks.specs.MarkSame.{same_marks_equiv};
+    ghost use Rattle.std.specs.Cmp.{on_equiv};
+
+    ghost laws = { on_equiv marks (same_marks_equiv K.Eq.laws V.Eq.laws) };
 }

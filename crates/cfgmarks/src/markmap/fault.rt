@@ -1,4 +1,6 @@
 //! Why merging stopped.
+ghost use Rattle.cfgmarks.specs.FaultTexts.{conflict_text, fault_text};
+
 use std::error::Error;
 use std::fmt;
 use std::fmt::Debug;
@@ -11,6 +13,8 @@ pub enum MergeError<K, V> {
 }
 
 impl<K: Debug, V> fmt::Display for MergeError<K, V> {
+    ghost output = { conflict_text K.debug_output };
+
     fn fmt<W: fmt::Write>(&self, f: &mut fmt::Formatter<W>) -> fmt::Result {
         match self {
             MergeError::Exclusivity(key, _) => {
@@ -32,3 +36,20 @@ pub enum MergeFault<K, V, E> {
     /// No memory is left.
     OutOfMemory,
 }
+
+impl<K: Debug, V, E: fmt::Display> fmt::Display for MergeFault<K, V, E> {
+    ghost output = { fault_text K.debug_output E.output };
+
+    fn fmt<W: fmt::Write>(&self, f: &mut fmt::Formatter<W>) -> fmt::Result {
+        match self {
+            MergeFault::Conflict(conflict) => write!(f, "{conflict}"),
+            MergeFault::Convert(key, refusal) => {
+                write!(f, "the value at the key {key:?} isn't converted: {refusal}")
+            }
+            MergeFault::OutOfMemory => write!(f, "out of memory"),
+        }
+    }
+}
+
+impl<K: Debug + Drop, V: Debug + Drop, E: Debug + fmt::Display + Drop> Error
+    for MergeFault<K, V, E> {}

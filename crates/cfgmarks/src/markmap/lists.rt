@@ -1,5 +1,5 @@
 //! The keys that were given and not used, and those that are required and not given.
-ghost use Rattle.std.specs.Prelude.{◌≡◌, map, IfOk};
+ghost use Rattle.std.specs.Prelude.{◌≡◌, ◌≢◌, [], map, IfOk, OnErr};
 ghost use Rattle.std.specs.List.{AllZip};
 
 use super::MarkMap;
@@ -8,9 +8,10 @@ use std::alloc::{AllocError, Global};
 impl<K: Ord + Clone, V: Drop> MarkMap<K, V> {
     ghost use Rattle.cfgmarks.specs.Marks.{marks, unused_keys, missing_keys};
 
-    /// Clones of the keys that hold a value and aren't marked as used, in order.
+    /// Clones of the keys that hold a value and aren't marked as used, in order. Only where there is one is memory taken.
     pub fn unused(&self, alloc: Global) -> Result<Vec<K>, AllocError>
-        ensures { IfOk result (λ keys. AllZip K.is_clone (unused_keys (marks self.now)) keys.items) }
+        ensures ok { IfOk result (λ keys. AllZip K.is_clone (unused_keys (marks self.now)) keys.items) }
+        ensures not_empty { OnErr result (unused_keys (marks self.now) ≢ []) }
     {
         let mut keys = Vec::new(alloc);
         for (key, marked) in &self.contents {
@@ -21,9 +22,10 @@ impl<K: Ord + Clone, V: Drop> MarkMap<K, V> {
         Ok(keys)
     }
 
-    /// The keys that are required and hold no value, in order.
+    /// The keys that are required and hold no value, in order. Only where there is one is memory taken.
     pub fn missing(&self, alloc: Global) -> Result<Vec<&K>, AllocError>
-        ensures { IfOk result (λ keys. map (λ key. key.now) keys.items ≡ missing_keys (marks self.now)) }
+        ensures ok { IfOk result (λ keys. map (λ key. key.now) keys.items ≡ missing_keys (marks self.now)) }
+        ensures not_empty { OnErr result (missing_keys (marks self.now) ≢ []) }
     {
         let mut keys = Vec::new(alloc);
         for (key, marked) in &self.contents {

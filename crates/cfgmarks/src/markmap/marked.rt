@@ -5,7 +5,7 @@ ghost use Rattle.cfgmarks.specs.MarkWord.{set_behavior_word};
 use super::MergeBehavior;
 
 /// A key's marks, and its value or none.
-#[derive(Debug, PartialEq, Eq, Drop)]
+#[derive(Debug, Drop)]
 pub struct Marked<V> {
     pub(super) used: bool,
     pub(super) required: bool,
@@ -65,7 +65,8 @@ impl<V> Marked<V> {
     }
 }
 
-fn behavior_word(behavior: Option<MergeBehavior>) -> u16
+/// A behavior as a number, of which 0 is none.
+pub(super) fn behavior_word(behavior: Option<MergeBehavior>) -> u16
     ensures value { result ≡ set_behavior_word behavior }
     ensures bound { result ≤ 1028 }
 {
@@ -75,4 +76,26 @@ fn behavior_word(behavior: Option<MergeBehavior>) -> u16
         Some(MergeBehavior::Ours) => 4 + 512,
         Some(MergeBehavior::MutuallyExclusive) => 4 + 1024,
     }
+}
+
+impl<V: PartialEq> PartialEq for Marked<V> {
+    ghost use Rattle.std.specs.Prelude.{◌≡◌, ◌↔◌, IsTrue};
+    ghost use Rattle.cfgmarks.specs.MarkSame.{IsIdentity, same_marked, same_marked_per};
+
+    ghost eq = { same_marked V.eq };
+
+    ghost laws = { same_marked_per V.laws };
+
+    fn eq(&self, other: &Self) -> bool
+        ensures value { result ≡ same_marked V.eq self.now other.now }
+        ensures same { IsIdentity V.eq → (IsTrue result ↔ (self.now ≡ other.now)) }
+    {
+        self.word() == other.word() && self.value == other.value
+    }
+}
+
+impl<V: Eq> Eq for Marked<V> {
+    ghost use Rattle.cfgmarks.specs.MarkSame.{same_marked_equiv};
+
+    ghost laws = { same_marked_equiv V.Eq.laws };
 }

@@ -26,8 +26,8 @@ impl<K: Ord + Clone, V: Drop> MarkMap<K, V> {
     /// - `MutuallyExclusive` changes nothing where the other map holds no value, is as `Theirs` where this one holds
     ///   none, and else is a conflict.
     ///
-    /// A value that is taken or that conflicts is converted, and no other. Where merging stops, exactly the keys below
-    /// the one that it stopped at are merged.
+    /// A value that is taken or that conflicts is converted, and no other. After that only a new entry takes memory,
+    /// and a conflict, for its value. Where merging stops, exactly the keys below the one that it stopped at are merged.
     pub fn merge_from<U: Drop, E: Drop, F: Fn(U) -> Result<V, E> + Drop>(
         &mut self,
         other: MarkMap<K, U>,

@@ -3,6 +3,7 @@ use Rattle.std.proofs.lemmas.List.{map-append}
 use Rattle.std.specs.Map.Iter.{deref_pair}
 use Rattle.cfgmarks.specs.Marks.{missing_key}
 use Rattle.lemmas.proofs.Growing.{given_step, picked, passed_over}
+use Rattle.cfgmarks.proofs.MarkLists.{found_one, on_err}
 use Rattle.cfgmarks.proofs.markmap.MarkMap.missing.Goals as goal
 
 pub loop-key-preserved-in-Continue-1 : goal.loop-key-preserved-in-Continue-1
@@ -17,3 +18,8 @@ loop-key-preserved g c = record {
   given = given_step deref_pair c.args.self.now.contents.entries c.loop-key.yielded (c.in-Some.key, c.in-Some.marked) c.loop-key.key-iterator c.next.new.self c.loop-key.invariant.given c.in-Some.ensures.steps;
   kept = c.loop-key.invariant.kept ∙ sym (passed_over deref_pair missing_key c.loop-key.yielded (c.in-Some.key, c.in-Some.marked) (ap (λ b. if b then Some c.in-Some.key.now else None) (sym c.is_missing.ensures ∙ c.if-is_missing.false)));
 }
+
+pub returns-in_err-push-clause-not_empty : goal.returns-in_err-push-clause-not_empty
+returns-in_err-push-clause-not_empty g c =
+    on_err c.from_residual.result (found_one deref_pair missing_key c.args.self.now.contents.entries c.loop-key.yielded (c.in-Some.key, c.in-Some.marked) c.loop-key.key-iterator c.next.new.self c.in-Some.key.now c.loop-key.invariant.given
+    c.in-Some.ensures.steps (ap (λ b. if b then Some c.in-Some.key.now else None) (sym c.is_missing.ensures ∙ c.if-is_missing.true)))
