@@ -120,9 +120,7 @@ impl GrammarAST {
     }
 
     // Copies of the tokens, of their spans, and of the directives.
-    fn clone_tokens(
-        &self,
-    ) -> Result<(IndexSet<String>, Vec<Span>, IndexSet<usize>), AllocError>
+    fn clone_tokens(&self) -> Result<(IndexSet<String>, Vec<Span>, IndexSet<usize>), AllocError>
         ensures tokens { IfOk result (λ copy. map string_bytes copy.0.keys ≡ (syntax self.now).tokens) }
         ensures spans { IfOk result (λ copy. copy.1.items ≡ (syntax self.now).spans) }
         ensures token_directives { IfOk result (λ copy. copy.2.keys ≡ (syntax self.now).token_directives) }

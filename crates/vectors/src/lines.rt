@@ -64,7 +64,11 @@ fn ways(alloc: Global, row: &Row<'_>, text: &str) -> Result<Vec<Vec<usize>>, All
 
 /// The cache of a text that is fed in pieces: these lengths, and then the rest. There is none where a character would be
 /// cut.
-fn feed_pieces(alloc: Global, text: &str, lengths: &[usize]) -> Result<Option<NewlineCache>, FeedError>
+fn feed_pieces(
+    alloc: Global,
+    text: &str,
+    lengths: &[usize],
+) -> Result<Option<NewlineCache>, FeedError>
     ensures { IfOk result (λ fed. IfSome fed (λ cache. StandsFor cache text.now)) }
 {
     let mut cache = NewlineCache::new(alloc);

@@ -62,7 +62,10 @@ impl<S: Storage> YaccGrammar<S> {
     /// # Errors
     ///
     /// Want of memory.
-    pub fn productions(&self, alloc: Global) -> Result<CountedTables<'_, S, YaccGrammar<S>>, AllocError>
+    pub fn productions(
+        &self,
+        alloc: Global,
+    ) -> Result<CountedTables<'_, S, YaccGrammar<S>>, AllocError>
         ensures { IfOk result (λ x. x ≡ record {
           grammar = core self.now;
           opened = replicate (length self.now.productions) 0;
