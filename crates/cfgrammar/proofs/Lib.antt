@@ -10,3 +10,4 @@ pub mod Shows
 pub mod Turns
 pub mod Valid
 pub mod Whole
+pub mod Within

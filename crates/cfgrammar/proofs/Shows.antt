@@ -1,18 +1,38 @@
 -- What accessors read in the tables.
-use Rattle.std.proofs.Common.{◌≡◌, ℕ, zero, suc, ◌<◌, ◌≤◌, List, [], ◌∷◌, length, map, get_or, slice_get, Some, None, option_map, String, Global, sym, ap, subst, ◌∙◌, arith}
+use Rattle.std.proofs.Common.{◌≡◌, ℕ, zero, suc, ◌<◌, ◌≤◌, List, [], ◌∷◌, length, map, get_or, slice_get, Option, Some, None, option_map, unwrap_or, Bor, String, Global, sym, ap, subst, ◌∙◌, arith}
 use Rattle.std.specs.Map.{values_of}
+use Rattle.std.specs.Option.{option_map_or}
 use Rattle.std.proofs.lemmas.List.{get_or-map, length-map}
 use Rattle.std.proofs.lemmas.Option.{slice_get-get_or}
 use Rattle.cfgindex.specs.declared.idxnewtype.PIdx.{PIdx}
 use Rattle.cfgast.specs.declared.settings.Settings.{Settings}
-use Rattle.cfgrammar.specs.Numbered.{Numbered, NumberedRule, NumberedProduction}
+use Rattle.derivation.specs.Grammar.{Rule, Token}
+use Rattle.cfgrammar.specs.Numbered.{Numbered, NumberedRule, NumberedToken, NumberedProduction}
 use Rattle.cfgrammar.specs.Fits.{Fits}
-use Rattle.cfgrammar.specs.Shown.{rule_part, production_part}
+use Rattle.cfgrammar.specs.Shown.{rule_part, token_part, production_part, sym_name}
 use Rattle.cfgrammar.specs.View.{rule_view, production_view, tables}
 use Rattle.cfganalysis.specs.Symbols.{sym_of}
 use Rattle.cfgrammar.specs.declared.yacc.grammar.rows.RuleRow.{RuleRow}
 use Rattle.cfgrammar.specs.declared.yacc.grammar.rows.ProductionRow.{ProductionRow}
 use Rattle.cfgrammar.specs.declared.yacc.grammar.rows.TokenRow.{TokenRow}
+
+-- the name of a symbol is that of its rule or token
+pub rule_named : (g : Numbered) (r : ℕ) (name : List ℕ) → rule_part (λ rule. rule.name) g r ≡ Some name → sym_name g (Rule r) ≡ name
+rule_named g r name at = ap (λ o. unwrap_or o []) at
+
+pub token_named : (g : Numbered) (t : ℕ) (name : Option (List ℕ)) → token_part (λ token. token.name) g t ≡ Some name → sym_name g (Token t) ≡ unwrap_or name []
+token_named g t name at = go (slice_get g.tokens t) at
+  where
+    go : (o : Option NumberedToken) → option_map (λ token. token.name) o ≡ Some name → option_map_or (λ token. unwrap_or token.name []) o [] ≡ unwrap_or name []
+    go None at = let no : None ≡ Some name = at in cc
+    go (Some token) at =
+        let same : token.name ≡ name = cc in
+        ap (λ n. unwrap_or n []) same
+
+-- a text that is read where there is one, and an empty one
+pub text_or_empty : (o : Option (Bor (List ℕ))) (empty x : Bor (List ℕ)) → x ≡ unwrap_or o empty → empty.now ≡ [] → unwrap_or (option_map (λ text. text.now) o) [] ≡ x.now
+text_or_empty None empty x is e = sym e ∙ ap (λ (text : Bor (List ℕ)). text.now) (sym is)
+text_or_empty (Some text) empty x is e = ap (λ (text : Bor (List ℕ)). text.now) (sym is)
 
 module _ {S A : Type 0} (number : S → ℕ) (part : NumberedRule → A) (row : RuleRow S) (x : A) (shows : (key : String Global) → part (rule_view number (key, row)) ≡ x) where
   row_shown : (es : List (String Global × RuleRow S)) (i : ℕ) → slice_get (values_of es) i ≡ Some row → option_map part (slice_get (map (rule_view number) es) i) ≡ Some x

@@ -1,9 +1,11 @@
 -- What the accessors of a grammar read in its tables, and its printed productions.
-use Rattle.std.specs.Prelude.{ℕ, List, [], ◌++◌, map, Option, option_map, unwrap_or, slice_get, codes, Bool, false}
+use Rattle.std.specs.Prelude.{ℕ, ◌+◌, ◌<◌, List, [], ◌++◌, map, length, Option, option_map, unwrap_or, slice_get, codes, Bool, false}
 use Rattle.std.specs.List.{concat}
 use Rattle.std.specs.Option.{option_map_or}
 use Rattle.std.specs.Str.{bytes_eq}
 use Rattle.derivation.specs.Grammar.{Sym, Rule, Token}
+use Rattle.cfgindex.specs.declared.idxnewtype.Symbol.{Symbol}
+use Rattle.cfgindex.specs.declared.idxnewtype.Symbol.TheVariants as symbols
 use Rattle.cfgrammar.specs.Numbered.{Numbered, NumberedRule, NumberedToken, NumberedProduction}
 
 abbrev pub rule_part : {A : Type 0} → (NumberedRule → A) → Numbered → ℕ → Option A
@@ -14,6 +16,11 @@ token_part part g t = option_map part (slice_get g.tokens t)
 
 abbrev pub production_part : {A : Type 0} → (NumberedProduction → A) → Numbered → ℕ → Option A
 production_part part g p = option_map part (slice_get g.productions p)
+
+-- The rule or token of a symbol is there, and no symbol is the end token, which is the last.
+abbrev pub IsSymbolWithin : {S : Type 0} → (S → ℕ) → Numbered → Symbol S → Type 0
+IsSymbolWithin number g (symbols.Rule ridx) = number ridx.0 < length g.rules
+IsSymbolWithin number g (symbols.Token tidx) = number tidx.0 + 1 < length g.tokens
 
 -- the end token has no name
 abbrev pub has_token_name : List ℕ → NumberedToken → Bool

@@ -1,6 +1,9 @@
--- What `{}` prints of an error and of a warning, in bytes.
+-- What `{}` prints of an error, of a fault and of a warning, in bytes.
 use Rattle.std.specs.Prelude.{ℕ, List, [], ◌++◌, codes, encode_utf8}
+use Rattle.std.specs.List.{join_by}
 use Rattle.cfgsyntax.specs.Errors.{ErrorKind, InvalidStartRule, UnknownRuleRef, UnknownToken, NoPrecForToken, UnknownEPP, Nameless}
+use Rattle.cfgsyntax.specs.declared.yacc.parser.error.YaccFault.{YaccFault}
+use Rattle.cfgsyntax.specs.declared.yacc.parser.error.YaccFault.TheVariants.{Errors, OutOfMemory}
 use Rattle.cfgsyntax.specs.declared.yacc.parser.error.YaccGrammarErrorKind.{YaccGrammarErrorKind}
 use Rattle.cfgsyntax.specs.declared.yacc.parser.error.YaccGrammarErrorKind.TheVariants as kinds
 use Rattle.cfgsyntax.specs.declared.yacc.parser.warning.YaccGrammarWarningKind.{YaccGrammarWarningKind}
@@ -47,6 +50,11 @@ error_text (UnknownToken name) = codes "Unknown token '" ++ (name ++ codes "'")
 error_text (NoPrecForToken name) = codes "Token '" ++ (name ++ codes "' used in %prec has no precedence attached")
 error_text (UnknownEPP name) = codes "Token '" ++ (name ++ codes "' in %epp declaration is not referenced in the grammar")
 error_text (Nameless kind) = nameless_text kind
+
+-- of errors the text of each, in their order, with a line end between two of them
+abbrev pub fault_text : YaccFault → List ℕ
+fault_text (Errors errors) = join_by (λ error. error_text error.kind) (codes "\n") errors.items
+fault_text OutOfMemory = codes "out of memory"
 
 abbrev pub warning_text : YaccGrammarWarningKind → List ℕ
 warning_text UnusedRule = codes "Unused rule"

@@ -21,16 +21,17 @@ three_words (x ∷ (y ∷ (z ∷ []))) d least below = refl
 three_words (x ∷ (y ∷ (z ∷ (w ∷ rest)))) d least below = absurd (omega (arith, below))
 
 -- three words that name a kind and a command
-pub handled : (words : List (Bor (List ℕ))) (d : Bor (List ℕ)) → 3 ≤ length words → length words < 4
+pub handled : {S : Type 0} (words : List (Bor (List ℕ))) (d : Bor (List ℕ)) → 3 ≤ length words → length words < 4
     → (kind : KindArg) (command : Command) → Some kind ≡ kind_named (get_or words 0 d).now → Some command ≡ command_named (get_or words 1 d).now
-    → (Answers : List ℕ → Input → Type 0) (old new : Option (List ℕ)) (ending : Ending) (answer : Input) → Answers (get_or words 2 d).now answer
+    → (Fetches : S → List ℕ → Input → S → Type 0) (before after : S) (old new : Option (List ℕ)) (ending : Ending)
+    → (answer : Input) → Fetches before (get_or words 2 d).now answer after
     → HandlesInput kind command (get_or words 2 d).now answer old new ending
-    → HandlesWords (map (λ word. word.now) words) Answers old new ending
-handled words d least below kind command kind_is command_is Answers old new ending answer given handles =
+    → HandlesWords (map (λ word. word.now) words) Fetches before after old new ending
+handled words d least below kind command kind_is command_is Fetches before after old new ending answer given handles =
     let file = (get_or words 2 d).now in
-    subst (λ ws. HandlesWords ws Answers old new ending) (sym (three_words words d least below))
-    (subst (λ k. HandlesNames k (command_named (get_or words 1 d).now) file Answers old new ending) kind_is
-    (subst (λ m. HandlesNames (Some kind) m file Answers old new ending) command_is (answer, given, handles)))
+    subst (λ ws. HandlesWords ws Fetches before after old new ending) (sym (three_words words d least below))
+    (subst (λ k. HandlesNames k (command_named (get_or words 1 d).now) file Fetches before after old new ending) kind_is
+    (subst (λ m. HandlesNames (Some kind) m file Fetches before after old new ending) command_is (answer, given, handles)))
 
 -- bytes that are text
 pub text_handled : (kind : KindArg) (command : Command) (file : List ℕ) (bytes : Vec ℕ Global) (handed text : List ℕ) → handed ≡ bytes.items → text ≡ handed → IsUtf8 handed

@@ -77,3 +77,8 @@ abbrev pub faults_met : Result Outcome ReportFault → ℕ
 faults_met (Ok outcome) = 0
 faults_met (Err faults.Write) = 1
 faults_met (Err faults.OutOfMemory) = 0
+
+-- what `{}` prints of why a report was not told
+abbrev pub fault_text : ReportFault → List ℕ
+fault_text faults.Write = codes "cannot write"
+fault_text faults.OutOfMemory = codes "out of memory"

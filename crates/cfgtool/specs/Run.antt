@@ -111,12 +111,18 @@ HandlesInput kind command file (input.Bytes bytes) old new ending =
     (IsUtf8 bytes.items → EndsReported kind command bytes.items old new ending)
     × ((IsUtf8 bytes.items → ⊥) → EndsUnwritten (NotUtf8 file) old new ending)
 
--- what a run does with its words, where `Answers` says what its source may answer for a file
-abbrev pub HandlesNames : Option KindArg → Option Command → List ℕ → (List ℕ → Input → Type 0) → Option (List ℕ) → Option (List ℕ) → Ending → Type 0
-HandlesNames (Some kind) (Some command) file Answers old new ending =
-    (answer : Input) × Answers file answer × HandlesInput kind command file answer old new ending
-HandlesNames kind command file Answers old new ending = EndsUnwritten Usage old new ending
+-- The run was asked wrongly: it ends by its usage, its source is as it was, and nothing was written to its output.
+abbrev pub EndsUnread : {S : Type 0} → S → S → Option (List ℕ) → Option (List ℕ) → Ending → Type 0
+EndsUnread before after old new ending = (after ≡ before) × EndsUnwritten Usage old new ending
 
-abbrev pub HandlesWords : List (List ℕ) → (List ℕ → Input → Type 0) → Option (List ℕ) → Option (List ℕ) → Ending → Type 0
-HandlesWords (kind ∷ (command ∷ (file ∷ []))) Answers old new ending = HandlesNames (kind_named kind) (command_named command) file Answers old new ending
-HandlesWords words Answers old new ending = EndsUnwritten Usage old new ending
+-- What a run does with its words, where `Fetches` says what a source may answer for a file, and what becomes of it: a
+-- source that was `before`, and is `after`.
+abbrev pub HandlesNames : {S : Type 0} → Option KindArg → Option Command → List ℕ → (S → List ℕ → Input → S → Type 0) → S → S → Option (List ℕ) → Option (List ℕ) → Ending → Type 0
+HandlesNames (Some kind) (Some command) file Fetches before after old new ending =
+    (answer : Input) × Fetches before file answer after × HandlesInput kind command file answer old new ending
+HandlesNames kind command file Fetches before after old new ending = EndsUnread before after old new ending
+
+abbrev pub HandlesWords : {S : Type 0} → List (List ℕ) → (S → List ℕ → Input → S → Type 0) → S → S → Option (List ℕ) → Option (List ℕ) → Ending → Type 0
+HandlesWords (kind ∷ (command ∷ (file ∷ []))) Fetches before after old new ending =
+    HandlesNames (kind_named kind) (command_named command) file Fetches before after old new ending
+HandlesWords words Fetches before after old new ending = EndsUnread before after old new ending

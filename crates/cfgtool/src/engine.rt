@@ -7,7 +7,7 @@ ghost use Rattle.cfgast.specs.Syntax.{syntax_of};
 ghost use Rattle.cfgsyntax.specs.Faults.{errors_of};
 ghost use Rattle.cfgsyntax.specs.Reads.{HasOneReading, Reads};
 ghost use Rattle.cfgrammar.specs.Numbered.{numbered};
-ghost use Rattle.cfgtool.specs.Report.{AreLinesOf, IsReport, Tells, faults_met, kind_read};
+ghost use Rattle.cfgtool.specs.Report.{AreLinesOf, IsReport, Tells, fault_text, faults_met, kind_read};
 ghost use Rattle.cfgtool.specs.declared.engine.ReportFault.TheVariants as variants;
 
 use crate::first_lines::first_lines;
@@ -17,6 +17,8 @@ use crate::words::{Command, KindArg};
 use cfgrammar::yacc::parser::YaccFault;
 use cfgrammar::yacc::{YaccGrammar, YaccKind};
 use std::alloc::{AllocError, Global};
+use std::error::Error;
+use std::fmt;
 
 /// How a report ended.
 #[derive(Clone, Copy, Debug, PartialEq, Eq)]
@@ -35,6 +37,19 @@ pub enum ReportFault {
     /// No memory is left.
     OutOfMemory,
 }
+
+impl fmt::Display for ReportFault {
+    ghost output = { λ fault. Some (fault_text fault) };
+
+    fn fmt<W: fmt::Write>(&self, f: &mut fmt::Formatter<W>) -> fmt::Result {
+        f.write_str(match self {
+            ReportFault::Write => "cannot write",
+            ReportFault::OutOfMemory => "out of memory",
+        })
+    }
+}
+
+impl Error for ReportFault {}
 
 impl From<AllocError> for ReportFault {
     ghost from_gives = { λ _ fault. fault ≡ variants.OutOfMemory };

@@ -58,7 +58,7 @@ impl From<ReportFault> for RunFault<'_> {
 }
 
 /// Runs the program on the words after its name, and answers its status. What it tells is written to `out`, and a line
-/// on what went wrong to `err`, as far as `err` takes it.
+/// on what went wrong to `err`, as far as `err` takes it. Words that are wrong leave `source` as it was.
 pub fn run<S: Source, O: Sink, E: Sink>(
     alloc: Global,
     args: &[&str],
@@ -70,8 +70,7 @@ pub fn run<S: Source, O: Sink, E: Sink>(
     requires err_counts { E.faults_counted err.old < 2 ^ 64 - 1 }
     ensures small { result ≤ 3 }
     ensures ends { (ending : Ending) × (result ≡ status_of ending)
-        × HandlesWords (map (λ word. word.now) args.now)
-        (λ file answer. S.fetches source.old file answer source.new)
+        × HandlesWords (map (λ word. word.now) args.now) S.fetches source.old source.new
         (O.written out.old) (O.written out.new) ending
         × (O.faults_counted out.new ≡ O.faults_counted out.old + faults_at ending)
         × AppendsOrFaults (E.written err.old) (E.written err.new)
@@ -107,8 +106,7 @@ fn outcome<'a, S: Source, O: Sink>(
     out: &mut O,
 ) -> Result<Outcome, RunFault<'a>>
     requires { O.faults_counted out.old < 2 ^ 64 - 1 }
-    ensures ends { HandlesWords (map (λ word. word.now) args.now)
-        (λ file answer. S.fetches source.old file answer source.new)
+    ensures ends { HandlesWords (map (λ word. word.now) args.now) S.fetches source.old source.new
         (O.written out.old) (O.written out.new) (ending_in result) }
     ensures faults { O.faults_counted out.new ≡ O.faults_counted out.old + faults_at (ending_in result) }
 {

@@ -1,15 +1,27 @@
 //! What the program writes to.
 
-ghost use Rattle.std.specs.Prelude.{◌≡◌, ℕ, ◌+◌, ◌-◌, ◌^◌, ◌<◌, List, Option, OnErr, OnOk, length};
+ghost use Rattle.std.specs.Prelude.{◌≡◌, ℕ, ◌+◌, ◌-◌, ◌^◌, ◌<◌, List, Option, Some, OnErr, OnOk, codes, length};
 ghost use Rattle.std.specs.Io.{WritesAtMost};
 ghost use Rattle.std.specs.Io.KnownBytes.{Appends, WriteAppends};
 ghost use Rattle.cfgtool.specs.Sinks.{AppendsBeginning, faults_of};
 
+use std::error::Error;
+use std::fmt;
 use std::io::Write;
 
 /// That a sink took no bytes.
 #[derive(Clone, Copy, Debug, PartialEq, Eq)]
 pub struct SinkFault;
+
+impl fmt::Display for SinkFault {
+    ghost output = { λ _. Some (codes "cannot write") };
+
+    fn fmt<W: fmt::Write>(&self, f: &mut fmt::Formatter<W>) -> fmt::Result {
+        f.write_str("cannot write")
+    }
+}
+
+impl Error for SinkFault {}
 
 /// A taker of bytes that counts its faults.
 pub trait Sink {

@@ -1,10 +1,8 @@
 //! The tables of a grammar.
 
-ghost use Rattle.std.specs.Prelude.{◌≡◌, ◌+◌, ◌++◌, ◌<◌, List, [], Option, None, Some, map, length, position, option_map, IfOk, OnOk};
-ghost use Rattle.std.specs.List.{concat};
+ghost use Rattle.std.specs.Prelude.{◌≡◌, ◌+◌, ◌<◌, List, [], Option, None, Some, map, length, position, option_map, All, IfOk, IfSome};
 ghost use Rattle.std.specs.Str.{bytes_eq};
 ghost use Rattle.std.specs.String.{string_bytes};
-ghost use Rattle.derivation.specs.Grammar.{Rule};
 ghost use Rattle.cfgwords.specs.declared.fault.Fault.{Fault};
 ghost use Rattle.cfgast.specs.Items.{Item};
 ghost use Rattle.cfgast.specs.Syntax.{syntax_of};
@@ -17,7 +15,7 @@ ghost use Rattle.cfgrammar.specs.Answer.{IsAnswer};
 ghost use Rattle.cfgrammar.specs.Fits.{Fits, LeavesRoom};
 ghost use Rattle.cfgrammar.specs.Numbered.{numbered};
 ghost use Rattle.cfgrammar.specs.Numbering.{IsNumbering};
-ghost use Rattle.cfgrammar.specs.Shown.{has_token_name, production_part, production_text, rule_part, sym_name, sym_text, token_part};
+ghost use Rattle.cfgrammar.specs.Shown.{IsSymbolWithin, has_token_name, production_part, production_text, rule_part, token_part};
 
 use super::build;
 use super::fault::storage_too_small;
@@ -159,7 +157,8 @@ impl<S: Storage> YaccGrammar<S> {
     /// The symbols of a production.
     pub fn prod(&self, pidx: PIdx<S>) -> &[Symbol<S>]
         requires { S.number pidx.0 < length self.now.productions }
-        ensures { production_part (λ x. x.symbols) self.now (S.number pidx.0) ≡ Some (map (sym_of S.number) result.now) }
+        ensures value { production_part (λ x. x.symbols) self.now (S.number pidx.0) ≡ Some (map (sym_of S.number) result.now) }
+        ensures within { All (IsSymbolWithin S.number self.now) result.now }
     {
         self.prods[usize::from(pidx)].symbols.as_slice()
     }
@@ -175,7 +174,8 @@ impl<S: Storage> YaccGrammar<S> {
     /// The rule that a production belongs to.
     pub fn prod_to_rule(&self, pidx: PIdx<S>) -> RIdx<S>
         requires { S.number pidx.0 < length self.now.productions }
-        ensures { production_part (λ x. x.rule) self.now (S.number pidx.0) ≡ Some (S.number result.0) }
+        ensures value { production_part (λ x. x.rule) self.now (S.number pidx.0) ≡ Some (S.number result.0) }
+        ensures within { S.number result.0 < length self.now.rules }
     {
         self.prods[usize::from(pidx)].rule
     }
@@ -206,7 +206,8 @@ impl<S: Storage> YaccGrammar<S> {
 
     /// The production of the start rule.
     pub fn start_prod(&self) -> PIdx<S>
-        ensures { S.number result.0 ≡ self.now.start_production }
+        ensures value { S.number result.0 ≡ self.now.start_production }
+        ensures within { S.number result.0 < length self.now.productions }
     {
         self.start_prod
     }
@@ -228,7 +229,8 @@ impl<S: Storage> YaccGrammar<S> {
     /// The productions of a rule.
     pub fn rule_to_prods(&self, ridx: RIdx<S>) -> &[PIdx<S>]
         requires { S.number ridx.0 < length self.now.rules }
-        ensures { rule_part (λ x. x.productions) self.now (S.number ridx.0) ≡ Some (map (λ p. S.number p.0) result.now) }
+        ensures value { rule_part (λ x. x.productions) self.now (S.number ridx.0) ≡ Some (map (λ p. S.number p.0) result.now) }
+        ensures within { All (λ p. S.number p.0 < length self.now.productions) result.now }
     {
         self.rules[usize::from(ridx)].prods.as_slice()
     }
@@ -269,7 +271,8 @@ impl<S: Storage> YaccGrammar<S> {
 
     /// The rule that stands for the implicit tokens, where there are some.
     pub fn implicit_rule(&self) -> Option<RIdx<S>>
-        ensures { option_map (λ x. S.number x.0) result ≡ self.now.implicit_rule }
+        ensures value { option_map (λ x. S.number x.0) result ≡ self.now.implicit_rule }
+        ensures within { IfSome result (λ ridx. S.number ridx.0 < length self.now.rules) }
     {
         let _tables = &self.rules;
         None
@@ -277,7 +280,8 @@ impl<S: Storage> YaccGrammar<S> {
 
     /// The rule of a name.
     pub fn rule_idx(&self, name: &str) -> Option<RIdx<S>>
-        ensures { option_map (λ x. S.number x.0) result ≡ position (λ rule. bytes_eq name.now rule.name) self.now.rules }
+        ensures value { option_map (λ x. S.number x.0) result ≡ position (λ rule. bytes_eq name.now rule.name) self.now.rules }
+        ensures within { IfSome result (λ ridx. S.number ridx.0 < length self.now.rules) }
     {
         match self.rules.get_index_of(name) {
             Some(index) => Some(RIdx(to_storage(index))),
@@ -287,8 +291,10 @@ impl<S: Storage> YaccGrammar<S> {
 
     /// The start rule.
     pub fn start_rule_idx(&self) -> RIdx<S>
-        ensures { S.number result.0 ≡ 0 }
+        ensures value { S.number result.0 ≡ 0 }
+        ensures within { S.number result.0 < length self.now.rules }
     {
+        let _tables = &self.rules;
         RIdx(to_storage(0))
     }
 
@@ -308,7 +314,8 @@ impl<S: Storage> YaccGrammar<S> {
 
     /// The end token.
     pub fn eof_token_idx(&self) -> TIdx<S>
-        ensures { S.number result.0 + 1 ≡ length self.now.tokens }
+        ensures value { S.number result.0 + 1 ≡ length self.now.tokens }
+        ensures within { S.number result.0 < length self.now.tokens }
     {
         TIdx(to_storage(self.tokens.len()))
     }
@@ -337,7 +344,8 @@ impl<S: Storage> YaccGrammar<S> {
 
     /// The token of a name.
     pub fn token_idx(&self, name: &str) -> Option<TIdx<S>>
-        ensures { option_map (λ x. S.number x.0) result ≡ position (has_token_name name.now) self.now.tokens }
+        ensures value { option_map (λ x. S.number x.0) result ≡ position (has_token_name name.now) self.now.tokens }
+        ensures within { IfSome result (λ tidx. S.number tidx.0 < length self.now.tokens) }
     {
         match self.tokens.get_index_of(name) {
             Some(index) => Some(TIdx(to_storage(index))),
@@ -350,52 +358,15 @@ impl<S: Storage> YaccGrammar<S> {
         requires { S.number pidx.0 < length self.now.productions }
         ensures { IfOk result (λ text. production_part (production_text self.now) self.now (S.number pidx.0) ≡ Some (string_bytes text)) }
     {
-        let mut text = String::from_str(alloc, self.name_at(self.prod_to_rule(pidx)))?;
+        let mut text = String::from_str(alloc, self.rule_name_str(self.prod_to_rule(pidx)))?;
         text.push_str(":")?;
-        self.push_symbols(&mut text, self.prod(pidx))?;
+        for symbol in self.prod(pidx) {
+            let name = match *symbol {
+                Symbol::Rule(ridx) => self.rule_name_str(ridx),
+                Symbol::Token(tidx) => self.token_name(tidx).unwrap_or(""),
+            };
+            write!(text, " \"{name}\"")?;
+        }
         Ok(text)
-    }
-
-    /// Adds symbols, each with a space and in double quotes.
-    fn push_symbols(&self, text: &mut String, symbols: &[Symbol<S>]) -> Result<(), AllocError>
-        ensures { OnOk result (string_bytes text.new
-            ≡ string_bytes text.old ++ concat (map (sym_text self.now) (map (sym_of S.number) symbols.now))) }
-    {
-        for symbol in symbols {
-            self.push_symbol(text, *symbol)?;
-        }
-        Ok(())
-    }
-
-    /// Adds a space and the name of a symbol in double quotes.
-    fn push_symbol(&self, text: &mut String, symbol: Symbol<S>) -> Result<(), AllocError>
-        ensures { OnOk result (string_bytes text.new ≡ string_bytes text.old ++ sym_text self.now (sym_of S.number symbol)) }
-    {
-        text.push_str(" \"")?;
-        text.push_str(self.symbol_name(symbol))?;
-        text.push_str("\"")
-    }
-
-    /// The name of a rule, empty for a rule that is not there.
-    fn name_at(&self, ridx: RIdx<S>) -> &str
-        ensures { result.now ≡ sym_name self.now (Rule (S.number ridx.0)) }
-    {
-        match self.rules.get_index(usize::from(ridx)) {
-            Some((name, _)) => name.as_str(),
-            None => "",
-        }
-    }
-
-    /// The name of a symbol of a production, empty for one that is not there.
-    fn symbol_name(&self, symbol: Symbol<S>) -> &str
-        ensures { result.now ≡ sym_name self.now (sym_of S.number symbol) }
-    {
-        match symbol {
-            Symbol::Rule(ridx) => self.name_at(ridx),
-            Symbol::Token(tidx) => match self.tokens.get_index(usize::from(tidx)) {
-                Some((name, _)) => name.as_str(),
-                None => "",
-            },
-        }
     }
 }

@@ -1,7 +1,7 @@
 ghost use Rattle.std.specs.Prelude.{◌≡◌, ◌↔◌, IsTrue, IfOk, Some};
 ghost use Rattle.std.specs.Cmp.{partial_equiv_from_equiv};
 ghost use Rattle.cfgsyntax.specs.Errors.{error_at, kind_view, same_error, same_error-equivalence, spanskind_of};
-ghost use Rattle.cfgsyntax.specs.Texts.{error_text};
+ghost use Rattle.cfgsyntax.specs.Texts.{error_text, fault_text};
 ghost use Rattle.cfgsyntax.specs.declared.yacc.parser.error.YaccFault.TheVariants.{OutOfMemory};
 
 use cfgbase::{Span, Spanned, SpansKind};
@@ -257,6 +257,28 @@ pub enum YaccFault {
     /// There is no memory left. This says nothing of the text.
     OutOfMemory,
 }
+
+impl fmt::Display for YaccFault {
+    ghost output = { λ fault. Some (fault_text fault) };
+
+    fn fmt<W: fmt::Write>(&self, f: &mut fmt::Formatter<W>) -> fmt::Result {
+        match self {
+            YaccFault::Errors(errors) => {
+                let Some((first, others)) = errors.split_first() else {
+                    return Ok(());
+                };
+                first.fmt(f)?;
+                for error in others {
+                    write!(f, "\n{error}")?;
+                }
+                Ok(())
+            }
+            YaccFault::OutOfMemory => f.write_str("out of memory"),
+        }
+    }
+}
+
+impl Error for YaccFault {}
 
 impl From<AllocError> for YaccFault {
     ghost from_gives = { λ _ fault. fault ≡ OutOfMemory };

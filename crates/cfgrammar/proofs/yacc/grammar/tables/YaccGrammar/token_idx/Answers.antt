@@ -1,20 +1,24 @@
-use Rattle.std.proofs.Common.{ap, ◌∙◌, position, Some}
+use Rattle.std.proofs.Common.{sym, ap, ◌∙◌, position, Some}
 use Rattle.cfgrammar.specs.Numbered.{Numbered}
 use Rattle.cfgrammar.specs.Shown.{has_token_name}
 use Rattle.cfgrammar.specs.View.{tables}
 use Rattle.cfgrammar.proofs.Lookups.{token_position}
+use Rattle.cfgrammar.proofs.Within.{position_within}
 use Rattle.cfgrammar.proofs.yacc.grammar.tables.YaccGrammar.token_idx.Goals as goal
 
-pub returns-in-Some : goal.returns-in-Some
+pub returns-in-Some-clause-value : goal.returns-in-Some-clause-value
 unfolding tables
-returns-in-Some g c =
+returns-in-Some-clause-value g c =
     ap Some c.to_storage.ensures ∙ c.in-Some.ensures.index
     ∙ token_position c.args.name.now c.self.inside.tokens.entries
     ∙ ap (λ (g : Numbered). position (has_token_name c.args.name.now) g.tokens) c.self.view_is
 
-pub returns-in-None : goal.returns-in-None
+pub returns-in-Some-clause-within : goal.returns-in-Some-clause-within
+returns-in-Some-clause-within g c = position_within _ _ _ (sym (returns-in-Some-clause-value g c))
+
+pub returns-in-None-clause-value : goal.returns-in-None-clause-value
 unfolding tables
-returns-in-None g c =
+returns-in-None-clause-value g c =
     c.in-None.ensures.index
     ∙ token_position c.args.name.now c.self.inside.tokens.entries
     ∙ ap (λ (g : Numbered). position (has_token_name c.args.name.now) g.tokens) c.self.view_is

@@ -1,8 +1,0 @@
-use Rattle.std.proofs.Common.{◌≡◌, ◌++◌, map, take, string_bytes}
-use Rattle.std.specs.List.{concat}
-use Rattle.cfgrammar.specs.Shown.{sym_text}
-use Rattle.cfganalysis.specs.Symbols.{sym_of}
-use Rattle.cfgrammar.proofs.yacc.grammar.tables.YaccGrammar.push_symbols.Given as goal
-
-abbrev pub invariant-loop-symbol : goal.invariant-loop-symbol
-invariant-loop-symbol g l = string_bytes l.text ≡ string_bytes l.initial.text ++ concat (map (sym_text l.self) (map (sym_of g.S.Storage.number) (take l.symbol-index l.symbols)))
