@@ -1,5 +1,5 @@
 -- What accessors read in the tables.
-use Rattle.std.proofs.Common.{◌≡◌, ℕ, zero, suc, ◌<◌, ◌≤◌, List, [], ◌∷◌, length, map, get_or, slice_get, Option, Some, None, option_map, unwrap_or, Bor, String, Global, sym, ap, subst, ◌∙◌, arith}
+use Rattle.std.proofs.Common.{◌≡◌, ℕ, zero, suc, ◌<◌, ◌≤◌, List, [], ◌∷◌, length, map, get_or, slice_get, Option, Some, None, option_map, unwrap_or, String, Global, sym, ap, subst, ◌∙◌, arith}
 use Rattle.std.specs.Map.{values_of}
 use Rattle.std.specs.Option.{option_map_or}
 use Rattle.std.proofs.lemmas.List.{get_or-map, length-map}
@@ -28,11 +28,6 @@ token_named g t name at = go (slice_get g.tokens t) at
     go (Some token) at =
         let same : token.name ≡ name = cc in
         ap (λ n. unwrap_or n []) same
-
--- a text that is read where there is one, and an empty one
-pub text_or_empty : (o : Option (Bor (List ℕ))) (empty x : Bor (List ℕ)) → x ≡ unwrap_or o empty → empty.now ≡ [] → unwrap_or (option_map (λ text. text.now) o) [] ≡ x.now
-text_or_empty None empty x is e = sym e ∙ ap (λ (text : Bor (List ℕ)). text.now) (sym is)
-text_or_empty (Some text) empty x is e = ap (λ (text : Bor (List ℕ)). text.now) (sym is)
 
 module _ {S A : Type 0} (number : S → ℕ) (part : NumberedRule → A) (row : RuleRow S) (x : A) (shows : (key : String Global) → part (rule_view number (key, row)) ≡ x) where
   row_shown : (es : List (String Global × RuleRow S)) (i : ℕ) → slice_get (values_of es) i ≡ Some row → option_map part (slice_get (map (rule_view number) es) i) ≡ Some x

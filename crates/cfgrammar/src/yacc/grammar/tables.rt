@@ -1,6 +1,6 @@
 //! The tables of a grammar.
 
-ghost use Rattle.std.specs.Prelude.{◌≡◌, ◌+◌, ◌<◌, List, [], Option, None, Some, map, length, position, option_map, All, IfOk, IfSome};
+ghost use Rattle.std.specs.Prelude.{◌≡◌, ◌↔◌, ◌+◌, ◌<◌, List, [], Option, None, Some, map, length, position, option_map, All, IfOk, IfSome, IsSome};
 ghost use Rattle.std.specs.Str.{bytes_eq};
 ghost use Rattle.std.specs.String.{string_bytes};
 ghost use Rattle.cfgwords.specs.declared.fault.Fault.{Fault};
@@ -320,10 +320,11 @@ impl<S: Storage> YaccGrammar<S> {
         TIdx(to_storage(self.tokens.len()))
     }
 
-    /// The name of a token; the end token has none.
+    /// The name of a token. The end token, which is the last, has none, and every other has one.
     pub fn token_name(&self, tidx: TIdx<S>) -> Option<&str>
         requires { S.number tidx.0 < length self.now.tokens }
-        ensures { token_part (λ x. x.name) self.now (S.number tidx.0) ≡ Some (option_map (λ name. name.now) result) }
+        ensures value { token_part (λ x. x.name) self.now (S.number tidx.0) ≡ Some (option_map (λ name. name.now) result) }
+        ensures named { IsSome result ↔ (S.number tidx.0 + 1 < length self.now.tokens) }
     {
         match self.tokens.get_index(usize::from(tidx)) {
             Some((name, _)) => Some(name.as_str()),
@@ -363,7 +364,7 @@ impl<S: Storage> YaccGrammar<S> {
         for symbol in self.prod(pidx) {
             let name = match *symbol {
                 Symbol::Rule(ridx) => self.rule_name_str(ridx),
-                Symbol::Token(tidx) => self.token_name(tidx).unwrap_or(""),
+                Symbol::Token(tidx) => self.token_name(tidx).unwrap(),
             };
             write!(text, " \"{name}\"")?;
         }

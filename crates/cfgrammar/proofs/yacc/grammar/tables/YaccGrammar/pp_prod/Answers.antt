@@ -1,9 +1,9 @@
-use Rattle.std.proofs.Common.{rules, ◌≡◌, ℕ, ◌++◌, map, take, codes, List, Bor, string_bytes, refl, sym, ap, ◌∙◌, append_assoc}
+use Rattle.std.proofs.Common.{rules, ◌≡◌, ℕ, ◌++◌, map, take, codes, List, [], Bor, Option, option_map, unwrap_or, string_bytes, sym, ap, ◌∙◌, append_assoc}
 use Rattle.std.specs.List.{concat}
 use Rattle.cfgrammar.specs.Shown.{sym_name, sym_text}
 use Rattle.cfgindex.specs.declared.idxnewtype.Symbol.{Symbol}
 use Rattle.cfganalysis.specs.Symbols.{sym_of}
-use Rattle.cfgrammar.proofs.Shows.{rule_named, token_named, text_or_empty}
+use Rattle.cfgrammar.proofs.Shows.{rule_named, token_named}
 use Rattle.cfgrammar.proofs.Turns.{more_joined}
 use Rattle.cfgrammar.proofs.yacc.grammar.tables.YaccGrammar.pp_prod.Goals as goal
 use Rattle.cfgrammar.proofs.yacc.grammar.tables.YaccGrammar.pp_prod.Goals.{in-Rule, in-Token}
@@ -17,8 +17,8 @@ loop-symbol-preserved g c =
     let name : sym_name c.args.self.now (symbol c.symbol-item.result) ≡ c.match-symbol.name.now = elim c.match-symbol.branch [
       | in-Rule w ↦ let named = rule_named c.args.self.now _ _ w.rule_name_str-name.ensures in search (rules, named)
       | in-Token w ↦
-          ap (λ (s : Symbol g.row.S.Denot). sym_name c.args.self.now (symbol s)) w.in-Token.is ∙ token_named c.args.self.now _ _ w.token_name.ensures
-          ∙ text_or_empty w.token_name.result _ _ w.unwrap_or-name.ensures refl ∙ ap (λ (name : Bor (List ℕ)). name.now) (sym w.name-is)
+          ap (λ (s : Symbol g.row.S.Denot). sym_name c.args.self.now (symbol s)) w.in-Token.is ∙ token_named c.args.self.now _ _ w.token_name.ensures.value
+          ∙ ap (λ (o : Option (Bor (List ℕ))). unwrap_or (option_map (λ name. name.now) o) []) w.unwrap-name.ensures ∙ ap (λ (name : Bor (List ℕ)). name.now) (sym w.name-is)
     ] in
     c.in_ok-write.ensures.bytes
     ∙ ap (λ n. string_bytes c.loop-symbol.text ++ (codes " \"" ++ (n ++ codes "\""))) (sym name)
