@@ -50,17 +50,22 @@ abbrev pub symbol_word : Symbol → Word
 symbol_word (RuleSymbol word) = word
 symbol_word (TokenSymbol word) = word
 
--- what holds of each span of a production, and of each span of a syntax
+-- what holds of each span of a production, of the settings, and of a syntax
 pub record EachProductionSpan (P : Span → Type 0) (production : Production) : Type 0 where
   pub itself : P production.span
   pub symbols : All (λ symbol. P (symbol_word symbol).span) production.symbols
   pub action : IfSome production.action (λ action. P action.1)
+
+pub record EachSettingSpan (P : Span → Type 0) (settings : Settings) : Type 0 where
+  pub expect : IfSome settings.expect (λ expect. P expect.1)
+  pub expect_reduce_reduce : IfSome settings.expect_reduce_reduce (λ expect. P expect.1)
 
 pub record EachSpan (P : Span → Type 0) (syntax : Syntax) : Type 0 where
   pub start : IfSome syntax.start (λ word. P word.span)
   pub rules : All (λ rule. P rule.1.name.span) syntax.rules
   pub productions : All (EachProductionSpan P) syntax.productions
   pub tokens : All P syntax.spans
+  pub settings : EachSettingSpan P syntax.settings
 
 abbrev pub word_name : Word → List ℕ
 word_name word = word.name

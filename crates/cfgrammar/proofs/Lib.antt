@@ -7,6 +7,7 @@ pub mod Places
 pub mod Room
 pub mod Rows
 pub mod Shows
+pub mod Spans
 pub mod Turns
 pub mod Valid
 pub mod Whole

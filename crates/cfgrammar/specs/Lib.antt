@@ -5,4 +5,5 @@ pub mod Numbered
 pub mod Numbering
 pub mod Resolved
 pub mod Shown
+pub mod Spans
 pub mod View

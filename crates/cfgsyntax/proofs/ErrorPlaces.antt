@@ -21,6 +21,7 @@ use Rattle.cfgsyntax.specs.Check.{is_rule, is_token, first_error, start_error, s
 use Rattle.cfgsyntax.specs.Faults.{error_of, errors_of}
 use Rattle.cfgwords.specs.Places.{IsPiece, IsWordAt}
 use Rattle.cfgsyntax.specs.Reads.{Reads}
+use Rattle.cfgsyntax.specs.Spans.{EachErrorSpan}
 use Rattle.cfgsyntax.proofs.Kept.{IsItemAt, file_kept}
 use Rattle.cfgwords.proofs.WordPlaces.{IsReached}
 use Rattle.cfgsyntax.proofs.SyntaxPlaces.{syntax_at, rules_are_names}
@@ -28,7 +29,7 @@ use Rattle.cfgwords.proofs.NameStarts.{begins_as_name}
 
 -- an error's spans are pieces of the text
 abbrev pub IsErrorAt : List ℕ → GrammarError → Type 0
-IsErrorAt text error = All (IsPiece text) error.spans
+IsErrorAt text = EachErrorSpan (IsPiece text)
 
 -- The first error of several.
 

@@ -65,6 +65,7 @@ module _ (whole : List ℕ) where
         (All-with_fronts (λ x. IfSome (alternative x) (λ a. EachProductionSpan (IsPiece whole) a.1)) (IsItemAt whole) (λ front. production_placed _) items all));
     tokens = All-map (IsPiece whole) (λ w. w.span) (token_words items)
         (All-firsts word_name (IsWordAt whole) (filter_map token_named items) (all_placed (IsWordAt whole) token_named token_placed items all));
+    settings = record { expect = tt; expect_reduce_reduce = tt };
   }
 
   pub rules_are_names : (items : List Item) → All (IsItemAt whole) items → All (λ rule. begins_as_name rule.0) (syntax_of items).rules

@@ -6,5 +6,6 @@ pub mod Grammar
 pub mod Parsed
 pub mod Reads
 pub mod Sound
+pub mod Spans
 pub mod Texts
 pub mod Warnings

@@ -2,15 +2,16 @@
 
 mod check;
 
-ghost use Rattle.std.specs.Prelude.{◌≡◌, ◌↔◌, [], List, Option, IsTrue, IfOk, All};
+ghost use Rattle.std.specs.Prelude.{◌≡◌, ◌↔◌, [], List, Option, IsTrue, IfOk};
 ghost use Rattle.cfgwords.specs.declared.fault.Fault.{Fault};
 ghost use Rattle.cfgast.specs.Items.{Item};
-ghost use Rattle.cfgast.specs.Syntax.{EachSpan, syntax_of};
+ghost use Rattle.cfgast.specs.Syntax.{syntax_of};
 ghost use Rattle.cfgast.specs.View.{syntax};
 ghost use Rattle.cfgsyntax.specs.Faults.{errors_of};
 ghost use Rattle.cfgwords.specs.Places.{IsPiece};
 ghost use Rattle.cfgsyntax.specs.Reads.{Reads, HasOneReading};
 ghost use Rattle.cfgsyntax.specs.Sound.{IsSound};
+ghost use Rattle.cfgsyntax.specs.Spans.{EachParsedSpan};
 
 use crate::yacc::kind::YaccKind;
 use crate::yacc::parser::{YaccGrammarError, read};
@@ -55,8 +56,7 @@ impl ASTWithValidityInfo {
             → parsed.syntax ≡ syntax_of items) }
         ensures errors { IfOk result (λ parsed. (items : List Item) (stop : Option Fault) → Reads kind text.now items stop
             → parsed.errors ≡ errors_of items stop) }
-        ensures places { IfOk result (λ parsed. All (λ error. All (IsPiece text.now) error.spans) parsed.errors) }
-        ensures syntax_places { IfOk result (λ parsed. EachSpan (IsPiece text.now) parsed.syntax) }
+        ensures places { IfOk result (EachParsedSpan (IsPiece text.now)) }
     {
         let (ast, stop) = read(alloc, kind, text)?;
         let errors = errors_found(alloc, &ast, stop)?;

@@ -1,21 +1,24 @@
 //! The tables of a grammar.
 
-ghost use Rattle.std.specs.Prelude.{◌≡◌, ◌↔◌, ◌+◌, ◌<◌, List, [], Option, None, Some, map, length, position, option_map, All, IfOk, IfSome, IsSome};
-ghost use Rattle.std.specs.Str.{bytes_eq};
+ghost use Rattle.std.specs.Prelude.{◌≡◌, ◌↔◌, ℕ, ◌+◌, ◌<◌, List, [], Option, None, Some, map, length, position, option_map, All, IfOk, IfSome, IsSome};
+ghost use Rattle.std.specs.Str.{IsUtf8, bytes_eq};
 ghost use Rattle.std.specs.String.{string_bytes};
 ghost use Rattle.cfgwords.specs.declared.fault.Fault.{Fault};
+ghost use Rattle.cfgwords.specs.Places.{IsPiece};
 ghost use Rattle.cfgast.specs.Items.{Item};
 ghost use Rattle.cfgast.specs.Syntax.{syntax_of};
 ghost use Rattle.cfgast.specs.View.{syntax};
 ghost use Rattle.cfgsyntax.specs.Faults.{errors_of};
 ghost use Rattle.cfgsyntax.specs.Reads.{Reads, HasOneReading};
 ghost use Rattle.cfgsyntax.specs.Sound.{IsSound};
+ghost use Rattle.cfgsyntax.specs.Spans.{EachParsedSpan};
 ghost use Rattle.cfgsyntax.specs.declared.yacc.kind.YaccKind.{YaccKind};
 ghost use Rattle.cfgrammar.specs.Answer.{IsAnswer};
 ghost use Rattle.cfgrammar.specs.Fits.{Fits, LeavesRoom};
 ghost use Rattle.cfgrammar.specs.Numbered.{numbered};
 ghost use Rattle.cfgrammar.specs.Numbering.{IsNumbering};
 ghost use Rattle.cfgrammar.specs.Shown.{IsSymbolWithin, has_token_name, production_part, production_text, rule_part, token_part};
+ghost use Rattle.cfgrammar.specs.Spans.{EachAnswerSpan};
 
 use super::build;
 use super::fault::storage_too_small;
@@ -65,6 +68,7 @@ impl YaccGrammar<u32> {
         ensures one { HasOneReading kind text.now }
         ensures answer { (items : List Item) (stop : Option Fault) → Reads kind text.now items stop
             → IsAnswer 4294967295 (errors_of items stop) (numbered kind (syntax_of items)) result }
+        ensures places { EachAnswerSpan (IsPiece text.now) result }
     {
         YaccGrammar::new_with_storaget(alloc, kind, text)
     }
@@ -76,6 +80,9 @@ impl<S: Storage> YaccGrammar<S> {
     /// The text has exactly one reading. Where that has no errors, and `S` can count the grammar, the answer is the
     /// grammar of what was read.
     ///
+    /// Each span of the grammar and of an error begins and ends at a place of the text: where a character begins, or
+    /// where the text ends. That of what is added is (0,0).
+    ///
     /// # Errors
     ///
     /// The errors of the text; for a valid text `StorageTooSmall`, alone, where `S` cannot count the grammar's rules,
@@ -84,12 +91,14 @@ impl<S: Storage> YaccGrammar<S> {
         ensures one { HasOneReading kind text.now }
         ensures answer { (items : List Item) (stop : Option Fault) → Reads kind text.now items stop
             → IsAnswer S.MAX (errors_of items stop) (numbered kind (syntax_of items)) result }
+        ensures places { EachAnswerSpan (IsPiece text.now) result }
     {
         let parsed = ASTWithValidityInfo::new(alloc, kind, text)?;
         YaccGrammar::new_from_ast_with_validity_info(alloc, &parsed)
     }
 
-    /// The grammar of a syntax that was read.
+    /// The grammar of a syntax that was read. Its spans, and those of errors, are places of the text where those of the
+    /// syntax and of its errors are.
     ///
     /// # Errors
     ///
@@ -99,7 +108,9 @@ impl<S: Storage> YaccGrammar<S> {
         alloc: Global,
         parsed: &ASTWithValidityInfo,
     ) -> YaccGrammarResult<Self>
-        ensures { IsAnswer S.MAX parsed.now.errors (numbered parsed.now.kind parsed.now.syntax) result }
+        ensures answer { IsAnswer S.MAX parsed.now.errors (numbered parsed.now.kind parsed.now.syntax) result }
+        ensures places { (text : List ℕ) → IsUtf8 text → EachParsedSpan (IsPiece text) parsed.now
+            → EachAnswerSpan (IsPiece text) result }
     {
         if !parsed.is_valid() {
             return Err(YaccFault::Errors(parsed.errors().to_vec(alloc)?));

@@ -20,12 +20,11 @@ pub returns-clause-places : goal.returns-clause-places
 returns-clause-places c =
     let one = c.in_ok-ast.ensures.one in
     let errors = errors_read c.in_ok-errors.errors.items _ c.in_ok-ast.stop one.items one.stop c.in_ok-errors.ensures (c.in_ok-ast.ensures.read one.items one.stop one.reads) in
-    subst (All (IsErrorAt c.args.text.now)) (sym errors) (read_errors_at c.args.kind c.args.text.now c.utf8.text one.items one.stop one.reads)
-
-pub returns-clause-syntax_places : goal.returns-clause-syntax_places
-returns-clause-syntax_places c =
-    of_reading c.args.kind c.args.text.now _ (EachSpan (IsPiece c.args.text.now)) c.in_ok-ast.ensures.one
-    (λ items stop reads. (c.in_ok-ast.ensures.read items stop reads).0) (read_syntax_at c.args.kind c.args.text.now c.utf8.text)
+    record {
+      errors = subst (All (IsErrorAt c.args.text.now)) (sym errors) (read_errors_at c.args.kind c.args.text.now c.utf8.text one.items one.stop one.reads);
+      syntax = of_reading c.args.kind c.args.text.now _ (EachSpan (IsPiece c.args.text.now)) one
+          (λ items stop reads. (c.in_ok-ast.ensures.read items stop reads).0) (read_syntax_at c.args.kind c.args.text.now c.utf8.text);
+    }
 
 pub invariant_of-result : goal.invariant_of-result
 invariant_of-result c =

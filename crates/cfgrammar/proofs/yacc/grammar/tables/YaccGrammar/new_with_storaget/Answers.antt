@@ -10,4 +10,4 @@ returns-clause-answer g c = λ items stop reads.
     let parsed = c.in_ok-parsed.ensures in
     subst (λ (errors : List GrammarError). IsAnswer g.S.Storage.MAX errors (numbered c.args.kind (syntax_of items)) c.new_from_ast_with_validity_info.result) (parsed.errors items stop reads)
     (subst (λ (grammar : Numbered). IsAnswer g.S.Storage.MAX c.in_ok-parsed.parsed.errors grammar c.new_from_ast_with_validity_info.result)
-    (λ i. numbered (parsed.kind i) (parsed.syntax items stop reads i)) c.new_from_ast_with_validity_info.ensures)
+    (λ i. numbered (parsed.kind i) (parsed.syntax items stop reads i)) c.new_from_ast_with_validity_info.ensures.answer)
