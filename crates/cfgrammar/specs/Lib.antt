@@ -1,6 +1,7 @@
 pub mod Answer
 pub mod Counting
 pub mod Fits
+pub mod GrammarOf
 pub mod Numbered
 pub mod Numbering
 pub mod Resolved

@@ -10,6 +10,7 @@ use Rattle.cfgsyntax.specs.Texts.{error_text}
 use Rattle.cfgsyntax.specs.declared.yacc.kind.YaccKind.{YaccKind}
 use Rattle.cfgrammar.specs.Answer.{IsRefused}
 use Rattle.cfgrammar.specs.Fits.{Fits}
+use Rattle.cfgrammar.specs.GrammarOf.{HoldsOfReading}
 use Rattle.cfgrammar.specs.Numbered.{Numbered, NumberedProduction}
 use Rattle.cfgrammar.specs.Shown.{production_text}
 use Rattle.cfgtool.specs.declared.engine.Outcome.{Outcome}
@@ -71,6 +72,11 @@ Tells command text errors g old new (Ok outcome) = (lines : List ℕ) × IsRepor
 Tells command text errors g old new (Err faults.Write) = (outcome : Outcome) × (lines : List ℕ)
     × IsReport command text errors g outcome lines × AppendsBeginning old new lines
 Tells command text errors g old new (Err faults.OutOfMemory) = Keeps old new
+
+-- A report of a text tells so of the text's one reading: of its errors, and of its syntax in numbers.
+abbrev pub TellsText : KindArg → Command → List ℕ → Option (List ℕ) → Option (List ℕ) → Result Outcome ReportFault → Type 0
+TellsText kind command text old new answer =
+    HoldsOfReading (kind_read kind) text (λ errors g. Tells command text errors g old new answer)
 
 -- how many faults of its sink a report meets
 abbrev pub faults_met : Result Outcome ReportFault → ℕ

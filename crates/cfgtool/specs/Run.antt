@@ -2,14 +2,8 @@
 use Rattle.std.specs.Prelude.{◌≡◌, ℕ, List, [], ◌∷◌, ◌++◌, Option, Some, None, Result, Ok, Err, if◌then◌else◌, codes}
 use Rattle.std.specs.Str.{IsUtf8, bytes_eq}
 use Rattle.std.specs.Io.KnownBytes.{Keeps}
-use Rattle.cfgwords.specs.declared.fault.Fault.{Fault}
-use Rattle.cfgast.specs.Items.{Item}
-use Rattle.cfgast.specs.Syntax.{syntax_of}
-use Rattle.cfgsyntax.specs.Faults.{errors_of}
-use Rattle.cfgsyntax.specs.Reads.{Reads}
 use Rattle.cfgsyntax.specs.declared.yacc.kind.YaccKind.TheVariants.{Original}
 use Rattle.cfgsyntax.specs.declared.yacc.kind.YaccOriginalActionKind.TheVariants.{NoAction, UserAction, GenericParseTree}
-use Rattle.cfgrammar.specs.Numbered.{numbered}
 use Rattle.cfgtool.specs.declared.engine.Outcome.{Outcome}
 use Rattle.cfgtool.specs.declared.engine.Outcome.TheVariants.{Done, Refused}
 use Rattle.cfgtool.specs.declared.engine.ReportFault.{ReportFault}
@@ -22,7 +16,7 @@ use Rattle.cfgtool.specs.declared.words.Command.{Command}
 use Rattle.cfgtool.specs.declared.words.Command.TheVariants.{Grammar, Firsts}
 use Rattle.cfgtool.specs.declared.words.KindArg.{KindArg}
 use Rattle.cfgtool.specs.declared.words.KindArg.TheVariants.{Named}
-use Rattle.cfgtool.specs.Report.{kind_read, Tells}
+use Rattle.cfgtool.specs.Report.{TellsText}
 
 -- the kind that a word names
 abbrev pub kind_named : List ℕ → Option KindArg
@@ -99,9 +93,8 @@ EndsUnwritten why old new ending = (ending ≡ why) × Keeps old new
 
 -- The run ends as the report of these bytes, and tells what that tells.
 abbrev pub EndsReported : KindArg → Command → List ℕ → Option (List ℕ) → Option (List ℕ) → Ending → Type 0
-EndsReported kind command text old new ending = (answer : Result Outcome ReportFault) × (ending ≡ ending_of answer)
-    × ((items : List Item) (stop : Option Fault) → Reads (kind_read kind) text items stop
-    → Tells command text (errors_of items stop) (numbered (kind_read kind) (syntax_of items)) old new answer)
+EndsReported kind command text old new ending =
+    (answer : Result Outcome ReportFault) × (ending ≡ ending_of answer) × TellsText kind command text old new answer
 
 -- what a run of a kind and a command does with what its source answers for a file
 abbrev pub HandlesInput : KindArg → Command → List ℕ → Input → Option (List ℕ) → Option (List ℕ) → Ending → Type 0

@@ -1,13 +1,8 @@
 //! The report of a text.
 
-ghost use Rattle.std.specs.Prelude.{◌≡◌, ◌+◌, ◌-◌, ◌^◌, ◌<◌, List, Option, Some, IfOk, IsErrOf, string_bytes};
-ghost use Rattle.cfgwords.specs.declared.fault.Fault.{Fault};
-ghost use Rattle.cfgast.specs.Items.{Item};
-ghost use Rattle.cfgast.specs.Syntax.{syntax_of};
-ghost use Rattle.cfgsyntax.specs.Faults.{errors_of};
-ghost use Rattle.cfgsyntax.specs.Reads.{HasOneReading, Reads};
-ghost use Rattle.cfgrammar.specs.Numbered.{numbered};
-ghost use Rattle.cfgtool.specs.Report.{AreLinesOf, IsReport, Tells, fault_text, faults_met, kind_read};
+ghost use Rattle.std.specs.Prelude.{◌≡◌, ◌+◌, ◌-◌, ◌^◌, ◌<◌, Some, IfOk, IsErrOf, string_bytes};
+ghost use Rattle.cfgrammar.specs.GrammarOf.{HoldsOfReading};
+ghost use Rattle.cfgtool.specs.Report.{AreLinesOf, IsReport, TellsText, fault_text, faults_met};
 ghost use Rattle.cfgtool.specs.declared.engine.ReportFault.TheVariants as variants;
 
 use crate::first_lines::first_lines;
@@ -81,10 +76,7 @@ pub fn report<W: Sink>(
     out: &mut W,
 ) -> Result<Outcome, ReportFault>
     requires { W.faults_counted out.old < 2 ^ 64 - 1 }
-    ensures one { HasOneReading (kind_read kind) text.now }
-    ensures told { (items : List Item) (stop : Option Fault) → Reads (kind_read kind) text.now items stop
-        → Tells command text.now (errors_of items stop) (numbered (kind_read kind) (syntax_of items))
-        (W.written out.old) (W.written out.new) result }
+    ensures told { TellsText kind command text.now (W.written out.old) (W.written out.new) result }
     ensures faults { W.faults_counted out.new ≡ W.faults_counted out.old + faults_met result }
     ensures untouched { IsErrOf result variants.OutOfMemory → out.new ≡ out.old }
 {
@@ -100,11 +92,8 @@ fn report_text(
     command: Command,
     text: &str,
 ) -> Result<(Outcome, String), AllocError>
-    ensures one { HasOneReading kind text.now }
-    ensures told { IfOk result (λ told. (items : List Item) (stop : Option Fault)
-        → Reads kind text.now items stop
-        → IsReport command text.now (errors_of items stop) (numbered kind (syntax_of items))
-        told.0 (string_bytes told.1)) }
+    ensures { HoldsOfReading kind text.now (λ errors g.
+        IfOk result (λ told. IsReport command text.now errors g told.0 (string_bytes told.1))) }
 {
     match YaccGrammar::new(alloc, kind, text) {
         Ok(grammar) => Ok((Outcome::Done, command_lines(alloc, command, &grammar)?)),

@@ -3,6 +3,7 @@
 ghost use Rattle.std.specs.Prelude.{◌≡◌, ◌++◌, All, IfOk, OnOk, string_bytes};
 ghost use Rattle.cfglines.specs.Lines.{StandsFor};
 ghost use Rattle.cfgwords.specs.Places.{IsPiece};
+ghost use Rattle.cfgsyntax.specs.Spans.{EachErrorSpan};
 ghost use Rattle.cfgtool.specs.Report.{error_line, error_lines, error_place, production_lines};
 
 use cfgrammar::yacc::{YaccGrammar, YaccGrammarError};
@@ -27,7 +28,7 @@ pub fn error_lines(
     text: &str,
     errors: &[YaccGrammarError],
 ) -> Result<String, AllocError>
-    requires { All (λ error. All (IsPiece text.now) error.spans) errors.now }
+    requires { All (EachErrorSpan (IsPiece text.now)) errors.now }
     ensures { IfOk result (λ lines. string_bytes lines ≡ error_lines text.now errors.now) }
 {
     let places = match NewlineCache::from_str(alloc, text) {
@@ -50,7 +51,7 @@ fn write_error(
     error: &YaccGrammarError,
 ) -> Result<(), AllocError>
     requires cached { StandsFor places.now text.now }
-    requires placed { All (IsPiece text.now) error.now.spans }
+    requires placed { EachErrorSpan (IsPiece text.now) error.now }
     ensures { OnOk result (string_bytes lines.new ≡ string_bytes lines.old ++ error_line text.now error.now) }
 {
     write_place(lines, places, text, error)?;
@@ -65,7 +66,7 @@ fn write_place(
     error: &YaccGrammarError,
 ) -> Result<(), AllocError>
     requires cached { StandsFor places.now text.now }
-    requires placed { All (IsPiece text.now) error.now.spans }
+    requires placed { EachErrorSpan (IsPiece text.now) error.now }
     ensures { OnOk result (string_bytes lines.new ≡ string_bytes lines.old ++ error_place text.now error.now) }
 {
     let Some(span) = error.spans().first() else {

@@ -3,18 +3,14 @@
 ghost use Rattle.std.specs.Prelude.{◌≡◌, ◌↔◌, ℕ, ◌+◌, ◌<◌, List, [], Option, None, Some, map, length, position, option_map, All, IfOk, IfSome, IsSome};
 ghost use Rattle.std.specs.Str.{IsUtf8, bytes_eq};
 ghost use Rattle.std.specs.String.{string_bytes};
-ghost use Rattle.cfgwords.specs.declared.fault.Fault.{Fault};
 ghost use Rattle.cfgwords.specs.Places.{IsPiece};
-ghost use Rattle.cfgast.specs.Items.{Item};
-ghost use Rattle.cfgast.specs.Syntax.{syntax_of};
 ghost use Rattle.cfgast.specs.View.{syntax};
-ghost use Rattle.cfgsyntax.specs.Faults.{errors_of};
-ghost use Rattle.cfgsyntax.specs.Reads.{Reads, HasOneReading};
 ghost use Rattle.cfgsyntax.specs.Sound.{IsSound};
 ghost use Rattle.cfgsyntax.specs.Spans.{EachParsedSpan};
 ghost use Rattle.cfgsyntax.specs.declared.yacc.kind.YaccKind.{YaccKind};
 ghost use Rattle.cfgrammar.specs.Answer.{IsAnswer};
 ghost use Rattle.cfgrammar.specs.Fits.{Fits, LeavesRoom};
+ghost use Rattle.cfgrammar.specs.GrammarOf.{IsGrammarOf};
 ghost use Rattle.cfgrammar.specs.Numbered.{numbered};
 ghost use Rattle.cfgrammar.specs.Numbering.{IsNumbering};
 ghost use Rattle.cfgrammar.specs.Shown.{IsSymbolWithin, has_token_name, production_part, production_text, rule_part, token_part};
@@ -65,9 +61,7 @@ impl YaccGrammar<u32> {
     ///
     /// As of [`new_with_storaget`](YaccGrammar::new_with_storaget).
     pub fn new(alloc: Global, kind: YaccKind, text: &str) -> YaccGrammarResult<Self>
-        ensures one { HasOneReading kind text.now }
-        ensures answer { (items : List Item) (stop : Option Fault) → Reads kind text.now items stop
-            → IsAnswer 4294967295 (errors_of items stop) (numbered kind (syntax_of items)) result }
+        ensures answer { IsGrammarOf kind text.now 4294967295 result }
         ensures places { EachAnswerSpan (IsPiece text.now) result }
     {
         YaccGrammar::new_with_storaget(alloc, kind, text)
@@ -88,9 +82,7 @@ impl<S: Storage> YaccGrammar<S> {
     /// The errors of the text; for a valid text `StorageTooSmall`, alone, where `S` cannot count the grammar's rules,
     /// tokens, productions or the symbols of a production, those that are added counted in; and want of memory.
     pub fn new_with_storaget(alloc: Global, kind: YaccKind, text: &str) -> YaccGrammarResult<Self>
-        ensures one { HasOneReading kind text.now }
-        ensures answer { (items : List Item) (stop : Option Fault) → Reads kind text.now items stop
-            → IsAnswer S.MAX (errors_of items stop) (numbered kind (syntax_of items)) result }
+        ensures answer { IsGrammarOf kind text.now S.MAX result }
         ensures places { EachAnswerSpan (IsPiece text.now) result }
     {
         let parsed = ASTWithValidityInfo::new(alloc, kind, text)?;
