@@ -13,11 +13,15 @@ use Rattle.cfgsyntax.specs.declared.yacc.parser.error.YaccFault.TheVariants as f
 use Rattle.cfgrammar.specs.Answer.{IsAnswer, IsRefused, IsTooSmall}
 use Rattle.cfgrammar.specs.Fits.{Fits, LeavesRoom}
 use Rattle.cfgrammar.specs.Numbered.{Numbered, numbered, start_rule, file_rule, start_production, file_production, file_token, end_token}
-use Rattle.cfgrammar.specs.View.{IsTable, tables, rule_view, production_view, token_view}
+use Rattle.cfgrammar.specs.View.{tables, rule_view, production_view, token_view}
+use Rattle.cfgrammar.specs.WellNumbered.{IsWellNumbered}
 use Rattle.cfgrammar.specs.declared.yacc.grammar.rows.RuleRow.{RuleRow}
 use Rattle.cfgrammar.specs.declared.yacc.grammar.rows.ProductionRow.{ProductionRow}
 use Rattle.cfgrammar.specs.declared.yacc.grammar.rows.TokenRow.{TokenRow}
+use Rattle.cfgrammar.proofs.Listed.{listed_once}
+use Rattle.cfgrammar.proofs.Names.{distinct_names}
 use Rattle.cfgrammar.proofs.Room.{fits_from_room, room_from_fits}
+use Rattle.cfgrammar.proofs.Whole.{whole}
 
 module _ {S : Type 0} (number : S → ℕ) (kind : YaccKind) (s : Syntax)
     (rules : List (String Global × RuleRow S)) (productions : List (ProductionRow S)) (tokens : List (String Global × TokenRow)) (start : PIdx S) (settings : Settings) where
@@ -36,11 +40,14 @@ module _ {S : Type 0} (number : S → ℕ) (kind : YaccKind) (s : Syntax)
     settings = settings_are i;
   }
 
-  pub is_table : (max : ℕ) → IsSound s [] → LeavesRoom max s → tables number rules productions tokens start settings ≡ numbered kind s → IsTable max (tables number rules productions tokens start settings)
-  is_table max sound room same = record {
-    numbering = record { kind = kind; syntax = s; sound = sound; numbers = sym same };
-    fits = subst (Fits max) (sym same) (fits_from_room max s kind sound.well_formed room);
-  }
+-- the numbers of a syntax that was read without errors
+pub well_numbered : (max : ℕ) (kind : YaccKind) (s : Syntax) → IsSound s [] → LeavesRoom max s → IsWellNumbered max (numbered kind s)
+well_numbered max kind s sound room = record {
+  whole = whole kind s sound;
+  counted = fits_from_room max s kind sound.well_formed room;
+  names = distinct_names kind s sound;
+  listed_once = listed_once s sound.well_formed kind;
+}
 
 -- the errors of a text that has some
 pub refused : (max : ℕ) (errors : List GrammarError) (g : Numbered) (told : List GrammarError) → (errors ≡ [] → ⊥) → told ≡ errors → IsRefused max errors g told

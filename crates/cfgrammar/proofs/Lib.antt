@@ -1,7 +1,7 @@
 pub mod Built
-pub mod Found
 pub mod Listed
 pub mod Lookups
+pub mod Names
 pub mod NewKeys
 pub mod Places
 pub mod Room

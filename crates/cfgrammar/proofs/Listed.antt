@@ -1,5 +1,5 @@
 -- Each production of a grammar stands in one rule's list, once.
-use Rattle.std.proofs.Common.{◌≡◌, ℕ, zero, suc, ◌+◌, ◌<◌, ◌==◌, Bool, true, false, cond, List, [], ◌∷◌, ◌++◌, map, length, filter, slice_get, Option, Some, None, option_map, if◌then◌else◌, refl, sym, ap, subst, ◌∙◌, arith, eq-eqb}
+use Rattle.std.proofs.Common.{◌≡◌, ℕ, zero, suc, ◌+◌, ◌<◌, ◌==◌, Bool, true, false, cond, List, [], ◌∷◌, ◌++◌, map, length, filter, slice_get, Option, Some, None, option_map, if◌then◌else◌, refl, sym, ap, ◌∙◌, arith, eq-eqb}
 use Rattle.std.specs.List.{zip}
 use Rattle.std.specs.Option.{option_map_or}
 use Rattle.std.proofs.lemmas.Bool.{ne_eqb}
@@ -13,9 +13,8 @@ use Rattle.lemmas.specs.Lists.{places_from}
 use Rattle.cfgast.specs.Syntax.{Syntax, Production}
 use Rattle.cfgast.specs.WellFormed.{IsWellFormed}
 use Rattle.cfgsyntax.specs.declared.yacc.kind.YaccKind.{YaccKind}
-use Rattle.cfgrammar.specs.Numbered.{Numbered, NumberedRule, NumberedProduction, numbered, start_rule, file_rule, start_production, file_production}
-use Rattle.cfgrammar.specs.Numbering.{IsNumbering, times}
-use Rattle.cfgrammar.specs.Shown.{rule_part, production_part}
+use Rattle.cfgrammar.specs.Numbered.{NumberedRule, NumberedProduction, numbered, start_rule, file_rule, start_production, file_production}
+use Rattle.cfgrammar.specs.WellNumbered.{ListsEachOnce, times}
 
 abbrev once_if : Bool → ℕ
 once_if b = if b then 1 else 0
@@ -124,15 +123,8 @@ module _ (s : Syntax) (well : IsWellFormed s) where
           ap (times p) (sym is ∙ well.productions_listed r rule found) ∙ ap (λ n. times n (places_from 0 (λ other. r == other) s.production_rules)) (omega arith)
           ∙ times-places_from (λ other. r == other) 0 p s.production_rules ∙ rule_owns r s.production_rules p owner owned
 
-  listed_in : (kind : YaccKind) (p owner r : ℕ) (listed : List ℕ) → production_part (λ x. x.rule) (numbered kind s) p ≡ Some owner → rule_part (λ x. x.productions) (numbered kind s) r ≡ Some listed
-      → times p listed ≡ (if r == owner then 1 else 0)
+  pub listed_once : (kind : YaccKind) → ListsEachOnce (numbered kind s)
   unfolding numbered
-  listed_in kind p owner r listed owned at =
+  listed_once kind p owner r listed owned at =
       let rows = map (file_production s) (zip s.production_rules s.productions) ++ start_production s ∷ [] in
       listed_often p owner r listed (ap (λ rules. slice_get rules p) (sym owners_are) ∙ slice_get-map (λ (x : NumberedProduction). x.rule) rows p ∙ owned) at
-
-pub productions_listed : (g : Numbered) (p owner r : ℕ) (listed : List ℕ) → IsNumbering g → production_part (λ x. x.rule) g p ≡ Some owner → rule_part (λ x. x.productions) g r ≡ Some listed
-    → times p listed ≡ (if r == owner then 1 else 0)
-productions_listed g p owner r listed is owned at =
-    subst (λ (h : Numbered). production_part (λ x. x.rule) h p ≡ Some owner → rule_part (λ x. x.productions) h r ≡ Some listed → times p listed ≡ (if r == owner then 1 else 0)) is.numbers
-    (listed_in is.syntax is.sound.well_formed is.kind p owner r listed) owned at

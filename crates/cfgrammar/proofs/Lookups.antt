@@ -1,5 +1,5 @@
 -- Where names are found.
-use Rattle.std.proofs.Common.{◌≡◌, ℕ, true, List, [], ◌∷◌, ◌++◌, map, position, Some, String, Global, string_bytes, refl, sym, ap, ◌∙◌}
+use Rattle.std.proofs.Common.{◌≡◌, ℕ, Bool, true, List, [], ◌∷◌, ◌++◌, map, position, Some, String, Global, string_bytes, refl, sym, ap, ◌∙◌}
 use Rattle.std.specs.List.{position_or_len}
 use Rattle.std.specs.Map.{keys_of}
 use Rattle.std.specs.Str.{bytes_eq}
@@ -7,13 +7,16 @@ use Rattle.lemmas.proofs.Places.{position-map, position-push, first_place}
 use Rattle.cfgast.specs.Syntax.{Syntax, Rule, index_of}
 use Rattle.cfgast.specs.View.{rule_entry}
 use Rattle.cfgast.specs.declared.rule.Rule as source
-use Rattle.cfgast.proofs.Views.{is_key}
 use Rattle.cfgrammar.specs.Numbered.{NumberedRule, end_token}
 use Rattle.cfgrammar.specs.Shown.{has_token_name}
 use Rattle.cfgrammar.specs.View.{rule_view, token_view}
 use Rattle.cfgrammar.specs.declared.yacc.grammar.rows.RuleRow.{RuleRow}
 use Rattle.cfgrammar.specs.declared.yacc.grammar.rows.TokenRow.{TokenRow}
 use Rattle.cfgsyntax.specs.Check.{is_rule, is_token}
+
+-- the test by which a text is looked up among keys
+abbrev pub is_key : List ℕ → String Global → Bool
+is_key name key = bytes_eq name (string_bytes key)
 
 -- a place among the keys of entries is one among the entries
 pub position-keys : {V : Type 0} (name : List ℕ) (es : List (String Global × V)) → position (is_key name) (keys_of es) ≡ position (λ e. is_key name e.0) es

@@ -9,7 +9,7 @@ use Rattle.lemmas.proofs.Zips.{All-zip}
 use Rattle.cfgbase.specs.declared.span.Span.{Span}
 use Rattle.cfgwords.specs.Places.{IsPiece}
 use Rattle.cfgast.specs.Syntax.{EachProductionSpan, EachSpan, Production, Syntax}
-use Rattle.cfgsyntax.specs.Errors.{GrammarError, Nameless, error_at}
+use Rattle.cfgsyntax.specs.Errors.{Nameless, error_at}
 use Rattle.cfgsyntax.specs.Spans.{EachErrorSpan}
 use Rattle.cfgsyntax.specs.declared.yacc.kind.YaccKind.{YaccKind}
 use Rattle.cfgsyntax.specs.declared.yacc.parser.error.YaccFault.{YaccFault}

@@ -19,7 +19,7 @@ use Rattle.cfgsyntax.specs.Errors.{GrammarError, UnknownRuleRef, UnknownToken, e
 use Rattle.cfgsyntax.specs.Sound.{IsSound}
 use Rattle.cfgsyntax.specs.declared.yacc.kind.YaccKind.{YaccKind}
 use Rattle.cfgrammar.specs.Numbered.{Numbered, NumberedProduction, core, production_core, numbered, file_symbol, rule_index, start_rule, file_rule, start_production, file_production, file_token, end_token}
-use Rattle.cfgrammar.specs.Numbering.{IsNumbering, IsWhole}
+use Rattle.cfgrammar.specs.WellNumbered.{IsWhole}
 use Rattle.cfgrammar.specs.Shown.{token_part}
 use Rattle.cfgrammar.specs.Resolved.{Resolves}
 use Rattle.cfgrammar.proofs.Places.{listed_within}
@@ -117,9 +117,9 @@ module _ (kind : YaccKind) (s : Syntax) (sound : IsSound s []) where
       All-map (IsSymbolOf (core g)) (file_symbol s) (get_or pairs k d).1.symbols (λ j e there. symbol_there (get_or (get_or pairs k d).1.symbols j e) ((known k d within).1 j e there))))
       (All-cons (λ p. All (IsSymbolOf (core g)) p.symbols) (start_production s) [] (start_there s.start (resolved s sound).starts) (All-nil (λ p. All (IsSymbolOf (core g)) p.symbols)))
 
-  whole_in : IsWhole g
+  pub whole : IsWhole g
   unfolding numbered
-  whole_in = record {
+  whole = record {
     start_rule = refl;
     start_production = ap (option_map (λ (p : NumberedProduction). p.rule)) (last_of (map (file_production s) pairs) (start_production s) (length s.productions) (sym file_productions_len));
     end_token = end_at;
@@ -134,6 +134,3 @@ module _ (kind : YaccKind) (s : Syntax) (sound : IsSound s []) where
         (All-map (λ rule. All (λ p. p < length g.productions) rule.productions) file_rule s.rules (λ k d within j e there.
         omega (arith, listed_within s sound.well_formed k d within j e there, productions_len)));
   }
-
-pub whole : (g : Numbered) → IsNumbering g → IsWhole g
-whole g is = subst IsWhole is.numbers (whole_in is.kind is.syntax is.sound)

@@ -8,10 +8,8 @@ use Rattle.cfgindex.specs.declared.idxnewtype.Symbol.{Symbol}
 use Rattle.cfgindex.specs.declared.idxnewtype.Symbol.TheVariants as symbols
 use Rattle.cfganalysis.specs.Symbols.{sym_of}
 use Rattle.cfgrammar.specs.Numbered.{Numbered, NumberedProduction, NumberedRule, core, production_core}
-use Rattle.cfgrammar.specs.Numbering.{IsNumbering, IsWhole}
+use Rattle.cfgrammar.specs.WellNumbered.{IsWhole, IsWellNumbered}
 use Rattle.cfgrammar.specs.Shown.{IsSymbolWithin, production_part, rule_part}
-use Rattle.cfgrammar.specs.View.{IsTable}
-use Rattle.cfgrammar.proofs.Whole.{whole}
 
 -- what holds of the part of each element holds of one that is read
 part_holds : {A B : Type 0} (P : B → Type 0) (part : A → B) (xs : List A) (i : ℕ) (y : B) → All (λ x. P (part x)) xs → option_map part (slice_get xs i) ≡ Some y → P y
@@ -24,7 +22,7 @@ part_holds {A} {B} P part xs i y all at = go (slice_get xs i) refl at
         subst P (ap part (get_or_from_slice_get xs i x x is) ∙ same) (all i x (slice_get_within xs i x is))
 
 -- a part that is read is one of an element that is there
-part_within : {A B : Type 0} (part : A → B) (xs : List A) (i : ℕ) (y : B) → option_map part (slice_get xs i) ≡ Some y → i < length xs
+pub part_within : {A B : Type 0} (part : A → B) (xs : List A) (i : ℕ) (y : B) → option_map part (slice_get xs i) ≡ Some y → i < length xs
 part_within {A} {B} part xs i y at = go (slice_get xs i) refl at
   where
     go : (o : Option A) → slice_get xs i ≡ o → option_map part o ≡ Some y → i < length xs
@@ -54,8 +52,8 @@ refers_within g is = record {
 }
 
 -- of tables, as a grammar shows them
-pub refers : (max : ℕ) (shown g : Numbered) → IsTable max shown → shown ≡ g → RefersWithin g
-refers max shown g is same = refers_within g (whole g (subst IsNumbering same is.numbering))
+pub refers : (max : ℕ) (shown g : Numbered) → IsWellNumbered max shown → shown ≡ g → RefersWithin g
+refers max shown g is same = refers_within g (subst IsWhole same is.whole)
 
 -- the symbols of a production, as the code has them
 pub symbols_within : {S : Type 0} (number : S → ℕ) (g : Numbered) (held : List (Symbol S)) → All (IsSymbolOf (core g)) (map (sym_of number) held) → All (IsSymbolWithin number g) held

@@ -3,8 +3,8 @@ pub mod Counting
 pub mod Fits
 pub mod GrammarOf
 pub mod Numbered
-pub mod Numbering
 pub mod Resolved
 pub mod Shown
 pub mod Spans
 pub mod View
+pub mod WellNumbered

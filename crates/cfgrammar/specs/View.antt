@@ -6,8 +6,6 @@ use Rattle.cfgast.specs.declared.settings.Settings.{Settings}
 use Rattle.cfgast.specs.View.{settings_view}
 use Rattle.cfganalysis.specs.Symbols.{sym_of}
 use Rattle.cfgrammar.specs.Numbered.{Numbered, NumberedRule, NumberedToken, NumberedProduction, file_token, end_token}
-use Rattle.cfgrammar.specs.Fits.{Fits}
-use Rattle.cfgrammar.specs.Numbering.{IsNumbering}
 use Rattle.cfgrammar.specs.declared.yacc.grammar.rows.RuleRow.{RuleRow}
 use Rattle.cfgrammar.specs.declared.yacc.grammar.rows.ProductionRow.{ProductionRow}
 use Rattle.cfgrammar.specs.declared.yacc.grammar.rows.TokenRow.{TokenRow}
@@ -46,8 +44,3 @@ tables number rules productions tokens start_production settings = record {
   implicit_rule = None;
   settings = settings_view settings;
 }
-
--- Tables hold the numbers of a valid syntax, which the index type can count.
-pub record IsTable (max : ℕ) (g : Numbered) : Type 0 where
-  pub numbering : IsNumbering g
-  pub fits : Fits max g

@@ -17,7 +17,7 @@ impl<S: Storage> Tables<S> for YaccGrammar<S> {
     ghost grammar = { core };
 
     fn rules_len(&self) -> RIdx<S> {
-        self.comes_from_syntax();
+        self.invariant_holds();
         self.rules_len()
     }
 

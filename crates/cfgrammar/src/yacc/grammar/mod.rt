@@ -4,7 +4,6 @@ mod analysed;
 mod build;
 mod fault;
 mod iter;
-pub mod laws;
 mod rows;
 mod tables;
 

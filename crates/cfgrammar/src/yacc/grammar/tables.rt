@@ -1,6 +1,6 @@
 //! The tables of a grammar.
 
-ghost use Rattle.std.specs.Prelude.{◌≡◌, ◌↔◌, ℕ, ◌+◌, ◌<◌, List, [], Option, None, Some, map, length, position, option_map, All, IfOk, IfSome, IsSome};
+ghost use Rattle.std.specs.Prelude.{◌≡◌, ◌↔◌, ◌==◌, ℕ, ◌+◌, ◌<◌, List, [], Option, None, Some, map, length, position, option_map, All, IfOk, IfSome, IsSome, if◌then◌else◌};
 ghost use Rattle.std.specs.Str.{IsUtf8, bytes_eq};
 ghost use Rattle.std.specs.String.{string_bytes};
 ghost use Rattle.cfgwords.specs.Places.{IsPiece};
@@ -9,12 +9,12 @@ ghost use Rattle.cfgsyntax.specs.Sound.{IsSound};
 ghost use Rattle.cfgsyntax.specs.Spans.{EachParsedSpan};
 ghost use Rattle.cfgsyntax.specs.declared.yacc.kind.YaccKind.{YaccKind};
 ghost use Rattle.cfgrammar.specs.Answer.{IsAnswer};
-ghost use Rattle.cfgrammar.specs.Fits.{Fits, LeavesRoom};
+ghost use Rattle.cfgrammar.specs.Fits.{LeavesRoom};
 ghost use Rattle.cfgrammar.specs.GrammarOf.{IsGrammarOf};
 ghost use Rattle.cfgrammar.specs.Numbered.{numbered};
-ghost use Rattle.cfgrammar.specs.Numbering.{IsNumbering};
 ghost use Rattle.cfgrammar.specs.Shown.{IsSymbolWithin, has_token_name, production_part, production_text, rule_part, token_part};
 ghost use Rattle.cfgrammar.specs.Spans.{EachAnswerSpan};
+ghost use Rattle.cfgrammar.specs.WellNumbered.{IsWellNumbered, times};
 
 use super::build;
 use super::fault::storage_too_small;
@@ -45,13 +45,14 @@ pub struct YaccGrammar<S: Storage> {
 
 impl<S: Storage> Model for YaccGrammar<S> {
     ghost use Rattle.cfgrammar.specs.Numbered.{Numbered};
-    ghost use Rattle.cfgrammar.specs.View.{tables, IsTable};
+    ghost use Rattle.cfgrammar.specs.View.{tables};
+    ghost use Rattle.cfgrammar.specs.WellNumbered.{IsWellNumbered};
 
     ghost Value = { Numbered };
 
     ghost view = { λ x. tables S.number x.rules.entries x.prods.items x.tokens.entries x.start_prod x.settings };
 
-    ghost invariant = { λ x. IsTable S.MAX (tables S.number x.rules.entries x.prods.items x.tokens.entries x.start_prod x.settings) };
+    ghost invariant = { λ x. IsWellNumbered S.MAX (tables S.number x.rules.entries x.prods.items x.tokens.entries x.start_prod x.settings) };
 }
 
 impl YaccGrammar<u32> {
@@ -134,11 +135,11 @@ impl<S: Storage> YaccGrammar<S> {
 impl<S: Storage> YaccGrammar<S> {
     ghost use Rattle.cfganalysis.specs.Symbols.{sym_of};
 
-    /// A law, so the call does nothing: every grammar has the numbers of a syntax that was read without errors, and `S`
-    /// counts it.
-    pub fn comes_from_syntax(&self)
-        ensures numbering { IsNumbering self.now }
-        ensures fits { Fits S.MAX self.now }
+    /// A law, so the call does nothing: what holds of every grammar holds of this one. Rule 0 is the start rule, with the
+    /// one production `start_prod`; the last token is the end token, which no production holds; all that is referred to
+    /// is there, and `S` counts it; names differ; and each production is listed once, by its own rule.
+    pub fn invariant_holds(&self)
+        ensures { IsWellNumbered S.MAX self.now }
     {
         let _tables = &self.rules;
     }
@@ -229,11 +230,13 @@ impl<S: Storage> YaccGrammar<S> {
         RIdxIter::new(self.rules.len())
     }
 
-    /// The productions of a rule.
+    /// The productions of a rule: each of its own once, and no other.
     pub fn rule_to_prods(&self, ridx: RIdx<S>) -> &[PIdx<S>]
         requires { S.number ridx.0 < length self.now.rules }
         ensures value { rule_part (λ x. x.productions) self.now (S.number ridx.0) ≡ Some (map (λ p. S.number p.0) result.now) }
         ensures within { All (λ p. S.number p.0 < length self.now.productions) result.now }
+        ensures own { (p owner : ℕ) → production_part (λ x. x.rule) self.now p ≡ Some owner
+            → times p (map (λ p. S.number p.0) result.now) ≡ (if S.number ridx.0 == owner then 1 else 0) }
     {
         self.rules[usize::from(ridx)].prods.as_slice()
     }
@@ -281,9 +284,10 @@ impl<S: Storage> YaccGrammar<S> {
         None
     }
 
-    /// The rule of a name.
+    /// The rule of a name: a rule is found by its own.
     pub fn rule_idx(&self, name: &str) -> Option<RIdx<S>>
         ensures value { option_map (λ x. S.number x.0) result ≡ position (λ rule. bytes_eq name.now rule.name) self.now.rules }
+        ensures found { (r : ℕ) → rule_part (λ x. x.name) self.now r ≡ Some name.now → option_map (λ x. S.number x.0) result ≡ Some r }
         ensures within { IfSome result (λ ridx. S.number ridx.0 < length self.now.rules) }
     {
         match self.rules.get_index_of(name) {
@@ -346,9 +350,10 @@ impl<S: Storage> YaccGrammar<S> {
         }
     }
 
-    /// The token of a name.
+    /// The token of a name: a token is found by its own.
     pub fn token_idx(&self, name: &str) -> Option<TIdx<S>>
         ensures value { option_map (λ x. S.number x.0) result ≡ position (has_token_name name.now) self.now.tokens }
+        ensures found { (t : ℕ) → token_part (λ x. x.name) self.now t ≡ Some (Some name.now) → option_map (λ x. S.number x.0) result ≡ Some t }
         ensures within { IfSome result (λ tidx. S.number tidx.0 < length self.now.tokens) }
     {
         match self.tokens.get_index_of(name) {

@@ -7,7 +7,7 @@ use Rattle.cfgrammar.proofs.yacc.grammar.tables.YaccGrammar.prod_len.Goals as go
 pub to_storage-requires : goal.to_storage-requires
 to_storage-requires g c =
     let fit = symbols_counted g.S.Storage.number c.self.inside.rules.entries c.self.inside.prods.items c.self.inside.tokens.entries c.self.inside.start_prod c.self.inside.settings c.args.self.now c.self.view_is
-    g.S.Storage.MAX c.self.invariant.fits c.index.result.now c.from.result (g.S.Storage.number c.args.pidx.0) c.from.ensures c.requires c.index.ensures in
+    g.S.Storage.MAX c.self.invariant.counted c.index.result.now c.from.result (g.S.Storage.number c.args.pidx.0) c.from.ensures c.requires c.index.ensures in
     omega (arith, c.len.ensures, fit)
 
 pub returns : goal.returns

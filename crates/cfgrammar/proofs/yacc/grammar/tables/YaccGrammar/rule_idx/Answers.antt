@@ -1,8 +1,10 @@
-use Rattle.std.proofs.Common.{sym, ap, ◌∙◌, position, Some}
+use Rattle.std.proofs.Common.{sym, ap, subst, ◌∙◌, position, Some}
 use Rattle.std.specs.Str.{bytes_eq}
 use Rattle.cfgrammar.specs.Numbered.{Numbered, NumberedRule}
 use Rattle.cfgrammar.specs.View.{tables}
+use Rattle.cfgrammar.specs.WellNumbered.{HasDistinctNames}
 use Rattle.cfgrammar.proofs.Lookups.{rule_position}
+use Rattle.cfgrammar.proofs.Names.{rule_found}
 use Rattle.cfgrammar.proofs.Within.{position_within}
 use Rattle.cfgrammar.proofs.yacc.grammar.tables.YaccGrammar.rule_idx.Goals as goal
 
@@ -13,6 +15,9 @@ returns-in-Some-clause-value g c =
     ∙ rule_position g.S.Storage.number c.args.name.now c.self.inside.rules.entries
     ∙ ap (λ (g : Numbered). position (λ (rule : NumberedRule). bytes_eq c.args.name.now rule.name) g.rules) c.self.view_is
 
+pub returns-in-Some-clause-found : goal.returns-in-Some-clause-found
+returns-in-Some-clause-found g c = λ r at. returns-in-Some-clause-value g c ∙ rule_found c.args.self.now (subst HasDistinctNames c.self.view_is c.self.invariant.names) r c.args.name.now at
+
 pub returns-in-Some-clause-within : goal.returns-in-Some-clause-within
 returns-in-Some-clause-within g c = position_within _ _ _ (sym (returns-in-Some-clause-value g c))
 
@@ -22,3 +27,6 @@ returns-in-None-clause-value g c =
     c.in-None.ensures.index
     ∙ rule_position g.S.Storage.number c.args.name.now c.self.inside.rules.entries
     ∙ ap (λ (g : Numbered). position (λ (rule : NumberedRule). bytes_eq c.args.name.now rule.name) g.rules) c.self.view_is
+
+pub returns-in-None-clause-found : goal.returns-in-None-clause-found
+returns-in-None-clause-found g c = λ r at. returns-in-None-clause-value g c ∙ rule_found c.args.self.now (subst HasDistinctNames c.self.view_is c.self.invariant.names) r c.args.name.now at

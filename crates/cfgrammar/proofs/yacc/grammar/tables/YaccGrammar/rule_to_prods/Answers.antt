@@ -1,5 +1,6 @@
-use Rattle.std.proofs.Common.{map, sym, ap}
+use Rattle.std.proofs.Common.{map, sym, ap, subst}
 use Rattle.cfgindex.specs.declared.idxnewtype.PIdx.{PIdx}
+use Rattle.cfgrammar.specs.WellNumbered.{ListsEachOnce}
 use Rattle.cfgrammar.proofs.Shows.{rule_shown}
 use Rattle.cfgrammar.proofs.Within.{refers, listed_within}
 use Rattle.cfgrammar.proofs.yacc.grammar.tables.YaccGrammar.rule_to_prods.Goals as goal
@@ -15,3 +16,7 @@ pub returns-clause-within : goal.returns-clause-within
 returns-clause-within g c =
     listed_within (λ (p : PIdx g.row.S.Denot). g.S.Storage.number p.0) c.args.self.now c.as_slice.result.now
     ((refers g.S.Storage.MAX _ c.args.self.now c.self.invariant c.self.view_is).listed (g.S.Storage.number c.args.ridx.0) _ (returns-clause-value g c))
+
+pub returns-clause-own : goal.returns-clause-own
+returns-clause-own g c = λ p owner owned.
+    subst ListsEachOnce c.self.view_is c.self.invariant.listed_once p owner (g.S.Storage.number c.args.ridx.0) _ owned (returns-clause-value g c)

@@ -1,8 +1,10 @@
-use Rattle.std.proofs.Common.{sym, ap, ◌∙◌, position, Some}
+use Rattle.std.proofs.Common.{sym, ap, subst, ◌∙◌, position, Some}
 use Rattle.cfgrammar.specs.Numbered.{Numbered}
 use Rattle.cfgrammar.specs.Shown.{has_token_name}
 use Rattle.cfgrammar.specs.View.{tables}
+use Rattle.cfgrammar.specs.WellNumbered.{HasDistinctNames}
 use Rattle.cfgrammar.proofs.Lookups.{token_position}
+use Rattle.cfgrammar.proofs.Names.{token_found}
 use Rattle.cfgrammar.proofs.Within.{position_within}
 use Rattle.cfgrammar.proofs.yacc.grammar.tables.YaccGrammar.token_idx.Goals as goal
 
@@ -13,6 +15,9 @@ returns-in-Some-clause-value g c =
     ∙ token_position c.args.name.now c.self.inside.tokens.entries
     ∙ ap (λ (g : Numbered). position (has_token_name c.args.name.now) g.tokens) c.self.view_is
 
+pub returns-in-Some-clause-found : goal.returns-in-Some-clause-found
+returns-in-Some-clause-found g c = λ t at. returns-in-Some-clause-value g c ∙ token_found c.args.self.now (subst HasDistinctNames c.self.view_is c.self.invariant.names) t c.args.name.now at
+
 pub returns-in-Some-clause-within : goal.returns-in-Some-clause-within
 returns-in-Some-clause-within g c = position_within _ _ _ (sym (returns-in-Some-clause-value g c))
 
@@ -22,3 +27,6 @@ returns-in-None-clause-value g c =
     c.in-None.ensures.index
     ∙ token_position c.args.name.now c.self.inside.tokens.entries
     ∙ ap (λ (g : Numbered). position (has_token_name c.args.name.now) g.tokens) c.self.view_is
+
+pub returns-in-None-clause-found : goal.returns-in-None-clause-found
+returns-in-None-clause-found g c = λ t at. returns-in-None-clause-value g c ∙ token_found c.args.self.now (subst HasDistinctNames c.self.view_is c.self.invariant.names) t c.args.name.now at
