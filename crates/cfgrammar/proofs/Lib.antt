@@ -1,4 +1,5 @@
 pub mod Built
+pub mod Counted
 pub mod Listed
 pub mod Lookups
 pub mod Names

@@ -1,12 +1,19 @@
 -- Iterators that count: the indices from one number up to, and not including, another.
-use Rattle.std.specs.Prelude.{◌≡◌, ℕ, ◌+◌, ◌<◌, ◌≤◌, Option, Some, None}
+use Rattle.std.specs.Prelude.{◌≡◌, ℕ, ◌+◌, ◌-◌, ◌<◌, ◌≤◌, Option, Some, None, IfSome, true}
+use Rattle.std.specs.Iterator.Runs.{Run, EveryRun}
+use Rattle.std.specs.declared.ops.Range.{Range}
 
--- the numbers from next up to end that are left
-pub record Left : Type 0 where
-  pub next : ℕ
-  pub end : ℕ
+module _ {X : Type 0} (number : X → ℕ) where
+  -- The first of the numbers that are left comes, and those behind it stay; nothing comes exactly where none is left.
+  abbrev pub CountsUp : Range ℕ → Option X → Range ℕ → Type 0
+  CountsUp old None new = (old.end ≤ old.start) × (new ≡ old)
+  CountsUp old (Some x) new = (number x ≡ old.start) × (old.start < old.end) × (new ≡ record { start = old.start + 1; end = old.end })
 
--- The next number comes, and those behind it are left; nothing comes exactly where nothing is left.
-abbrev pub CountsUp : {X : Type 0} → (X → ℕ) → Left → Option X → Left → Type 0
-CountsUp number old None new = (old.end ≤ old.next) × (new ≡ old)
-CountsUp number old (Some x) new = (number x ≡ old.next) × (old.next < old.end) × (new ≡ record { next = old.next + 1; end = old.end })
+  -- the item at place k has the number a + k, below b, and a run that goes on to the end has all of them
+  abbrev pub NumbersCountUp : {steps : Range ℕ → Option X → Range ℕ → Type 0} → Run steps → ℕ → ℕ → Type 0
+  NumbersCountUp p a b = (p.len ≤ b - a) × (p.whole ≡ true → p.len ≡ b - a)
+      × ((k : ℕ) → IfSome (p.at k) (λ x. (number x ≡ a + k) × (number x < b)))
+
+  -- each run gives the numbers that its iterator had left, in order
+  abbrev pub YieldsNumbersInOrder : Type 0
+  YieldsNumbersInOrder = EveryRun CountsUp (λ p. NumbersCountUp p p.from.start p.from.end)

@@ -1,172 +1,105 @@
 //! The indices of a grammar's rules, productions and tokens, in order.
 
-ghost use Rattle.std.specs.Prelude.{◌≡◌, ◌-◌, ◌≤◌};
+ghost use Rattle.std.specs.Prelude.{◌≡◌, ◌-◌, ◌≤◌, ℕ};
 ghost use Rattle.std.specs.Iterator.{at_most};
-ghost use Rattle.cfgrammar.specs.Counting.{CountsUp};
+ghost use Rattle.cfgrammar.specs.Counting.{CountsUp, YieldsNumbersInOrder};
 
-use cfgindex::{PIdx, RIdx, Storage, TIdx};
+use cfgindex::{PIdx, RIdx, Storage, TIdx, to_storage};
 use std::marker::{Model, PhantomData};
+use std::ops::Range;
 
-/// The numbers from `next` up to, and not including, `end`, as indices store them.
+/// An index: what stands for a number.
+pub trait Index: Sized {
+    ghost MAX: { ℕ };
+
+    ghost number: { Self → ℕ };
+
+    /// The index that stands for the number `place`.
+    fn at(place: usize) -> Self
+        requires { place ≤ MAX }
+        ensures { number result ≡ place };
+}
+
+impl<S: Storage> Index for PIdx<S> {
+    ghost MAX = { S.MAX };
+
+    ghost number = { λ x. S.number x.0 };
+
+    fn at(place: usize) -> Self {
+        PIdx(to_storage(place))
+    }
+}
+
+impl<S: Storage> Index for RIdx<S> {
+    ghost MAX = { S.MAX };
+
+    ghost number = { λ x. S.number x.0 };
+
+    fn at(place: usize) -> Self {
+        RIdx(to_storage(place))
+    }
+}
+
+impl<S: Storage> Index for TIdx<S> {
+    ghost MAX = { S.MAX };
+
+    ghost number = { λ x. S.number x.0 };
+
+    fn at(place: usize) -> Self {
+        TIdx(to_storage(place))
+    }
+}
+
+/// Indices in order: those of the numbers in a range.
 #[derive(Drop)]
-struct Numbers<S: Storage> {
-    next: usize,
-    end: usize,
-    stored_as: PhantomData<S>,
-}
-
-impl<S: Storage> Model for Numbers<S> {
-    ghost use Rattle.std.specs.Prelude.{ℕ, ◌≤◌};
-    ghost use Rattle.cfgrammar.specs.Counting.{Left};
-
-    ghost Value = { Left };
-
-    ghost view = { λ x. record { next = x.next; end = x.end } };
-
-    ghost invariant = { λ x. x.end ≤ S.MAX };
-}
-
-impl<S: Storage> Numbers<S> {
-    /// The numbers from 0 up to, and not including, `end`.
-    fn new(end: usize) -> Self
-        requires { end ≤ S.MAX }
-        ensures { result ≡ record { next = 0; end = end } }
-    {
-        Numbers {
-            next: 0,
-            end,
-            stored_as: PhantomData,
-        }
-    }
-}
-
-impl<S: Storage> Iterator for Numbers<S> {
-    type Item = S;
-
-    ghost next_gives = { CountsUp S.number };
-
-    ghost remaining = { λ x. at_most (x.end - x.next) };
-
-    fn next(&mut self) -> Option<S> {
-        if self.next >= self.end {
-            return None;
-        }
-        let number = S::from_usize(self.next)?;
-        self.next += 1;
-        Some(number)
-    }
+pub struct IdxIter<I: Index> {
+    left: Range<usize>,
+    of: PhantomData<I>,
 }
 
 /// The indices of a grammar's productions, from the first to the last.
-#[derive(Drop)]
-pub struct PIdxIter<S: Storage> {
-    numbers: Numbers<S>,
-}
-
-impl<S: Storage> Model for PIdxIter<S> {
-    ghost use Rattle.cfgrammar.specs.Counting.{Left};
-
-    ghost Value = { Left };
-
-    ghost view = { λ x. x.numbers };
-}
-
-impl<S: Storage> PIdxIter<S> {
-    pub(super) fn new(end: usize) -> Self
-        requires { end ≤ S.MAX }
-        ensures { result ≡ record { next = 0; end = end } }
-    {
-        PIdxIter {
-            numbers: Numbers::new(end),
-        }
-    }
-}
-
-impl<S: Storage> Iterator for PIdxIter<S> {
-    type Item = PIdx<S>;
-
-    ghost next_gives = { CountsUp (λ index. S.number index.0) };
-
-    ghost remaining = { λ x. at_most (x.end - x.next) };
-
-    fn next(&mut self) -> Option<PIdx<S>> {
-        let number = self.numbers.next()?;
-        Some(PIdx(number))
-    }
-}
+pub type PIdxIter<S> = IdxIter<PIdx<S>>;
 
 /// The indices of a grammar's rules, from the first to the last.
-#[derive(Drop)]
-pub struct RIdxIter<S: Storage> {
-    numbers: Numbers<S>,
-}
-
-impl<S: Storage> Model for RIdxIter<S> {
-    ghost use Rattle.cfgrammar.specs.Counting.{Left};
-
-    ghost Value = { Left };
-
-    ghost view = { λ x. x.numbers };
-}
-
-impl<S: Storage> RIdxIter<S> {
-    pub(super) fn new(end: usize) -> Self
-        requires { end ≤ S.MAX }
-        ensures { result ≡ record { next = 0; end = end } }
-    {
-        RIdxIter {
-            numbers: Numbers::new(end),
-        }
-    }
-}
-
-impl<S: Storage> Iterator for RIdxIter<S> {
-    type Item = RIdx<S>;
-
-    ghost next_gives = { CountsUp (λ index. S.number index.0) };
-
-    ghost remaining = { λ x. at_most (x.end - x.next) };
-
-    fn next(&mut self) -> Option<RIdx<S>> {
-        let number = self.numbers.next()?;
-        Some(RIdx(number))
-    }
-}
+pub type RIdxIter<S> = IdxIter<RIdx<S>>;
 
 /// The indices of a grammar's tokens, from the first to the last, which is the end token's.
-#[derive(Drop)]
-pub struct TIdxIter<S: Storage> {
-    numbers: Numbers<S>,
+pub type TIdxIter<S> = IdxIter<TIdx<S>>;
+
+impl<I: Index> Model for IdxIter<I> {
+    ghost use Rattle.std.specs.Prelude.{ℕ, ◌≤◌};
+    ghost use Rattle.std.specs.declared.ops.Range.{Range};
+
+    ghost Value = { Range ℕ };
+
+    ghost view = { λ x. x.left };
+
+    ghost invariant = { λ x. x.left.end ≤ I.MAX };
 }
 
-impl<S: Storage> Model for TIdxIter<S> {
-    ghost use Rattle.cfgrammar.specs.Counting.{Left};
-
-    ghost Value = { Left };
-
-    ghost view = { λ x. x.numbers };
-}
-
-impl<S: Storage> TIdxIter<S> {
+impl<I: Index> IdxIter<I> {
+    /// The indices of the numbers from 0 up to, and not including, `end`.
     pub(super) fn new(end: usize) -> Self
-        requires { end ≤ S.MAX }
-        ensures { result ≡ record { next = 0; end = end } }
+        requires { end ≤ I.MAX }
+        ensures value { result ≡ record { start = 0; end = end } }
+        ensures runs { YieldsNumbersInOrder I.number }
     {
-        TIdxIter {
-            numbers: Numbers::new(end),
+        IdxIter {
+            left: 0..end,
+            of: PhantomData,
         }
     }
 }
 
-impl<S: Storage> Iterator for TIdxIter<S> {
-    type Item = TIdx<S>;
+impl<I: Index> Iterator for IdxIter<I> {
+    type Item = I;
 
-    ghost next_gives = { CountsUp (λ index. S.number index.0) };
+    ghost next_gives = { CountsUp I.number };
 
-    ghost remaining = { λ x. at_most (x.end - x.next) };
+    ghost remaining = { λ x. at_most (x.end - x.start) };
 
-    fn next(&mut self) -> Option<TIdx<S>> {
-        let number = self.numbers.next()?;
-        Some(TIdx(number))
+    fn next(&mut self) -> Option<I> {
+        let place = self.left.next()?;
+        Some(I::at(place))
     }
 }

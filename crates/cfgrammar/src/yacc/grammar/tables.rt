@@ -9,6 +9,7 @@ ghost use Rattle.cfgsyntax.specs.Sound.{IsSound};
 ghost use Rattle.cfgsyntax.specs.Spans.{EachParsedSpan};
 ghost use Rattle.cfgsyntax.specs.declared.yacc.kind.YaccKind.{YaccKind};
 ghost use Rattle.cfgrammar.specs.Answer.{IsAnswer};
+ghost use Rattle.cfgrammar.specs.Counting.{YieldsNumbersInOrder};
 ghost use Rattle.cfgrammar.specs.Fits.{LeavesRoom};
 ghost use Rattle.cfgrammar.specs.GrammarOf.{IsGrammarOf};
 ghost use Rattle.cfgrammar.specs.Numbered.{numbered};
@@ -153,7 +154,8 @@ impl<S: Storage> YaccGrammar<S> {
 
     /// The productions' indices, in order.
     pub fn iter_pidxs(&self) -> PIdxIter<S>
-        ensures { result ≡ record { next = 0; end = length self.now.productions } }
+        ensures value { result ≡ record { start = 0; end = length self.now.productions } }
+        ensures runs { YieldsNumbersInOrder (λ (x : PIdx S). S.number x.0) }
     {
         PIdxIter::new(self.prods.len())
     }
@@ -225,7 +227,8 @@ impl<S: Storage> YaccGrammar<S> {
 
     /// The rules' indices, in order.
     pub fn iter_rules(&self) -> RIdxIter<S>
-        ensures { result ≡ record { next = 0; end = length self.now.rules } }
+        ensures value { result ≡ record { start = 0; end = length self.now.rules } }
+        ensures runs { YieldsNumbersInOrder (λ (x : RIdx S). S.number x.0) }
     {
         RIdxIter::new(self.rules.len())
     }
@@ -314,7 +317,8 @@ impl<S: Storage> YaccGrammar<S> {
 
     /// The tokens' indices, in order.
     pub fn iter_tidxs(&self) -> TIdxIter<S>
-        ensures { result ≡ record { next = 0; end = length self.now.tokens } }
+        ensures value { result ≡ record { start = 0; end = length self.now.tokens } }
+        ensures runs { YieldsNumbersInOrder (λ (x : TIdx S). S.number x.0) }
     {
         TIdxIter::new(self.tokens.len() + 1)
     }

@@ -1,9 +1,9 @@
-use Rattle.std.proofs.Common.{◌≡◌, ◌+◌, ◌++◌, take, sym, ap, ◌∙◌, arith}
+use Rattle.std.proofs.Common.{◌≡◌, ℕ, ◌+◌, ◌++◌, take, sym, ap, ◌∙◌, arith}
 use Rattle.std.specs.List.{flat_map, enumerate_from}
 use Rattle.std.proofs.lemmas.List.FromFn.{length-enumerate_from}
 use Rattle.cfganalysis.specs.Firsts.{epsilon_bit}
 use Rattle.cfganalysis.specs.Table.{bit}
-use Rattle.cfgrammar.specs.Counting.{Left}
+use Rattle.std.specs.declared.ops.Range.{Range}
 use Rattle.std.proofs.lemmas.List.{take_all}
 use Rattle.cfgtool.specs.FirstLines.{first_line}
 use Rattle.lemmas.proofs.Taken.{one_more_shown}
@@ -21,11 +21,11 @@ loop-ridx-preserved c =
     let line = first_line g (bit firsts.firsts) (epsilon_bit firsts) in
     let counted = enumerate_from 0 g.rules in
     let before = c.loop-ridx.invariant in
-    let next = c.loop-ridx.ridx-iterator.next in
+    let next = c.loop-ridx.ridx-iterator.start in
     let (number, inside, left) = c.in-Some.ensures.steps in
     let (text, shown, added) = c.in_ok-write_line.ensures in
-    let after : c.next.new.self.next ≡ next + 1 = ap (λ (l : Left). l.next) left in
-    let end : c.next.new.self.end ≡ c.loop-ridx.ridx-iterator.end = ap (λ (l : Left). l.end) left in
+    let after : c.next.new.self.start ≡ next + 1 = ap (λ (r : Range ℕ). r.start) left in
+    let end : c.next.new.self.end ≡ c.loop-ridx.ridx-iterator.end = ap (λ (r : Range ℕ). r.end) left in
     let here = rw number at shown in
     record {
       all = end ∙ before.all;
@@ -41,4 +41,4 @@ returns c =
     let before = c.loop-ridx.invariant in
     let (over, _) = c.in-None.ensures.steps in
     before.told ∙ ap (flat_map (first_line c.args.grammar.now (bit firsts.firsts) (epsilon_bit firsts)))
-    (take_all c.loop-ridx.ridx-iterator.next counted (omega (arith, over, before.all, length-enumerate_from 0 c.args.grammar.now.rules)))
+    (take_all c.loop-ridx.ridx-iterator.start counted (omega (arith, over, before.all, length-enumerate_from 0 c.args.grammar.now.rules)))

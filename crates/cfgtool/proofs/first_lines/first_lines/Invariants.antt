@@ -9,7 +9,7 @@ use Rattle.cfgtool.proofs.first_lines.first_lines.Given as goal
 abbrev pub invariant-loop-ridx : goal.invariant-loop-ridx
 invariant-loop-ridx l = record {
   all : l.ridx-iterator.end ≡ length l.grammar.rules;
-  within : l.ridx-iterator.next ≤ l.ridx-iterator.end;
+  within : l.ridx-iterator.start ≤ l.ridx-iterator.end;
   told : string_bytes l.lines
-      ≡ flat_map (first_line l.grammar (bit l.firsts.firsts) (epsilon_bit l.firsts)) (take l.ridx-iterator.next (enumerate_from 0 l.grammar.rules));
+      ≡ flat_map (first_line l.grammar (bit l.firsts.firsts) (epsilon_bit l.firsts)) (take l.ridx-iterator.start (enumerate_from 0 l.grammar.rules));
 }

@@ -1,8 +1,8 @@
-use Rattle.std.proofs.Common.{◌≡◌, ◌+◌, ◌++◌, take, string_bytes, sym, ap, ◌∙◌, append_assoc, append-nil, arith}
+use Rattle.std.proofs.Common.{◌≡◌, ℕ, ◌+◌, ◌++◌, take, string_bytes, sym, ap, ◌∙◌, append_assoc, append-nil, arith}
 use Rattle.std.specs.List.{flat_map, enumerate_from}
 use Rattle.std.proofs.lemmas.List.FromFn.{length-enumerate_from}
 use Rattle.cfganalysis.specs.Table.{bit}
-use Rattle.cfgrammar.specs.Counting.{Left}
+use Rattle.std.specs.declared.ops.Range.{Range}
 use Rattle.std.proofs.lemmas.List.{take_all}
 use Rattle.cfgtool.specs.FirstLines.{token_word}
 use Rattle.lemmas.proofs.Taken.{one_more_shown}
@@ -10,10 +10,10 @@ use Rattle.cfgtool.proofs.first_lines.write_tokens.Goals as goal
 
 pub loop-tidx-init : goal.loop-tidx-init
 loop-tidx-init c =
-    let begun = c.into_iter-tidx-iterator.ensures.into_iter_gives ∙ c.iter_tidxs-tidx-items.ensures in
-    let next : c.into_iter-tidx-iterator.result.next ≡ 0 = ap (λ (l : Left). l.next) begun in
+    let begun = c.into_iter-tidx-iterator.ensures.into_iter_gives ∙ c.iter_tidxs-tidx-items.ensures.value in
+    let next : c.into_iter-tidx-iterator.result.start ≡ 0 = ap (λ (r : Range ℕ). r.start) begun in
     record {
-      all = ap (λ (l : Left). l.end) begun;
+      all = ap (λ (r : Range ℕ). r.end) begun;
       within = omega (arith, next);
       told = sym (append-nil (string_bytes c.args.lines.now)) ∙ ap (λ k. string_bytes c.args.lines.now
           ++ flat_map (token_word (bit c.args.firsts.now.firsts c.args.ridx.0)) (take k (enumerate_from 0 c.args.grammar.now.tokens))) (sym next);
@@ -30,11 +30,11 @@ loop-tidx-preserved c =
     let word = token_word (bit c.args.firsts.now.firsts c.args.ridx.0) in
     let counted = enumerate_from 0 g.tokens in
     let before = c.loop-tidx.invariant in
-    let next = c.loop-tidx.tidx-iterator.next in
+    let next = c.loop-tidx.tidx-iterator.start in
     let (number, inside, left) = c.in-Some.ensures.steps in
     let (text, shown, added) = c.in_ok-write_token.ensures in
-    let after : c.next.new.self.next ≡ next + 1 = ap (λ (l : Left). l.next) left in
-    let end : c.next.new.self.end ≡ c.loop-tidx.tidx-iterator.end = ap (λ (l : Left). l.end) left in
+    let after : c.next.new.self.start ≡ next + 1 = ap (λ (r : Range ℕ). r.start) left in
+    let end : c.next.new.self.end ≡ c.loop-tidx.tidx-iterator.end = ap (λ (r : Range ℕ). r.end) left in
     let here = rw number at shown in
     record {
       all = end ∙ before.all;
@@ -52,4 +52,4 @@ returns c =
     let before = c.loop-tidx.invariant in
     let (over, _) = c.in-None.ensures.steps in
     before.told ∙ ap (λ t. string_bytes c.args.lines.now ++ flat_map word t)
-    (take_all c.loop-tidx.tidx-iterator.next counted (omega (arith, over, before.all, length-enumerate_from 0 c.args.grammar.now.tokens)))
+    (take_all c.loop-tidx.tidx-iterator.start counted (omega (arith, over, before.all, length-enumerate_from 0 c.args.grammar.now.tokens)))

@@ -8,7 +8,7 @@ use Rattle.cfgtool.proofs.first_lines.write_tokens.Given as goal
 abbrev pub invariant-loop-tidx : goal.invariant-loop-tidx
 invariant-loop-tidx l = record {
   all : l.tidx-iterator.end ≡ length l.grammar.tokens;
-  within : l.tidx-iterator.next ≤ l.tidx-iterator.end;
+  within : l.tidx-iterator.start ≤ l.tidx-iterator.end;
   told : string_bytes l.lines ≡ string_bytes l.initial.lines
-      ++ flat_map (token_word (bit l.firsts.firsts l.ridx.0)) (take l.tidx-iterator.next (enumerate_from 0 l.grammar.tokens));
+      ++ flat_map (token_word (bit l.firsts.firsts l.ridx.0)) (take l.tidx-iterator.start (enumerate_from 0 l.grammar.tokens));
 }

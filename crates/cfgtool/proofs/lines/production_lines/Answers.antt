@@ -1,8 +1,8 @@
-use Rattle.std.proofs.Common.{◌≡◌, ◌+◌, ◌++◌, take, string_bytes, Some, codes, sym, ap, subst, ◌∙◌, arith}
+use Rattle.std.proofs.Common.{◌≡◌, ℕ, ◌+◌, ◌++◌, take, string_bytes, Some, codes, sym, ap, subst, ◌∙◌, arith}
 use Rattle.std.specs.List.{flat_map, enumerate_from}
 use Rattle.std.specs.Fmt.{decimal}
 use Rattle.std.proofs.lemmas.List.FromFn.{length-enumerate_from}
-use Rattle.cfgrammar.specs.Counting.{Left}
+use Rattle.std.specs.declared.ops.Range.{Range}
 use Rattle.cfgrammar.specs.Shown.{production_part, production_text}
 use Rattle.std.proofs.lemmas.List.{take_all}
 use Rattle.cfgtool.specs.Report.{production_line}
@@ -14,11 +14,11 @@ loop-pidx-preserved c =
     let g = c.args.grammar.now in
     let counted = enumerate_from 0 g.productions in
     let before = c.loop-pidx.invariant in
-    let next = c.loop-pidx.pidx-iterator.next in
+    let next = c.loop-pidx.pidx-iterator.start in
     let text = string_bytes c.in_ok-text.text in
     let (number, inside, left) = c.in-Some.ensures.steps in
-    let after : c.next.new.self.next ≡ next + 1 = ap (λ (l : Left). l.next) left in
-    let end : c.next.new.self.end ≡ c.loop-pidx.pidx-iterator.end = ap (λ (l : Left). l.end) left in
+    let after : c.next.new.self.start ≡ next + 1 = ap (λ (r : Range ℕ). r.start) left in
+    let end : c.next.new.self.end ≡ c.loop-pidx.pidx-iterator.end = ap (λ (r : Range ℕ). r.end) left in
     let shown = subst (λ k. production_part (production_text g) g k ≡ Some text) number c.in_ok-text.ensures in
     record {
       all = end ∙ before.all;
@@ -36,4 +36,4 @@ returns c =
     let counted = enumerate_from 0 g.productions in
     let before = c.loop-pidx.invariant in
     let (over, _) = c.in-None.ensures.steps in
-    before.told ∙ ap (flat_map (production_line g)) (take_all c.loop-pidx.pidx-iterator.next counted (omega (arith, over, before.all, length-enumerate_from 0 g.productions)))
+    before.told ∙ ap (flat_map (production_line g)) (take_all c.loop-pidx.pidx-iterator.start counted (omega (arith, over, before.all, length-enumerate_from 0 g.productions)))

@@ -7,6 +7,6 @@ use Rattle.cfgtool.proofs.lines.production_lines.Given as goal
 abbrev pub invariant-loop-pidx : goal.invariant-loop-pidx
 invariant-loop-pidx l = record {
   all : l.pidx-iterator.end ≡ length l.grammar.productions;
-  within : l.pidx-iterator.next ≤ l.pidx-iterator.end;
-  told : string_bytes l.lines ≡ flat_map (production_line l.grammar) (take l.pidx-iterator.next (enumerate_from 0 l.grammar.productions));
+  within : l.pidx-iterator.start ≤ l.pidx-iterator.end;
+  told : string_bytes l.lines ≡ flat_map (production_line l.grammar) (take l.pidx-iterator.start (enumerate_from 0 l.grammar.productions));
 }
