@@ -9,11 +9,6 @@ use Rattle.cfgtool.specs.FirstLines.{first_line}
 use Rattle.lemmas.proofs.Taken.{one_more_shown}
 use Rattle.cfgtool.proofs.first_lines.first_lines.Goals as goal
 
-pub write_line-requires : goal.write_line-requires
-write_line-requires c =
-    let (number, inside, left) = c.in-Some.ensures.steps in
-    omega (arith, number, inside, c.loop-ridx.invariant.all)
-
 pub loop-ridx-preserved : goal.loop-ridx-preserved
 loop-ridx-preserved c =
     let g = c.args.grammar.now in

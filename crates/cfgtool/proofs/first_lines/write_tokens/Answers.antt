@@ -19,11 +19,6 @@ loop-tidx-init c =
           ++ flat_map (token_word (bit c.args.firsts.now.firsts c.args.ridx.0)) (take k (enumerate_from 0 c.args.grammar.now.tokens))) (sym next);
     }
 
-pub write_token-requires : goal.write_token-requires
-write_token-requires c =
-    let (number, inside, left) = c.in-Some.ensures.steps in
-    omega (arith, number, inside, c.loop-tidx.invariant.all)
-
 pub loop-tidx-preserved : goal.loop-tidx-preserved
 loop-tidx-preserved c =
     let g = c.args.grammar.now in
