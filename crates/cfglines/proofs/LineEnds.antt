@@ -76,7 +76,7 @@ last_line = from_pushes LastLine
     (record { whole = λ none. refl; behind = λ last some. absurd (no_newline last some) })
     (λ text byte line. ⊎_elim (last_line_newline text byte) (λ h. last_line_other text byte h line) (cases_Bool (is_newline byte)))
 
-line_start-suffix_len : (text : List ℕ) (b : ℕ) → line_start text b ≡ length (take b text) - suffix_len is_other (take b text)
+pub line_start-suffix_len : (text : List ℕ) (b : ℕ) → line_start text b ≡ length (take b text) - suffix_len is_other (take b text)
 unfolding line_start line_front
 line_start-suffix_len text b = simp length-drop (omega (arith, suffix_len-le-length is_other (take b text)))
 
@@ -108,7 +108,7 @@ first_newline [] = refl
 first_newline (byte ∷ text) =
     first_newline-cons (is_newline byte) (newlines_of text) (position_or_len is_newline text) (length text) (first_newline text)
 
-line_end-position : (text : List ℕ) (b : ℕ) → line_end text b ≡ length (take b text) + position_or_len is_newline (drop b text)
+pub line_end-position : (text : List ℕ) (b : ℕ) → line_end text b ≡ length (take b text) + position_or_len is_newline (drop b text)
 unfolding line_end
 line_end-position text b = simp length-take (omega (arith, prefix_len-le-length is_other (drop b text)))
 

@@ -1,0 +1,99 @@
+-- A line, as it is shown, is a piece of its text.
+use Rattle.std.proofs.Common.{◌≡◌, ℕ, ◌+◌, ◌-◌, ◌<◌, ◌≤◌, Bool, true, false, if◌then◌else◌, List, length, take, drop, get_or, get_or-drop, length-take, length-drop, reverse, ⊎_elim, subst, ◌∙◌, ap, sym, refl, arith}
+use Rattle.std.proofs.lemmas.Bool.{cases_lt, and_parts, eqb-true, ltb-true, not-false}
+use Rattle.std.proofs.lemmas.List.{get_or-reverse, get_or-take, length-reverse}
+use Rattle.std.proofs.lemmas.List.Sums.{prefix_len_stops, passes_at_first, prefix_len-le-length}
+use Rattle.std.proofs.lemmas.Str.{IsCharBoundary-start, IsCharBoundary-end, IsCharBoundary-before_ascii, IsCharBoundary-after_ascii}
+use Rattle.std.specs.List.{suffix_len, position_or_len}
+use Rattle.std.specs.Str.{IsCharBoundary, IsUtf8}
+use Rattle.cfglines.specs.Lines.{is_newline, ends_crlf, line_start, line_end}
+use Rattle.cfglines.proofs.LineEnds.{is_other, line_start-suffix_len, line_start-le, line_end-position}
+use Rattle.cfgrender.specs.Render.{shown_end}
+
+-- a LF stands right before a line that isn't the first
+before_line_start : (text : List ℕ) (b : ℕ) → 0 < line_start text b → get_or text (line_start text b - 1) 0 ≡ 10
+before_line_start text b behind =
+    let front = take b text in
+    let n = suffix_len is_other front in
+    let start = line_start-suffix_len text b in
+    let short : n < length (reverse front) = omega (arith, length-reverse front) in
+    let stop : is_other (get_or (reverse front) n 0) ≡ false = prefix_len_stops is_other (reverse front) 0 short in
+    let place : get_or (reverse front) n 0 ≡ get_or text (line_start text b - 1) 0 =
+    get_or-reverse front n 0 (omega (arith, length-reverse front))
+    ∙ (ap (λ i. get_or front i 0) (omega arith) ∙ get_or-take b text (line_start text b - 1) 0 (omega (arith, line_start-le text b))) in
+    sym place ∙ newline _ stop
+  where
+    newline : (byte : ℕ) → is_other byte ≡ false → byte ≡ 10
+    newline byte h = eqb-true byte 10 (not-false _ h)
+
+-- a line ends in the text, and not before the place
+line_end_bounds : (text : List ℕ) (b : ℕ) → b ≤ length text → (b ≤ line_end text b) × (line_end text b ≤ length text)
+line_end_bounds text b within =
+    let end = line_end-position text b in
+    let rest = prefix_len-le-length is_other (drop b text) in
+    let front = length-take b text in
+    let back = length-drop b text in
+    (omega arith, omega arith)
+
+-- a LF stands where a line ends, unless the text ends there
+at_line_end : (text : List ℕ) (b : ℕ) → b ≤ length text → line_end text b < length text → get_or text (line_end text b) 0 ≡ 10
+at_line_end text b within inside =
+    let n = position_or_len is_newline (drop b text) in
+    let end = line_end-position text b in
+    let front = length-take b text in
+    let back = length-drop b text in
+    let place : get_or (drop b text) n 0 ≡ get_or text (line_end text b) 0 = get_or-drop b text n 0 ∙ ap (λ i. get_or text i 0) (omega arith) in
+    sym place ∙ eqb-true _ 10 (passes_at_first is_newline (drop b text) 0 (omega arith))
+
+-- a CR stands right before the LF of such a line
+before_crlf : (text : List ℕ) (b : ℕ) → ends_crlf text b ≡ true → (0 < b) × (get_or text (b - 1) 0 ≡ 13)
+before_crlf text b h =
+    let (some, bytes) = and_parts _ _ h in
+    let (_, return) = and_parts _ _ bytes in
+    (ltb-true 0 b some, eqb-true _ 13 return)
+
+pub line_begins : (text : List ℕ) (b : ℕ) → IsUtf8 text → b ≤ length text → IsCharBoundary text (line_start text b)
+line_begins text b utf8 within =
+    let start = line_start-le text b in
+    ⊎_elim
+    (λ behind. let newline = before_line_start text b behind in
+    subst (IsCharBoundary text) (omega arith) (IsCharBoundary-after_ascii text (line_start text b - 1) utf8 (omega arith) (omega arith)))
+    (λ first. subst (IsCharBoundary text) (omega arith) (IsCharBoundary-start text utf8))
+    (cases_lt 0 (line_start text b))
+
+whole_line_ends : (text : List ℕ) (b : ℕ) → b ≤ length text → IsCharBoundary text (line_end text b)
+whole_line_ends text b within =
+    let bounds = line_end_bounds text b within in
+    ⊎_elim
+    (λ inside. let newline = at_line_end text b within inside in IsCharBoundary-before_ascii text (line_end text b) inside (omega arith))
+    (λ end. subst (IsCharBoundary text) (omega arith) (IsCharBoundary-end text))
+    (cases_lt (line_end text b) (length text))
+
+-- the shown part of a line ends where a character does, and not before the line starts
+pub shown_line_ends : (text : List ℕ) (b : ℕ) → b ≤ length text
+    → (line_start text b ≤ shown_end text b) × IsCharBoundary text (shown_end text b)
+shown_line_ends text b within = by_its_end (ends_crlf text (line_end text b)) refl
+  where
+    not_empty : 0 < line_end text b → get_or text (line_end text b - 1) 0 ≡ 13 → line_start text b < line_end text b
+    not_empty some return = ⊎_elim (λ less. less)
+        (λ over.
+        let start = line_start-le text b in
+        let bounds = line_end_bounds text b within in
+        let newline = before_line_start text b (omega arith) in
+        let same : get_or text (line_start text b - 1) 0 ≡ get_or text (line_end text b - 1) 0 = ap (λ i. get_or text (i - 1) 0) (omega arith) in
+        absurd (omega arith))
+        (cases_lt (line_start text b) (line_end text b))
+
+    end_if : Bool → ℕ
+    end_if crlf = if crlf then line_end text b - 1 else line_end text b
+
+    by_its_end : (crlf : Bool) → ends_crlf text (line_end text b) ≡ crlf → (line_start text b ≤ end_if crlf) × IsCharBoundary text (end_if crlf)
+    by_its_end false _ =
+        let start = line_start-le text b in
+        let bounds = line_end_bounds text b within in
+        (omega arith, whole_line_ends text b within)
+    by_its_end true h =
+        let bounds = line_end_bounds text b within in
+        let return = before_crlf text (line_end text b) h in
+        let more = not_empty return.0 return.1 in
+        (omega arith, IsCharBoundary-before_ascii text (line_end text b - 1) (omega arith) (omega arith))

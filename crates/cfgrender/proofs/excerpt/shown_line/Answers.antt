@@ -1,0 +1,16 @@
+use Rattle.std.proofs.Common.{rules}
+use Rattle.cfglines.proofs.LineEnds.{line_start-le}
+use Rattle.cfgrender.proofs.ShownLines.{line_begins, shown_line_ends}
+use Rattle.cfgrender.proofs.excerpt.shown_line.Goals as goal
+
+pub returns-clause-ordered : goal.returns-clause-ordered
+returns-clause-ordered c = search (rules, shown_line_ends)
+
+pub returns-clause-begins : goal.returns-clause-begins
+returns-clause-begins c = search (rules, line_begins)
+
+pub returns-clause-ends : goal.returns-clause-ends
+returns-clause-ends c = search (rules, shown_line_ends)
+
+pub returns-clause-before : goal.returns-clause-before
+returns-clause-before c = search (rules, line_start-le)

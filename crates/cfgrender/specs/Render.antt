@@ -1,0 +1,75 @@
+-- What a person reads of an error: where it is and what it says, the line of the text, and carets under the span.
+use Rattle.std.specs.Prelude.{ℕ, ◌-◌, Bool, ◌&&◌, ◌||◌, ◌==◌, nat_lt, nat_le, if◌then◌else◌, List, [], ◌∷◌, ◌++◌, length, slice_index, min, codes}
+use Rattle.std.specs.List.{flat_map, slice_range}
+use Rattle.std.specs.Fmt.{decimal}
+use Rattle.cfgbase.specs.declared.span.Span.{Span}
+use Rattle.cfgbase.specs.declared.span.SpansKind.{SpansKind}
+use Rattle.cfgbase.specs.declared.span.SpansKind.TheVariants.{DuplicationError, Error}
+use Rattle.cfglines.specs.Lines.{ends_crlf, line_number, line_start, line_end, column}
+
+-- whether a byte begins a character: the others of a character, in UTF-8, are those from 128 up to 191
+abbrev pub begins_character : ℕ → Bool
+begins_character byte = nat_lt byte 128 || nat_le 192 byte
+
+-- whether b is a place of the text: a character begins there, or the text ends
+abbrev pub is_place : List ℕ → ℕ → Bool
+is_place text b = nat_le b (length text) && begins_character (slice_index text b)
+
+-- where the shown part of b's line ends: before the LF that ends the line, and before a CR right before that LF
+abbrev pub shown_end : List ℕ → ℕ → ℕ
+shown_end text b = if ends_crlf text (line_end text b) then line_end text b - 1 else line_end text b
+
+-- b's line as it is shown
+abbrev pub shown_line : List ℕ → ℕ → List ℕ
+shown_line text b = slice_range text (line_start text b) (shown_end text b)
+
+-- the part of that line that stands before b
+abbrev pub shown_front : List ℕ → ℕ → List ℕ
+shown_front text b = slice_range text (line_start text b) (min b (shown_end text b))
+
+-- the part of a span that its first line shows
+abbrev pub shown_span : List ℕ → Span → List ℕ
+shown_span text span = slice_range text span.start (min span.end (shown_end text span.start))
+
+-- what stands under a byte before the span: a tab under a tab, and a space under any other character
+abbrev pub under_front : ℕ → List ℕ
+under_front byte = if byte == 9 then codes "\t" else if begins_character byte then codes " " else []
+
+-- what stands under a byte of the span: a caret under each character
+abbrev pub under_span : ℕ → List ℕ
+under_span byte = if begins_character byte then codes "^" else []
+
+-- the carets under the shown part of a span: one where it shows nothing
+abbrev pub carets : List ℕ → List ℕ
+carets [] = codes "^"
+carets (byte ∷ bytes) = flat_map under_span (byte ∷ bytes)
+
+-- the line where a span starts, and the carets below it
+unfoldable pub excerpt : List ℕ → Span → List ℕ
+excerpt text span = shown_line text span.start ++ (codes "\n"
+    ++ (flat_map under_front (shown_front text span.start) ++ (carets (shown_span text span) ++ codes "\n")))
+
+-- the line `NAME: WORDS`
+abbrev pub plain_line : List ℕ → List ℕ → List ℕ
+plain_line name words = name ++ (codes ": " ++ (words ++ codes "\n"))
+
+-- the line `NAME:LINE:COLUMN: WORDS`, for the place b
+abbrev pub place_line : List ℕ → List ℕ → List ℕ → ℕ → List ℕ
+place_line name text words b = name ++ (codes ":" ++ (decimal (line_number text b)
+    ++ (codes ":" ++ (decimal (column text b) ++ (codes ": " ++ (words ++ codes "\n"))))))
+
+-- these words at a span: where it starts and the excerpt, or neither, if that is no place of the text
+unfoldable pub told : List ℕ → List ℕ → List ℕ → Span → List ℕ
+told name text words span = if is_place text span.start
+    then place_line name text words span.start ++ excerpt text span
+    else plain_line name words
+
+-- what the spans behind the first one add: each is the place of a duplicate, or nothing is told of them
+abbrev pub told_also : SpansKind → List ℕ → List ℕ → List Span → List ℕ
+told_also DuplicationError name text spans = flat_map (told name text (codes "also here")) spans
+told_also Error name text spans = []
+
+-- what is read of an error or a warning that prints this message and has these spans, of this kind, in a text of this name
+abbrev pub rendered : List ℕ → List ℕ → List ℕ → List Span → SpansKind → List ℕ
+rendered name text message [] kind = plain_line name message
+rendered name text message (span ∷ spans) kind = told name text message span ++ told_also kind name text spans

@@ -1,0 +1,122 @@
+//! The line where a span starts, with carets under the span.
+
+ghost use Rattle.std.specs.Prelude.{◌≡◌, ◌-◌, ◌++◌, ◌≤◌, if◌then◌else◌, length, min, OnOk, string_bytes};
+ghost use Rattle.std.specs.List.{flat_map, slice_range};
+ghost use Rattle.std.specs.Str.{IsCharBoundary};
+ghost use Rattle.cfglines.specs.Lines.{StandsFor, ends_crlf, line_start};
+ghost use Rattle.cfgrender.specs.Render.{begins_character, carets, excerpt, shown_end, under_front, under_span};
+
+use cfgbase::Span;
+use cfglines::NewlineCache;
+use std::alloc::AllocError;
+
+/// Writes the line where a span starts, and the carets below it.
+#[tactic(auto, unfolding(crate::specs::Render::excerpt))]
+pub(crate) fn push_excerpt(
+    out: &mut String,
+    lines: &NewlineCache,
+    text: &str,
+    span: Span,
+) -> Result<(), AllocError>
+    requires cached { StandsFor lines.now text.now }
+    requires placed { IsCharBoundary text.now span.start }
+    ensures { OnOk result (string_bytes out.new ≡ string_bytes out.old ++ excerpt text.now span) }
+{
+    let at = span.start();
+    let (start, end) = shown_line(lines, text, at);
+    let bytes = text.as_bytes();
+    out.push_str(&text[start..end])?;
+    out.push_str("\n")?;
+    push_under_front(out, &bytes[start..at.min(end)])?;
+    push_carets(out, piece(bytes, at, span.end().min(end)))?;
+    out.push_str("\n")
+}
+
+/// Where the line of a place starts, and where the part of it that is shown ends.
+fn shown_line(lines: &NewlineCache, text: &str, at: usize) -> (usize, usize)
+    requires cached { StandsFor lines.now text.now }
+    requires placed { at ≤ length text.now }
+    ensures value { result ≡ (line_start text.now at, shown_end text.now at) }
+    ensures ordered { result.0 ≤ result.1 }
+    ensures begins { IsCharBoundary text.now result.0 }
+    ensures ends { IsCharBoundary text.now result.1 }
+    ensures before { result.0 ≤ at }
+{
+    let (start, end) = lines.span_line_bytes(Span::new(at, at));
+    (start, without_line_end(text.as_bytes(), end))
+}
+
+/// The place before a CR, where the line that ends at `end` ends in one and a LF.
+fn without_line_end(text: &[u8], end: usize) -> usize
+    ensures { result ≡ (if ends_crlf text.now end then end - 1 else end) }
+{
+    match end.checked_sub(1) {
+        Some(last) if text.get(last) == Some(&b'\r') && text.get(end) == Some(&b'\n') => last,
+        _ => end,
+    }
+}
+
+/// The bytes from `start` up to `end`, or none where `end` isn't behind `start`.
+fn piece(text: &[u8], start: usize, end: usize) -> &[u8]
+    requires { end ≤ length text.now }
+    ensures { result.now ≡ slice_range text.now start end }
+{
+    text.get(start..end).unwrap_or(&[])
+}
+
+/// Writes what stands under the line before the span.
+fn push_under_front(out: &mut String, front: &[u8]) -> Result<(), AllocError>
+    ensures { OnOk result (string_bytes out.new ≡ string_bytes out.old ++ flat_map under_front front.now) }
+{
+    for byte in front {
+        out.push_str(under_front(*byte))?;
+    }
+    Ok(())
+}
+
+/// What stands under a byte before the span.
+fn under_front(byte: u8) -> &'static str
+    ensures { result.now ≡ under_front byte }
+{
+    if byte == b'\t' {
+        "\t"
+    } else if begins_character(byte) {
+        " "
+    } else {
+        ""
+    }
+}
+
+/// Writes the carets under these bytes of the span.
+fn push_carets(out: &mut String, bytes: &[u8]) -> Result<(), AllocError>
+    ensures { OnOk result (string_bytes out.new ≡ string_bytes out.old ++ carets bytes.now) }
+{
+    if bytes.is_empty() {
+        return out.push_str("^");
+    }
+    push_under_span(out, bytes)
+}
+
+/// Writes a caret for each character of these bytes.
+fn push_under_span(out: &mut String, bytes: &[u8]) -> Result<(), AllocError>
+    ensures { OnOk result (string_bytes out.new ≡ string_bytes out.old ++ flat_map under_span bytes.now) }
+{
+    for byte in bytes {
+        out.push_str(under_span(*byte))?;
+    }
+    Ok(())
+}
+
+/// What stands under a byte of the span.
+fn under_span(byte: u8) -> &'static str
+    ensures { result.now ≡ under_span byte }
+{
+    if begins_character(byte) { "^" } else { "" }
+}
+
+/// Whether the byte begins a character.
+fn begins_character(byte: u8) -> bool
+    ensures { result ≡ begins_character byte }
+{
+    byte < 0x80 || byte >= 0xc0
+}

@@ -1,0 +1,7 @@
+//! Errors and warnings as people read them: where they are, what they say, and the line of the text with carets.
+#![tactic(auto)]
+
+pub mod excerpt;
+pub mod message;
+
+pub use message::render;
