@@ -1,2 +1,4 @@
-pub mod Told
+pub mod Carets
+pub mod Columns
 pub mod ShownLines
+pub mod Told

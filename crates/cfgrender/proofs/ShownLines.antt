@@ -1,5 +1,5 @@
 -- A line, as it is shown, is a piece of its text.
-use Rattle.std.proofs.Common.{◌≡◌, ℕ, ◌+◌, ◌-◌, ◌<◌, ◌≤◌, Bool, true, false, if◌then◌else◌, List, length, take, drop, get_or, get_or-drop, length-take, length-drop, reverse, ⊎_elim, subst, ◌∙◌, ap, sym, refl, arith}
+use Rattle.std.proofs.Common.{◌≡◌, ℕ, ◌-◌, ◌<◌, ◌≤◌, Bool, true, false, if◌then◌else◌, List, length, take, drop, get_or, get_or-drop, length-take, length-drop, reverse, ⊎_elim, subst, ◌∙◌, ap, sym, refl, arith}
 use Rattle.std.proofs.lemmas.Bool.{cases_lt, and_parts, eqb-true, ltb-true, not-false}
 use Rattle.std.proofs.lemmas.List.{get_or-reverse, get_or-take, length-reverse}
 use Rattle.std.proofs.lemmas.List.Sums.{prefix_len_stops, passes_at_first, prefix_len-le-length}
@@ -27,7 +27,7 @@ before_line_start text b behind =
     newline byte h = eqb-true byte 10 (not-false _ h)
 
 -- a line ends in the text, and not before the place
-line_end_bounds : (text : List ℕ) (b : ℕ) → b ≤ length text → (b ≤ line_end text b) × (line_end text b ≤ length text)
+pub line_end_bounds : (text : List ℕ) (b : ℕ) → b ≤ length text → (b ≤ line_end text b) × (line_end text b ≤ length text)
 line_end_bounds text b within =
     let end = line_end-position text b in
     let rest = prefix_len-le-length is_other (drop b text) in
@@ -45,12 +45,12 @@ at_line_end text b within inside =
     let place : get_or (drop b text) n 0 ≡ get_or text (line_end text b) 0 = get_or-drop b text n 0 ∙ ap (λ i. get_or text i 0) (omega arith) in
     sym place ∙ eqb-true _ 10 (passes_at_first is_newline (drop b text) 0 (omega arith))
 
--- a CR stands right before the LF of such a line
-before_crlf : (text : List ℕ) (b : ℕ) → ends_crlf text b ≡ true → (0 < b) × (get_or text (b - 1) 0 ≡ 13)
-before_crlf text b h =
+-- a LF right after a CR
+pub crlf_bytes : (text : List ℕ) (b : ℕ) → ends_crlf text b ≡ true → (0 < b) × (get_or text b 0 ≡ 10) × (get_or text (b - 1) 0 ≡ 13)
+crlf_bytes text b h =
     let (some, bytes) = and_parts _ _ h in
-    let (_, return) = and_parts _ _ bytes in
-    (ltb-true 0 b some, eqb-true _ 13 return)
+    let (newline, return) = and_parts _ _ bytes in
+    (ltb-true 0 b some, eqb-true _ 10 newline, eqb-true _ 13 return)
 
 pub line_begins : (text : List ℕ) (b : ℕ) → IsUtf8 text → b ≤ length text → IsCharBoundary text (line_start text b)
 line_begins text b utf8 within =
@@ -94,6 +94,6 @@ shown_line_ends text b within = by_its_end (ends_crlf text (line_end text b)) re
         (omega arith, whole_line_ends text b within)
     by_its_end true h =
         let bounds = line_end_bounds text b within in
-        let return = before_crlf text (line_end text b) h in
-        let more = not_empty return.0 return.1 in
+        let return = crlf_bytes text (line_end text b) h in
+        let more = not_empty return.0 return.2 in
         (omega arith, IsCharBoundary-before_ascii text (line_end text b - 1) (omega arith) (omega arith))

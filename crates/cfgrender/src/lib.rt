@@ -2,6 +2,7 @@
 #![tactic(auto)]
 
 pub mod excerpt;
+pub mod laws;
 pub mod message;
 
 pub use message::render;

@@ -1,6 +1,6 @@
 //! An error or a warning, as a person reads it.
 
-ghost use Rattle.std.specs.Prelude.{◌≡◌, ◌++◌, IfOk, IfSome, OnOk, codes, string_bytes};
+ghost use Rattle.std.specs.Prelude.{◌≡◌, ◌++◌, ℕ, List, IfOk, IfSome, OnOk, codes, string_bytes};
 ghost use Rattle.std.specs.List.{flat_map};
 ghost use Rattle.cfglines.specs.Lines.{StandsFor};
 ghost use Rattle.cfgrender.specs.Render.{rendered, told, told_also};
@@ -23,8 +23,8 @@ pub fn render<E: Spanned>(
     text: &str,
     error: &E,
 ) -> Result<String, AllocError>
-    ensures { IfOk result (λ out. IfSome (E.output error.now) (λ message.
-        string_bytes out ≡ rendered name.now text.now message (E.spans error.now) (E.spanskind error.now))) }
+    ensures { IfOk result (λ out. (message : List ℕ) × IfSome (E.output error.now) (λ printed. message ≡ printed)
+        × (string_bytes out ≡ rendered name.now text.now message (E.spans error.now) (E.spanskind error.now))) }
 {
     let message = error.to_string(alloc)?;
     let lines = newlines(alloc, text)?;

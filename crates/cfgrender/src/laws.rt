@@ -1,0 +1,22 @@
+//! Carets stand under the characters of a span: what an excerpt has to do with columns and characters.
+
+ghost use Rattle.std.specs.Prelude.{◌≡◌, ◌+◌, ℕ, List, length, max};
+ghost use Rattle.std.specs.List.{flat_map};
+ghost use Rattle.std.specs.Str.{IsCharBoundary, IsUtf8, chars};
+ghost use Rattle.cfgbase.specs.declared.span.Span.{Span};
+ghost use Rattle.cfglines.specs.Lines.{column};
+ghost use Rattle.cfgrender.specs.Render.{carets, shown_front, shown_span, under_front};
+
+/// The first caret stands in the column that is told.
+#[tactic(auto, using(crate::proofs::Columns::carets_begin_at_column))]
+pub fn carets_begin_at_column()
+    ensures { (text : List ℕ) (b : ℕ) → IsUtf8 text → IsCharBoundary text b
+        → length (flat_map under_front (shown_front text b)) + 1 ≡ column text b }
+{}
+
+/// There are as many carets as the shown part of a span has characters, and one where it has none.
+#[tactic(auto, using(crate::proofs::Columns::carets_count_characters))]
+pub fn carets_count_characters()
+    ensures { (text : List ℕ) (span : Span) → IsUtf8 text → IsCharBoundary text span.start → IsCharBoundary text span.end
+        → length (carets (shown_span text span)) ≡ max 1 (length (chars (shown_span text span))) }
+{}
