@@ -1,0 +1,8 @@
+//! Callers of the library, as its users write them. None of them has a proof of its own.
+#![tactic(auto)]
+
+pub mod errors;
+pub mod firsts;
+pub mod lines;
+pub mod marks;
+pub mod productions;
