@@ -10,6 +10,8 @@ use Rattle.cfgtool.specs.declared.engine.ReportFault.{ReportFault}
 use Rattle.cfgtool.specs.declared.engine.ReportFault.TheVariants as faults
 use Rattle.cfgtool.specs.declared.program.RunFault.{RunFault}
 use Rattle.cfgtool.specs.declared.program.RunFault.TheVariants as why
+use Rattle.cfgtool.specs.declared.program.WordsFault.{WordsFault}
+use Rattle.cfgtool.specs.declared.program.WordsFault.TheVariants as words
 use Rattle.cfgtool.specs.declared.source.Input.{Input}
 use Rattle.cfgtool.specs.declared.source.Input.TheVariants as input
 use Rattle.cfgtool.specs.declared.words.Command.{Command}
@@ -67,6 +69,11 @@ ending_with (why.Unreadable file) = Unreadable file.now
 ending_with (why.NotUtf8 file) = NotUtf8 file.now
 ending_with why.Write = Unwritten
 ending_with why.OutOfMemory = NoMemory
+
+-- how a run ends that has no words, for this reason: words that are no text are wrong usage
+abbrev pub ending_without : WordsFault → Ending
+ending_without words.NotUtf8 = Usage
+ending_without words.OutOfMemory = NoMemory
 
 abbrev pub ending_in : Result Outcome RunFault → Ending
 ending_in (Ok outcome) = Told outcome

@@ -7,10 +7,12 @@ pub mod lines;
 pub mod program;
 pub mod sink;
 pub mod source;
+pub mod system;
 pub mod words;
 
 pub use engine::{Outcome, ReportFault, report};
 pub use program::run;
 pub use sink::{Counted, Sink, SinkFault};
 pub use source::{Input, Source};
+pub use system::{Ended, run_over};
 pub use words::{Command, KindArg};

@@ -2,14 +2,15 @@
 
 ghost use Rattle.std.specs.Prelude.{◌≡◌, ◌++◌, ◌+◌, ◌-◌, ◌^◌, ◌<◌, ◌≤◌, Err, OnErr, OnOk, map};
 ghost use Rattle.std.specs.Io.KnownBytes.{Appends};
-ghost use Rattle.cfgtool.specs.Run.{Ending, HandlesWords, ending_in, ending_of, ending_with, faults_at, line_of, status_of};
+ghost use Rattle.cfgtool.specs.Run.{Ending, HandlesWords, ending_in, ending_of, ending_with, ending_without, faults_at, line_of, status_of};
 ghost use Rattle.cfgtool.specs.Sinks.{AppendsBeginning, AppendsOrFaults};
+ghost use Rattle.cfgtool.specs.declared.program.WordsFault.TheVariants as words_fault;
 
 use crate::engine::{Outcome, ReportFault, report};
 use crate::sink::{Sink, SinkFault, write_whole};
 use crate::source::{Input, Source};
 use crate::words::{command_of, kind_of};
-use std::alloc::Global;
+use std::alloc::{AllocError, Global};
 
 /// Why a run told nothing.
 #[derive(Clone, Copy)]
@@ -84,6 +85,38 @@ pub fn run<S: Source, O: Sink, E: Sink>(
             fault.status()
         }
     }
+}
+
+/// Why there are no words to run on.
+#[derive(Clone, Copy, Debug, PartialEq, Eq)]
+pub(crate) enum WordsFault {
+    /// One of them is not UTF-8.
+    NotUtf8,
+    /// No memory was left for them.
+    OutOfMemory,
+}
+
+impl From<AllocError> for WordsFault {
+    ghost from_gives = { λ _ fault. fault ≡ words_fault.OutOfMemory };
+
+    fn from(_: AllocError) -> Self {
+        WordsFault::OutOfMemory
+    }
+}
+
+/// Ends a run that has no words, and answers its status. A line on why is written to `err`, as far as `err` takes it.
+pub(crate) fn refuse_words<E: Sink>(fault: WordsFault, err: &mut E) -> u8
+    requires { E.faults_counted err.old < 2 ^ 64 - 1 }
+    ensures status { result ≡ status_of (ending_without fault) }
+    ensures line { AppendsOrFaults (E.written err.old) (E.written err.new)
+        (E.faults_counted err.old) (E.faults_counted err.new) (line_of (ending_without fault)) }
+{
+    let fault = match fault {
+        WordsFault::NotUtf8 => RunFault::Usage,
+        WordsFault::OutOfMemory => RunFault::OutOfMemory,
+    };
+    let _ = tell(&fault, err);
+    fault.status()
 }
 
 /// Writes the line of a fault.
