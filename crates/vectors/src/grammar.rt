@@ -1,7 +1,7 @@
 //! Rows on the texts of grammars.
 
 use crate::row::{Row, numbers};
-use crate::{cuts, errors, firsts, syntax, tables, text};
+use crate::{accessors, cuts, errors, firsts, syntax, tables, text};
 use cfgrammar::yacc::ast::ASTWithValidityInfo;
 use cfgrammar::yacc::{YaccGrammar, YaccKind, YaccOriginalActionKind};
 use std::alloc::{AllocError, Global};
@@ -30,6 +30,10 @@ pub(crate) fn tell(
             cuts::write_cuts(out, alloc, kind, text)
         }
         Some("brief") => tell_brief(out, alloc, kind, text),
+        Some("accessors") => {
+            text::write_text(out, text)?;
+            accessors::write_accessors(out, alloc, kind, text)
+        }
         _ => {
             text::write_text(out, text)?;
             tell_whole(out, alloc, kind, text)?;

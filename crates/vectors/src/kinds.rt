@@ -6,11 +6,18 @@ use cfgrammar::yacc::{YaccGrammarError, YaccGrammarErrorKind, YaccGrammarWarning
 use cfgrammar::{Span, Spanned};
 use std::alloc::{AllocError, Global};
 
-/// Writes a line for each error that the row names: its kind, its spans, what they stand for, and its text.
-pub(crate) fn tell(out: &mut String, alloc: Global, row: &Row<'_>) -> Result<(), AllocError> {
+/// Writes a line for each error that the row names: its kind, its spans, what they stand for, and its text. A kind that
+/// holds a name holds the row's text, or else `µ`.
+pub(crate) fn tell(
+    out: &mut String,
+    alloc: Global,
+    row: &Row<'_>,
+    text: &str,
+) -> Result<(), AllocError> {
+    let held = if text.is_empty() { "µ" } else { text };
     for (word, rest) in &row.lines {
         match *word {
-            "error" => write_error(out, alloc, *rest)?,
+            "error" => write_error(out, alloc, held, *rest)?,
             "warning" => {
                 let kind = match *rest {
                     "UnusedRule" => YaccGrammarWarningKind::UnusedRule,
@@ -24,7 +31,7 @@ pub(crate) fn tell(out: &mut String, alloc: Global, row: &Row<'_>) -> Result<(),
     Ok(())
 }
 
-fn write_error(out: &mut String, alloc: Global, line: &str) -> Result<(), AllocError> {
+fn write_error(out: &mut String, alloc: Global, held: &str, line: &str) -> Result<(), AllocError> {
     let (name, rest) = line.split_once(' ').unwrap_or((line, ""));
     let (start, end) = numbers(rest);
     let mut spans = Vec::new(alloc);
@@ -32,7 +39,7 @@ fn write_error(out: &mut String, alloc: Global, line: &str) -> Result<(), AllocE
         spans.push(Span::new(start, end))?;
         spans.push(Span::new(end, end))?;
     }
-    let error = YaccGrammarError::new(kind_of(alloc, name)?, spans);
+    let error = YaccGrammarError::new(kind_of(alloc, name, held)?, spans);
     out.push_str("   ")?;
     write_kind(out, &error)?;
     write_spans(out, &error)?;
@@ -43,9 +50,9 @@ fn write_error(out: &mut String, alloc: Global, line: &str) -> Result<(), AllocE
     out.push('\n')
 }
 
-/// The kind of this name. A kind that holds a name, or a character, holds `µ`.
-fn kind_of(alloc: Global, name: &str) -> Result<YaccGrammarErrorKind, AllocError> {
-    let n = String::from_str(alloc, "µ")?;
+/// The kind of this name. A kind that holds a name holds this one; a kind that holds a character, `µ`.
+fn kind_of(alloc: Global, name: &str, held: &str) -> Result<YaccGrammarErrorKind, AllocError> {
+    let n = String::from_str(alloc, held)?;
     Ok(match name {
         "IllegalInteger" => YaccGrammarErrorKind::IllegalInteger,
         "IllegalName" => YaccGrammarErrorKind::IllegalName,

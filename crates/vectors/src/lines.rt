@@ -44,8 +44,32 @@ pub(crate) fn tell(
 }
 
 /// The ways to feed a text, each as the lengths of all pieces but the last: in two pieces, cut before each character and
-/// at the end; in pieces of one character; and as the row says.
+/// at the end; in pieces of one character; and as the row says. A text of which a digest is written is only fed as the
+/// row says.
 fn ways(alloc: Global, row: &Row<'_>, text: &str) -> Result<Vec<Vec<usize>>, AllocError> {
+    let mut ways = if row.first("show") == Some("digest") {
+        Vec::new(alloc)
+    } else {
+        all_ways(alloc, text)?
+    };
+    for (word, rest) in &row.lines {
+        match *word {
+            "pieces" => ways.push(rest.split(' ').map(|word| number(word)).collect(alloc)?)?,
+            "every" => ways.push(even_pieces(alloc, text, number(*rest))?)?,
+            _ => {}
+        }
+    }
+    Ok(ways)
+}
+
+/// The lengths of pieces of so many bytes each.
+fn even_pieces(alloc: Global, text: &str, length: usize) -> Result<Vec<usize>, AllocError> {
+    let count = text.len().checked_div(length).unwrap_or(0);
+    vec![in alloc; length; count]
+}
+
+/// The ways to feed a text in two pieces, and in pieces of one character.
+fn all_ways(alloc: Global, text: &str) -> Result<Vec<Vec<usize>>, AllocError> {
     let mut ways = Vec::new(alloc);
     let mut characters = Vec::new(alloc);
     for (place, character) in text.char_indices() {
@@ -54,11 +78,6 @@ fn ways(alloc: Global, row: &Row<'_>, text: &str) -> Result<Vec<Vec<usize>>, All
     }
     ways.push([text.len()].to_vec(alloc)?)?;
     ways.push(characters)?;
-    for (word, rest) in &row.lines {
-        if *word == "pieces" {
-            ways.push(rest.split(' ').map(|word| number(word)).collect(alloc)?)?;
-        }
-    }
     Ok(ways)
 }
 

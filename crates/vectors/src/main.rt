@@ -3,6 +3,7 @@
 //! it with what is stored.
 #![tactic(auto)]
 
+mod accessors;
 mod cuts;
 mod errors;
 mod firsts;
@@ -10,16 +11,14 @@ mod grammar;
 mod kinds;
 mod lines;
 mod marks;
-mod narrow;
-mod pen;
-mod row;
-mod runs;
 mod syntax;
 mod tables;
-mod text;
 mod values;
 
-use row::{Row, rows};
+use rows::digest::write_digest;
+use rows::row::{Row, rows};
+use rows::{pen, row, text};
+use std::alloc::{AllocError, Global};
 use std::{env, fs, io};
 
 fn main(rt: HostRuntime) -> io::Result<()> {
@@ -37,20 +36,31 @@ fn main(rt: HostRuntime) -> io::Result<()> {
 fn answers_of(rt: &HostRuntime, row: &Row<'_>) -> io::Result<String> {
     let alloc = rt.alloc();
     let mut out = String::new(alloc);
-    for (word, rest) in &row.lines {
-        if *word == "note" {
-            writeln!(out, "   {rest}")?;
-        }
-    }
+    row.write_notes(&mut out)?;
     let text = text::of_row(rt, row)?;
-    match row.tries {
-        "row" => grammar::tell(&mut out, alloc, row, text.as_str())?,
-        "lines" => lines::tell(&mut out, alloc, row, text.as_str())?,
-        "run" => runs::tell(&mut out, alloc, row, text.as_str())?,
-        "marks" => marks::tell(&mut out, alloc, row)?,
-        "values" => values::tell(&mut out, alloc, row)?,
-        "errors" => kinds::tell(&mut out, alloc, row)?,
-        _ => writeln!(out, "no such row: {}", row.tries)?,
+    if row.first("show") == Some("digest") {
+        let mut answers = String::new(alloc);
+        write_answers(&mut answers, alloc, row, text.as_str())?;
+        write_digest(&mut out, row, answers.as_str())?;
+    } else {
+        write_answers(&mut out, alloc, row, text.as_str())?;
     }
     Ok(out)
+}
+
+/// Writes all that is answered of a row's text.
+fn write_answers(
+    out: &mut String,
+    alloc: Global,
+    row: &Row<'_>,
+    text: &str,
+) -> Result<(), AllocError> {
+    match row.tries {
+        "row" => grammar::tell(out, alloc, row, text),
+        "lines" => lines::tell(out, alloc, row, text),
+        "marks" => marks::tell(out, alloc, row),
+        "values" => values::tell(out, alloc, row),
+        "errors" => kinds::tell(out, alloc, row, text),
+        _ => writeln!(out, "no such row: {}", row.tries),
+    }
 }

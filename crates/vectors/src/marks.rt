@@ -6,6 +6,7 @@ mod entry;
 
 use crate::pen;
 use crate::row::{Row, number, words};
+use crate::text::push_turn;
 use cfgrammar::markmap::{MarkMap, MergeBehavior, MergeError, MergeFault};
 use std::alloc::{AllocError, Global};
 use std::fmt::Debug;
@@ -62,6 +63,8 @@ fn play<K: Key>(out: &mut String, alloc: Global, row: &Row<'_>) -> Result<(), Al
                 call(out, alloc, &mut map, *rest)?;
                 write_map(out, alloc, row, &mut map)?;
             }
+            "calls" => calls(out, alloc, &mut map, *rest)?,
+            "others" => calls(out, alloc, &mut other, *rest)?,
             "other" => {
                 write!(out, "    other {rest}: ")?;
                 call(out, alloc, &mut other, *rest)?;
@@ -78,6 +81,25 @@ fn play<K: Key>(out: &mut String, alloc: Global, row: &Row<'_>) -> Result<(), Al
             }
             _ => {}
         }
+    }
+    Ok(())
+}
+
+/// Makes a call as many times as the number in front of it says, with the turn's number for each `#`, and writes what each
+/// answers.
+fn calls<K: Key>(
+    out: &mut String,
+    alloc: Global,
+    map: &mut MarkMap<K, u32>,
+    line: &str,
+) -> Result<(), AllocError>
+    requires { IsFaithful K.cmp K.is_clone }
+{
+    let (count, line) = line.split_once(' ').unwrap_or(("0", ""));
+    for turn in 0..number(count) {
+        let mut turned = String::new(alloc);
+        push_turn(&mut turned, line, turn)?;
+        call(out, alloc, map, turned.as_str())?;
     }
     Ok(())
 }

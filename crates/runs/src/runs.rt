@@ -1,10 +1,10 @@
 //! Rows on runs of the program.
 
 use crate::narrow::Narrow;
-use crate::pen;
-use crate::row::Row;
-use crate::text::write_text;
 use cfgtool::{Counted, Input, Sink, Source, run};
+use rows::pen;
+use rows::row::Row;
+use rows::text::write_text;
 use std::alloc::{AllocError, Global};
 
 /// One file, under every name.

@@ -4,15 +4,15 @@ use std::alloc::{AllocError, Global};
 
 /// A row: what it tries, its name, and its lines, each a word and what stands behind it.
 #[derive(Drop)]
-pub(crate) struct Row<'a> {
-    pub(crate) tries: &'a str,
-    pub(crate) name: &'a str,
-    pub(crate) lines: Vec<(&'a str, &'a str)>,
+pub struct Row<'a> {
+    pub tries: &'a str,
+    pub name: &'a str,
+    pub lines: Vec<(&'a str, &'a str)>,
 }
 
 impl<'a> Row<'a> {
     /// What stands behind the word in the first line that begins with it.
-    pub(crate) fn first(&self, word: &str) -> Option<&'a str> {
+    pub fn first(&self, word: &str) -> Option<&'a str> {
         for (first, rest) in &self.lines {
             if *first == word {
                 return Some(*rest);
@@ -21,8 +21,18 @@ impl<'a> Row<'a> {
         None
     }
 
+    /// Writes the row's notes, each as a line.
+    pub fn write_notes(&self, out: &mut String) -> Result<(), AllocError> {
+        for (word, rest) in &self.lines {
+            if *word == "note" {
+                writeln!(out, "   {rest}")?;
+            }
+        }
+        Ok(())
+    }
+
     /// The number behind the name in a line that begins with the word, or 0 where none stands there.
-    pub(crate) fn number_of(&self, word: &str, name: &str) -> Option<usize> {
+    pub fn number_of(&self, word: &str, name: &str) -> Option<usize> {
         for (first, rest) in &self.lines {
             let (named, count) = rest.split_once(' ').unwrap_or((*rest, ""));
             if *first == word && named == name {
@@ -35,7 +45,7 @@ impl<'a> Row<'a> {
 
 /// The rows of a file. A line that isn't indented begins a row, the indented lines below it are the row's own; empty
 /// lines and those that begin with `#` say nothing.
-pub(crate) fn rows(alloc: Global, text: &str) -> Result<Vec<Row<'_>>, AllocError> {
+pub fn rows(alloc: Global, text: &str) -> Result<Vec<Row<'_>>, AllocError> {
     let mut rows: Vec<Row<'_>> = Vec::new(alloc);
     for line in text.lines() {
         if let Some(line) = line.strip_prefix("  ") {
@@ -52,18 +62,18 @@ pub(crate) fn rows(alloc: Global, text: &str) -> Result<Vec<Row<'_>>, AllocError
 }
 
 /// The number that a word spells, or 0.
-pub(crate) fn number(word: &str) -> usize {
+pub fn number(word: &str) -> usize {
     word.parse().unwrap_or(0)
 }
 
 /// The two numbers that two words spell.
-pub(crate) fn numbers(words: &str) -> (usize, usize) {
+pub fn numbers(words: &str) -> (usize, usize) {
     let (first, second) = words.split_once(' ').unwrap_or((words, ""));
     (number(first), number(second))
 }
 
 /// The first two words, and what stands behind them.
-pub(crate) fn words(line: &str) -> (&str, &str, &str) {
+pub fn words(line: &str) -> (&str, &str, &str) {
     let (first, rest) = line.split_once(' ').unwrap_or((line, ""));
     let (second, rest) = rest.split_once(' ').unwrap_or((rest, ""));
     (first, second, rest)

@@ -1,6 +1,6 @@
 //! A writer with little room.
 
-use crate::row::Row;
+use rows::row::Row;
 use std::alloc::Global;
 use std::io::{self, Write};
 

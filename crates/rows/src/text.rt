@@ -5,7 +5,7 @@ use std::alloc::AllocError;
 use std::{fs, io};
 
 /// The text that a row spells, or that of the file which it names.
-pub(crate) fn of_row(rt: &HostRuntime, row: &Row<'_>) -> io::Result<String> {
+pub fn of_row(rt: &HostRuntime, row: &Row<'_>) -> io::Result<String> {
     let mut text = String::new(rt.alloc());
     let mut has_line = false;
     for (word, rest) in &row.lines {
@@ -25,11 +25,12 @@ pub(crate) fn of_row(rt: &HostRuntime, row: &Row<'_>) -> io::Result<String> {
     Ok(text)
 }
 
-/// Adds what a line of a row spells, in which pictures stand for CR and TAB.
+/// Adds what a line of a row spells, in which pictures stand for CR, LF and TAB.
 fn push_line(text: &mut String, line: &str) -> Result<(), AllocError> {
     for character in line.chars() {
         text.push(match character {
             '␍' => '\r',
+            '␊' => '\n',
             '␉' => '\t',
             other => other,
         })?;
@@ -41,18 +42,24 @@ fn push_line(text: &mut String, line: &str) -> Result<(), AllocError> {
 fn push_times(text: &mut String, line: &str) -> Result<(), AllocError> {
     let (count, line) = line.split_once(' ').unwrap_or(("0", ""));
     for turn in 0..number(count) {
-        for (place, part) in line.split('#').enumerate() {
-            if place > 0 {
-                write!(text, "{turn}")?;
-            }
-            push_line(text, part)?;
+        push_turn(text, line, turn)?;
+    }
+    Ok(())
+}
+
+/// Adds a line, with the turn's number for each `#`.
+pub fn push_turn(text: &mut String, line: &str, turn: usize) -> Result<(), AllocError> {
+    for (place, part) in line.split('#').enumerate() {
+        if place > 0 {
+            write!(text, "{turn}")?;
         }
+        push_line(text, part)?;
     }
     Ok(())
 }
 
 /// Writes a text, each line behind a bar, with pictures for CR and TAB.
-pub(crate) fn write_text(out: &mut String, text: &str) -> Result<(), AllocError> {
+pub fn write_text(out: &mut String, text: &str) -> Result<(), AllocError> {
     for line in text.split('\n') {
         out.push_str("    |")?;
         push_pictures(out, line)?;
@@ -62,7 +69,7 @@ pub(crate) fn write_text(out: &mut String, text: &str) -> Result<(), AllocError>
 }
 
 /// Adds a text with pictures for CR and TAB.
-pub(crate) fn push_pictures(out: &mut String, text: &str) -> Result<(), AllocError> {
+pub fn push_pictures(out: &mut String, text: &str) -> Result<(), AllocError> {
     for character in text.chars() {
         out.push(match character {
             '\r' => '␍',

@@ -1,0 +1,55 @@
+//! What is written of a large row in place of all that is answered of it.
+
+use crate::row::Row;
+use std::alloc::AllocError;
+
+/// How many characters of a line are written.
+const WIDTH: usize = 100;
+
+/// Writes how many lines and bytes all that is answered has, its digest, and for each `line` of the row the first
+/// line that begins as it says.
+pub fn write_digest(out: &mut String, row: &Row<'_>, answers: &str) -> Result<(), AllocError> {
+    let (lines, bytes) = (answers.lines().count(), answers.len());
+    let digest = digest(answers.as_bytes());
+    writeln!(
+        out,
+        "    {lines} lines of {bytes} bytes, digest {digest:016x}"
+    )?;
+    for (word, rest) in &row.lines {
+        if *word == "line" {
+            write_line(out, *rest, answers)?;
+        }
+    }
+    Ok(())
+}
+
+/// The FNV-1a hash of these bytes, of 64 bits.
+fn digest(bytes: &[u8]) -> u64 {
+    let mut digest = 0xcbf2_9ce4_8422_2325u64;
+    for byte in bytes {
+        digest = (digest ^ u64::from(*byte)).wrapping_mul(0x0000_0100_0000_01b3);
+    }
+    digest
+}
+
+/// Writes the first line that begins so, apart from its blanks. Of a long line its beginning is written.
+fn write_line(out: &mut String, beginning: &str, answers: &str) -> Result<(), AllocError> {
+    for line in answers.lines() {
+        if line.trim_start().starts_with(beginning) {
+            return write_beginning(out, line);
+        }
+    }
+    writeln!(out, "    no line begins with {beginning}")
+}
+
+/// Writes a line behind a bar, or its beginning where it is long.
+fn write_beginning(out: &mut String, line: &str) -> Result<(), AllocError> {
+    out.push_str("    |")?;
+    for character in line.trim_start().chars().take(WIDTH) {
+        out.push(character)?;
+    }
+    if line.trim_start().chars().count() > WIDTH {
+        out.push_str(" ..")?;
+    }
+    out.push('\n')
+}

@@ -1,0 +1,7 @@
+//! Rows as the programs of rows read them: their lines, their texts, and pieces of what is written of them.
+#![tactic(auto)]
+
+pub mod digest;
+pub mod pen;
+pub mod row;
+pub mod text;
