@@ -1,5 +1,5 @@
 -- What holds of every grammar: the invariant of its type.
-use Rattle.std.specs.Prelude.{◌≡◌, ◌↔◌, ℕ, ◌+◌, ◌<◌, ◌==◌, List, [], ◌∷◌, filter, map, length, All, Some, None, if◌then◌else◌}
+use Rattle.std.specs.Prelude.{◌≡◌, ◌↔◌, ◌==◌, ℕ, ◌+◌, ◌<◌, if◌then◌else◌, List, [], ◌∷◌, filter, map, length, All, Some, None}
 use Rattle.std.specs.List.{IsDistinct, filter_map}
 use Rattle.std.specs.Str.{bytes_eq}
 use Rattle.derivation.specs.Grammar.{IsGrammar}

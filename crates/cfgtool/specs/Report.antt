@@ -74,7 +74,8 @@ Tells command text errors g old new (Err faults.Write) = (outcome : Outcome) × 
 Tells command text errors g old new (Err faults.OutOfMemory) = Keeps old new
 
 -- A report of a text tells so of the text's one reading: of its errors, and of its syntax in numbers.
-abbrev pub TellsText : KindArg → Command → List ℕ → Option (List ℕ) → Option (List ℕ) → Result Outcome ReportFault → Type 0
+abbrev pub TellsText : KindArg → Command → List ℕ → Option (List ℕ) → Option (List ℕ) → Result Outcome ReportFault
+    → Type 0
 TellsText kind command text old new answer =
     HoldsOfReading (kind_read kind) text (λ errors g. Tells command text errors g old new answer)
 

@@ -1,6 +1,7 @@
 //! The tables of a grammar.
 
-ghost use Rattle.std.specs.Prelude.{◌≡◌, ◌↔◌, ◌==◌, ℕ, ◌+◌, ◌<◌, List, [], Option, None, Some, map, length, position, option_map, All, IfOk, IfSome, IsSome, if◌then◌else◌};
+ghost use Rattle.std.specs.Prelude.{◌≡◌, ◌↔◌, ◌==◌, ℕ, ◌+◌, ◌<◌, if◌then◌else◌, List, [], Some, map, length, position};
+ghost use Rattle.std.specs.Prelude.{option_map, All, IfOk, IfSome, IsSome};
 ghost use Rattle.std.specs.Str.{IsUtf8, bytes_eq};
 ghost use Rattle.std.specs.String.{string_bytes};
 ghost use Rattle.cfgwords.specs.Places.{IsPiece};
@@ -290,7 +291,8 @@ impl<S: Storage> YaccGrammar<S> {
     /// The rule of a name: a rule is found by its own.
     pub fn rule_idx(&self, name: &str) -> Option<RIdx<S>>
         ensures value { option_map (λ x. S.number x.0) result ≡ position (λ rule. bytes_eq name.now rule.name) self.now.rules }
-        ensures found { (r : ℕ) → rule_part (λ x. x.name) self.now r ≡ Some name.now → option_map (λ x. S.number x.0) result ≡ Some r }
+        ensures found { (r : ℕ) → rule_part (λ x. x.name) self.now r ≡ Some name.now
+            → option_map (λ x. S.number x.0) result ≡ Some r }
         ensures within { IfSome result (λ ridx. S.number ridx.0 < length self.now.rules) }
     {
         match self.rules.get_index_of(name) {
@@ -357,7 +359,8 @@ impl<S: Storage> YaccGrammar<S> {
     /// The token of a name: a token is found by its own.
     pub fn token_idx(&self, name: &str) -> Option<TIdx<S>>
         ensures value { option_map (λ x. S.number x.0) result ≡ position (has_token_name name.now) self.now.tokens }
-        ensures found { (t : ℕ) → token_part (λ x. x.name) self.now t ≡ Some (Some name.now) → option_map (λ x. S.number x.0) result ≡ Some t }
+        ensures found { (t : ℕ) → token_part (λ x. x.name) self.now t ≡ Some (Some name.now)
+            → option_map (λ x. S.number x.0) result ≡ Some t }
         ensures within { IfSome result (λ tidx. S.number tidx.0 < length self.now.tokens) }
     {
         match self.tokens.get_index_of(name) {
