@@ -3,7 +3,7 @@ pub mod firsts;
 pub mod grammar;
 
 pub use cfgsyntax::yacc::{
-    YaccGrammarError, YaccGrammarErrorKind, YaccGrammarWarning, YaccGrammarWarningKind, YaccKind,
-    YaccOriginalActionKind, ast, parser,
+    YaccFault, YaccGrammarError, YaccGrammarErrorKind, YaccGrammarResult, YaccGrammarWarning,
+    YaccGrammarWarningKind, YaccKind, YaccOriginalActionKind, ast, parser,
 };
 pub use grammar::YaccGrammar;

@@ -5,5 +5,6 @@ pub mod parser;
 
 pub use kind::{YaccKind, YaccOriginalActionKind};
 pub use parser::{
-    YaccGrammarError, YaccGrammarErrorKind, YaccGrammarWarning, YaccGrammarWarningKind,
+    YaccFault, YaccGrammarError, YaccGrammarErrorKind, YaccGrammarResult, YaccGrammarWarning,
+    YaccGrammarWarningKind,
 };

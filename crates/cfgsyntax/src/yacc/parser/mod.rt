@@ -8,6 +8,7 @@ mod reader;
 mod rules;
 mod warning;
 
+pub use cfgbase::SpansKind;
 pub use error::{YaccFault, YaccGrammarError, YaccGrammarErrorKind, YaccGrammarResult};
 pub(crate) use fault::error_of;
 pub use laws::file_is_graph;
