@@ -28,7 +28,12 @@ begins_once c = cond_both (ltb c 128) _ _ (λ bytes. count_by begins_character b
     (λ _. rw (begins_lead (192 + c / 64) (omega arith), next_goes_on c) refl)
     (λ _. cond_both (ltb c 65536) _ _ (λ bytes. count_by begins_character bytes ≡ 1)
     (λ _. rw (begins_lead (224 + c / 4096) (omega arith), next_goes_on (c / 64), next_goes_on c) refl)
-    (λ _. rw (begins_lead (240 + c / 262144) (omega arith), next_goes_on (c / 4096), next_goes_on (c / 64), next_goes_on c) refl)))
+    (λ _. rw (
+      begins_lead (240 + c / 262144) (omega arith),
+      next_goes_on (c / 4096),
+      next_goes_on (c / 64),
+      next_goes_on c,
+    ) refl)))
 
 begun : (characters : List ℕ) → count_by begins_character (encodes characters) ≡ length characters
 begun [] = refl
@@ -46,7 +51,8 @@ characters_begin bytes utf8 = ap (count_by begins_character) (sym (encodes-chars
 abbrev IsColumn : (ℕ → List ℕ) → Type 0
 IsColumn under = (byte : ℕ) → length (under byte) ≡ cond (begins_character byte) 1 0
 
-begun_columns : (under : ℕ → List ℕ) → IsColumn under → (bytes : List ℕ) → length (flat_map under bytes) ≡ count_by begins_character bytes
+begun_columns : (under : ℕ → List ℕ) → IsColumn under → (bytes : List ℕ)
+    → length (flat_map under bytes) ≡ count_by begins_character bytes
 begun_columns under one [] = refl
 begun_columns under one (byte ∷ bytes) =
     let here = one byte in
@@ -63,9 +69,11 @@ pub front_columns : (bytes : List ℕ) → IsUtf8 bytes → length (flat_map und
 front_columns bytes utf8 = begun_columns under_front column bytes ∙ characters_begin bytes utf8
   where
     column : IsColumn under_front
-    column byte = cond_both (byte == 9) (9 ∷ []) (if begins_character byte then 32 ∷ [] else []) (λ under. length under ≡ cond (begins_character byte) 1 0)
+    column byte = cond_both (byte == 9) (9 ∷ []) (if begins_character byte then 32 ∷ [] else [])
+        (λ under. length under ≡ cond (begins_character byte) 1 0)
         (λ tab. rw (begins_low byte (omega (arith, eqb-true byte 9 tab))) refl)
         (λ _. is_column (begins_character byte) 32)
 
 pub span_columns : (bytes : List ℕ) → IsUtf8 bytes → length (flat_map under_span bytes) ≡ length (chars bytes)
-span_columns bytes utf8 = begun_columns under_span (λ byte. is_column (begins_character byte) 94) bytes ∙ characters_begin bytes utf8
+span_columns bytes utf8 =
+    begun_columns under_span (λ byte. is_column (begins_character byte) 94) bytes ∙ characters_begin bytes utf8

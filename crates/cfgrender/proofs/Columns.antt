@@ -20,7 +20,8 @@ unfolding line_front
 line_front_is text b within =
     let start = line_start-le text b in
     ap (λ n. drop n (take b text)) (sym (line_start-suffix_len text b))
-    ∙ (ap (λ n. drop (line_start text b) (take n text)) (omega arith) ∙ drop-take (line_start text b) (b - line_start text b) text)
+    ∙ (ap (λ n. drop (line_start text b) (take n text)) (omega arith)
+    ∙ drop-take (line_start text b) (b - line_start text b) text)
 
 -- so many columns stand before what follows it
 before : (text : List ℕ) (b : ℕ) → IsUtf8 text → IsCharBoundary text b
@@ -51,7 +52,8 @@ at_crlf text b within h =
     let (some, newline, return) = crlf_bytes text b h in
     let more : suffix_len is_other (take b text) ≡ 1 + suffix_len is_other (take (b - 1) text) =
     suffix_len-take_yes is_other text b 0 some within (ap is_other return) in
-    let here : position_or_len is_newline (drop b text) ≡ 0 = position_or_len_is is_newline (drop b text) 0 0 (omega arith) (λ k below. absurd (omega arith))
+    let here : position_or_len is_newline (drop b text) ≡ 0 =
+    position_or_len_is is_newline (drop b text) 0 0 (omega arith) (λ k below. absurd (omega arith))
     (λ _. ap is_newline (get_or-drop b text 0 0 ∙ (ap (λ i. get_or text i 0) (omega arith) ∙ newline))) in
     let end : line_end text b ≡ b = omega (arith, line_end-position text b, length-take b text) in
     let shown : shown_end text b ≡ b - 1 = rw end (rw h refl) in (
@@ -72,9 +74,11 @@ unfolding column
 carets_begin_at_column text b utf8 place = by_column (ends_crlf text b) refl
   where
     by_column : (crlf : Bool) → ends_crlf text b ≡ crlf
-        → length (flat_map under_front (shown_front text b)) + 1 ≡ (if crlf then character_count text (b - 1) else character_count text b)
+        → length (flat_map under_front (shown_front text b)) + 1
+        ≡ (if crlf then character_count text (b - 1) else character_count text b)
     by_column false other =
-        ap (λ n. length (flat_map under_front (slice_range text (line_start text b) n)) + 1) (shown_up_to text b place.0 other)
+        ap (λ n. length (flat_map under_front (slice_range text (line_start text b) n)) + 1)
+        (shown_up_to text b place.0 other)
         ∙ before text b utf8 place
     by_column true h =
         let bytes = crlf_bytes text b h in
@@ -82,10 +86,12 @@ carets_begin_at_column text b utf8 place = by_column (ends_crlf text b) refl
         let (start, shown) = at_crlf text b place.0 h in
         let return_place = IsCharBoundary-before_ascii text (b - 1) (omega arith) (omega arith) in
         ap (λ n. length (flat_map under_front (slice_range text (line_start text b) n)) + 1) shown
-        ∙ (ap (λ n. length (flat_map under_front (slice_range text n (b - 1))) + 1) (sym start) ∙ before text (b - 1) utf8 return_place)
+        ∙ (ap (λ n. length (flat_map under_front (slice_range text n (b - 1))) + 1) (sym start)
+        ∙ before text (b - 1) utf8 return_place)
 
 -- the shown part of a span is a piece of the text
-shown_span_utf8 : (text : List ℕ) (span : Span) → IsUtf8 text → IsCharBoundary text span.start → IsCharBoundary text span.end
+shown_span_utf8 : (text : List ℕ) (span : Span) → IsUtf8 text
+    → IsCharBoundary text span.start → IsCharBoundary text span.end
     → IsUtf8 (shown_span text span)
 shown_span_utf8 text span utf8 start end =
     let line = shown_line_ends text span.start start.0 in
@@ -98,7 +104,8 @@ shown_span_utf8 text span utf8 start end =
     (λ more. IsUtf8-between text span.start (min span.end (shown_end text span.start)) utf8 more start stop)
     (cases_lt (min span.end (shown_end text span.start)) span.start)
 
-has_characters : (characters : List ℕ) (byte : ℕ) (bytes : List ℕ) → encodes characters ≡ byte ∷ bytes → 0 < length characters
+has_characters : (characters : List ℕ) (byte : ℕ) (bytes : List ℕ)
+    → encodes characters ≡ byte ∷ bytes → 0 < length characters
 has_characters [] byte bytes same = absurd (cc)
 has_characters (c ∷ characters) byte bytes same = omega arith
 
@@ -109,6 +116,8 @@ carets_count (byte ∷ bytes) utf8 =
     let some = has_characters (chars (byte ∷ bytes)) byte bytes (encodes-chars (byte ∷ bytes) utf8) in
     omega arith
 
-pub carets_count_characters : (text : List ℕ) (span : Span) → IsUtf8 text → IsCharBoundary text span.start → IsCharBoundary text span.end
+pub carets_count_characters : (text : List ℕ) (span : Span) → IsUtf8 text
+    → IsCharBoundary text span.start → IsCharBoundary text span.end
     → length (carets (shown_span text span)) ≡ max 1 (length (chars (shown_span text span)))
-carets_count_characters text span utf8 start end = carets_count (shown_span text span) (shown_span_utf8 text span utf8 start end)
+carets_count_characters text span utf8 start end =
+    carets_count (shown_span text span) (shown_span_utf8 text span utf8 start end)

@@ -20,14 +20,16 @@ before_line_start text b behind =
     let stop : is_other (get_or (reverse front) n 0) ≡ false = prefix_len_stops is_other (reverse front) 0 short in
     let place : get_or (reverse front) n 0 ≡ get_or text (line_start text b - 1) 0 =
     get_or-reverse front n 0 (omega (arith, length-reverse front))
-    ∙ (ap (λ i. get_or front i 0) (omega arith) ∙ get_or-take b text (line_start text b - 1) 0 (omega (arith, line_start-le text b))) in
+    ∙ (ap (λ i. get_or front i 0) (omega arith)
+    ∙ get_or-take b text (line_start text b - 1) 0 (omega (arith, line_start-le text b))) in
     sym place ∙ newline _ stop
   where
     newline : (byte : ℕ) → is_other byte ≡ false → byte ≡ 10
     newline byte h = eqb-true byte 10 (not-false _ h)
 
 -- a line ends in the text, and not before the place
-pub line_end_bounds : (text : List ℕ) (b : ℕ) → b ≤ length text → (b ≤ line_end text b) × (line_end text b ≤ length text)
+pub line_end_bounds : (text : List ℕ) (b : ℕ) → b ≤ length text
+    → (b ≤ line_end text b) × (line_end text b ≤ length text)
 line_end_bounds text b within =
     let end = line_end-position text b in
     let rest = prefix_len-le-length is_other (drop b text) in
@@ -36,17 +38,20 @@ line_end_bounds text b within =
     (omega arith, omega arith)
 
 -- a LF stands where a line ends, unless the text ends there
-at_line_end : (text : List ℕ) (b : ℕ) → b ≤ length text → line_end text b < length text → get_or text (line_end text b) 0 ≡ 10
+at_line_end : (text : List ℕ) (b : ℕ) → b ≤ length text → line_end text b < length text
+    → get_or text (line_end text b) 0 ≡ 10
 at_line_end text b within inside =
     let n = position_or_len is_newline (drop b text) in
     let end = line_end-position text b in
     let front = length-take b text in
     let back = length-drop b text in
-    let place : get_or (drop b text) n 0 ≡ get_or text (line_end text b) 0 = get_or-drop b text n 0 ∙ ap (λ i. get_or text i 0) (omega arith) in
+    let place : get_or (drop b text) n 0 ≡ get_or text (line_end text b) 0 =
+    get_or-drop b text n 0 ∙ ap (λ i. get_or text i 0) (omega arith) in
     sym place ∙ eqb-true _ 10 (passes_at_first is_newline (drop b text) 0 (omega arith))
 
 -- a LF right after a CR
-pub crlf_bytes : (text : List ℕ) (b : ℕ) → ends_crlf text b ≡ true → (0 < b) × (get_or text b 0 ≡ 10) × (get_or text (b - 1) 0 ≡ 13)
+pub crlf_bytes : (text : List ℕ) (b : ℕ) → ends_crlf text b ≡ true
+    → (0 < b) × (get_or text b 0 ≡ 10) × (get_or text (b - 1) 0 ≡ 13)
 crlf_bytes text b h =
     let (some, bytes) = and_parts _ _ h in
     let (newline, return) = and_parts _ _ bytes in
@@ -57,7 +62,8 @@ line_begins text b utf8 within =
     let start = line_start-le text b in
     ⊎_elim
     (λ behind. let newline = before_line_start text b behind in
-    subst (IsCharBoundary text) (omega arith) (IsCharBoundary-after_ascii text (line_start text b - 1) utf8 (omega arith) (omega arith)))
+    let boundary = IsCharBoundary-after_ascii text (line_start text b - 1) utf8 (omega arith) (omega arith) in
+    subst (IsCharBoundary text) (omega arith) boundary)
     (λ first. subst (IsCharBoundary text) (omega arith) (IsCharBoundary-start text utf8))
     (cases_lt 0 (line_start text b))
 
@@ -65,7 +71,8 @@ whole_line_ends : (text : List ℕ) (b : ℕ) → b ≤ length text → IsCharBo
 whole_line_ends text b within =
     let bounds = line_end_bounds text b within in
     ⊎_elim
-    (λ inside. let newline = at_line_end text b within inside in IsCharBoundary-before_ascii text (line_end text b) inside (omega arith))
+    (λ inside. let newline = at_line_end text b within inside in
+    IsCharBoundary-before_ascii text (line_end text b) inside (omega arith))
     (λ end. subst (IsCharBoundary text) (omega arith) (IsCharBoundary-end text))
     (cases_lt (line_end text b) (length text))
 
@@ -80,14 +87,16 @@ shown_line_ends text b within = by_its_end (ends_crlf text (line_end text b)) re
         let start = line_start-le text b in
         let bounds = line_end_bounds text b within in
         let newline = before_line_start text b (omega arith) in
-        let same : get_or text (line_start text b - 1) 0 ≡ get_or text (line_end text b - 1) 0 = ap (λ i. get_or text (i - 1) 0) (omega arith) in
+        let same : get_or text (line_start text b - 1) 0 ≡ get_or text (line_end text b - 1) 0 =
+        ap (λ i. get_or text (i - 1) 0) (omega arith) in
         absurd (omega arith))
         (cases_lt (line_start text b) (line_end text b))
 
     end_if : Bool → ℕ
     end_if crlf = if crlf then line_end text b - 1 else line_end text b
 
-    by_its_end : (crlf : Bool) → ends_crlf text (line_end text b) ≡ crlf → (line_start text b ≤ end_if crlf) × IsCharBoundary text (end_if crlf)
+    by_its_end : (crlf : Bool) → ends_crlf text (line_end text b) ≡ crlf
+        → (line_start text b ≤ end_if crlf) × IsCharBoundary text (end_if crlf)
     by_its_end false _ =
         let start = line_start-le text b in
         let bounds = line_end_bounds text b within in

@@ -26,7 +26,8 @@ is_place_only text b h =
     )
 
 is_place_false : (text : List ℕ) (b : ℕ) → (IsCharBoundary text b → ⊥) → is_place text b ≡ false
-is_place_false text b none = ⊎_elim (λ h. absurd (none (is_place_only text b h))) (λ h. h) (cases_Bool (is_place text b))
+is_place_false text b none =
+    ⊎_elim (λ h. absurd (none (is_place_only text b h))) (λ h. h) (cases_Bool (is_place text b))
 
 pub told_of_place : (name text words : List ℕ) (span : Span) → IsCharBoundary text span.start
     → told name text words span ≡ place_line name text words span.start ++ excerpt text span

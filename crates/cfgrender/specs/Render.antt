@@ -69,7 +69,7 @@ abbrev pub told_also : SpansKind → List ℕ → List ℕ → List Span → Lis
 told_also DuplicationError name text spans = flat_map (told name text (codes "also here")) spans
 told_also Error name text spans = []
 
--- what is read of an error or a warning that prints this message and has these spans, of this kind, in a text of this name
+-- what is read, in a text of this name, of an error or a warning with this message and these spans, of this kind
 abbrev pub rendered : List ℕ → List ℕ → List ℕ → List Span → SpansKind → List ℕ
 rendered name text message [] kind = plain_line name message
 rendered name text message (span ∷ spans) kind = told name text message span ++ told_also kind name text spans

@@ -17,6 +17,7 @@ pub fn carets_begin_at_column()
 /// There are as many carets as the shown part of a span has characters, and one where it has none.
 #[tactic(auto, using(crate::proofs::Columns::carets_count_characters))]
 pub fn carets_count_characters()
-    ensures { (text : List ℕ) (span : Span) → IsUtf8 text → IsCharBoundary text span.start → IsCharBoundary text span.end
+    ensures { (text : List ℕ) (span : Span) → IsUtf8 text
+        → IsCharBoundary text span.start → IsCharBoundary text span.end
         → length (carets (shown_span text span)) ≡ max 1 (length (chars (shown_span text span))) }
 {}

@@ -4,5 +4,6 @@
 pub mod excerpt;
 pub mod laws;
 pub mod message;
+mod source;
 
 pub use message::render;

@@ -5,4 +5,5 @@ use Rattle.cfgrender.proofs.excerpt.push_under_front.Given as goal
 
 -- what stands under the bytes so far
 abbrev pub invariant-loop-byte : goal.invariant-loop-byte
-invariant-loop-byte l = string_bytes l.out ≡ string_bytes l.initial.out ++ flat_map under_front (take l.byte-index l.front)
+invariant-loop-byte l = string_bytes l.out
+    ≡ string_bytes l.initial.out ++ flat_map under_front (take l.byte-index l.front)

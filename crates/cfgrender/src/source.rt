@@ -1,0 +1,82 @@
+//! A text with its name, and what is told of its places.
+
+ghost use Rattle.std.specs.Prelude.{◌≡◌, ◌++◌, codes, string_bytes, IfOk, OnOk};
+ghost use Rattle.std.specs.List.{flat_map};
+ghost use Rattle.cfglines.specs.Lines.{StandsFor};
+ghost use Rattle.cfgrender.specs.Render.{told, told_also};
+
+use crate::excerpt::push_excerpt;
+use cfgbase::{Span, SpansKind};
+use cfglines::{FeedError, NewlineCache};
+use std::alloc::{AllocError, Global};
+
+/// A text with its name and its newlines.
+#[derive(Drop)]
+pub(crate) struct Source<'a> {
+    name: &'a str,
+    text: &'a str,
+    lines: NewlineCache,
+    ghost cached: { StandsFor lines text.now },
+}
+
+impl<'a> Source<'a> {
+    /// A text of this name.
+    pub(crate) fn new(alloc: Global, name: &'a str, text: &'a str) -> Result<Source<'a>, AllocError>
+        ensures name { IfOk result (λ source. source.name.now ≡ name.entry.now) }
+        ensures text { IfOk result (λ source. source.text.now ≡ text.entry.now) }
+    {
+        match NewlineCache::from_str(alloc, text) {
+            Ok(lines) => Ok(Source { name, text, lines }),
+            Err(FeedError::OutOfMemory) => Err(AllocError),
+            Err(FeedError::TooLong) => unreachable!(),
+        }
+    }
+
+    /// Writes where the spans behind the first one are, if they are those of duplicates.
+    pub(crate) fn push_told_also(
+        &self,
+        out: &mut String,
+        kind: SpansKind,
+        spans: &[Span],
+    ) -> Result<(), AllocError>
+        ensures { OnOk result (string_bytes out.new
+            ≡ string_bytes out.old ++ told_also kind self.now.name.now self.now.text.now spans.now) }
+    {
+        match kind {
+            SpansKind::DuplicationError => self.push_each(out, spans),
+            SpansKind::Error => Ok(()),
+        }
+    }
+
+    /// Writes where each of the spans is.
+    fn push_each(&self, out: &mut String, spans: &[Span]) -> Result<(), AllocError>
+        ensures { OnOk result (string_bytes out.new
+            ≡ string_bytes out.old
+            ++ flat_map (told self.now.name.now self.now.text.now (codes "also here")) spans.now) }
+    {
+        for span in spans {
+            self.push_told(out, "also here", *span)?;
+        }
+        Ok(())
+    }
+
+    /// Writes where a span starts, these words, and the excerpt.
+    pub(crate) fn push_told(
+        &self,
+        out: &mut String,
+        words: &str,
+        span: Span,
+    ) -> Result<(), AllocError>
+        ensures { OnOk result (string_bytes out.new
+            ≡ string_bytes out.old ++ told self.now.name.now self.now.text.now words.now span) }
+    {
+        let Source { name, text, lines } = self;
+        match lines.byte_to_line_num_and_col_num(text, span.start()) {
+            Some((line, column)) => {
+                writeln!(out, "{name}:{line}:{column}: {words}")?;
+                push_excerpt(out, lines, text, span)
+            }
+            None => writeln!(out, "{name}: {words}"),
+        }
+    }
+}
