@@ -26,12 +26,6 @@ pub fn render<E: Spanned>(
     let message = error.to_string(alloc)?;
     let source = Source::new(alloc, name, text)?;
     let mut out = String::new(alloc);
-    match error.spans() {
-        [] => writeln!(out, "{name}: {message}")?,
-        [first, others @ ..] => {
-            source.push_told(&mut out, &message, *first)?;
-            source.push_told_also(&mut out, error.spanskind(), others)?;
-        }
-    }
+    source.push_rendered(&mut out, &message, error.spans(), error.spanskind())?;
     Ok(out)
 }

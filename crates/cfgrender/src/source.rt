@@ -3,7 +3,7 @@
 ghost use Rattle.std.specs.Prelude.{◌≡◌, ◌++◌, codes, string_bytes, IfOk, OnOk};
 ghost use Rattle.std.specs.List.{flat_map};
 ghost use Rattle.cfglines.specs.Lines.{StandsFor};
-ghost use Rattle.cfgrender.specs.Render.{told, told_also};
+ghost use Rattle.cfgrender.specs.Render.{rendered, told, told_also};
 
 use crate::excerpt::push_excerpt;
 use cfgbase::{Span, SpansKind};
@@ -32,8 +32,27 @@ impl<'a> Source<'a> {
         }
     }
 
+    /// Writes what is read of an error or a warning with this message, these spans and this kind.
+    pub(crate) fn push_rendered(
+        &self,
+        out: &mut String,
+        message: &str,
+        spans: &[Span],
+        kind: SpansKind,
+    ) -> Result<(), AllocError>
+        ensures { OnOk result (string_bytes out.new ≡ string_bytes out.old
+            ++ rendered self.now.name.now self.now.text.now message.now spans.now kind) }
+    {
+        let [first, others @ ..] = spans else {
+            let name = self.name;
+            return writeln!(out, "{name}: {message}");
+        };
+        self.push_told(out, message, *first)?;
+        self.push_told_also(out, kind, others)
+    }
+
     /// Writes where the spans behind the first one are, if they are those of duplicates.
-    pub(crate) fn push_told_also(
+    fn push_told_also(
         &self,
         out: &mut String,
         kind: SpansKind,
@@ -61,12 +80,7 @@ impl<'a> Source<'a> {
     }
 
     /// Writes where a span starts, these words, and the excerpt.
-    pub(crate) fn push_told(
-        &self,
-        out: &mut String,
-        words: &str,
-        span: Span,
-    ) -> Result<(), AllocError>
+    fn push_told(&self, out: &mut String, words: &str, span: Span) -> Result<(), AllocError>
         ensures { OnOk result (string_bytes out.new
             ≡ string_bytes out.old ++ told self.now.name.now self.now.text.now words.now span) }
     {
