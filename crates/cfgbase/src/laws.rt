@@ -12,8 +12,8 @@ ghost use Rattle.cfgbase.specs.declared.span.SpansKind.{SpansKind};
 use crate::span::{Location, Span, SpansKind};
 use std::hash::Hash;
 
-/// Spans are equal exactly where both of their ends are the same. A clone is its source, and takes no memory. A hash is
-/// fed the start, and then the end.
+/// Spans are equal exactly where both of their ends are the same. A clone is its source, and takes no memory. A
+/// hash is fed the start, and then the end.
 pub fn spans_are_their_ends()
     ensures equal { (a b : Span) → IsTrue (⟦<Span as PartialEq>⟧.eq a b) ↔ (a ≡ b) }
     ensures clone { (a b : Span) → ⟦<Span as Clone>⟧.is_clone a b → b ≡ a }
@@ -21,8 +21,8 @@ pub fn spans_are_their_ends()
     ensures hash { (a : Span) → ⟦<Span as Hash>⟧.hash_input a ≡ fed.usize a.start ++ fed.usize a.end }
 {}
 
-/// Locations are equal exactly where they show the same: the same span, the command line, or the same words. A clone
-/// shows what its source does, and takes memory for words alone.
+/// Locations are equal exactly where they show the same: the same span, the command line, or the same words. A
+/// clone shows what its source does, and takes memory for words alone.
 pub fn locations_are_what_they_show()
     ensures equal { (a b : Location) → IsTrue (⟦<Location as PartialEq>⟧.eq a b) ↔ (location_view a ≡ location_view b) }
     ensures clone { (a b : Location) → ⟦<Location as Clone>⟧.is_clone a b → location_view b ≡ location_view a }

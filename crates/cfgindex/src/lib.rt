@@ -2,6 +2,7 @@
 #![tactic(auto)]
 
 pub mod idxnewtype;
+pub mod laws;
 pub mod storage;
 pub mod vob;
 
