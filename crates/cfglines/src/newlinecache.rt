@@ -32,6 +32,8 @@ impl From<AllocError> for FeedError {
 impl fmt::Display for FeedError {
     ghost output = { λ error. Some (feed_error_text error) };
 
+    ghost styled_output = { λ error _. Some (feed_error_text error) };
+
     fn fmt<W: fmt::Write>(&self, f: &mut fmt::Formatter<W>) -> fmt::Result {
         f.write_str(match self {
             FeedError::TooLong => "the text is too long",

@@ -1,5 +1,5 @@
 -- What `{}` prints of why merging stopped, in bytes: none is told where what it shows has none that is told.
-use Rattle.std.specs.Prelude.{ℕ, List, Option, Some, codes}
+use Rattle.std.specs.Prelude.{ℕ, List, Option, Some, None, codes}
 use Rattle.std.specs.Fmt.{◌++?◌}
 use Rattle.cfgmarks.specs.declared.markmap.fault.MergeError.{MergeError}
 use Rattle.cfgmarks.specs.declared.markmap.fault.MergeError.TheVariants.{Exclusivity}
@@ -16,3 +16,8 @@ abbrev pub fault_text : {K V E : Type 0} → (K → Option (List ℕ)) → (E �
 fault_text key_text refusal_text (Conflict conflict) = conflict_text key_text conflict
 fault_text key_text refusal_text (Convert key refusal) = Some (codes "the value at the key ") ++? key_text key ++? Some (codes " isn't converted: ") ++? refusal_text refusal
 fault_text key_text refusal_text OutOfMemory = Some (codes "out of memory")
+
+-- the text of a fault under options as well, such as a width: none is told where a key is shown
+abbrev pub styled_fault_text : {K V E : Type 0} → MergeFault K V E → Option (List ℕ)
+styled_fault_text OutOfMemory = Some (codes "out of memory")
+styled_fault_text _ = None

@@ -1,4 +1,5 @@
 //! Maps whose keys carry marks.
 #![tactic(auto)]
 
+pub mod laws;
 pub mod markmap;

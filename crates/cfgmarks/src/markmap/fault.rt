@@ -1,5 +1,5 @@
 //! Why merging stopped.
-ghost use Rattle.cfgmarks.specs.FaultTexts.{conflict_text, fault_text};
+ghost use Rattle.cfgmarks.specs.FaultTexts.{conflict_text, fault_text, styled_fault_text};
 
 use std::error::Error;
 use std::fmt;
@@ -40,13 +40,15 @@ pub enum MergeFault<K, V, E> {
 impl<K: Debug, V, E: fmt::Display> fmt::Display for MergeFault<K, V, E> {
     ghost output = { fault_text K.debug_output E.output };
 
+    ghost styled_output = { λ fault _. styled_fault_text fault };
+
     fn fmt<W: fmt::Write>(&self, f: &mut fmt::Formatter<W>) -> fmt::Result {
         match self {
             MergeFault::Conflict(conflict) => write!(f, "{conflict}"),
             MergeFault::Convert(key, refusal) => {
                 write!(f, "the value at the key {key:?} isn't converted: {refusal}")
             }
-            MergeFault::OutOfMemory => write!(f, "out of memory"),
+            MergeFault::OutOfMemory => f.write_str("out of memory"),
         }
     }
 }

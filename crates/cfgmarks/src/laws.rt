@@ -1,0 +1,14 @@
+//! What `==` and `clone` of what merging does compare and copy. They are derived, so each law names the impl, as in
+//! `⟦<MergeBehavior as PartialEq>⟧`, and holds of every value.
+
+ghost use Rattle.std.specs.Prelude.{◌≡◌, ◌↔◌, IsTrue};
+ghost use Rattle.cfgmarks.specs.declared.markmap.behavior.MergeBehavior.{MergeBehavior};
+
+use crate::markmap::MergeBehavior;
+
+/// The three behaviors differ, and each is equal to itself. A clone is its source, and takes no memory.
+pub fn merge_behaviors_are_told_apart()
+    ensures equal { (a b : MergeBehavior) → IsTrue (⟦<MergeBehavior as PartialEq>⟧.eq a b) ↔ (a ≡ b) }
+    ensures clone { (a b : MergeBehavior) → ⟦<MergeBehavior as Clone>⟧.is_clone a b → b ≡ a }
+    ensures cloned { (a : MergeBehavior) → ⟦<MergeBehavior as Clone>⟧.is_infallible a }
+{}
