@@ -1,3 +1,4 @@
+pub mod Compared
 pub mod Fields
 pub mod Keeps
 pub mod Law

@@ -3,6 +3,7 @@
 pub mod ast;
 pub mod builder;
 pub mod item;
+pub mod laws;
 pub mod production;
 pub mod rule;
 pub mod settings;

@@ -33,10 +33,10 @@ impl fmt::Display for Symbol {
 
     ghost output = { λ symbol. Some (symbol_word (symbol_view symbol)).name };
 
+    ghost styled_output = { λ symbol _. Some (symbol_word (symbol_view symbol)).name };
+
     fn fmt<W: fmt::Write>(&self, f: &mut fmt::Formatter<W>) -> fmt::Result {
-        match self {
-            Symbol::Rule(name, _) => write!(f, "{name}"),
-            Symbol::Token(name, _) => write!(f, "{name}"),
-        }
+        let (Symbol::Rule(name, _) | Symbol::Token(name, _)) = self;
+        f.write_str(name)
     }
 }
