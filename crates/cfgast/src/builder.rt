@@ -17,9 +17,9 @@ use std::alloc::{AllocError, Global};
 
 /// Builds the tree of a grammar file from the items that a reader finds in it, in their order.
 ///
-/// It is the reader's own, which hands out the tree alone, and only once the whole text is read: no public path of
-/// `cfgrammar` leads to it. A method that fails for lack of memory may have added a part of its item, and its contract
-/// says nothing of what the builder holds then, so a builder that refused an item is of no more use than to be dropped.
+/// It is the reader's own: no public path of `cfgrammar` leads to it. A method that fails for lack of memory may have
+/// added a part of its item, and its contract says nothing of what the builder holds then. So the reader drops it, and
+/// answers want of memory and no tree.
 #[derive(Drop)]
 pub struct AstBuilder {
     ast: GrammarAST,

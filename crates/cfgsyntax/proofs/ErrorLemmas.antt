@@ -9,7 +9,7 @@ use Rattle.cfgsyntax.specs.declared.yacc.parser.error.YaccGrammarErrorKind.{Yacc
 use Rattle.cfgsyntax.specs.declared.yacc.parser.error.YaccGrammarErrorKind.TheVariants as rust
 use Rattle.cfgsyntax.specs.contracts.yacc.parser.error.YaccGrammarErrorKindPartialEq.TheImpl.{ghosts as kinds}
 use Rattle.cfgsyntax.specs.contracts.yacc.parser.error.YaccGrammarErrorKind.{enum}
-use Rattle.cfgsyntax.specs.Errors.{ErrorKind, InvalidStartRule, UnknownRuleRef, UnknownToken, NoPrecForToken, UnknownEPP, Nameless, GrammarError, kind_view, same_error, same_error-equivalence, same_kind, same_span, same_spans}
+use Rattle.cfgsyntax.specs.Errors.{ErrorKind, InvalidStartRule, UnknownRuleRef, UnknownToken, NoPrecForToken, UnknownEPP, Nameless, GrammarError, kind_view, same_error, same_error-equivalence, same_kind, same_kind-equivalence, same_span, same_spans}
 
 -- the derived `==` of kinds compares what callers see of them
 pub eq_kind_view : (x y : YaccGrammarErrorKind) → kinds.eq x y ≡ same_kind (kind_view x) (kind_view y)
@@ -39,6 +39,10 @@ kind_view-eq x y h =
 
     expected : (a b : ℕ × Unit {0}) → (a.0 == b.0) ≡ true → Nameless (rust.ExpectedInput a.0) ≡ Nameless (rust.ExpectedInput b.0)
     expected a b h = ap (λ c. Nameless (rust.ExpectedInput c)) (eqb-true a.0 b.0 h)
+
+pub kind_view_iff : (x y : YaccGrammarErrorKind) → IsTrue (kinds.eq x y) ↔ (kind_view x ≡ kind_view y)
+kind_view_iff x y =
+    (kind_view-eq x y, λ e. eq_kind_view x y ∙ subst (λ kind. same_kind (kind_view x) kind ≡ true) e (same_kind-equivalence.refl (kind_view x)))
 
 same_span-true : (a b : Span) → same_span a b ≡ true → a ≡ b
 same_span-true a b h =

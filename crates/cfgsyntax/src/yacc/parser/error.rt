@@ -1,4 +1,5 @@
-ghost use Rattle.std.specs.Prelude.{◌≡◌, ◌↔◌, IsTrue, IfOk, Some};
+ghost use Rattle.std.specs.Prelude.{◌≡◌, ◌↔◌, ◌++◌, IsTrue, IfOk, Some};
+ghost use Rattle.std.specs.Fmt.{WritesOnOk, WritesStyledOnOk};
 ghost use Rattle.std.specs.Cmp.{partial_equiv_from_equiv};
 ghost use Rattle.cfgsyntax.specs.Errors.{error_at, kind_view, same_error, same_error-equivalence, spanskind_of};
 ghost use Rattle.cfgsyntax.specs.Texts.{error_text, fault_text};
@@ -91,6 +92,8 @@ pub enum YaccGrammarErrorKind {
 impl fmt::Display for YaccGrammarErrorKind {
     ghost output = { λ kind. Some (error_text (kind_view kind)) };
 
+    ghost styled_output = { λ kind _. Some (error_text (kind_view kind)) };
+
     #[tactic(auto, unfolding(crate::specs::Texts::error_text))]
     fn fmt<W: fmt::Write>(&self, f: &mut fmt::Formatter<W>) -> fmt::Result {
         let text = match self {
@@ -121,26 +124,58 @@ impl fmt::Display for YaccGrammarErrorKind {
             Self::InvalidString => "Invalid string",
             Self::NoStartRule => "No start rule specified",
             Self::UnknownSymbol => "Unknown symbol, expected a rule or token",
-            Self::InvalidStartRule(name) => return write!(
-                f,
-                "Start rule '{name}' does not appear in grammar"
-            ),
-            Self::UnknownRuleRef(name) => return write!(f, "Unknown reference to rule '{name}'"),
-            Self::UnknownToken(name) => return write!(f, "Unknown token '{name}'"),
-            Self::NoPrecForToken(name) => return write!(
-                f,
-                "Token '{name}' used in %prec has no precedence attached"
-            ),
-            Self::UnknownEPP(name) => return write!(
-                f,
-                "Token '{name}' in %epp declaration is not referenced in the grammar"
-            ),
-            Self::ExpectedInput(character) => return write!(f, "Expected input '{character}'"),
+            Self::InvalidStartRule(name) => {
+                return write_parts(f, "Start rule '", name, "' does not appear in grammar");
+            }
+            Self::UnknownRuleRef(name) => {
+                return write_parts(f, "Unknown reference to rule '", name, "'");
+            }
+            Self::UnknownToken(name) => return write_parts(f, "Unknown token '", name, "'"),
+            Self::NoPrecForToken(name) => {
+                return write_parts(
+                    f,
+                    "Token '",
+                    name,
+                    "' used in %prec has no precedence attached",
+                );
+            }
+            Self::UnknownEPP(name) => {
+                return write_parts(
+                    f,
+                    "Token '",
+                    name,
+                    "' in %epp declaration is not referenced in the grammar",
+                );
+            }
+            Self::ExpectedInput(character) => {
+                let mut bytes = [0; 4];
+                return write_parts(
+                    f,
+                    "Expected input '",
+                    character.encode_utf8(&mut bytes),
+                    "'",
+                );
+            }
             Self::InvalidYaccKind => "Invalid yacc kind",
             Self::StorageTooSmall => "Index type too small for this grammar",
         };
         f.write_str(text)
     }
+}
+
+/// Writes a name between two texts, under any options.
+fn write_parts<W: fmt::Write>(
+    f: &mut fmt::Formatter<W>,
+    before: &str,
+    name: &str,
+    behind: &str,
+) -> fmt::Result
+    ensures plain { WritesOnOk W.write_str_gives f.old result (before.now ++ (name.now ++ behind.now)) f.new }
+    ensures styled { WritesStyledOnOk W.write_str_gives f.old result (before.now ++ (name.now ++ behind.now)) f.new }
+{
+    f.write_str(before)?;
+    f.write_str(name)?;
+    f.write_str(behind)
 }
 
 /// An error in a Yacc file: what is wrong, and where.
@@ -218,6 +253,8 @@ impl Clone for YaccGrammarError {
 impl fmt::Display for YaccGrammarError {
     ghost output = { λ e. Some (error_text e.kind) };
 
+    ghost styled_output = { λ e _. Some (error_text e.kind) };
+
     fn fmt<W: fmt::Write>(&self, f: &mut fmt::Formatter<W>) -> fmt::Result {
         self.kind.fmt(f)
     }
@@ -261,6 +298,8 @@ pub enum YaccFault {
 impl fmt::Display for YaccFault {
     ghost output = { λ fault. Some (fault_text fault) };
 
+    ghost styled_output = { λ fault _. Some (fault_text fault) };
+
     fn fmt<W: fmt::Write>(&self, f: &mut fmt::Formatter<W>) -> fmt::Result {
         match self {
             YaccFault::Errors(errors) => {
@@ -269,7 +308,8 @@ impl fmt::Display for YaccFault {
                 };
                 first.fmt(f)?;
                 for error in others {
-                    write!(f, "\n{error}")?;
+                    f.write_str("\n")?;
+                    error.fmt(f)?;
                 }
                 Ok(())
             }

@@ -21,6 +21,8 @@ pub enum YaccGrammarWarningKind {
 impl fmt::Display for YaccGrammarWarningKind {
     ghost output = { λ kind. Some (warning_text kind) };
 
+    ghost styled_output = { λ kind _. Some (warning_text kind) };
+
     fn fmt<W: fmt::Write>(&self, f: &mut fmt::Formatter<W>) -> fmt::Result {
         match self {
             YaccGrammarWarningKind::UnusedRule => f.write_str("Unused rule"),
@@ -90,6 +92,8 @@ impl Clone for YaccGrammarWarning {
 
 impl fmt::Display for YaccGrammarWarning {
     ghost output = { λ w. Some (warning_text w.kind) };
+
+    ghost styled_output = { λ w _. Some (warning_text w.kind) };
 
     fn fmt<W: fmt::Write>(&self, f: &mut fmt::Formatter<W>) -> fmt::Result {
         self.kind.fmt(f)
