@@ -3,7 +3,7 @@
 
 ghost use Rattle.std.specs.Prelude.{◌≡◌, ◌↔◌, ◌++◌, IsTrue};
 ghost use Rattle.std.specs.Hash as fed;
-ghost use Rattle.cfgbase.specs.Places.{location_view};
+ghost use Rattle.cfgbase.specs.Locations.{location_view};
 ghost use Rattle.cfgbase.specs.declared.span.Location.{Location};
 ghost use Rattle.cfgbase.specs.declared.span.Location.TheVariants as location;
 ghost use Rattle.cfgbase.specs.declared.span.Span.{Span};

@@ -1,7 +1,8 @@
 //! What `==` and `clone` of what merging does compare and copy. They are derived, so each law names the impl, as in
 //! `⟦<MergeBehavior as PartialEq>⟧`, and holds of every value.
 
-ghost use Rattle.std.specs.Prelude.{◌≡◌, ◌↔◌, IsTrue};
+ghost use Rattle.std.specs.Prelude.{◌≡◌, ◌↔◌, ◌*◌, IsTrue};
+ghost use Rattle.cfgmarks.specs.MarkWord.{behavior_word};
 ghost use Rattle.cfgmarks.specs.declared.markmap.behavior.MergeBehavior.{MergeBehavior};
 
 use crate::markmap::MergeBehavior;
@@ -12,3 +13,10 @@ pub fn merge_behaviors_are_told_apart()
     ensures clone { (a b : MergeBehavior) → ⟦<MergeBehavior as Clone>⟧.is_clone a b → b ≡ a }
     ensures cloned { (a : MergeBehavior) → ⟦<MergeBehavior as Clone>⟧.is_infallible a }
 {}
+
+/// A behavior as a number is a bit, which stands in the upper byte of a key's marks.
+pub fn merge_behaviors_are_bits(behavior: MergeBehavior) -> u8
+    ensures { 256 * result ≡ behavior_word behavior }
+{
+    behavior as u8
+}

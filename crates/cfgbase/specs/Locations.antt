@@ -6,13 +6,13 @@ use Rattle.cfgbase.specs.declared.span.Location.{Location}
 use Rattle.cfgbase.specs.declared.span.Location.TheVariants as rust
 
 -- a span of a text, the command line, or words
-pub data Place : Type 0 where
-  InText : Span → Place
-  CommandLine : Place
-  InWords : List ℕ → Place
+pub data Origin : Type 0 where
+  InText : Span → Origin
+  OnCommandLine : Origin
+  InWords : List ℕ → Origin
 
 -- a location of the code, without the memory that its words stand in
-abbrev pub location_view : Location → Place
+abbrev pub location_view : Location → Origin
 location_view (rust.Span span) = InText span
-location_view rust.CommandLine = CommandLine
+location_view rust.CommandLine = OnCommandLine
 location_view (rust.Other words) = InWords (string_bytes words)
