@@ -1,4 +1,7 @@
 //! Yacc grammars: read from the text of a Yacc file, validated, and turned into numbered tables.
+//!
+//! A crate that lists `cfgrammar` alone in `crates.txt` has all of it but `usize::from` and `u32::from` of an index, for
+//! which it lists `cfgindex` too, and loops over a `&MarkMap`, for which it lists `cfgmarks`.
 #![tactic(auto)]
 
 pub mod yacc;

@@ -102,4 +102,8 @@ impl<I: Index> Iterator for IdxIter<I> {
         let place = self.left.next()?;
         Some(I::at(place))
     }
+
+    fn size_hint(&self) -> (usize, Option<usize>) {
+        self.left.size_hint()
+    }
 }
