@@ -89,3 +89,8 @@ pub record AddsFirst (rule : ℕ) (symbols : List Sym) (token : ℕ) (old new : 
   pub added : changed ≡ true → new ≡ with_first old rule token
   pub same : changed ≡ false → new ≡ old
   pub had : changed ≡ false → begins_by old symbols token ≡ true → bit old.firsts rule token ≡ true
+
+-- whether the symbol is an empty rule
+abbrev pub is_empty_symbol : FirstSets → Sym → Bool
+is_empty_symbol x (Rule r) = epsilon_bit x r
+is_empty_symbol x (Token u) = false

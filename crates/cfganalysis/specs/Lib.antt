@@ -3,4 +3,5 @@ pub mod Openings
 pub mod Table
 pub mod Rounds
 pub mod Firsts
+pub mod Follows
 pub mod Bounds

@@ -1,7 +1,7 @@
 //! Tables of bits.
 
-ghost use Rattle.std.specs.Prelude.{◌≡◌, ◌<◌, false, true, length, IfOk, MatchBool};
-ghost use Rattle.cfganalysis.specs.Table.{bit, no_bits, row_of, with_bit};
+ghost use Rattle.std.specs.Prelude.{◌≡◌, ◌≢◌, ◌<◌, [], false, true, length, slice_index_or, slice_set, IfOk, IsTrue, MatchBool};
+ghost use Rattle.cfganalysis.specs.Table.{GrewTo, HasBit, Joins, bit, joined, no_bits, row_of, with_bit};
 
 use cfgindex::Vob;
 use std::alloc::{AllocError, Global};
@@ -77,5 +77,40 @@ impl BitTable {
         ensures changed { MatchBool result (bit self.old row column ≡ false) (bit self.old row column ≡ true) }
     {
         self.rows[row].set(column, true)
+    }
+    /// Turns on in a row each bit that `bits` has on, and tells whether that changed any.
+    pub fn join(&mut self, row: usize, bits: &Vob) -> bool
+        requires row { row < length self.old.rows }
+        requires columns { length bits.now ≡ self.old.columns }
+        ensures { Joins (λ r k. (r ≡ row) × IsTrue (slice_index_or bits.now k false)) self.old self.new result }
+    {
+        self.rows[row].or(bits)
+    }
+
+    /// Turns on in a row each bit that the other row has on, and tells whether that changed any.
+    pub fn join_row(&mut self, row: usize, other: usize) -> bool
+        requires row { row < length self.old.rows }
+        requires other { other < length self.old.rows }
+        ensures { Joins (λ r k. (r ≡ row) × HasBit self.old other k) self.old self.new result }
+    {
+        row != other && join_lists(self.rows.as_mut_slice(), row, other)
+    }
+}
+
+/// Turns on in one list each bit that another has on, and tells whether that changed any.
+fn join_lists(lists: &mut [Vob], to: usize, from: usize) -> bool
+    requires to { to < length lists.old }
+    requires from { from < length lists.old }
+    requires apart { to ≢ from }
+    requires lengths { length (slice_index_or lists.old to []) ≡ length (slice_index_or lists.old from []) }
+    ensures bits { lists.new ≡ slice_set lists.old to (joined (slice_index_or lists.old to []) (slice_index_or lists.old from [])) }
+    ensures changed { GrewTo (slice_index_or lists.old to []) (joined (slice_index_or lists.old to []) (slice_index_or lists.old from [])) result }
+{
+    if to < from {
+        let (front, back) = lists.split_at_mut(from);
+        front[to].or(&back[0])
+    } else {
+        let (front, back) = lists.split_at_mut(to);
+        back[0].or(&front[from])
     }
 }

@@ -2,7 +2,7 @@
 
 ghost use Rattle.std.specs.Prelude.{◌≡◌, ◌<◌, ◌≤◌, ◌↔◌, ℕ, Contains, false, true, length, map, slice_set, IfOk, IsTrue};
 ghost use Rattle.derivation.specs.Grammar.{Grammar, IsGrammar};
-ghost use Rattle.cfganalysis.specs.Firsts.{AddsEpsilon, AddsFirst, AreFirsts, HaveFirstsOf, IsAmongFirsts, IsEpsilon, SayFirsts, begins_by, count_firsts, epsilon_bit, no_firsts, vanishes_by, with_first};
+ghost use Rattle.cfganalysis.specs.Firsts.{AddsEpsilon, AddsFirst, AreFirsts, HaveFirstsOf, IsAmongFirsts, IsEpsilon, SayFirsts, begins_by, count_firsts, epsilon_bit, is_empty_symbol, no_firsts, vanishes_by, with_first};
 ghost use Rattle.cfganalysis.specs.Rounds.{TakesIn, most_openings};
 ghost use Rattle.cfganalysis.specs.Symbols.{sym_of};
 ghost use Rattle.cfganalysis.specs.Table.{bit, row_of};
@@ -93,6 +93,16 @@ impl<S: Storage> YaccFirsts<S> {
         ensures { result ≡ epsilon_bit self.now rule }
     {
         self.epsilons.get(rule).unwrap_or(false)
+    }
+
+    /// Whether the symbol is an empty rule.
+    pub(crate) fn is_empty_symbol(&self, symbol: Symbol<S>) -> bool
+        ensures { result ≡ is_empty_symbol self.now (sym_of S.number symbol) }
+    {
+        match symbol {
+            Symbol::Rule(rule) => self.is_empty(usize::from(rule)),
+            Symbol::Token(_) => false,
+        }
     }
 
     /// Whether every symbol is an empty rule.

@@ -1,14 +1,16 @@
-//! Analyses of grammars: the sets of tokens that rules begin with.
+//! Analyses of grammars: the sets of tokens that rules begin with, and of those that follow them.
 #![tactic(auto)]
 
 pub mod bits;
 pub mod counted;
 pub mod firsts;
+pub mod follows;
 pub mod productions;
 pub mod rounds;
 
 pub use bits::BitTable;
 pub use counted::{CountedTables, Tables};
 pub use firsts::{YaccFirsts, firsts_over};
+pub use follows::{YaccFollows, follows_over};
 pub use productions::Productions;
 pub use rounds::{Analysis, settle};

@@ -1,0 +1,16 @@
+use Rattle.std.proofs.Common.{sym, ap, ◌∙◌, subst, ◌-◌}
+use Rattle.cfganalysis.specs.Follows.{AreFollows, SayFollows}
+use Rattle.cfganalysis.specs.Table.{with_bit}
+use Rattle.cfganalysis.proofs.FollowBits.{are_follows, say_start}
+use Rattle.cfganalysis.proofs.follows.follows_over.Goals as goal
+
+pub settle-requires-clause-holds : goal.settle-requires-clause-holds
+settle-requires-clause-holds g c =
+    subst (λ t. SayFollows (g.P.Productions.content c.args.productions.now) (record { firsts = c.args.firsts.now; follows = t }))
+    (ap (λ t. with_bit t 0 (c.to_usize-tokens.result - 1)) (sym c.in_ok-follows.ensures) ∙ sym c.set.ensures.bits)
+    (say_start _ _ _ _ c.rules_len.ensures.content c.requires.firsts (c.to_usize-rules.ensures.value ∙ c.rules_len.ensures.value) (c.to_usize-tokens.ensures.value ∙ c.tokens_len.ensures))
+
+pub returns-clause-follows : goal.returns-clause-follows
+returns-clause-follows g c =
+    subst (λ x. AreFollows (g.P.Productions.content c.args.productions.now) x.follows) (sym c.analysis.view_is)
+    (are_follows _ _ c.settle.ensures.holds c.settle.ensures.settled)

@@ -1,0 +1,58 @@
+-- FOLLOW sets: the tokens that stand right after rules.
+use Rattle.std.specs.Prelude.{◌≡◌, ◌↔◌, ◌⊎◌, ℕ, ◌+◌, Bool, List}
+use Rattle.derivation.specs.Grammar.{Sym, Grammar, Production}
+use Rattle.derivation.specs.Follow.{MayFollow}
+use Rattle.derivation.specs.FirstSets.{Vanishes, Begins}
+use Rattle.derivation.specs.FollowSets.{Flows}
+use Rattle.cfganalysis.specs.Table.{Table, IsTable, HasBit, Joins, count_of}
+use Rattle.cfganalysis.specs.Firsts.{FirstSets, FitsGrammar, AreFirsts, IsAmongFirsts, IsEpsilon}
+
+-- exactly what derivations show
+pub record AreFollows (g : Grammar) (x : Table) : Type 0 where
+  pub fits : IsTable g.rules g.tokens x
+  pub follow : (r t : ℕ) → (HasBit x r t ↔ MayFollow g r t)
+
+-- a row of tokens for each rule, beside the FIRST sets
+pub record FollowSets : Type 0 where
+  pub firsts : FirstSets
+  pub follows : Table
+
+-- a row for each rule, a column for each token
+pub record FitFollows (g : Grammar) (x : FollowSets) : Type 0 where
+  pub firsts : FitsGrammar g x.firsts
+  pub follows : IsTable g.rules g.tokens x.follows
+
+-- nothing but what derivations show, and the end token behind the start rule
+pub record SayFollows (g : Grammar) (x : FollowSets) : Type 0 where
+  pub firsts : AreFirsts g x.firsts
+  pub fits : IsTable g.rules g.tokens x.follows
+  pub finish : (t : ℕ) → t + 1 ≡ g.tokens → HasBit x.follows 0 t
+  pub follow : (r t : ℕ) → HasBit x.follows r t → MayFollow g r t
+
+-- the list's rules are followed by what the list and the rule give
+abbrev pub FlowIn : FollowSets → ℕ → List Sym → Type 0
+FlowIn x rule a = Flows (IsEpsilon x.firsts) (IsAmongFirsts x.firsts) (HasBit x.follows) a (HasBit x.follows rule)
+
+-- they have all that the production gives
+abbrev pub HaveFollowsOf : FollowSets → Production → Type 0
+HaveFollowsOf x p = FlowIn x p.rule p.symbols
+
+-- how many bits are on
+abbrev pub count_follows : FollowSets → ℕ
+count_follows x = count_of x.follows
+
+-- what begins the list
+abbrev pub BeginsList : FollowSets → List Sym → ℕ → Type 0
+BeginsList x a t = Begins (IsEpsilon x.firsts) (IsAmongFirsts x.firsts) a t
+
+abbrev pub VanishesList : FollowSets → List Sym → Type 0
+VanishesList x a = Vanishes (IsEpsilon x.firsts) a
+
+-- what stands behind a symbol of the rule's production: what begins the rest, or, where it vanishes, what follows the rule
+abbrev pub Behind : FollowSets → ℕ → List Sym → ℕ → Type 0
+Behind x rule rest t = BeginsList x rest t ⊎ (VanishesList x rest × HasBit x.follows rule t)
+
+-- tokens were put behind rules
+pub record Puts (gives : ℕ → ℕ → Type 0) (old new : FollowSets) (changed : Bool) : Type 0 where
+  pub firsts : new.firsts ≡ old.firsts
+  pub joins : Joins gives old.follows new.follows changed
