@@ -6,3 +6,4 @@ pub mod Joins
 pub mod Slices
 pub mod FollowVisits
 pub mod FollowBits
+pub mod Searching

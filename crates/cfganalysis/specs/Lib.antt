@@ -4,4 +4,5 @@ pub mod Table
 pub mod Rounds
 pub mod Firsts
 pub mod Follows
+pub mod Paths
 pub mod Bounds

@@ -3,6 +3,7 @@
 ghost use Rattle.std.specs.Prelude.{◌≡◌, ◌<◌, ◌≤◌, All, length, map, replicate, IfOk};
 ghost use Rattle.derivation.specs.Grammar.{Grammar, IsGrammar};
 ghost use Rattle.cfganalysis.specs.Openings.{nth_production};
+ghost use Rattle.cfganalysis.specs.Paths.{ArePlacesOf};
 ghost use Rattle.cfganalysis.specs.Symbols.{sym_of};
 
 use crate::productions::Productions;
@@ -33,6 +34,11 @@ pub trait Tables<S: Storage> {
     fn prod_to_rule(&self, pidx: PIdx<S>) -> RIdx<S>
         requires { S.number pidx.0 < length (grammar self.now).productions }
         ensures { S.number result.0 ≡ (nth_production (grammar self.now) (S.number pidx.0)).rule };
+
+    /// The productions of a rule.
+    fn rule_to_prods(&self, ridx: RIdx<S>) -> &[PIdx<S>]
+        requires { S.number ridx.0 < (grammar self.now).rules }
+        ensures { ArePlacesOf (grammar self.now) (S.number ridx.0) (map (λ p. S.number p.0) result.now) };
 
     /// The symbols of a production.
     fn prod(&self, pidx: PIdx<S>) -> &[Symbol<S>]

@@ -1,10 +1,11 @@
-//! Analyses of grammars: the sets of tokens that rules begin with, and of those that follow them.
+//! Analyses of grammars: the sets of tokens that rules begin with, of those that follow them, and paths from rule to rule.
 #![tactic(auto)]
 
 pub mod bits;
 pub mod counted;
 pub mod firsts;
 pub mod follows;
+pub mod paths;
 pub mod productions;
 pub mod rounds;
 
@@ -12,5 +13,6 @@ pub use bits::BitTable;
 pub use counted::{CountedTables, Tables};
 pub use firsts::{YaccFirsts, firsts_over};
 pub use follows::{YaccFollows, follows_over};
+pub use paths::has_path;
 pub use productions::Productions;
 pub use rounds::{Analysis, settle};
