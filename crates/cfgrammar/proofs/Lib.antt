@@ -13,3 +13,4 @@ pub mod Turns
 pub mod Valid
 pub mod Whole
 pub mod Within
+pub mod ListedPlaces

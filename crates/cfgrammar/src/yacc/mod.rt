@@ -1,5 +1,6 @@
 //! Yacc files, and the grammars that they hold.
 pub mod firsts;
+pub mod follows;
 pub mod grammar;
 
 pub use cfgsyntax::yacc::{

@@ -1,17 +1,21 @@
 //! A grammar as analyses go through it, and what they find.
 
-ghost use Rattle.std.specs.Prelude.{◌≡◌, length, replicate, IfOk};
+ghost use Rattle.std.specs.Prelude.{◌≡◌, ◌↔◌, ◌<◌, length, replicate, IfOk, IsTrue};
+ghost use Rattle.derivation.specs.Grammar.{HasProduction};
+ghost use Rattle.derivation.specs.Path.{Path};
 ghost use Rattle.cfganalysis.specs.Firsts.{AreFirsts};
+ghost use Rattle.cfganalysis.specs.Follows.{AreFollows};
 ghost use Rattle.cfgrammar.specs.Numbered.{core};
 
 use super::tables::YaccGrammar;
-use cfganalysis::{CountedTables, Tables, YaccFirsts};
+use cfganalysis::{CountedTables, Tables, YaccFirsts, YaccFollows, has_path};
 use cfgindex::{PIdx, RIdx, Storage, Symbol, TIdx};
 use std::alloc::{AllocError, Global};
 
 impl<S: Storage> Tables<S> for YaccGrammar<S> {
     ghost use Rattle.std.specs.Prelude.{◌≡◌, ◌<◌, length, map};
     ghost use Rattle.cfganalysis.specs.Openings.{nth_production};
+    ghost use Rattle.cfganalysis.specs.Paths.{ArePlacesOf};
     ghost use Rattle.cfganalysis.specs.Symbols.{sym_of};
 
     ghost grammar = { core };
@@ -36,6 +40,14 @@ impl<S: Storage> Tables<S> for YaccGrammar<S> {
         self.prod_to_rule(pidx)
     }
 
+    fn rule_to_prods(&self, ridx: RIdx<S>) -> &[PIdx<S>]
+        requires { S.number ridx.0 < length self.now.rules }
+        ensures { ArePlacesOf (core self.now) (S.number ridx.0) (map (λ p. S.number p.0) result.now) }
+    {
+        self.comes_from_syntax();
+        self.rule_to_prods(ridx)
+    }
+
     fn prod(&self, pidx: PIdx<S>) -> &[Symbol<S>]
         requires { S.number pidx.0 < length (core self.now).productions }
         ensures { map (sym_of S.number) result.now ≡ (nth_production (core self.now) (S.number pidx.0)).symbols }
@@ -55,6 +67,31 @@ impl<S: Storage> YaccGrammar<S> {
         ensures { IfOk result (AreFirsts (core self.now)) }
     {
         YaccFirsts::new(alloc, self)
+    }
+
+    /// The FOLLOW sets of the grammar: for each rule the tokens that stand right after it in what some rule derives, and
+    /// the end token where the start rule derives a list that ends in it (Aho, Lam, Sethi and Ullman, 4.4.2).
+    ///
+    /// # Errors
+    ///
+    /// Want of memory.
+    pub fn follows(&self, alloc: Global) -> Result<YaccFollows<S>, AllocError>
+        ensures { IfOk result (AreFollows (core self.now)) }
+    {
+        YaccFollows::new(alloc, self)
+    }
+
+    /// Whether one rule leads to another by one or more references: a production of it holds the other, or holds a
+    /// rule that leads to it.
+    ///
+    /// # Errors
+    ///
+    /// Want of memory.
+    pub fn has_path(&self, alloc: Global, from: RIdx<S>, to: RIdx<S>) -> Result<bool, AllocError>
+        requires { S.number from.0 < length self.now.rules }
+        ensures { IfOk result (λ b. IsTrue b ↔ Path (HasProduction (core self.now)) (S.number from.0) (S.number to.0)) }
+    {
+        has_path(alloc, self, from, to)
     }
 
     /// The grammar's productions, which are opened one at a time and counted.

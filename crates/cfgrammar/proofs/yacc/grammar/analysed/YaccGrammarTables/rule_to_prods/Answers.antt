@@ -1,0 +1,8 @@
+use Rattle.std.proofs.Common.{◌<◌, length}
+use Rattle.std.proofs.lemmas.List.Elements.{All-map}
+use Rattle.cfgrammar.proofs.ListedPlaces.{listed_places}
+use Rattle.cfgrammar.proofs.yacc.grammar.analysed.YaccGrammarTables.rule_to_prods.Goals as goal
+
+pub returns : goal.returns
+returns g c = listed_places _ _ _ c.comes_from_syntax.ensures.numbering c.rule_to_prods.ensures.value
+    (All-map (λ p. p < length c.args.self.now.productions) (λ p. g.S.Storage.number p.0) _ c.rule_to_prods.ensures.within)
