@@ -9,7 +9,7 @@ use Rattle.std.proofs.lemmas.Str.{IsCharBoundary-start, IsCharBoundary-end, IsCh
 use Rattle.reading.specs.Pieces.{starts}
 use Rattle.reading.proofs.PiecesLemmas.{IsRun-run}
 use Rattle.cfgwords.specs.declared.bytes.ByteClass.{ByteClass}
-use Rattle.cfgwords.specs.declared.bytes.ByteClass.TheVariants.{Blank, LineEnd, Line, Quote, NameStart, NameByte, IdentifierStart, IdentifierByte}
+use Rattle.cfgwords.specs.declared.bytes.ByteClass.TheVariants.{Blank, LineEnd, Line, Quote, NameStart, NameByte, IdentifierStart, IdentifierByte, Digit}
 use Rattle.cfgwords.specs.Bytes.{holds}
 
 -- behind the last byte that passes, where only ASCII passes
@@ -51,6 +51,7 @@ run_boundary NameStart text utf8 = boundary_run (holds NameStart) text utf8 (λ 
 run_boundary NameByte text utf8 = boundary_run (holds NameByte) text utf8 (λ b h. grind (arith, nat_tests))
 run_boundary IdentifierStart text utf8 = boundary_run (holds IdentifierStart) text utf8 (λ b h. grind (arith, nat_tests))
 run_boundary IdentifierByte text utf8 = boundary_run (holds IdentifierByte) text utf8 (λ b h. grind (arith, nat_tests))
+run_boundary Digit text utf8 = boundary_run (holds Digit) text utf8 (λ b h. grind (arith, nat_tests))
 
 -- what is left behind a run begins otherwise
 pub run_stops : (class : ByteClass) (text : List ℕ) → starts (holds class) (drop (prefix_len (holds class) text) text) ≡ false

@@ -10,7 +10,7 @@ use Rattle.reading.specs.Pieces.{IsRun}
 use Rattle.cfgwords.specs.declared.bytes.ByteClass.TheVariants as bytes
 use Rattle.cfgwords.specs.Bytes.{holds}
 use Rattle.cfgwords.specs.Text.{place}
-use Rattle.cfgwords.specs.Words.{IsName, IsIdentifier, IsQuoted}
+use Rattle.cfgwords.specs.Words.{IsName, IsIdentifier, IsQuoted, IsInteger}
 
 -- A text that may be cut where rest is left.
 pub record IsCut (text rest : List ℕ) : Type 0 where
@@ -57,7 +57,7 @@ cut_before front b rest ascii = record {
       (IsUtf8-drop (front ++ b ∷ rest) (length front) u (IsCharBoundary-before_ascii (front ++ b ∷ rest) (length front) (omega arith) (omega arith)));
 }
 
--- behind a name, an identifier and a quoted token
+-- behind a name, an identifier, an integer and a quoted token
 run_cut : (test : ℕ → Bool) → ((b : ℕ) → test b ≡ true → b < 128) → (text word rest : List ℕ) → IsRun test text word rest → IsCut text rest
 run_cut test ascii text word rest run = cut_same text (word ++ rest) rest run.whole (cut_word test ascii word rest run.passes)
 
@@ -66,6 +66,9 @@ name_cut text word rest is = run_cut (holds bytes.NameByte) (λ b h. grind (arit
 
 pub identifier_cut : (text word rest : List ℕ) → IsIdentifier text word rest → IsCut text rest
 identifier_cut text word rest is = run_cut (holds bytes.IdentifierByte) (λ b h. grind (arith, nat_tests)) text word rest is.run
+
+pub integer_cut : (text : List ℕ) (number : ℕ) (rest : List ℕ) → IsInteger text number rest → IsCut text rest
+integer_cut text number rest is = run_cut (holds bytes.Digit) (λ b h. grind (arith, nat_tests)) text is.digits rest is.run.run
 
 -- behind the quote that opens, before the one that closes, and behind that
 quote_ascii : (b : ℕ) → holds bytes.Quote b ≡ true → b < 128

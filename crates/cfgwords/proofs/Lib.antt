@@ -4,6 +4,7 @@ pub mod Boundaries
 pub mod Cuts
 pub mod Finders
 pub mod Fronts
+pub mod IntegerFinder
 pub mod NameFinders
 pub mod NameStarts
 pub mod Quoted

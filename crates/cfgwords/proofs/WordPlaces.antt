@@ -8,8 +8,8 @@ use Rattle.cfgwords.specs.declared.fault.Fault.{Fault}
 use Rattle.cfgwords.specs.declared.fault.FaultKind.{FaultKind}
 use Rattle.cfgwords.specs.Blank.{Blank}
 use Rattle.cfgwords.specs.Text.{place, span_of, fault_at}
-use Rattle.cfgwords.specs.Words.{TokenText, Token, IsName, IsIdentifier, IsQuoted, IsToken, word_at, token_at, word_of}
-use Rattle.cfgwords.proofs.Cuts.{IsCut, cut_here, cut_on, cut_same, cut_word, name_cut, identifier_cut, opened_cut, inside_cut, closed_cut, place_cut, boundary_cut}
+use Rattle.cfgwords.specs.Words.{TokenText, Token, IsName, IsIdentifier, IsQuoted, IsToken, IsInteger, word_at, token_at, integer_at, word_of}
+use Rattle.cfgwords.proofs.Cuts.{IsCut, cut_here, cut_on, cut_same, cut_word, name_cut, identifier_cut, integer_cut, opened_cut, inside_cut, closed_cut, place_cut, boundary_cut}
 use Rattle.cfgwords.proofs.BlankCuts.{blank_ends_at}
 use Rattle.cfgwords.specs.Places.{IsPiece, IsWordAt}
 
@@ -50,6 +50,19 @@ module _ (whole : List ℕ) (utf8 : IsUtf8 whole) where
   name_at from text word rest t is =
       let cut = name_cut text word rest is in
       (goes_on from text rest t cut, between text word rest (reached from text t) is.run.whole cut)
+
+  pub integer_is_at : (from text : List ℕ) (number : ℕ) (rest : List ℕ) → IsReached whole from text → IsInteger text number rest
+      → IsReached whole from rest × IsPiece whole (integer_at (length whole) text number rest).1
+  integer_is_at from text number rest t is =
+      let cut = integer_cut text number rest is in
+      let here = reached from text t in (
+        goes_on from text rest t cut,
+        record {
+          ordered = omega (arith, place_cut text rest cut, place_cut whole text here);
+          begins_at = boundary_cut whole text utf8 here;
+          ends_at = boundary_cut whole rest utf8 (cut_on whole text rest here cut);
+        },
+      )
 
   -- a token whose name is a piece, and that leaves rest
   token_behind : (from text : List ℕ) (token : TokenText) (rest : List ℕ) → IsReached whole from text → IsCut text rest

@@ -1,7 +1,9 @@
--- Words of a grammar file: names, identifiers, quoted tokens and tokens. `P text word rest` says that the text
+-- Words of a grammar file: names, identifiers, quoted tokens, tokens and integers. `P text word rest` says that the text
 -- begins with the word and that rest is left.
-use Rattle.std.specs.Prelude.{◌≡◌, ℕ, Bool, true, false, List, [], ◌∷◌, ◌++◌, length, ◌+◌, ◌==◌, ◌&&◌, not, take, drop, ◌≤◌, ◌<◌, slice_index, Option, Some, None, MatchBool, if◌then◌else◌}
+use Rattle.std.specs.Prelude.{◌≡◌, ℕ, Bool, true, false, List, [], ◌∷◌, ◌++◌, length, ◌+◌, ◌^◌, ◌==◌, ◌&&◌, not, take, drop, ◌≤◌, ◌<◌, nat_lt, slice_index, Option, Some, None, MatchBool, if◌then◌else◌}
 use Rattle.std.specs.List.{list_all}
+use Rattle.std.specs.Option.{option_and_then}
+use Rattle.std.specs.Str.Parse.{digits_value}
 use Rattle.cfgbase.specs.declared.span.Span.{Span}
 use Rattle.reading.specs.Pieces.{starts, IsRun, run}
 use Rattle.cfgwords.specs.declared.bytes.ByteClass.{ByteClass}
@@ -47,6 +49,13 @@ pub record TokenText : Type 0 where
 abbrev pub IsToken : List ℕ → TokenText → List ℕ → Type 0
 IsToken text token rest = MatchBool token.quoted (IsQuoted text token.name rest) (IsIdentifier text token.name rest)
 
+-- an integer: a longest run of digits, at least one, that write in decimal a number which a usize holds
+pub record IsInteger (text : List ℕ) (number : ℕ) (rest : List ℕ) : Type 0 where
+  pub digits : List ℕ
+  pub run : IsRunFrom bytes.Digit bytes.Digit text digits rest
+  pub writes : digits_value 10 digits ≡ number
+  pub fits : number < 2 ^ 64
+
 -- a name with the span of its bytes
 pub record Word : Type 0 where
   pub name : List ℕ
@@ -69,6 +78,10 @@ token_at len text token rest = record {
   quoted = token.quoted;
   end = place len rest;
 }
+
+-- an integer with the span of its digits
+abbrev pub integer_at : ℕ → List ℕ → ℕ → List ℕ → ℕ × Span
+integer_at len text number rest = (number, record { start = place len text; end = place len rest })
 
 -- a token's name and span
 abbrev pub word_of : Token → Word
@@ -111,3 +124,10 @@ token_text quoted (Some (name, rest)) = Some (record { name = name; quoted = quo
 
 unfoldable pub token_of : List ℕ → Option (TokenText × List ℕ)
 token_of text = if starts (holds bytes.Quote) text then token_text true (quoted_of text) else token_text false (identifier_of text)
+
+-- the number that digits write, and what is left, where a usize holds the number
+abbrev pub number_of : List ℕ × List ℕ → Option (ℕ × List ℕ)
+number_of (digits, rest) = if nat_lt (digits_value 10 digits) (2 ^ 64) then Some (digits_value 10 digits, rest) else None
+
+unfoldable pub integer_of : List ℕ → Option (ℕ × List ℕ)
+integer_of text = option_and_then number_of (run_from bytes.Digit bytes.Digit text)

@@ -19,6 +19,8 @@ pub enum ByteClass {
     IdentifierStart,
     /// What an identifier goes on with: also a digit.
     IdentifierByte,
+    /// A decimal digit.
+    Digit,
 }
 
 impl ByteClass {
@@ -37,6 +39,7 @@ impl ByteClass {
             ByteClass::NameByte => b.is_ascii_alphanumeric() || b == b'_' || b == b'.',
             ByteClass::IdentifierStart => b.is_ascii_alphabetic() || b == b'_',
             ByteClass::IdentifierByte => b.is_ascii_alphanumeric() || b == b'_',
+            ByteClass::Digit => b.is_ascii_digit(),
         }
     }
 }

@@ -3,6 +3,7 @@ use cfgbase::Span;
 /// What stops the reading of a grammar file. The names are those of the errors that a reader answers for them.
 #[derive(Clone, Copy, Debug, PartialEq, Eq)]
 pub enum FaultKind {
+    IllegalInteger,
     IllegalName,
     IllegalString,
     IncompleteRule,

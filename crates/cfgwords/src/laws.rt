@@ -3,7 +3,7 @@
 ghost use Rattle.std.specs.Prelude.{◌≡◌, ℕ, Bool, List};
 ghost use Rattle.reading.specs.Graph.{IsGraph};
 ghost use Rattle.cfgwords.specs.Blank.{IsFront, front_of, Blank, blank};
-ghost use Rattle.cfgwords.specs.Words.{IsName, name_of, IsIdentifier, identifier_of, IsQuoted, quoted_of, TokenText, IsToken, token_of};
+ghost use Rattle.cfgwords.specs.Words.{IsName, name_of, IsIdentifier, identifier_of, IsQuoted, quoted_of, TokenText, IsToken, token_of, IsInteger, integer_of};
 
 /// What stands at the front of a text is one thing, the one that `Front::of` tells.
 #[tactic(auto, using(crate::proofs::Blanks::front_graph))]
@@ -43,4 +43,11 @@ pub fn quoted_tokens_found()
 pub fn tokens_found()
     ensures sound { (text : List ℕ) (token : TokenText) (rest : List ℕ) → token_of text ≡ Some (token, rest) → IsToken text token rest }
     ensures only { (text : List ℕ) (token : TokenText) (rest : List ℕ) → IsToken text token rest → token_of text ≡ Some (token, rest) }
+{}
+
+/// Every integer is found, and only integers are.
+#[tactic(auto, using(crate::proofs::Finders::integer_finder))]
+pub fn integers_found()
+    ensures sound { (text : List ℕ) (number : ℕ) (rest : List ℕ) → integer_of text ≡ Some (number, rest) → IsInteger text number rest }
+    ensures only { (text : List ℕ) (number : ℕ) (rest : List ℕ) → IsInteger text number rest → integer_of text ≡ Some (number, rest) }
 {}

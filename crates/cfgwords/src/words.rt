@@ -1,8 +1,8 @@
-//! Names, identifiers, quoted tokens and tokens.
+//! Names, identifiers, quoted tokens, tokens and integers.
 
-ghost use Rattle.std.specs.Prelude.{◌≡◌, ◌+◌, length, None, IfSome, MatchOption, option_map, if◌then◌else◌};
+ghost use Rattle.std.specs.Prelude.{◌≡◌, ◌+◌, ◌≤◌, length, None, IfSome, MatchOption, option_map, if◌then◌else◌};
 ghost use Rattle.std.specs.List.{prefix_len};
-ghost use Rattle.cfgwords.specs.Words.{name_of, identifier_of, quoted_of, token_of, run_from, is_inside, IsQuotedLen};
+ghost use Rattle.cfgwords.specs.Words.{name_of, identifier_of, quoted_of, token_of, integer_of, run_from, is_inside, IsQuotedLen};
 
 use crate::bytes::ByteClass;
 use crate::run::{run, starts};
@@ -118,4 +118,18 @@ pub fn leading_token(text: &str) -> Option<(&str, bool, &str)>
     }
     let (name, rest) = leading_identifier(text)?;
     Some((name, false, rest))
+}
+
+/// The integer at the front of the text, and what is left behind it: the number that the longest `[0-9]+` writes in
+/// decimal, where a `usize` holds it.
+#[tactic(auto, unfolding(crate::specs::Words::integer_of))]
+pub fn leading_integer(text: &str) -> Option<(usize, &str)>
+    ensures exact { option_map (λ x. (x.0, x.1.now)) result ≡ integer_of text.now }
+    ensures lengths { IfSome result (λ x. length x.1.now ≤ length text.now) }
+{
+    let (digits, rest) = run_from(text, ByteClass::Digit, ByteClass::Digit)?;
+    match digits.parse::<usize>() {
+        Ok(number) => Some((number, rest)),
+        Err(_) => None,
+    }
 }
