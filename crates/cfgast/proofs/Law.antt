@@ -7,8 +7,10 @@ use Rattle.std.proofs.lemmas.Bool.{false_from_ne_true}
 use Rattle.std.proofs.lemmas.List.Sums.{fold_push}
 use Rattle.lemmas.proofs.Growing.{from_pushes}
 use Rattle.lemmas.proofs.Places.{found-position}
+use Rattle.lemmas.proofs.Pushed.{filter_map-pushed}
 use Rattle.cfgast.specs.Items.{Item}
-use Rattle.cfgast.specs.Syntax.{word_name, is_named, token_declared, start_named, declared_words, index_of, indices_of, finished, no_settings, syntax_of}
+use Rattle.cfgast.specs.Occurrences.{declared_once}
+use Rattle.cfgast.specs.Syntax.{word_name, is_named, token_declared, start_named, declared_words, index_of, indices_of, finished, expected, expected_reduce_reduce, settings_of, syntax_of}
 use Rattle.cfgast.specs.Building.{has_name, is_declared, grown, add, adds}
 use Rattle.cfgast.proofs.Names.{is_named-firsts, has_name-names, noted}
 use Rattle.cfgast.proofs.Fields.{tokens, declared, declared_token, first-push, rules-push, productions-push, production_rules-push, tokens-push, spans-push, directives-push}
@@ -34,7 +36,7 @@ is_declared-syntax_of items name =
 
 -- one more item adds to the syntax what `add` does
 pub syntax_of-push : (items : List Item) (item : Item) → syntax_of (items ++ item ∷ []) ≡ add (syntax_of items) item
-unfolding add syntax_of
+unfolding add syntax_of settings_of
 syntax_of-push items item = (λ i. record {
   start = first-push items item start_named i;
   rules = rules-push items item i;
@@ -43,7 +45,13 @@ syntax_of-push items item = (λ i. record {
   tokens = tokens-push items item i;
   spans = spans-push items item i;
   token_directives = directives-push items item i;
-  settings = no_settings;
+  settings = record {
+    expect = first-push items item expected i;
+    expect_reduce_reduce = first-push items item expected_reduce_reduce i;
+    parse_generics = None;
+    programs = None;
+  };
+  occurrences = filter_map-pushed declared_once items item i;
 }) ∙ ap (grown (syntax_of items) item) (λ i. finished (λ name. is_declared-syntax_of items name i) item)
 
 -- all items, added one after the other, say what their list says

@@ -1,8 +1,12 @@
 pub mod Compared
 pub mod Fields
+pub mod Gathered
 pub mod Keeps
 pub mod Law
 pub mod Names
+pub mod Once
+pub mod Repeats
 pub mod Steps
 pub mod Views
 pub mod WellFormedLemmas
+pub mod Written

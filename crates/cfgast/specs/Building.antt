@@ -7,7 +7,8 @@ use Rattle.lemmas.specs.Lists.{pushed, pushed_unless}
 use Rattle.cfgbase.specs.declared.span.Span.{Span}
 use Rattle.cfgwords.specs.Words.{Word}
 use Rattle.cfgast.specs.Items.{Item, RuleHead}
-use Rattle.cfgast.specs.Syntax.{Syntax, Rule, Production, word_name, head_name, index_of, token_named, token_declared, start_named, rule_named, finished}
+use Rattle.cfgast.specs.Occurrences.{declared_once}
+use Rattle.cfgast.specs.Syntax.{Syntax, Settings, Rule, Production, word_name, head_name, index_of, token_named, token_declared, start_named, expected, expected_reduce_reduce, rule_named, finished}
 
 -- whether a name stands among names
 abbrev pub has_name : List ℕ → List (List ℕ) → Bool
@@ -60,6 +61,12 @@ with_listed (Some production) i rules = map (listed production.0 i) rules
 unfoldable pub is_declared : Syntax → List ℕ → Bool
 is_declared s name = option_map_or (λ i. list_any (λ j. i == j) s.token_directives) (position (bytes_eq name) s.tokens) false
 
+abbrev pub with_settings : Item → Settings → Settings
+with_settings item settings = record settings {
+  expect = with_first (expected item) settings.expect;
+  expect_reduce_reduce = with_first (expected_reduce_reduce item) settings.expect_reduce_reduce;
+}
+
 -- the syntax with what the item names, and with the production that it finishes
 abbrev pub grown : Syntax → Item → Option (List ℕ × Production) → Syntax
 grown s item production =
@@ -73,7 +80,8 @@ grown s item production =
       tokens = tokens;
       spans = with_span (token_named item) s.tokens s.spans;
       token_directives = with_directive (option_map word_name (token_declared item)) tokens s.token_directives;
-      settings = s.settings;
+      settings = with_settings item s.settings;
+      occurrences = pushed s.occurrences (declared_once item);
     }
 
 unfoldable pub add : Syntax → Item → Syntax

@@ -18,6 +18,8 @@ pub record Body : Type 0 where
 pub data Item : Type 0 where
   TokenDeclared : Word → Item  -- a token of a `%token` list
   StartDeclared : Word → Item  -- the name behind `%start`
+  ExpectDeclared : ℕ × Span → Item  -- the number behind `%expect`, and its place
+  ExpectReduceReduceDeclared : ℕ × Span → Item  -- the number behind `%expect-rr`, and its place
   RuleNamed : RuleHead → Item  -- a rule, at its name
   TokenQuoted : Word → Item  -- a quoted token in a rule's body
   Alternative : RuleHead → Body → Item  -- a finished production of the rule of that name

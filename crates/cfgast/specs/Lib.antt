@@ -1,4 +1,5 @@
 pub mod Items
+pub mod Occurrences
 pub mod Syntax
 pub mod Building
 pub mod View

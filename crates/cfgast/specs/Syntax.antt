@@ -5,7 +5,8 @@ use Rattle.std.specs.Str.{bytes_eq}
 use Rattle.lemmas.specs.Lists.{with_fronts, places}
 use Rattle.cfgbase.specs.declared.span.Span.{Span}
 use Rattle.cfgwords.specs.Words.{Word, Token, word_of}
-use Rattle.cfgast.specs.Items.{Item, RuleHead, Body, TokenDeclared, StartDeclared, RuleNamed, TokenQuoted, Alternative}
+use Rattle.cfgast.specs.Items.{Item, RuleHead, Body, TokenDeclared, StartDeclared, ExpectDeclared, ExpectReduceReduceDeclared, RuleNamed, TokenQuoted, Alternative}
+use Rattle.cfgast.specs.Occurrences.{Occurrence, declared_once}
 
 -- a symbol of a production: the name of a rule or of a token, and its span
 pub data Symbol : Type 0 where
@@ -31,10 +32,6 @@ pub record Settings : Type 0 where
   pub parse_generics : Option (List ℕ)
   pub programs : Option (List ℕ)
 
--- no item speaks of them yet
-abbrev pub no_settings : Settings
-no_settings = record { expect = None; expect_reduce_reduce = None; parse_generics = None; programs = None }
-
 pub record Syntax : Type 0 where
   pub start : Option Word
   pub rules : List (List ℕ × Rule)
@@ -44,6 +41,7 @@ pub record Syntax : Type 0 where
   pub spans : List Span
   pub token_directives : List ℕ
   pub settings : Settings
+  pub occurrences : List Occurrence  -- of what may be declared only once
 
 -- the name of a symbol, and its span
 abbrev pub symbol_word : Symbol → Word
@@ -66,6 +64,7 @@ pub record EachSpan (P : Span → Type 0) (syntax : Syntax) : Type 0 where
   pub productions : All (EachProductionSpan P) syntax.productions
   pub tokens : All P syntax.spans
   pub settings : EachSettingSpan P syntax.settings
+  pub occurrences : All (λ occurrence. P occurrence.span) syntax.occurrences
 
 abbrev pub word_name : Word → List ℕ
 word_name word = word.name
@@ -90,7 +89,8 @@ index_of name names = position_or_len (bytes_eq name) names
 abbrev pub indices_of : List (List ℕ) → List (List ℕ) → List ℕ
 indices_of some names = map (λ name. index_of name names) some
 
--- What an item says: the words by which it names a token, a declared token and the start, and the rule that it names.
+-- What an item says: the words by which it names a token, a declared token and the start, the numbers of conflicts that it
+-- expects, and the rule that it names.
 
 abbrev pub token_named : Item → Option Word
 token_named (TokenDeclared word) = Some word
@@ -106,6 +106,14 @@ start_named (StartDeclared word) = Some word
 start_named (RuleNamed head) = Some head.name
 start_named (Alternative head body) = Some head.name
 start_named _ = None
+
+abbrev pub expected : Item → Option (ℕ × Span)
+expected (ExpectDeclared number) = Some number
+expected _ = None
+
+abbrev pub expected_reduce_reduce : Item → Option (ℕ × Span)
+expected_reduce_reduce (ExpectReduceReduceDeclared number) = Some number
+expected_reduce_reduce _ = None
 
 abbrev pub rule_named : Item → Option RuleHead
 rule_named (RuleNamed head) = Some head
@@ -154,6 +162,15 @@ rule_of alternatives head = (
   },
 )
 
+-- Of each setting the first that an item declares counts. No item speaks of generics and programs yet.
+unfoldable pub settings_of : List Item → Settings
+settings_of items = record {
+  expect = slice_get (filter_map expected items) 0;
+  expect_reduce_reduce = slice_get (filter_map expected_reduce_reduce items) 0;
+  parse_generics = None;
+  programs = None;
+}
+
 -- Tokens and rules are the first occurrences of their names; productions are all finished ones. The start is
 -- what a `%start` or a rule names first: in a file each `%start` stands before all rules. Directives are the
 -- places, among the tokens, of the names in `%token` lists.
@@ -166,5 +183,6 @@ syntax_of items = record {
   tokens = map word_name (token_words items);
   spans = map (λ w. w.span) (token_words items);
   token_directives = indices_of (map word_name (declared_words items)) (map word_name (token_words items));
-  settings = no_settings;
+  settings = settings_of items;
+  occurrences = filter_map declared_once items;
 }

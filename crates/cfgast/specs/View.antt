@@ -1,11 +1,15 @@
 -- What the types of the tree show, as plain data.
-use Rattle.std.specs.Prelude.{ℕ, List, String, map, option_map}
+use Rattle.std.specs.Prelude.{ℕ, List, Vec, String, map, option_map}
+use Rattle.std.specs.Borrow.{Bor}
 use Rattle.std.specs.String.{string_bytes}
 use Rattle.std.specs.declared.alloc.Global.{Global}
 use Rattle.cfgbase.specs.declared.span.Span.{Span}
 use Rattle.cfgwords.specs.Words.{Word, Token}
 use Rattle.cfgast.specs.Syntax as plain
 use Rattle.cfgast.specs.Syntax.{Syntax, RuleSymbol, TokenSymbol}
+use Rattle.cfgast.specs.Occurrences as once
+use Rattle.cfgast.specs.declared.occurrence.Unique.{Unique}
+use Rattle.cfgast.specs.declared.occurrence.Occurrence.{Occurrence}
 use Rattle.cfgast.specs.declared.symbol.Symbol.{Symbol}
 use Rattle.cfgast.specs.declared.symbol.Symbol.TheVariants as symbols
 use Rattle.cfgast.specs.declared.production.Production.{Production}
@@ -58,6 +62,16 @@ settings_view settings = record {
   programs = option_map string_bytes settings.programs;
 }
 
+abbrev pub unique_view : Unique → once.Unique
+unique_view unique = record { kind = unique.kind; token = option_map string_bytes unique.token }
+
+abbrev pub occurrence_view : Occurrence → once.Occurrence
+occurrence_view occurrence = record { what = unique_view occurrence.what; span = occurrence.span }
+
+-- what is declared more than once, under what it is
+abbrev pub duplicate_view : Bor Unique × Vec Span Global → once.Duplicate
+duplicate_view entry = record { what = unique_view entry.0.now; spans = entry.1.items }
+
 unfoldable pub syntax : GrammarAST → Syntax
 syntax ast = record {
   start = option_map named_view ast.start;
@@ -68,6 +82,7 @@ syntax ast = record {
   spans = ast.spans.items;
   token_directives = ast.token_directives.keys;
   settings = settings_view ast.settings;
+  occurrences = map occurrence_view ast.occurrences.items;
 }
 
 -- what was built so far

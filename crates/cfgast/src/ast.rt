@@ -2,8 +2,9 @@ ghost use Rattle.std.specs.Prelude.{◌≡◌, ◌↔◌, map, option_map, IfOk,
 ghost use Rattle.std.specs.Map.{lookup};
 ghost use Rattle.std.specs.Str.{bytes_eq};
 ghost use Rattle.std.specs.String.{string_bytes};
-ghost use Rattle.cfgast.specs.View.{production_view, rule_view, named_view, rule_entry, settings_view};
+ghost use Rattle.cfgast.specs.View.{production_view, rule_view, named_view, rule_entry, settings_view, occurrence_view};
 
+use crate::occurrence::Occurrence;
 use crate::production::Production;
 use crate::rule::Rule;
 use crate::settings::Settings;
@@ -22,6 +23,7 @@ pub struct GrammarAST {
     pub(crate) tokens: IndexSet<String>,
     pub(crate) spans: Vec<Span>,
     pub(crate) settings: Settings,
+    pub(crate) occurrences: Vec<Occurrence>,
 }
 
 #[tactic(auto, unfolding(crate::specs::View::syntax))]
@@ -84,6 +86,13 @@ impl GrammarAST {
         &self.settings
     }
 
+    /// Each declaration of what a file may declare only once, in order.
+    pub fn occurrences(&self) -> &[Occurrence]
+        ensures { map occurrence_view result.now ≡ (syntax self.now).occurrences }
+    {
+        &self.occurrences
+    }
+
     /// The rule of this name.
     pub fn get_rule(&self, name: &str) -> Option<&Rule>
         ensures { option_map (λ rule. rule_view rule.now) result
@@ -140,6 +149,7 @@ impl Clone for GrammarAST {
     fn clone(&self) -> Result<GrammarAST, AllocError> {
         let start = self.start.clone()?;
         let settings = self.settings.clone()?;
+        let occurrences = self.occurrences.clone()?;
         let (tokens, spans, token_directives) = self.clone_tokens()?;
         let (rules, prods, prods_rules) = self.clone_rules()?;
         Ok(GrammarAST {
@@ -151,6 +161,7 @@ impl Clone for GrammarAST {
             tokens,
             spans,
             settings,
+            occurrences,
         })
     }
 }

@@ -1,11 +1,13 @@
-ghost use Rattle.std.specs.Prelude.{◌≡◌, List, [], map, Some, option_map, string_bytes, IfOk, OnOk};
-ghost use Rattle.cfgast.specs.Items.{Item, TokenDeclared, StartDeclared, RuleNamed, TokenQuoted, Alternative};
+ghost use Rattle.std.specs.Prelude.{◌≡◌, List, [], ◌∷◌, ◌++◌, map, Some, option_map, string_bytes, IfOk, OnOk};
+ghost use Rattle.cfgast.specs.Items.{Item, TokenDeclared, StartDeclared, ExpectDeclared, ExpectReduceReduceDeclared, RuleNamed, TokenQuoted, Alternative};
 ghost use Rattle.cfgast.specs.Syntax.{syntax_of, symbol_of, production_of, head_name, index_of};
-ghost use Rattle.cfgast.specs.Building.{add, adds, with_rule, listed, is_declared};
+ghost use Rattle.cfgast.specs.Occurrences.{of_grammar};
+ghost use Rattle.cfgast.specs.Building.{add, adds, with_first, with_rule, listed, is_declared};
 ghost use Rattle.cfgast.specs.WellFormed.{IsWellFormed};
 
 use crate::ast::GrammarAST;
 use crate::item::{Body, RuleHead};
+use crate::occurrence::{Occurrence, Unique, UniqueKind};
 use crate::production::Production;
 use crate::rule::Rule;
 use crate::settings::Settings;
@@ -43,6 +45,7 @@ impl AstBuilder {
                 tokens: IndexSet::new(alloc),
                 spans: Vec::new(alloc),
                 settings: Settings::none(),
+                occurrences: Vec::new(alloc),
             },
         }
     }
@@ -82,17 +85,35 @@ impl AstBuilder {
     pub fn declare_start(&mut self, alloc: Global, word: Word<'_>) -> Result<(), AllocError>
         ensures { OnOk result (syntax_built self.new ≡ add (syntax_built self.old) (StartDeclared (word_view word.entry))) }
     {
-        if self.ast.start.is_none() {
-            self.ast.start = Some((String::from_str(alloc, word.name)?, word.span));
+        self.put_start(alloc, word)?;
+        self.note(UniqueKind::Start, word.span)
+    }
+
+    /// Adds the number of a `%expect`, with its place.
+    pub fn declare_expect(&mut self, number: (usize, Span)) -> Result<(), AllocError>
+        ensures { OnOk result (syntax_built self.new ≡ add (syntax_built self.old) (ExpectDeclared number)) }
+    {
+        if self.ast.settings.expect.is_none() {
+            self.ast.settings.expect = Some(number);
         }
-        Ok(())
+        self.note(UniqueKind::Expect, number.1)
+    }
+
+    /// Adds the number of a `%expect-rr`, with its place.
+    pub fn declare_expect_rr(&mut self, number: (usize, Span)) -> Result<(), AllocError>
+        ensures { OnOk result (syntax_built self.new ≡ add (syntax_built self.old) (ExpectReduceReduceDeclared number)) }
+    {
+        if self.ast.settings.expectrr.is_none() {
+            self.ast.settings.expectrr = Some(number);
+        }
+        self.note(UniqueKind::ExpectReduceReduce, number.1)
     }
 
     /// Adds a rule, at its name: it is the start where none was named before.
     pub fn name_rule(&mut self, alloc: Global, head: RuleHead<'_>) -> Result<(), AllocError>
         ensures { OnOk result (syntax_built self.new ≡ add (syntax_built self.old) (RuleNamed (head_view head.entry))) }
     {
-        self.declare_start(alloc, head.name)?;
+        self.put_start(alloc, head.name)?;
         self.put_rule(alloc, head)?;
         Ok(())
     }
@@ -109,12 +130,35 @@ impl AstBuilder {
             ≡ add (syntax_built self.old) (Alternative (head_view head.entry) (body_view body.entry))) }
     {
         let production = self.production_of(alloc, body)?;
-        self.declare_start(alloc, head.name)?;
+        self.put_start(alloc, head.name)?;
         let rule = self.put_rule(alloc, head)?;
         let index = self.ast.prods.len();
         self.list_production(head.name.name, index)?;
         self.ast.prods.push(production)?;
         self.ast.prods_rules.push(rule)?;
+        Ok(())
+    }
+
+    // Notes where the file declares what it may declare only once of the grammar as a whole.
+    fn note(&mut self, kind: UniqueKind, span: Span) -> Result<(), AllocError>
+        ensures { OnOk result (syntax_built self.new ≡ record (syntax_built self.old) {
+          occurrences = (syntax_built self.old).occurrences ++ of_grammar kind span ∷ [];
+        }) }
+    {
+        let what = Unique { kind, token: None };
+        self.ast.occurrences.push(Occurrence { what, span })?;
+        Ok(())
+    }
+
+    // The word is the start where none is there yet.
+    fn put_start(&mut self, alloc: Global, word: Word<'_>) -> Result<(), AllocError>
+        ensures { OnOk result (syntax_built self.new ≡ record (syntax_built self.old) {
+          start = with_first (Some (word_view word.entry)) (syntax_built self.old).start;
+        }) }
+    {
+        if self.ast.start.is_none() {
+            self.ast.start = Some((String::from_str(alloc, word.name)?, word.span));
+        }
         Ok(())
     }
 

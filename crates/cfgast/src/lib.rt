@@ -2,8 +2,10 @@
 
 pub mod ast;
 pub mod builder;
+pub mod duplicates;
 pub mod item;
 pub mod laws;
+pub mod occurrence;
 pub mod production;
 pub mod rule;
 pub mod settings;
@@ -12,6 +14,7 @@ pub mod symbol;
 pub use ast::GrammarAST;
 pub use builder::{AstBuilder, built_is_syntax, syntax_is_well_formed};
 pub use item::{Body, RuleHead};
+pub use occurrence::{Occurrence, Unique, UniqueKind};
 pub use production::Production;
 pub use rule::Rule;
 pub use settings::Settings;

@@ -1,9 +1,9 @@
-ghost use Rattle.std.specs.Prelude.{◌≡◌};
+ghost use Rattle.std.specs.Prelude.{◌≡◌, []};
 
 use cfgbase::Span;
 use std::alloc::AllocError;
 
-/// What a file says of its grammar as a whole. No declaration that is read so far says any of it.
+/// What a file says of its grammar as a whole. No declaration that is read so far says more than `expect` and `expectrr`.
 #[derive(Debug, Drop)]
 pub struct Settings {
     /// How many conflicts between shifting and reducing `%expect` allows (Bison), and where it says so.
@@ -17,12 +17,13 @@ pub struct Settings {
 }
 
 impl Settings {
-    ghost use Rattle.cfgast.specs.Syntax.{no_settings};
+    ghost use Rattle.cfgast.specs.Syntax.{settings_of};
     ghost use Rattle.cfgast.specs.View.{settings_view};
 
     /// None of them.
+    #[tactic(auto, unfolding(crate::specs::Syntax::settings_of))]
     pub fn none() -> Self
-        ensures { settings_view result ≡ no_settings }
+        ensures { settings_view result ≡ settings_of [] }
     {
         Settings {
             expect: None,

@@ -1,0 +1,45 @@
+//! What a file declares more than once, though it may declare it only once.
+
+ghost use Rattle.std.specs.Prelude.{◌≡◌, [], map, IfOk};
+ghost use Rattle.cfgast.specs.Occurrences.{is_same, each_once, repeats, duplicates};
+ghost use Rattle.cfgast.specs.View.{occurrence_view, duplicate_view};
+
+use crate::occurrence::{Occurrence, Unique};
+use cfgbase::Span;
+use indexmap::{IndexMap, IndexSet};
+use std::alloc::{AllocError, Global};
+
+/// What the occurrences declare more than once, in the order of the first repeats, with all its places.
+#[tactic(auto, unfolding(crate::specs::Occurrences::duplicates))]
+pub fn duplicates(
+    alloc: Global,
+    occurrences: &[Occurrence],
+) -> Result<IndexMap<&Unique, Vec<Span>>, AllocError>
+    ensures { IfOk result (λ found. map duplicate_view found.entries ≡ duplicates (map occurrence_view occurrences.now)) }
+{
+    let mut found = repeated(alloc, occurrences)?;
+    for occurrence in occurrences {
+        if let Some(places) = found.get_mut(&&occurrence.what) {
+            places.push(occurrence.span)?;
+        }
+    }
+    Ok(found)
+}
+
+// What the occurrences declare more than once, in the order of the first repeats, without its places.
+fn repeated(
+    alloc: Global,
+    occurrences: &[Occurrence],
+) -> Result<IndexMap<&Unique, Vec<Span>>, AllocError>
+    ensures { IfOk result (λ found. map duplicate_view found.entries
+        ≡ map (λ what. record { what = what; spans = [] }) (each_once is_same (repeats (map occurrence_view occurrences.now)))) }
+{
+    let mut declared = IndexSet::new(alloc);
+    let mut found = IndexMap::new(alloc);
+    for occurrence in occurrences {
+        if !declared.insert(&occurrence.what)? {
+            found.insert(&occurrence.what, Vec::new(alloc))?;
+        }
+    }
+    Ok(found)
+}

@@ -1,0 +1,58 @@
+//! What a file may declare only once, and where it does.
+
+ghost use Rattle.std.specs.Prelude.{◌≡◌};
+
+use cfgbase::Span;
+use std::alloc::AllocError;
+
+/// Which declaration it is.
+#[derive(Clone, Copy, Debug, PartialEq, Eq, Hash)]
+pub enum UniqueKind {
+    /// `%start`: the rule to start from.
+    Start,
+    /// `%expect`: how many conflicts there are between shifting and reducing.
+    Expect,
+    /// `%expect-rr`: how many conflicts there are between reductions.
+    ExpectReduceReduce,
+}
+
+/// What a file may declare only once: something of the grammar as a whole, or of a token.
+#[derive(Debug, PartialEq, Eq, Hash, Drop)]
+pub struct Unique {
+    pub kind: UniqueKind,
+    /// The token's name, where it is something of a token.
+    pub token: Option<String>,
+}
+
+/// A place where a file declares it.
+#[derive(Debug, Drop)]
+pub struct Occurrence {
+    pub what: Unique,
+    pub span: Span,
+}
+
+impl Clone for Unique {
+    ghost use Rattle.cfgast.specs.View.{unique_view};
+
+    ghost is_clone = { λ unique copy. unique_view copy ≡ unique_view unique };
+
+    fn clone(&self) -> Result<Unique, AllocError> {
+        Ok(Unique {
+            kind: self.kind,
+            token: self.token.clone()?,
+        })
+    }
+}
+
+impl Clone for Occurrence {
+    ghost use Rattle.cfgast.specs.View.{occurrence_view};
+
+    ghost is_clone = { λ occurrence copy. occurrence_view copy ≡ occurrence_view occurrence };
+
+    fn clone(&self) -> Result<Occurrence, AllocError> {
+        Ok(Occurrence {
+            what: self.what.clone()?,
+            span: self.span,
+        })
+    }
+}
