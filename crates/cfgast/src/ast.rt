@@ -79,6 +79,20 @@ impl GrammarAST {
         &self.spans
     }
 
+    /// How many conflicts between shifting and reducing `%expect` allows, and where it says so first.
+    pub fn expect(&self) -> &Option<(usize, Span)>
+        ensures { result.now ≡ (syntax self.now).settings.expect }
+    {
+        &self.settings.expect
+    }
+
+    /// How many conflicts between reductions `%expect-rr` allows, and where it says so first.
+    pub fn expectrr(&self) -> &Option<(usize, Span)>
+        ensures { result.now ≡ (syntax self.now).settings.expect_reduce_reduce }
+    {
+        &self.settings.expectrr
+    }
+
     /// What the file says of its grammar as a whole.
     pub fn settings(&self) -> &Settings
         ensures { settings_view result.now ≡ (syntax self.now).settings }

@@ -1,10 +1,10 @@
 -- The spans of a text's errors begin and end at places of the text.
-use Rattle.std.proofs.Common.{ℕ, Bool, true, false, List, [], ◌∷◌, All, get_or, slice_get, option_map, Option, Some, None, Ok, Err, Result, subst, arith, if◌then◌else◌}
+use Rattle.std.proofs.Common.{ℕ, Bool, true, false, List, [], ◌∷◌, ◌++◌, map, All, get_or, slice_get, option_map, Option, Some, None, Ok, Err, Result, subst, arith, if◌then◌else◌}
 use Rattle.std.specs.Prelude.{IfSome}
 use Rattle.std.specs.Option.{option_or, option_and_then, option_to_list}
 use Rattle.std.specs.Str.{IsUtf8, IsCharBoundary}
 use Rattle.std.proofs.lemmas.Str.{IsCharBoundary-start}
-use Rattle.std.proofs.lemmas.List.Elements.{All-nil, All-cons, All-head, All-tail, All-append}
+use Rattle.std.proofs.lemmas.List.Elements.{All-nil, All-cons, All-head, All-tail, All-append, All-map, All-filter}
 use Rattle.lemmas.proofs.Options.{All-slice_get, All-option_to_list}
 use Rattle.cfgbase.specs.declared.span.Span.{Span}
 use Rattle.reading.specs.Read.{stop_of}
@@ -13,12 +13,13 @@ use Rattle.cfgwords.specs.declared.fault.Fault.{Fault}
 use Rattle.cfgwords.specs.Words.{Word}
 use Rattle.cfgwords.proofs.Cuts.{cut_here}
 use Rattle.cfgast.specs.Items.{Item}
+use Rattle.cfgast.specs.Occurrences.{Occurrence, is_same, each_once, repeats, places_of, duplicates}
 use Rattle.cfgast.specs.Syntax.{Symbol, RuleSymbol, TokenSymbol, EachProductionSpan, EachSpan, symbol_word, Production, Rule, Syntax, syntax_of}
 use Rattle.cfgsyntax.specs.declared.yacc.kind.YaccKind.{YaccKind}
 use Rattle.cfgsyntax.specs.declared.yacc.parser.error.YaccGrammarErrorKind.TheVariants.{NoStartRule}
 use Rattle.cfgsyntax.specs.Errors.{ErrorKind, GrammarError, InvalidStartRule, UnknownRuleRef, UnknownToken, Nameless, error_at}
 use Rattle.cfgsyntax.specs.Check.{is_rule, is_token, first_error, start_error, symbol_error, production_error, place_error, rule_error, check_of}
-use Rattle.cfgsyntax.specs.Faults.{error_of, errors_of}
+use Rattle.cfgsyntax.specs.Faults.{error_of, duplicate_error, errors_of}
 use Rattle.cfgwords.specs.Places.{IsPiece, IsWordAt}
 use Rattle.cfgsyntax.specs.Reads.{Reads}
 use Rattle.cfgsyntax.specs.Spans.{EachErrorSpan}
@@ -85,6 +86,13 @@ module _ (text : List ℕ) where
   stop_error_at None h = tt
   stop_error_at (Some fault) h = All-cons (IsPiece text) fault.span [] h (All-nil (IsPiece text))
 
+  duplicates_at : (occurrences : List Occurrence) → All (λ o. IsPiece text o.span) occurrences → All (IsErrorAt text) (map duplicate_error (duplicates occurrences))
+  unfolding duplicates
+  duplicates_at occurrences h =
+      All-map (IsErrorAt text) duplicate_error (duplicates occurrences)
+      (All-map (λ d. All (IsPiece text) d.spans) (λ what. record { what = what; spans = places_of occurrences what }) (each_once is_same (repeats occurrences))
+      (λ k d lt. All-map (IsPiece text) (λ o. o.span) _ (All-filter (λ o. is_same o.what (get_or (each_once is_same (repeats occurrences)) k d)) (λ o. IsPiece text o.span) occurrences h)))
+
   ended_at : {A : Type 0} (T : List ℕ → Type 0) (S : Fault → Type 0) (Q : A → Type 0) (o : Result (A × List ℕ) Fault) → EndsIn T S Q o → IfSome (stop_of o) S
   ended_at T S Q (Ok (a, rest)) h = tt
   ended_at T S Q (Err fault) h = h
@@ -117,7 +125,11 @@ pub read_errors_at : (kind : YaccKind) (text : List ℕ) → IsUtf8 text → (it
     → All (IsErrorAt text) (errors_of items stop)
 read_errors_at kind text utf8 items stop reads =
     let read = read_at kind text utf8 items stop reads in
-    let second : Option GrammarError = check_of (syntax_of items) in
-    All-append (IsErrorAt text) (option_to_list (option_map error_of stop)) (option_to_list second)
+    let at = syntax_at text items read.items_at in
+    let duplicated : List GrammarError = map duplicate_error (duplicates (syntax_of items).occurrences) in
+    let stopped : List GrammarError = option_to_list (option_map error_of stop) in
+    let unfit : Option GrammarError = check_of (syntax_of items) in
+    All-append (IsErrorAt text) duplicated (stopped ++ option_to_list unfit) (duplicates_at text (syntax_of items).occurrences at.occurrences)
+    (All-append (IsErrorAt text) stopped (option_to_list unfit)
     (All-option_to_list (IsErrorAt text) (option_map error_of stop) (stop_error_at text stop read.stop_at))
-    (All-option_to_list (IsErrorAt text) second (check_at text utf8 (syntax_of items) (syntax_at text items read.items_at)))
+    (All-option_to_list (IsErrorAt text) unfit (check_at text utf8 (syntax_of items) at)))

@@ -13,14 +13,14 @@ use Rattle.reading.proofs.Yields.{Yields}
 use Rattle.cfgwords.specs.declared.fault.Fault.{Fault}
 use Rattle.cfgwords.specs.declared.fault.FaultKind.TheVariants.{IllegalName, IllegalString, IncompleteRule, PrematureEnd, UnknownDeclaration}
 use Rattle.cfgwords.specs.Text.{place}
-use Rattle.cfgwords.specs.Words.{Word, Token, IsName, word_at, word_of}
+use Rattle.cfgwords.specs.Words.{Word, Token, IsName, IsInteger, word_at, integer_at, word_of}
 use Rattle.cfgwords.proofs.Cuts.{place_cut, boundary_cut}
 use Rattle.cfgwords.specs.Places.{IsPiece, IsWordAt}
 use Rattle.cfgwords.proofs.NameStarts.{begins_as_name, name_begins}
-use Rattle.cfgwords.proofs.WordPlaces.{IsReached, IsTokenBehind, reached, name_at, token_is_at, reached_here, reached_on, word_passed, fault_is_at, blank_is_at}
-use Rattle.cfgast.specs.Items.{Item, RuleHead, TokenDeclared, StartDeclared, RuleNamed, TokenQuoted, Alternative}
+use Rattle.cfgwords.proofs.WordPlaces.{IsReached, IsTokenBehind, reached, name_at, integer_is_at, token_is_at, reached_here, reached_on, word_passed, fault_is_at, blank_is_at}
+use Rattle.cfgast.specs.Items.{Item, RuleHead, TokenDeclared, StartDeclared, ExpectDeclared, ExpectReduceReduceDeclared, RuleNamed, TokenQuoted, Alternative}
 use Rattle.cfgsyntax.specs.declared.yacc.kind.YaccKind.{YaccKind}
-use Rattle.cfgsyntax.specs.Grammar.{listed_token, token_declaration, start_declaration, declaration, start_and_more, declarations, symbol, another, finish, production, rule, file, separator_fault, body_fault, end_of}
+use Rattle.cfgsyntax.specs.Grammar.{listed_token, token_declaration, start_declaration, expect_declaration, expect_rr_declaration, declaration, symbol, another, finish, production, rule, file, separator_fault, body_fault, end_of}
 
 -- a name is a piece of the text, and begins as names do
 abbrev pub IsNameAt : List ℕ → Word → Type 0
@@ -30,6 +30,8 @@ IsNameAt whole name = IsWordAt whole name × begins_as_name name.name
 abbrev pub IsItemAt : List ℕ → Item → Type 0
 IsItemAt whole (TokenDeclared word) = IsWordAt whole word
 IsItemAt whole (StartDeclared word) = IsWordAt whole word
+IsItemAt whole (ExpectDeclared number) = IsPiece whole number.1
+IsItemAt whole (ExpectReduceReduceDeclared number) = IsPiece whole number.1
 IsItemAt whole (RuleNamed head) = IsNameAt whole head.name
 IsItemAt whole (TokenQuoted word) = IsWordAt whole word
 IsItemAt whole (Alternative head body) = IsNameAt whole head.name × All (λ token. IsWordAt whole (word_of token)) body.symbols
@@ -51,6 +53,12 @@ module _ (whole : List ℕ) (utf8 : IsUtf8 whole) where
   name_is : (from text word rest : List ℕ) → IsReached whole from text → IsName text word rest → IsWordAt whole (word_at len text word rest)
   name_is from text word rest t w = (name_at whole utf8 from text word rest t w).1
 
+  integer_goes : (from text : List ℕ) (number : ℕ) (rest : List ℕ) → IsReached whole from text → IsInteger text number rest → IsReached whole from rest
+  integer_goes from text number rest t w = (integer_is_at whole utf8 from text number rest t w).0
+
+  integer_is : (from text : List ℕ) (number : ℕ) (rest : List ℕ) → IsReached whole from text → IsInteger text number rest → IsPiece whole (integer_at len text number rest).1
+  integer_is from text number rest t w = (integer_is_at whole utf8 from text number rest t w).1
+
   listed_token_kept : (from : List ℕ) (Q : Unit {0} → Type 0) → Q tt → KeepsPlaces (listed_token len) from Q
   unfolding listed_token
   listed_token_kept from Q q = (
@@ -66,17 +74,26 @@ module _ (whole : List ℕ) (utf8 : IsUtf8 whole) where
   unfolding start_declaration
   start_declaration_kept from Q q = search (blank_is_at whole utf8, fault_is_at whole utf8, name_goes, name_is, q)
 
+  expect_declaration_kept : (from : List ℕ) (Q : Unit {0} → Type 0) → Q tt → KeepsPlaces (expect_declaration len) from Q
+  unfolding expect_declaration
+  expect_declaration_kept from Q q = search (blank_is_at whole utf8, fault_is_at whole utf8, integer_goes, integer_is, q)
+
+  expect_rr_declaration_kept : (from : List ℕ) (Q : Unit {0} → Type 0) → Q tt → KeepsPlaces (expect_rr_declaration len) from Q
+  unfolding expect_rr_declaration
+  expect_rr_declaration_kept from Q q = search (blank_is_at whole utf8, fault_is_at whole utf8, integer_goes, integer_is, q)
+
   declaration_kept : (from : List ℕ) → KeepsPlaces (declaration len) from (λ _. Unit {0})
   unfolding declaration
-  declaration_kept from = search (word_passed whole utf8 (codes "%token") refl, token_declaration_kept)
-
-  start_and_more_kept : (from : List ℕ) (Q : Unit {0} → Type 0) → Q tt → KeepsPlaces (start_and_more len) from Q
-  unfolding start_and_more repeat
-  start_and_more_kept from Q q = search (start_declaration_kept, declaration_kept, q)
-
-  declarations_kept : (from : List ℕ) (Q : Unit {0} → Type 0) → Q tt → KeepsPlaces (declarations len) from Q
-  unfolding declarations repeat
-  declarations_kept from Q q = search (word_passed whole utf8 (codes "%start") refl, declaration_kept, start_and_more_kept, q)
+  declaration_kept from = search (
+    word_passed whole utf8 (codes "%token") refl,
+    word_passed whole utf8 (codes "%start") refl,
+    word_passed whole utf8 (codes "%expect-rr") refl,
+    word_passed whole utf8 (codes "%expect") refl,
+    token_declaration_kept,
+    start_declaration_kept,
+    expect_declaration_kept,
+    expect_rr_declaration_kept,
+  )
 
   symbol_kept : (from : List ℕ) (Q : Option Token → Type 0) → ((token : Token) → IsTokenBehind whole from token → Q (Some token)) → Q None → KeepsPlaces (symbol len) from Q
   unfolding symbol
@@ -144,7 +161,7 @@ module _ (whole : List ℕ) (utf8 : IsUtf8 whole) where
 
   file_keeps : (from : List ℕ) (kind : YaccKind) → KeepsPlaces (file kind len) from (λ _. Unit {0})
   unfolding file while_test repeat
-  file_keeps from kind = search (word_passed whole utf8 (codes "%%") refl, blank_is_at whole utf8, separator_fault_kept, declarations_kept, rule_kept) depth 8
+  file_keeps from kind = search (word_passed whole utf8 (codes "%%") refl, blank_is_at whole utf8, separator_fault_kept, declaration_kept, rule_kept) depth 8
 
   pub file_kept : (from : List ℕ) (kind : YaccKind) → Yields (IsReached whole from) (IsItemAt whole) IsAt (λ _. Unit {0}) (Says (file kind len))
   file_kept from kind = keeps (IsReached whole) (IsItemAt whole) IsAt (reached_here whole utf8) (reached_on whole utf8) (file kind len) from (λ _. Unit {0}) (file_keeps from kind)

@@ -6,8 +6,9 @@ use Rattle.lemmas.specs.Lists.{with_fronts}
 use Rattle.lemmas.proofs.Fronts.{All-with_fronts}
 use Rattle.lemmas.proofs.Options.{All-slice_get, All-filter_map}
 use Rattle.cfgwords.specs.Words.{Token, word_of}
-use Rattle.cfgast.specs.Items.{Item, TokenDeclared, StartDeclared, RuleNamed, TokenQuoted, Alternative}
-use Rattle.cfgast.specs.Syntax.{RuleSymbol, TokenSymbol, EachProductionSpan, EachSpan, symbol_word, word_name, head_name, token_named, start_named, rule_named, symbol_of, finished, alternative, alternatives, token_words, rule_heads, rule_of, syntax_of}
+use Rattle.cfgast.specs.Items.{Item, TokenDeclared, StartDeclared, ExpectDeclared, ExpectReduceReduceDeclared, RuleNamed, TokenQuoted, Alternative}
+use Rattle.cfgast.specs.Occurrences.{declared_once}
+use Rattle.cfgast.specs.Syntax.{RuleSymbol, TokenSymbol, EachProductionSpan, EachSpan, symbol_word, word_name, head_name, token_named, start_named, expected, expected_reduce_reduce, rule_named, symbol_of, finished, alternative, alternatives, token_words, rule_heads, rule_of, settings_of, syntax_of}
 use Rattle.cfgast.proofs.Keeps.{All-firsts}
 use Rattle.cfgwords.specs.Places.{IsPiece, IsWordAt}
 use Rattle.cfgwords.proofs.NameStarts.{begins_as_name}
@@ -24,6 +25,20 @@ module _ (whole : List ℕ) where
   start_placed (RuleNamed head) h = h.0
   start_placed (Alternative head body) h = h.0.0
   start_placed _ h = tt
+
+  expected_placed : (item : Item) → IsItemAt whole item → IfSome (expected item) (λ number. IsPiece whole number.1)
+  expected_placed (ExpectDeclared number) h = h
+  expected_placed _ h = tt
+
+  expected_reduce_reduce_placed : (item : Item) → IsItemAt whole item → IfSome (expected_reduce_reduce item) (λ number. IsPiece whole number.1)
+  expected_reduce_reduce_placed (ExpectReduceReduceDeclared number) h = h
+  expected_reduce_reduce_placed _ h = tt
+
+  occurrence_placed : (item : Item) → IsItemAt whole item → IfSome (declared_once item) (λ occurrence. IsPiece whole occurrence.span)
+  occurrence_placed (StartDeclared word) h = h
+  occurrence_placed (ExpectDeclared number) h = h
+  occurrence_placed (ExpectReduceReduceDeclared number) h = h
+  occurrence_placed _ h = tt
 
   rule_placed : (item : Item) → IsItemAt whole item → IfSome (rule_named item) (λ head. IsNameAt whole head.name)
   rule_placed (RuleNamed head) h = h
@@ -56,7 +71,7 @@ module _ (whole : List ℕ) where
   heads_placed items all = All-firsts head_name (λ head. IsNameAt whole head.name) _ (all_placed (λ head. IsNameAt whole head.name) rule_named rule_placed items all)
 
   pub syntax_at : (items : List Item) → All (IsItemAt whole) items → EachSpan (IsPiece whole) (syntax_of items)
-  unfolding syntax_of token_words alternatives
+  unfolding syntax_of settings_of token_words alternatives
   syntax_at items all = record {
     start = All-slice_get (IsWordAt whole) (filter_map start_named items) 0 (all_placed (IsWordAt whole) start_named start_placed items all);
     rules = All-map (λ rule. IsWordAt whole rule.1.name) (rule_of (alternatives items)) (rule_heads items) (λ k d h. (heads_placed items all k d h).0);
@@ -65,7 +80,12 @@ module _ (whole : List ℕ) where
         (All-with_fronts (λ x. IfSome (alternative x) (λ a. EachProductionSpan (IsPiece whole) a.1)) (IsItemAt whole) (λ front. production_placed _) items all));
     tokens = All-map (IsPiece whole) (λ w. w.span) (token_words items)
         (All-firsts word_name (IsWordAt whole) (filter_map token_named items) (all_placed (IsWordAt whole) token_named token_placed items all));
-    settings = record { expect = tt; expect_reduce_reduce = tt };
+    settings = record {
+      expect = All-slice_get (λ number. IsPiece whole number.1) (filter_map expected items) 0 (all_placed (λ number. IsPiece whole number.1) expected expected_placed items all);
+      expect_reduce_reduce = All-slice_get (λ number. IsPiece whole number.1) (filter_map expected_reduce_reduce items) 0
+          (all_placed (λ number. IsPiece whole number.1) expected_reduce_reduce expected_reduce_reduce_placed items all);
+    };
+    occurrences = all_placed (λ occurrence. IsPiece whole occurrence.span) declared_once occurrence_placed items all;
   }
 
   pub rules_are_names : (items : List Item) → All (IsItemAt whole) items → All (λ rule. begins_as_name rule.0) (syntax_of items).rules

@@ -1,16 +1,21 @@
--- The errors of a text: the fault that stopped its reading, and then the first check that what was read fails.
-use Rattle.std.specs.Prelude.{List, ◌++◌, Option, option_map}
+-- The errors of a text: what it declares more than once, the fault that stopped its reading, and then the first check that
+-- what was read fails.
+use Rattle.std.specs.Prelude.{List, ◌++◌, map, Option, option_map}
 use Rattle.std.specs.Option.{option_to_list}
 use Rattle.cfgwords.specs.declared.fault.Fault.{Fault}
 use Rattle.cfgwords.specs.declared.fault.FaultKind.{FaultKind}
 use Rattle.cfgwords.specs.declared.fault.FaultKind.TheVariants as faults
+use Rattle.cfgast.specs.declared.occurrence.UniqueKind.{UniqueKind}
+use Rattle.cfgast.specs.declared.occurrence.UniqueKind.TheVariants as unique
 use Rattle.cfgast.specs.Items.{Item}
-use Rattle.cfgast.specs.Syntax.{syntax_of}
+use Rattle.cfgast.specs.Occurrences.{Duplicate, duplicates}
+use Rattle.cfgast.specs.Syntax.{Syntax, syntax_of}
 use Rattle.cfgsyntax.specs.Errors.{ErrorKind, GrammarError, Nameless, error_at}
 use Rattle.cfgsyntax.specs.declared.yacc.parser.error.YaccGrammarErrorKind.TheVariants as kinds
 use Rattle.cfgsyntax.specs.Check.{check_of}
 
 abbrev pub kind_of : FaultKind → ErrorKind
+kind_of faults.IllegalInteger = Nameless kinds.IllegalInteger
 kind_of faults.IllegalName = Nameless kinds.IllegalName
 kind_of faults.IllegalString = Nameless kinds.IllegalString
 kind_of faults.IncompleteRule = Nameless kinds.IncompleteRule
@@ -24,6 +29,20 @@ kind_of faults.ReachedEOL = Nameless kinds.ReachedEOL
 abbrev pub error_of : Fault → GrammarError
 error_of fault = error_at (kind_of fault.kind) fault.span
 
+abbrev pub repeated_kind : UniqueKind → ErrorKind
+repeated_kind unique.Start = Nameless kinds.DuplicateStartDeclaration
+repeated_kind unique.Expect = Nameless kinds.DuplicateExpectDeclaration
+repeated_kind unique.ExpectReduceReduce = Nameless kinds.DuplicateExpectRRDeclaration
+
+-- the error for what is declared more than once, at all its places
+abbrev pub duplicate_error : Duplicate → GrammarError
+duplicate_error duplicate = record { kind = repeated_kind duplicate.what.kind; spans = duplicate.spans }
+
+-- the errors of what was read as a syntax, up to stop
+abbrev pub all_errors : Syntax → Option Fault → List GrammarError
+all_errors syntax stop =
+    map duplicate_error (duplicates syntax.occurrences) ++ (option_to_list (option_map error_of stop) ++ option_to_list (check_of syntax))
+
 -- the errors of a text that reads as these items, up to stop
 abbrev pub errors_of : List Item → Option Fault → List GrammarError
-errors_of items stop = option_to_list (option_map error_of stop) ++ option_to_list (check_of (syntax_of items))
+errors_of items stop = all_errors (syntax_of items) stop

@@ -2,6 +2,7 @@
 
 use crate::errors::write_span;
 use crate::pen;
+use cfgrammar::Span;
 use cfgrammar::yacc::ast::{ASTWithValidityInfo, GrammarAST, Production, Rule, Symbol};
 use std::alloc::{AllocError, Global};
 
@@ -40,6 +41,8 @@ fn syntax_text(alloc: Global, ast: &GrammarAST) -> Result<String, AllocError> {
         write_span(&mut out, *span)?;
         out.push('\n')?;
     }
+    write_expected(&mut out, "    expect ", ast.expect())?;
+    write_expected(&mut out, "    expect-rr ", ast.expectrr())?;
     for rule in ast.rules().values() {
         write_rule(&mut out, ast, rule)?;
     }
@@ -49,6 +52,20 @@ fn syntax_text(alloc: Global, ast: &GrammarAST) -> Result<String, AllocError> {
     }
     write_tokens(&mut out, ast)?;
     Ok(out)
+}
+
+/// Writes how many conflicts are expected, and where the text says so.
+fn write_expected(
+    out: &mut String,
+    word: &str,
+    expected: &Option<(usize, Span)>,
+) -> Result<(), AllocError> {
+    if let Some((number, span)) = expected {
+        pen::number(out, word, *number)?;
+        write_span(out, *span)?;
+        out.push('\n')?;
+    }
+    Ok(())
 }
 
 /// Writes a rule: its name, the name's place, and its productions. It is found by its name.

@@ -104,7 +104,22 @@ fn write_lengths<S: Storage>(out: &mut String, grammar: &YaccGrammar<S>) -> Resu
     if let Some(ridx) = grammar.implicit_rule() {
         pen::number(out, "; implicit tokens in ", usize::from(ridx))?;
     }
-    out.push('\n')
+    out.push('\n')?;
+    write_expected(out, "    expect ", grammar.expect())?;
+    write_expected(out, "    expect-rr ", grammar.expectrr())
+}
+
+/// Writes how many conflicts are expected.
+fn write_expected(
+    out: &mut String,
+    word: &str,
+    expected: Option<usize>,
+) -> Result<(), AllocError> {
+    if let Some(number) = expected {
+        pen::number(out, word, number)?;
+        out.push('\n')?;
+    }
+    Ok(())
 }
 
 /// Writes a line for each rule.

@@ -1,6 +1,7 @@
 //! The syntax of a Yacc file, and whether it is valid.
 
 mod check;
+mod errors;
 
 ghost use Rattle.std.specs.Prelude.{◌≡◌, ◌↔◌, [], List, Option, IsTrue, IfOk};
 ghost use Rattle.cfgwords.specs.declared.fault.Fault.{Fault};
@@ -16,7 +17,7 @@ ghost use Rattle.cfgsyntax.specs.Spans.{EachParsedSpan};
 use crate::yacc::kind::YaccKind;
 use crate::yacc::parser::{YaccGrammarError, read};
 pub use cfgast::{GrammarAST, Production, Rule, Settings, Symbol};
-use check::errors_found;
+use errors::errors_found;
 use std::alloc::{AllocError, Global};
 use std::marker::Model;
 

@@ -369,6 +369,28 @@ impl<S: Storage> YaccGrammar<S> {
         }
     }
 
+    /// How many conflicts between shifting and reducing the file expects, where it says so (Bison's `%expect`).
+    #[tactic(auto, unfolding(crate::specs::View::tables))]
+    pub fn expect(&self) -> Option<usize>
+        ensures { result ≡ option_map (λ number. number.0) self.now.settings.expect }
+    {
+        match self.settings.expect {
+            Some((number, _)) => Some(number),
+            None => None,
+        }
+    }
+
+    /// How many conflicts between reductions the file expects, where it says so (Bison's `%expect-rr`).
+    #[tactic(auto, unfolding(crate::specs::View::tables))]
+    pub fn expectrr(&self) -> Option<usize>
+        ensures { result ≡ option_map (λ number. number.0) self.now.settings.expect_reduce_reduce }
+    {
+        match self.settings.expectrr {
+            Some((number, _)) => Some(number),
+            None => None,
+        }
+    }
+
     /// A production as text: the rule's name and a colon, and for each symbol a space and the name in double quotes.
     pub fn pp_prod(&self, alloc: Global, pidx: PIdx<S>) -> Result<String, AllocError>
         requires { S.number pidx.0 < length self.now.productions }

@@ -1,23 +1,20 @@
 //! Validation: whether what a syntax names is there.
 
-ghost use Rattle.std.specs.Prelude.{◌≡◌, ◌++◌, option_map, IfOk};
-ghost use Rattle.std.specs.Option.{option_to_list};
+ghost use Rattle.std.specs.Prelude.{◌≡◌, IfOk};
 ghost use Rattle.cfgast.specs.View.{syntax, symbol_view, production_view};
 ghost use Rattle.cfgsyntax.specs.Check.{is_rule, is_token, found, unfit_error, start_error, symbol_error, production_error, place_error, first_error, check_of};
-ghost use Rattle.cfgsyntax.specs.Faults.{error_of};
 
+use crate::yacc::parser::YaccGrammarError;
 use crate::yacc::parser::YaccGrammarErrorKind::{
     InvalidStartRule, NoStartRule, UnknownRuleRef, UnknownToken,
 };
-use crate::yacc::parser::{YaccGrammarError, error_of};
 use cfgast::{GrammarAST, Production, Rule, Symbol};
 use cfgbase::Span;
-use cfgwords::fault::Fault;
 use std::alloc::{AllocError, Global};
 
 /// What a check finds wrong. It borrows the name, so that to look for it takes no memory.
 #[derive(Drop)]
-enum Unfit<'a> {
+pub(super) enum Unfit<'a> {
     NoStart,
     Start(&'a str, Span),
     Rule(&'a str, Span),
@@ -25,7 +22,7 @@ enum Unfit<'a> {
 }
 
 impl Unfit<'_> {
-    fn error(self, alloc: Global) -> Result<YaccGrammarError, AllocError>
+    pub(super) fn error(self, alloc: Global) -> Result<YaccGrammarError, AllocError>
         ensures { IfOk result (λ error. error ≡ unfit_error self.entry) }
     {
         let (kind, span) = match self {
@@ -100,7 +97,7 @@ fn check_rule<'a>(ast: &'a GrammarAST, rule: &Rule) -> Result<(), Unfit<'a>>
 
 /// The first check that the syntax fails, if it fails one.
 #[tactic(auto, unfolding(crate::specs::Check::check_of))]
-fn check(ast: &GrammarAST) -> Result<(), Unfit<'_>>
+pub(super) fn check(ast: &GrammarAST) -> Result<(), Unfit<'_>>
     ensures { found result ≡ check_of (syntax ast.now) }
 {
     check_start(ast)?;
@@ -108,22 +105,4 @@ fn check(ast: &GrammarAST) -> Result<(), Unfit<'_>>
         check_rule(ast, rule)?;
     }
     Ok(())
-}
-
-/// The errors of a file that was read as this syntax, up to what stopped the reading.
-pub(super) fn errors_found(
-    alloc: Global,
-    ast: &GrammarAST,
-    stop: Option<Fault>,
-) -> Result<Vec<YaccGrammarError>, AllocError>
-    ensures { IfOk result (λ errors. errors.items ≡ option_to_list (option_map error_of stop) ++ option_to_list (check_of (syntax ast.now))) }
-{
-    let mut errors = Vec::new(alloc);
-    if let Some(fault) = stop {
-        errors.push(error_of(alloc, fault)?)?;
-    }
-    if let Err(unfit) = check(ast) {
-        errors.push(unfit.error(alloc)?)?;
-    }
-    Ok(errors)
 }

@@ -2,10 +2,11 @@
 
 ghost use Rattle.std.specs.Prelude.{◌≡◌, codes};
 ghost use Rattle.reading.specs.Construct.{expect, goes_on, repeat, while_test};
-ghost use Rattle.cfgsyntax.specs.Grammar.{is_listed, separator_fault, listed_token, token_declaration, start_declaration, declaration, start_and_more, declarations};
+ghost use Rattle.cfgsyntax.specs.Grammar.{is_listed, is_unread, separator_fault, listed_token, token_declaration, start_declaration, expect_declaration, expect_rr_declaration, declaration};
 
 use super::reader::{ReadFault, Reader};
 use cfgwords::fault::FaultKind;
+use reading::after_word;
 
 impl Reader<'_> {
     ghost use Rattle.cfgsyntax.specs.Builds.{Builds};
@@ -60,7 +61,36 @@ impl Reader<'_> {
         self.blank(true)
     }
 
-    /// Passes a declaration other than `%start`, and tells whether one stands here.
+    /// Passes what follows `%expect`.
+    #[tactic(auto, unfolding(crate::specs::Grammar::expect_declaration, cfgast::specs::Building::adds))]
+    fn expect_declaration(&mut self) -> Result<(), ReadFault>
+        ensures { Builds (λ x. x) self.old self.new result (expect_declaration self.old.len) }
+    {
+        self.blank(false)?;
+        let number = self.integer()?;
+        self.tree.declare_expect(number)?;
+        self.blank(true)
+    }
+
+    /// Passes what follows `%expect-rr`.
+    #[tactic(auto, unfolding(crate::specs::Grammar::expect_rr_declaration, cfgast::specs::Building::adds))]
+    fn expect_rr_declaration(&mut self) -> Result<(), ReadFault>
+        ensures { Builds (λ x. x) self.old self.new result (expect_rr_declaration self.old.len) }
+    {
+        self.blank(false)?;
+        let number = self.integer()?;
+        self.tree.declare_expect_rr(number)?;
+        self.blank(true)
+    }
+
+    /// Whether a declaration stands here that begins as another one does, and isn't read yet.
+    fn is_unread(&self) -> bool
+        ensures { result ≡ is_unread self.now.rest.now }
+    {
+        after_word(self.rest, "%expect-unused").is_some()
+    }
+
+    /// Passes a declaration, and tells whether one stands here.
     #[tactic(auto, unfolding(crate::specs::Grammar::declaration, cfgast::specs::Building::adds))]
     fn declaration(&mut self) -> Result<bool, ReadFault>
         ensures { Builds goes_on self.old self.new result (declaration self.old.len) }
@@ -68,37 +98,28 @@ impl Reader<'_> {
         if self.accept("%token") {
             self.token_declaration()?;
             Ok(true)
+        } else if self.accept("%start") {
+            self.start_declaration()?;
+            Ok(true)
+        } else if self.accept("%expect-rr") {
+            self.expect_rr_declaration()?;
+            Ok(true)
+        } else if self.is_unread() {
+            Ok(false)
+        } else if self.accept("%expect") {
+            self.expect_declaration()?;
+            Ok(true)
         } else {
             Ok(false)
         }
     }
 
-    fn declaration_list(&mut self) -> Result<(), ReadFault>
+    /// Passes all declarations.
+    pub(super) fn declarations(&mut self) -> Result<(), ReadFault>
         ensures { Builds (λ x. x) self.old self.new result (repeat (declaration self.old.len)) }
     {
         while self.declaration()? {}
         Ok(())
-    }
-
-    #[tactic(auto, unfolding(crate::specs::Grammar::start_and_more, cfgast::specs::Building::adds))]
-    fn start_and_more(&mut self) -> Result<(), ReadFault>
-        ensures { Builds (λ x. x) self.old self.new result (start_and_more self.old.len) }
-    {
-        self.start_declaration()?;
-        self.declaration_list()
-    }
-
-    /// Passes all declarations. `%start` may stand once.
-    #[tactic(auto, unfolding(crate::specs::Grammar::declarations, cfgast::specs::Building::adds))]
-    pub(super) fn declarations(&mut self) -> Result<(), ReadFault>
-        ensures { Builds (λ x. x) self.old self.new result (declarations self.old.len) }
-    {
-        self.declaration_list()?;
-        if self.accept("%start") {
-            self.start_and_more()
-        } else {
-            Ok(())
-        }
     }
 
     /// Passes the `%%` behind the declarations.

@@ -13,6 +13,7 @@ impl From<FaultKind> for YaccGrammarErrorKind {
 
     fn from(kind: FaultKind) -> YaccGrammarErrorKind {
         match kind {
+            FaultKind::IllegalInteger => YaccGrammarErrorKind::IllegalInteger,
             FaultKind::IllegalName => YaccGrammarErrorKind::IllegalName,
             FaultKind::IllegalString => YaccGrammarErrorKind::IllegalString,
             FaultKind::IncompleteRule => YaccGrammarErrorKind::IncompleteRule,

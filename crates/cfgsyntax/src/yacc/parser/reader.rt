@@ -3,13 +3,13 @@
 ghost use Rattle.std.specs.Prelude.{◌≡◌, ◌≤◌, length, [], Some, None, MatchBool, IfSome};
 ghost use Rattle.reading.specs.Pieces.{strip};
 ghost use Rattle.cfgwords.specs.Text.{place, fault_at};
-ghost use Rattle.cfgsyntax.specs.Grammar.{blank_here, name_here, token_here};
+ghost use Rattle.cfgsyntax.specs.Grammar.{blank_here, name_here, token_here, integer_here};
 
 use cfgast::{AstBuilder, GrammarAST};
 use cfgbase::Span;
 use cfgwords::blank::Front;
 use cfgwords::fault::{Fault, FaultKind};
-use cfgwords::words::{Token, Word, leading_name, leading_token};
+use cfgwords::words::{Token, Word, leading_integer, leading_name, leading_token};
 use reading::after_word;
 use std::alloc::{AllocError, AllocFailed, Global};
 
@@ -151,6 +151,21 @@ impl<'a> Reader<'a> {
                 Ok(Word { name, span })
             }
             None => Err(self.fault(FaultKind::IllegalName)),
+        }
+    }
+
+    /// Passes the integer that must stand here, and answers it with its place.
+    #[tactic(auto, unfolding(cfgast::specs::Building::adds))]
+    pub(super) fn integer(&mut self) -> Result<(usize, Span), ReadFault>
+        ensures { Builds (λ x. x) self.old self.new result (integer_here self.old.len) }
+    {
+        match leading_integer(self.rest) {
+            Some((number, rest)) => {
+                let start = self.place();
+                self.rest = rest;
+                Ok((number, Span::new(start, self.place())))
+            }
+            None => Err(self.fault(FaultKind::IllegalInteger)),
         }
     }
 

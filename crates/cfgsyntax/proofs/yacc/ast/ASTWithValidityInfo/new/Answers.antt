@@ -34,5 +34,5 @@ invariant_of-result c =
     record {
       well_formed = read.0;
       rules_are_names = read.1;
-      checked = checked c.in_ok-errors.errors.items _ (check_of _) c.in_ok-errors.ensures;
+      checked = checked c.in_ok-errors.errors.items _ _ (check_of _) c.in_ok-errors.ensures;
     }

@@ -1,7 +1,7 @@
 use Rattle.std.proofs.Common.{length}
 use Rattle.cfgsyntax.specs.Grammar.{declaration}
 use Rattle.cfgsyntax.proofs.Loops.{Gathers}
-use Rattle.cfgsyntax.proofs.yacc.parser.reader.Reader.declaration_list.Given as goal
+use Rattle.cfgsyntax.proofs.yacc.parser.reader.Reader.declarations.Given as goal
 
 abbrev pub invariant-loop : goal.invariant-loop
 invariant-loop l = Gathers declaration l.fn.self l.self

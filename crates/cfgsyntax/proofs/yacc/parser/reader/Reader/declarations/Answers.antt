@@ -3,7 +3,7 @@ use Rattle.std.proofs.lemmas.Result.{err_from_is_err_and}
 use Rattle.reading.specs.Construct.{goes_on}
 use Rattle.cfgsyntax.specs.Grammar.{declaration}
 use Rattle.cfgsyntax.proofs.Loops.{gathers_start, gathers_on, repeat_fails, repeat_done, turn_shorter}
-use Rattle.cfgsyntax.proofs.yacc.parser.reader.Reader.declaration_list.Goals as goal
+use Rattle.cfgsyntax.proofs.yacc.parser.reader.Reader.declarations.Goals as goal
 
 pub loop-init : goal.loop-init
 loop-init c = gathers_start declaration c.args.self.now

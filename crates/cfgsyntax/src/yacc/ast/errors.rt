@@ -1,0 +1,61 @@
+//! The errors of a file, in order.
+
+ghost use Rattle.std.specs.Prelude.{◌≡◌, map, IfOk};
+ghost use Rattle.cfgast.specs.Occurrences.{duplicates};
+ghost use Rattle.cfgast.specs.View.{syntax, occurrence_view};
+ghost use Rattle.cfgsyntax.specs.Errors.{kind_view};
+ghost use Rattle.cfgsyntax.specs.Faults.{repeated_kind, duplicate_error, all_errors};
+
+use super::check::check;
+use crate::yacc::parser::YaccGrammarErrorKind::{
+    DuplicateExpectDeclaration, DuplicateExpectRRDeclaration, DuplicateStartDeclaration,
+};
+use crate::yacc::parser::{YaccGrammarError, YaccGrammarErrorKind, error_of};
+use cfgast::duplicates::duplicates;
+use cfgast::{GrammarAST, Occurrence, UniqueKind};
+use cfgwords::fault::Fault;
+use std::alloc::{AllocError, Global};
+
+impl From<UniqueKind> for YaccGrammarErrorKind {
+    ghost from_gives = { λ kind error. kind_view error ≡ repeated_kind kind };
+
+    fn from(kind: UniqueKind) -> YaccGrammarErrorKind {
+        match kind {
+            UniqueKind::Start => DuplicateStartDeclaration,
+            UniqueKind::Expect => DuplicateExpectDeclaration,
+            UniqueKind::ExpectReduceReduce => DuplicateExpectRRDeclaration,
+        }
+    }
+}
+
+/// The errors for what is declared more than once.
+fn duplicate_errors(
+    alloc: Global,
+    occurrences: &[Occurrence],
+) -> Result<Vec<YaccGrammarError>, AllocError>
+    ensures { IfOk result (λ errors. errors.items ≡ map duplicate_error (duplicates (map occurrence_view occurrences.now))) }
+{
+    let mut errors = Vec::new(alloc);
+    for (what, places) in duplicates(alloc, occurrences)? {
+        errors.push(YaccGrammarError::new(what.kind.into(), places))?;
+    }
+    Ok(errors)
+}
+
+/// The errors of a file that was read as this syntax, up to what stopped the reading.
+pub(super) fn errors_found(
+    alloc: Global,
+    ast: &GrammarAST,
+    stop: Option<Fault>,
+) -> Result<Vec<YaccGrammarError>, AllocError>
+    ensures { IfOk result (λ errors. errors.items ≡ all_errors (syntax ast.now) stop) }
+{
+    let mut errors = duplicate_errors(alloc, ast.occurrences())?;
+    if let Some(fault) = stop {
+        errors.push(error_of(alloc, fault)?)?;
+    }
+    if let Err(unfit) = check(ast) {
+        errors.push(unfit.error(alloc)?)?;
+    }
+    Ok(errors)
+}
