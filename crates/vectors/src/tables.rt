@@ -110,11 +110,7 @@ fn write_lengths<S: Storage>(out: &mut String, grammar: &YaccGrammar<S>) -> Resu
 }
 
 /// Writes how many conflicts are expected.
-fn write_expected(
-    out: &mut String,
-    word: &str,
-    expected: Option<usize>,
-) -> Result<(), AllocError> {
+fn write_expected(out: &mut String, word: &str, expected: Option<usize>) -> Result<(), AllocError> {
     if let Some(number) = expected {
         pen::number(out, word, number)?;
         out.push('\n')?;
