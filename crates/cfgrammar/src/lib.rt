@@ -10,3 +10,4 @@ pub use cfgbase::{Location, Span, Spanned, SpansKind, span};
 pub use cfgindex::{PIdx, RIdx, SIdx, Storage, Symbol, TIdx, Vob, idxnewtype, storage};
 pub use cfglines::{FeedError, NewlineCache, newlinecache};
 pub use cfgmarks::markmap;
+pub use cfgrender::render;

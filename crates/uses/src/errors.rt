@@ -1,9 +1,9 @@
 //! The errors of a text, with their places.
 
-use cfgrammar::yacc::parser::YaccFault;
-use cfgrammar::yacc::{YaccGrammar, YaccKind, YaccOriginalActionKind};
-use cfgrammar::{NewlineCache, Spanned};
-use std::alloc::Global;
+use cfgrammar::yacc::ast::ASTWithValidityInfo;
+use cfgrammar::yacc::{YaccFault, YaccGrammar, YaccKind, YaccOriginalActionKind};
+use cfgrammar::{NewlineCache, Spanned, render};
+use std::alloc::{AllocError, Global};
 
 /// The errors of a text, a line each with the line and the column where its first span starts; empty where the text is
 /// that of a grammar.
@@ -26,6 +26,22 @@ pub fn print_errors(alloc: Global, text: &str) -> anyhow::Result<String> {
                 writeln!(lines, "{line}:{column}: {error}")?;
             }
         }
+    }
+    Ok(lines)
+}
+
+/// The errors of a file as people read them: each with its place, its text, and carets under the lines of its spans;
+/// empty where the file holds a grammar.
+///
+/// # Errors
+///
+/// Want of memory.
+pub fn explain(alloc: Global, name: &str, text: &str) -> Result<String, AllocError> {
+    let kind = YaccKind::Original(YaccOriginalActionKind::NoAction);
+    let parsed = ASTWithValidityInfo::new(alloc, kind, text)?;
+    let mut lines = String::new(alloc);
+    for error in parsed.errors() {
+        lines.push_str(&render(alloc, name, text, error)?)?;
     }
     Ok(lines)
 }

@@ -5,4 +5,5 @@ pub mod errors;
 pub mod firsts;
 pub mod lines;
 pub mod marks;
+pub mod own;
 pub mod productions;
