@@ -1,4 +1,6 @@
+pub mod TokenSets
 pub mod FirstLines
+pub mod FollowLines
 pub mod Report
 pub mod Run
 pub mod Sinks

@@ -18,10 +18,11 @@ use Rattle.cfgtool.specs.declared.engine.Outcome.TheVariants.{Done, Refused}
 use Rattle.cfgtool.specs.declared.engine.ReportFault.{ReportFault}
 use Rattle.cfgtool.specs.declared.engine.ReportFault.TheVariants as faults
 use Rattle.cfgtool.specs.declared.words.Command.{Command}
-use Rattle.cfgtool.specs.declared.words.Command.TheVariants.{Grammar, Firsts}
+use Rattle.cfgtool.specs.declared.words.Command.TheVariants.{Grammar, Firsts, Follows}
 use Rattle.cfgtool.specs.declared.words.KindArg.{KindArg}
 use Rattle.cfgtool.specs.declared.words.KindArg.TheVariants.{Named}
 use Rattle.cfgtool.specs.FirstLines.{AreFirstLines}
+use Rattle.cfgtool.specs.FollowLines.{AreFollowLines}
 use Rattle.cfgtool.specs.Sinks.{AppendsBeginning}
 
 -- the kind that a text is read as
@@ -58,6 +59,7 @@ production_lines g = flat_map (production_line g) (enumerate_from 0 g.production
 abbrev pub AreLinesOf : Command → Numbered → List ℕ → Type 0
 AreLinesOf Grammar g lines = lines ≡ production_lines g
 AreLinesOf Firsts g lines = AreFirstLines g lines
+AreLinesOf Follows g lines = AreFollowLines g lines
 
 -- How a report of a text with these errors and this numbering ends, and its lines: the text is a grammar, and the
 -- command's lines are told, or it is refused, and its errors are.

@@ -15,7 +15,7 @@ use Rattle.cfgtool.specs.declared.program.WordsFault.TheVariants as words
 use Rattle.cfgtool.specs.declared.source.Input.{Input}
 use Rattle.cfgtool.specs.declared.source.Input.TheVariants as input
 use Rattle.cfgtool.specs.declared.words.Command.{Command}
-use Rattle.cfgtool.specs.declared.words.Command.TheVariants.{Grammar, Firsts}
+use Rattle.cfgtool.specs.declared.words.Command.TheVariants.{Grammar, Firsts, Follows}
 use Rattle.cfgtool.specs.declared.words.KindArg.{KindArg}
 use Rattle.cfgtool.specs.declared.words.KindArg.TheVariants.{Named}
 use Rattle.cfgtool.specs.Report.{TellsText}
@@ -33,6 +33,7 @@ abbrev pub command_named : List ℕ → Option Command
 command_named word =
     if bytes_eq word (codes "grammar") then Some Grammar
     else if bytes_eq word (codes "firsts") then Some Firsts
+    else if bytes_eq word (codes "follows") then Some Follows
     else None
 
 -- how a run ends: with a report, or why there is none

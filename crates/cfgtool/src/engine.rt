@@ -6,6 +6,7 @@ ghost use Rattle.cfgtool.specs.Report.{AreLinesOf, IsReport, TellsText, fault_te
 ghost use Rattle.cfgtool.specs.declared.engine.ReportFault.TheVariants as variants;
 
 use crate::first_lines::first_lines;
+use crate::follow_lines::follow_lines;
 use crate::lines::{error_lines, production_lines};
 use crate::sink::{Sink, SinkFault, write_whole};
 use crate::words::{Command, KindArg};
@@ -115,5 +116,6 @@ fn command_lines(
     match command {
         Command::Grammar => production_lines(alloc, grammar),
         Command::Firsts => first_lines(alloc, grammar, &grammar.firsts(alloc)?),
+        Command::Follows => follow_lines(alloc, grammar, &grammar.follows(alloc)?),
     }
 }

@@ -1,15 +1,16 @@
 //! The lines that tell FIRST sets.
 
-ghost use Rattle.std.specs.Prelude.{◌≡◌, ◌++◌, ◌<◌, length, IfOk, OnOk, string_bytes};
-ghost use Rattle.std.specs.List.{enumerate_from, flat_map};
+ghost use Rattle.std.specs.Prelude.{◌≡◌, ◌<◌, length, IfOk, OnOk, string_bytes};
 ghost use Rattle.cfganalysis.specs.Firsts.{epsilon_bit};
 ghost use Rattle.cfganalysis.specs.Table.{bit};
-ghost use Rattle.cfgrammar.specs.Shown.{rule_part, token_part};
-ghost use Rattle.cfgtool.specs.FirstLines.{Adds, empty_word, first_line, first_lines, token_word};
+ghost use Rattle.cfgrammar.specs.Shown.{rule_part};
+ghost use Rattle.cfgtool.specs.FirstLines.{empty_word, first_line, first_lines};
+ghost use Rattle.cfgtool.specs.TokenSets.{Adds};
 
+use crate::token_sets::write_tokens;
+use cfgrammar::RIdx;
 use cfgrammar::yacc::YaccGrammar;
 use cfgrammar::yacc::firsts::YaccFirsts;
-use cfgrammar::{RIdx, TIdx};
 use std::alloc::{AllocError, Global};
 
 /// FIRST sets, as of a grammar's rules, a line for each rule: its name and a colon, the tokens in its set, in double
@@ -41,46 +42,9 @@ fn write_line(
 {
     lines.push_str(grammar.rule_name_str(ridx))?;
     lines.push_str(":")?;
-    write_tokens(lines, grammar, firsts, ridx)?;
+    write_tokens(lines, grammar, firsts, ridx, "")?;
     lines.push_str(if_empty(firsts.is_epsilon_set(ridx)))?;
     lines.push_str("\n")
-}
-
-/// Writes the tokens that a rule begins with.
-fn write_tokens(
-    lines: &mut String,
-    grammar: &YaccGrammar<u32>,
-    firsts: &YaccFirsts<u32>,
-    ridx: RIdx<u32>,
-) -> Result<(), AllocError>
-    ensures { OnOk result (string_bytes lines.new
-        ≡ string_bytes lines.old ++ flat_map (token_word (bit firsts.now.firsts ridx.0)) (enumerate_from 0 grammar.now.tokens)) }
-{
-    for tidx in grammar.iter_tidxs() {
-        write_token(lines, grammar, firsts, ridx, tidx)?;
-    }
-    Ok(())
-}
-
-/// Writes a token's name, if the rule begins with it.
-fn write_token(
-    lines: &mut String,
-    grammar: &YaccGrammar<u32>,
-    firsts: &YaccFirsts<u32>,
-    ridx: RIdx<u32>,
-    tidx: TIdx<u32>,
-) -> Result<(), AllocError>
-    requires { tidx.0 < length grammar.now.tokens }
-    ensures { OnOk result (Adds (token_part (λ token. token_word (bit firsts.now.firsts ridx.0) (tidx.0, token)) grammar.now tidx.0)
-        (string_bytes lines.old) (string_bytes lines.new)) }
-{
-    if !firsts.is_set(ridx, tidx) {
-        return Ok(());
-    }
-    match grammar.token_name(tidx) {
-        Some(name) => write!(lines, " \"{name}\""),
-        None => Ok(()),
-    }
 }
 
 /// What is written of a rule that is empty, and of one that isn't.

@@ -3,11 +3,13 @@
 
 pub mod engine;
 pub mod first_lines;
+pub mod follow_lines;
 pub mod lines;
 pub mod program;
 pub mod sink;
 pub mod source;
 pub mod system;
+pub mod token_sets;
 pub mod words;
 
 pub use engine::{Outcome, ReportFault, report};

@@ -30,6 +30,8 @@ pub enum Command {
     Grammar,
     /// Its FIRST sets.
     Firsts,
+    /// Its FOLLOW sets.
+    Follows,
 }
 
 /// The kind that a word names, byte for byte.
@@ -52,6 +54,7 @@ pub fn command_of(word: &str) -> Option<Command>
     match word {
         "grammar" => Some(Command::Grammar),
         "firsts" => Some(Command::Firsts),
+        "follows" => Some(Command::Follows),
         _ => None,
     }
 }
