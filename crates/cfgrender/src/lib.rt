@@ -1,7 +1,7 @@
 //! Errors and warnings as people read them: where they are, what they say, and the line of the text with carets.
 #![tactic(auto)]
 
-pub mod excerpt;
+mod excerpt;
 pub mod laws;
 pub mod message;
 mod source;
