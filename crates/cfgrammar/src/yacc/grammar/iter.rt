@@ -103,7 +103,10 @@ impl<I: Index> Iterator for IdxIter<I> {
         Some(I::at(place))
     }
 
-    fn size_hint(&self) -> (usize, Option<usize>) {
-        self.left.size_hint()
+    fn size_hint(&self) -> (usize, Option<usize>)
+        ensures { result ≡ (self.now.end - self.now.start, Some (self.now.end - self.now.start)) }
+    {
+        let len = self.left.len();
+        (len, Some(len))
     }
 }
