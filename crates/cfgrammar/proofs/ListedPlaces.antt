@@ -9,9 +9,8 @@ use Rattle.lemmas.proofs.Elements.{element_at}
 use Rattle.cfganalysis.specs.Openings.{nth_production}
 use Rattle.cfganalysis.specs.Paths.{ArePlacesOf}
 use Rattle.cfgrammar.specs.Numbered.{Numbered, NumberedProduction, core, production_core}
-use Rattle.cfgrammar.specs.Numbering.{IsNumbering, times}
 use Rattle.cfgrammar.specs.Shown.{rule_part}
-use Rattle.cfgrammar.proofs.Listed.{productions_listed}
+use Rattle.cfgrammar.specs.WellNumbered.{ListsEachOnce, times}
 
 -- how often the list has the number behind its first element, and with it
 abbrev with_first : Bool → ℕ → List ℕ → ℕ → List ℕ
@@ -40,12 +39,12 @@ contained-times p n (x ∷ l) e = elim (cases_Bool (p == x)) [
       (ap (λ b. length (with_first b x l p)) (sym i) ∙ e))
 ]
 
-module _ (g : Numbered) (r : ℕ) (listed : List ℕ) (is : IsNumbering g) (at : rule_part (λ x. x.productions) g r ≡ Some listed) where
+module _ (g : Numbered) (r : ℕ) (listed : List ℕ) (is : ListsEachOnce g) (at : rule_part (λ x. x.productions) g r ≡ Some listed) where
   owner_at : (p : ℕ) (x : NumberedProduction) → slice_get g.productions p ≡ Some x → p < length g.productions → (nth_production (core g) p).rule ≡ x.rule
   owner_at p x read lt = ap (λ y. y.rule) (get_or-map production_core g.productions p x _ lt ∙ ap production_core (get_or_from_slice_get g.productions p x x read))
 
   often : (p : ℕ) (x : NumberedProduction) → slice_get g.productions p ≡ Some x → times p listed ≡ (if r == x.rule then 1 else 0)
-  often p x read = productions_listed g p x.rule r listed is (ap (option_map (λ y. y.rule)) read) at
+  often p x read = is p x.rule r listed (ap (option_map (λ y. y.rule)) read) at
 
   owned : (p owner : ℕ) → times p listed ≡ (if r == owner then 1 else 0) → Contains listed p → owner ≡ r
   owned p owner e h = elim (cases_Bool (r == owner)) [

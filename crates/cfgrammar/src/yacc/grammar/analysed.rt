@@ -44,7 +44,7 @@ impl<S: Storage> Tables<S> for YaccGrammar<S> {
         requires { S.number ridx.0 < length self.now.rules }
         ensures { ArePlacesOf (core self.now) (S.number ridx.0) (map (λ p. S.number p.0) result.now) }
     {
-        self.comes_from_syntax();
+        self.invariant_holds();
         self.rule_to_prods(ridx)
     }
 
