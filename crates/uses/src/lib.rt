@@ -5,5 +5,4 @@ pub mod errors;
 pub mod firsts;
 pub mod lines;
 pub mod marks;
-pub mod own;
 pub mod productions;
