@@ -2,6 +2,7 @@
 #![tactic(auto)]
 
 pub mod digest;
+pub mod files;
 pub mod pen;
 pub mod row;
 pub mod text;

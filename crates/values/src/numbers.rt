@@ -1,8 +1,9 @@
 //! Rows on spans, on indices, and on lists of bits.
 
-use crate::pen;
-use crate::row::{Row, number, numbers};
-use cfgrammar::{Location, PIdx, RIdx, SIdx, Span, Storage, Symbol, TIdx, Vob};
+use cfgbase::{Location, Span};
+use cfgindex::{PIdx, RIdx, SIdx, Storage, Symbol, TIdx, Vob};
+use rows::pen;
+use rows::row::{Row, number, numbers};
 use std::alloc::{AllocError, Global};
 
 /// Writes what is answered of each value of the row.

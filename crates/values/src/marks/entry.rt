@@ -3,9 +3,9 @@
 ghost use Rattle.cfgmarks.specs.Marks.{IsFaithful};
 
 use super::{Key, behavior, small};
-use crate::pen;
-use crate::row::words;
-use cfgrammar::markmap::{Entry, MarkMap};
+use cfgmarks::markmap::{Entry, MarkMap};
+use rows::pen;
+use rows::row::words;
 use std::alloc::AllocError;
 
 /// Makes a call at the place of a key that holds a value, and writes what it answers.

@@ -4,10 +4,10 @@ ghost use Rattle.cfgmarks.specs.Marks.{IsFaithful};
 
 mod entry;
 
-use crate::pen;
-use crate::row::{Row, number, words};
-use crate::text::push_turn;
-use cfgrammar::markmap::{MarkMap, MergeBehavior, MergeError, MergeFault};
+use cfgmarks::markmap::{MarkMap, MergeBehavior, MergeError, MergeFault};
+use rows::pen;
+use rows::row::{Row, number, words};
+use rows::text::push_turn;
 use std::alloc::{AllocError, Global};
 use std::fmt::Debug;
 use std::mem;
@@ -85,8 +85,8 @@ fn play<K: Key>(out: &mut String, alloc: Global, row: &Row<'_>) -> Result<(), Al
     Ok(())
 }
 
-/// Makes a call as many times as the number in front of it says, with the turn's number for each `#`, and writes what each
-/// answers.
+/// Makes a call as many times as the number in front of it says, with the turn's number for each `#`, and writes what
+/// each answers.
 fn calls<K: Key>(
     out: &mut String,
     alloc: Global,

@@ -2,7 +2,7 @@ use Rattle.std.proofs.Common.{◌≡◌, ℕ, ◌++◌, List}
 use denote.Shadow.{shadow}
 use denote.Text.{Utf8}
 use Rattle.cfglines.specs.Lines.{StandsFor}
-use Rattle.vectors.proofs.lines.feed_pieces.Given as goal
+use Rattle.values.proofs.lines.feed_pieces.Given as goal
 
 -- what is fed so far and the rest are the text
 abbrev pub invariant-loop-length : goal.invariant-loop-length

@@ -3,10 +3,11 @@
 ghost use Rattle.std.specs.Prelude.{IfOk, IfSome};
 ghost use Rattle.cfglines.specs.Lines.{StandsFor};
 
-use crate::pen;
-use crate::row::{Row, number, numbers};
-use crate::text::write_text;
-use cfgrammar::{FeedError, NewlineCache, Span};
+use cfgbase::Span;
+use cfglines::{FeedError, NewlineCache};
+use rows::pen;
+use rows::row::{Row, number, numbers};
+use rows::text::write_text;
 use std::alloc::{AllocError, Global};
 
 /// Writes what a cache of the text's newlines answers, of the text fed whole; and the ways to feed it in pieces by which

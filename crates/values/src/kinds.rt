@@ -1,9 +1,8 @@
 //! Rows on the texts of errors and warnings.
 
-use crate::errors::{write_kind, write_spans};
-use crate::row::{Row, numbers};
-use cfgrammar::yacc::{YaccGrammarError, YaccGrammarErrorKind, YaccGrammarWarningKind};
-use cfgrammar::{Span, Spanned};
+use cfgbase::{Span, Spanned};
+use cfgsyntax::yacc::{YaccGrammarError, YaccGrammarErrorKind, YaccGrammarWarningKind};
+use rows::row::{Row, numbers};
 use std::alloc::{AllocError, Global};
 
 /// Writes a line for each error that the row names: its kind, its spans, what they stand for, and its text. A kind that
@@ -40,9 +39,10 @@ fn write_error(out: &mut String, alloc: Global, held: &str, line: &str) -> Resul
         spans.push(Span::new(end, end))?;
     }
     let error = YaccGrammarError::new(kind_of(alloc, name, held)?, spans);
-    out.push_str("   ")?;
-    write_kind(out, &error)?;
-    write_spans(out, &error)?;
+    write!(out, "    {:?}", error.kind())?;
+    for span in error.spans() {
+        write!(out, " ({},{})", span.start(), span.end())?;
+    }
     write!(out, " {:?}: {error}", error.spanskind())?;
     if error.clone()? != error {
         out.push_str(", and a copy that isn't the same")?;
