@@ -27,7 +27,7 @@ impl Answers for Values {
         match row.tries {
             "lines" => lines::tell(out, rt.alloc(), row, text),
             "marks" => marks::tell(out, rt.alloc(), row),
-            "values" => numbers::tell(out, rt.alloc(), row),
+            "values" => numbers::tell(out, rt.alloc(), row, text),
             "errors" => kinds::tell(out, rt.alloc(), row, text),
             _ => writeln!(out, "no such row: {}", row.tries),
         }

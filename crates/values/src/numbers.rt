@@ -6,11 +6,17 @@ use rows::pen;
 use rows::row::{Row, number, numbers};
 use std::alloc::{AllocError, Global};
 
-/// Writes what is answered of each value of the row.
-pub(crate) fn tell(out: &mut String, alloc: Global, row: &Row<'_>) -> Result<(), AllocError> {
+/// Writes what is answered of each value of the row. The row's text, or else `a script`, is the place that no span is.
+pub(crate) fn tell(
+    out: &mut String,
+    alloc: Global,
+    row: &Row<'_>,
+    text: &str,
+) -> Result<(), AllocError> {
+    let script = if text.is_empty() { "a script" } else { text };
     for (word, rest) in &row.lines {
         match *word {
-            "span" => write_span(out, alloc, numbers(*rest))?,
+            "span" => write_span(out, alloc, script, numbers(*rest))?,
             "number" => write_number(out, number(*rest))?,
             "bits" => write_bits(out, alloc, row, numbers(*rest))?,
             _ => {}
@@ -23,6 +29,7 @@ pub(crate) fn tell(out: &mut String, alloc: Global, row: &Row<'_>) -> Result<(),
 fn write_span(
     out: &mut String,
     alloc: Global,
+    script: &str,
     (start, end): (usize, usize),
 ) -> Result<(), AllocError> {
     if start > end {
@@ -37,7 +44,7 @@ fn write_span(
     }
     let place = Location::from(span);
     let copy = place.clone()?;
-    let elsewhere = Location::Other(String::from_str(alloc, "a script")?);
+    let elsewhere = Location::Other(String::from_str(alloc, script)?);
     writeln!(
         out,
         ", as a place {place:?}; {} {} {}",

@@ -3,6 +3,7 @@
 ghost use Rattle.std.specs.Prelude.{◌<◌, length};
 
 use crate::errors::write_span;
+use crate::grammar::grammar_of;
 use crate::pen;
 use cfgrammar::yacc::{YaccGrammar, YaccKind};
 use cfgrammar::{PIdx, RIdx};
@@ -15,7 +16,7 @@ pub(crate) fn write_accessors(
     kind: YaccKind,
     text: &str,
 ) -> Result<(), AllocError> {
-    let Ok(grammar) = YaccGrammar::new(alloc, kind, text) else {
+    let Some(grammar) = grammar_of(alloc, kind, text)? else {
         return Ok(());
     };
     write_rules(out, &grammar)?;

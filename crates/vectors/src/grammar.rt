@@ -3,6 +3,7 @@
 use crate::row::{Row, numbers};
 use crate::{accessors, cuts, errors, firsts, syntax, tables, text};
 use cfgrammar::yacc::ast::ASTWithValidityInfo;
+use cfgrammar::yacc::parser::YaccFault;
 use cfgrammar::yacc::{YaccGrammar, YaccKind, YaccOriginalActionKind};
 use std::alloc::{AllocError, Global};
 
@@ -55,6 +56,19 @@ fn tell_whole(
     tables::write_tables(out, alloc, text, &parsed)
 }
 
+/// The grammar of a text, where it has one.
+pub(crate) fn grammar_of(
+    alloc: Global,
+    kind: YaccKind,
+    text: &str,
+) -> Result<Option<YaccGrammar<u32>>, AllocError> {
+    match YaccGrammar::new(alloc, kind, text) {
+        Ok(grammar) => Ok(Some(grammar)),
+        Err(YaccFault::Errors(_)) => Ok(None),
+        Err(YaccFault::OutOfMemory) => Err(AllocError),
+    }
+}
+
 /// Writes what the analyses of a text's grammar do beside what they answer.
 fn tell_analyses(
     out: &mut String,
@@ -62,7 +76,7 @@ fn tell_analyses(
     row: &Row<'_>,
     text: &str,
 ) -> Result<(), AllocError> {
-    let Ok(grammar) = YaccGrammar::new(alloc, kind_of(row), text) else {
+    let Some(grammar) = grammar_of(alloc, kind_of(row), text)? else {
         return Ok(());
     };
     firsts::write_openings(out, alloc, &grammar)?;
