@@ -1,6 +1,6 @@
 -- Rounds: one production more, one round more.
 use Rattle.std.proofs.Common.{◌≡◌, ℕ, ◌+◌, ◌-◌, ◌*◌, ◌^◌, ◌<◌, ◌≤◌, ◌≢◌, ◌||◌, Bool, true, false, cond, length, Contains, arith, refl, sym, ap, ◌∙◌, subst, below_more, true≢false}
-use Rattle.std.proofs.Math.Nat.{mul-le-mul_left}
+use Rattle.std.proofs.Math.Nat.{mul-le-mul_left, mul_comm}
 use Rattle.std.proofs.lemmas.Bool.{or_parts}
 use Rattle.std.proofs.lemmas.List.Elements.{Contains-get_or}
 use Rattle.derivation.specs.Grammar.{Grammar, Production, IsGrammar}
@@ -99,3 +99,11 @@ pub all_countable : (all rounds n : ℕ) → all ≡ rounds * n → rounds < 2 ^
 all_countable all rounds n e h k =
     let product : rounds * n ≤ rounds * 2 ^ 32 = mul-le-mul_left rounds (omega (arith, k)) in
     omega (arith, e, product, h, k)
+
+-- what there was of openings, all together
+pub all_few : (all rounds n bits most : ℕ) (changed : Bool) → changed ≡ false → all ≡ rounds * n → rounds ≤ bits + cond changed 0 1 → bits ≤ most
+    → all ≤ n * (most + 1)
+all_few all rounds n bits most changed off together few bound =
+    let one : ◌≡◌ {A = ℕ} (cond changed 0 1) 1 = ap (λ b. cond b 0 1) off in
+    let product : n * rounds ≤ n * (most + 1) = mul-le-mul_left n (omega (arith, few, bound, one)) in
+    omega (arith, together, product, mul_comm n rounds)

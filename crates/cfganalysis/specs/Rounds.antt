@@ -33,3 +33,7 @@ pub record OpensEach (n : ℕ) (g g' : Grammar) (opened opened' : ℕ → ℕ) (
 -- a number of openings that is enough for each production
 abbrev pub most_openings : Grammar → ℕ
 most_openings g = g.rules * (g.tokens + 1) + 1
+
+-- and for all of them together
+abbrev pub most_openings_all : Grammar → ℕ
+most_openings_all g = length g.productions * most_openings g

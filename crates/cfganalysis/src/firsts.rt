@@ -3,7 +3,7 @@
 ghost use Rattle.std.specs.Prelude.{◌≡◌, ◌<◌, ◌≤◌, ◌↔◌, ℕ, Contains, false, true, length, map, slice_set, IfOk, IsTrue};
 ghost use Rattle.derivation.specs.Grammar.{Grammar, IsGrammar};
 ghost use Rattle.cfganalysis.specs.Firsts.{AddsEpsilon, AddsFirst, AreFirsts, HaveFirstsOf, IsAmongFirsts, IsEpsilon, SayFirsts, begins_by, count_firsts, epsilon_bit, is_empty_symbol, no_firsts, vanishes_by, with_first};
-ghost use Rattle.cfganalysis.specs.Rounds.{TakesIn, most_openings};
+ghost use Rattle.cfganalysis.specs.Rounds.{TakesIn, most_openings, most_openings_all};
 ghost use Rattle.cfganalysis.specs.Symbols.{sym_of};
 ghost use Rattle.cfganalysis.specs.Table.{bit, row_of};
 ghost use Rattle.cfganalysis.specs.Bounds.{firsts_bounded};
@@ -189,6 +189,7 @@ pub fn firsts_over<S: Storage, P: Productions<S>>(
     ensures content { P.content productions.new ≡ P.content productions.old }
     ensures counts { (q : ℕ) → q < length (P.content productions.old).productions
         → P.opened productions.new q ≤ most_openings (P.content productions.old) }
+    ensures all_counts { P.opened_all productions.new ≤ most_openings_all (P.content productions.old) }
 {
     let rules = productions.rules_len().0.to_usize();
     let tokens = productions.tokens_len().0.to_usize();

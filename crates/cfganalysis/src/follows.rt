@@ -4,7 +4,7 @@ ghost use Rattle.std.specs.Prelude.{◌≡◌, ◌<◌, ◌≤◌, ◌↔◌, �
 ghost use Rattle.derivation.specs.Grammar.{Grammar, IsGrammar, IsSymbolOf, Rule};
 ghost use Rattle.cfganalysis.specs.Firsts.{AreFirsts};
 ghost use Rattle.cfganalysis.specs.Follows.{AreFollows, BeginsList, Behind, FitFollows, HaveFollowsOf, Puts, SayFollows, count_follows};
-ghost use Rattle.cfganalysis.specs.Rounds.{TakesIn, most_openings};
+ghost use Rattle.cfganalysis.specs.Rounds.{TakesIn, most_openings, most_openings_all};
 ghost use Rattle.cfganalysis.specs.Symbols.{sym_of};
 ghost use Rattle.cfganalysis.specs.Table.{HasBit, row_of};
 ghost use Rattle.cfganalysis.specs.Bounds.{follows_bounded};
@@ -174,6 +174,7 @@ pub fn follows_over<S: Storage, P: Productions<S>>(
     ensures content { P.content productions.new ≡ P.content productions.old }
     ensures counts { (q : ℕ) → q < length (P.content productions.old).productions
         → P.opened productions.new q ≤ most_openings (P.content productions.old) }
+    ensures all_counts { P.opened_all productions.new ≤ most_openings_all (P.content productions.old) }
 {
     let rules = productions.rules_len().0.to_usize();
     let tokens = productions.tokens_len().0.to_usize();

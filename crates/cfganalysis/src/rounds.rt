@@ -3,7 +3,7 @@
 ghost use Rattle.std.specs.Prelude.{◌≡◌, ℕ, ◌+◌, ◌-◌, ◌*◌, ◌^◌, ◌<◌, ◌≤◌, List, length, map, All, Contains};
 ghost use Rattle.derivation.specs.Grammar.{Grammar, Production, IsGrammar};
 ghost use Rattle.cfganalysis.specs.Openings.{nth_production};
-ghost use Rattle.cfganalysis.specs.Rounds.{IsSettled, OpensEach, Sweeps, TakesIn, most_openings};
+ghost use Rattle.cfganalysis.specs.Rounds.{IsSettled, OpensEach, Sweeps, TakesIn, most_openings, most_openings_all};
 ghost use Rattle.cfganalysis.specs.Symbols.{sym_of};
 
 use crate::productions::Productions;
@@ -69,6 +69,7 @@ pub fn settle<S: Storage, P: Productions<S>, A: Analysis<S>>(productions: &mut P
     ensures settled { IsSettled A.covers (P.content productions.old) analysis.new }
     ensures counts { (q : ℕ) → q < length (P.content productions.old).productions
         → P.opened productions.new q ≤ most_openings (P.content productions.old) }
+    ensures all_counts { P.opened_all productions.new ≤ most_openings_all (P.content productions.old) }
 {
     let prods_len = productions.prods_len().0.to_usize();
     let mut changed = true;
