@@ -5,37 +5,17 @@ use Rattle.std.proofs.lemmas.List.{take_more, take-append-drop, take_all, drop_a
 use Rattle.derivation.specs.Grammar.{Sym, Rule, Token, Grammar, IsGrammar, HasProduction}
 use Rattle.derivation.specs.First.{First, Empty}
 use Rattle.derivation.specs.Follow.{MayFollow}
-use Rattle.derivation.specs.FirstSets.{Vanishes, Begins}
+use Rattle.derivation.specs.FirstSets.{Begins}
 use Rattle.derivation.specs.FollowSets.{Flows}
 use Rattle.derivation.proofs.Firsts.{vanishes_parts, vanishes_both, vanishes_map, begins_parts, begins_map}
 use Rattle.derivation.proofs.Follows.{derived_flows}
 use Rattle.cfganalysis.specs.Table.{HasBit}
-use Rattle.cfganalysis.specs.Firsts.{FirstSets, FitsGrammar, AreFirsts, IsAmongFirsts, IsEpsilon, is_empty_symbol}
+use Rattle.cfganalysis.specs.Firsts.{FitsGrammar, AreFirsts, IsAmongFirsts, IsEpsilon, is_empty_symbol}
 use Rattle.cfganalysis.specs.Follows.{FollowSets, FitFollows, SayFollows, HaveFollowsOf, FlowIn, BeginsList, VanishesList, Behind, Puts, count_follows}
 use Rattle.cfganalysis.specs.Rounds.{TakesIn}
 use Rattle.cfganalysis.proofs.Settling.{grown}
 use Rattle.cfganalysis.proofs.Joins.{joins_none, joins_as, joins_then}
-
-module _ (E : ℕ → Type 0) (F : ℕ → ℕ → Type 0) where
-  begins_front : (a b : List Sym) (t : ℕ) → Begins E F a t → Begins E F (a ++ b) t
-  begins_front [] b t h = absurd h
-  begins_front (Token u ∷ a) b t h = h
-  begins_front (Rule r ∷ a) b t (inl h) = inl h
-  begins_front (Rule r ∷ a) b t (inr h) = inr (h.0, begins_front a b t h.1)
-
-  begins_past : (a b : List Sym) (t : ℕ) → Vanishes E a → Begins E F b t → Begins E F (a ++ b) t
-  begins_past [] b t v h = h
-  begins_past (Token u ∷ a) b t v h = absurd v
-  begins_past (Rule r ∷ a) b t v h = inr (v.0, begins_past a b t v.1 h)
-
--- the tests are the facts
-vanishes_alone : (x : FirstSets) (s : Sym) → is_empty_symbol x s ≡ true → Vanishes (IsEpsilon x) (s ∷ [])
-vanishes_alone x (Rule r) e = (e, tt)
-vanishes_alone x (Token u) e = absurd (true≢false (sym e))
-
-stays_alone : (x : FirstSets) (s : Sym) → is_empty_symbol x s ≡ false → Vanishes (IsEpsilon x) (s ∷ []) → ⊥
-stays_alone x (Rule r) e h = true≢false (sym h.0 ∙ e)
-stays_alone x (Token u) e h = h
+use Rattle.cfganalysis.proofs.Fronts.{begins_front, begins_past, vanishes_alone, stays_alone}
 
 pub fits_after : (g : Grammar) (gives : ℕ → ℕ → Type 0) (old new : FollowSets) (changed : Bool)
     → Puts gives old new changed → FitFollows g old → FitFollows g new

@@ -1,5 +1,6 @@
 pub mod Settling
 pub mod OneBit
+pub mod Fronts
 pub mod FirstBits
 pub mod FirstVisits
 pub mod Joins

@@ -1,11 +1,11 @@
 //! FIRST: the tokens that rules begin with, and the rules that are empty (Aho, Lam, Sethi and Ullman, 4.4.2).
 
-ghost use Rattle.std.specs.Prelude.{◌≡◌, ◌<◌, ◌≤◌, ◌↔◌, ℕ, Contains, false, true, length, map, slice_set, IfOk, IsTrue};
-ghost use Rattle.derivation.specs.Grammar.{Grammar, IsGrammar};
-ghost use Rattle.cfganalysis.specs.Firsts.{AddsEpsilon, AddsFirst, AreFirsts, HaveFirstsOf, IsAmongFirsts, IsEpsilon, SayFirsts, begins_by, count_firsts, epsilon_bit, is_empty_symbol, no_firsts, vanishes_by, with_first};
+ghost use Rattle.std.specs.Prelude.{◌≡◌, ◌<◌, ◌≤◌, ◌↔◌, ℕ, [], ◌∷◌, Contains, false, true, length, map, IfOk, IsTrue, MatchBool};
+ghost use Rattle.derivation.specs.Grammar.{Grammar, IsGrammar, IsSymbolOf};
+ghost use Rattle.cfganalysis.specs.Firsts.{AreFirsts, BeginsBy, FitsGrammar, HaveFirstsOf, IsAmongFirsts, IsEpsilon, SayFirsts, count_firsts, epsilon_bit, is_empty_symbol, no_firsts, with_epsilon, with_first};
 ghost use Rattle.cfganalysis.specs.Rounds.{TakesIn, most_openings, most_openings_all};
 ghost use Rattle.cfganalysis.specs.Symbols.{sym_of};
-ghost use Rattle.cfganalysis.specs.Table.{bit, row_of};
+ghost use Rattle.cfganalysis.specs.Table.{Joins, row_of};
 ghost use Rattle.cfganalysis.specs.Bounds.{firsts_bounded};
 
 use crate::bits::BitTable;
@@ -105,49 +105,26 @@ impl<S: Storage> YaccFirsts<S> {
         }
     }
 
-    /// Whether every symbol is an empty rule.
-    fn vanishes(&self, symbols: &[Symbol<S>]) -> bool
-        ensures { result ≡ vanishes_by self.now (map (sym_of S.number) symbols.now) }
+    /// Puts what begins the symbol into the rule's set, and tells whether that changed anything.
+    fn put_first(&mut self, rule: RIdx<S>, symbol: Symbol<S>) -> bool
+        requires { (g : Grammar) × FitsGrammar g self.old × (S.number rule.0 < g.rules) × IsSymbolOf g (sym_of S.number symbol) }
+        ensures epsilons { self.new.epsilons ≡ self.old.epsilons }
+        ensures joins { Joins (λ r t. (r ≡ S.number rule.0) × BeginsBy self.old (sym_of S.number symbol ∷ []) t)
+            self.old.firsts self.new.firsts result }
     {
-        for symbol in symbols {
-            match *symbol {
-                Symbol::Rule(rule) if self.is_empty(usize::from(rule)) => {}
-                _ => return false,
-            }
+        match symbol {
+            Symbol::Token(token) => self.firsts.set(usize::from(rule), usize::from(token)),
+            Symbol::Rule(next) => self.firsts.join_row(usize::from(rule), usize::from(next)),
         }
-        true
     }
 
-    /// Whether the symbols begin with the token, past empty rules.
-    fn begins(&self, symbols: &[Symbol<S>], token: usize) -> bool
-        ensures { result ≡ begins_by self.now (map (sym_of S.number) symbols.now) token }
-    {
-        for symbol in symbols {
-            match *symbol {
-                Symbol::Token(first) => return usize::from(first) == token,
-                Symbol::Rule(rule) if self.firsts.is_set(usize::from(rule), token) => return true,
-                Symbol::Rule(rule) if self.is_empty(usize::from(rule)) => {}
-                Symbol::Rule(_) => return false,
-            }
-        }
-        false
-    }
-
-    /// Makes the rule empty where the symbols vanish, and tells whether it was not.
-    fn add_epsilon(&mut self, rule: RIdx<S>, symbols: &[Symbol<S>]) -> bool
+    /// Puts the rule among the empty ones, and tells whether it was not there.
+    fn put_epsilon(&mut self, rule: RIdx<S>) -> bool
         requires { S.number rule.0 < length self.old.epsilons }
-        ensures { AddsEpsilon (S.number rule.0) (map (sym_of S.number) symbols.now) self.old self.new result }
+        ensures bits { self.new ≡ with_epsilon self.old (S.number rule.0) }
+        ensures was { MatchBool result (epsilon_bit self.old (S.number rule.0) ≡ false) (epsilon_bit self.old (S.number rule.0) ≡ true) }
     {
-        self.vanishes(symbols) && self.epsilons.set(usize::from(rule), true)
-    }
-
-    /// Puts the token into the rule's set where the symbols begin with it, and tells whether it was not there.
-    fn add_first(&mut self, rule: RIdx<S>, symbols: &[Symbol<S>], token: usize) -> bool
-        requires rule { S.number rule.0 < length self.old.firsts.rows }
-        requires token { token < self.old.firsts.columns }
-        ensures { AddsFirst (S.number rule.0) (map (sym_of S.number) symbols.now) token self.old self.new result }
-    {
-        self.begins(symbols, token) && self.firsts.set(usize::from(rule), token)
+        self.epsilons.set(usize::from(rule), true)
     }
 }
 
@@ -166,11 +143,14 @@ impl<S: Storage> Analysis<S> for YaccFirsts<S> {
         ensures { TakesIn SayFirsts HaveFirstsOf count_firsts
             (record { rule = S.number rule.0; symbols = map (sym_of S.number) symbols.now }) self.old self.new result }
     {
-        let mut changed = self.add_epsilon(rule, symbols);
-        for token in 0..self.firsts.columns() {
-            changed |= self.add_first(rule, symbols, token);
+        let mut changed = false;
+        for symbol in symbols {
+            changed |= self.put_first(rule, *symbol);
+            if !self.is_empty_symbol(*symbol) {
+                return changed;
+            }
         }
-        changed
+        changed | self.put_epsilon(rule)
     }
 }
 

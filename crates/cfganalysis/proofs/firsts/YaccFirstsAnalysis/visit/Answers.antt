@@ -1,35 +1,42 @@
-use Rattle.std.proofs.Common.{◌<◌, ap, ◌∙◌, sym, subst, arith}
-use Rattle.cfganalysis.proofs.FirstVisits.{rule_in_range, visits_none, visits_one, visits_all, visits_columns, visits_rows}
+use Rattle.std.proofs.Common.{◌<◌, length, arith, subst, sym, ◌∙◌}
+use Rattle.std.proofs.lemmas.List.{length-map}
+use Rattle.derivation.specs.Grammar.{IsSymbolOf}
+use Rattle.cfganalysis.specs.Symbols.{sym_of}
+use Rattle.cfganalysis.proofs.FirstBits.{owner, all_symbols}
+use Rattle.cfganalysis.proofs.Slices.{mapped_within, mapped_at, mapped_all}
+use Rattle.cfganalysis.proofs.FirstVisits.{visits_one, visits_end, visits_all}
 use Rattle.cfganalysis.proofs.firsts.YaccFirstsAnalysis.visit.Goals as goal
 
-pub add_epsilon-changed-requires : goal.add_epsilon-changed-requires
-add_epsilon-changed-requires g c =
-    subst (λ n. g.S.Storage.number c.args.rule.0 < n) (sym c.requires.2.fits.epsilons) (rule_in_range _ _ _ c.requires.1 c.requires.3)
+pub put_first-changed-requires : goal.put_first-changed-requires
+put_first-changed-requires g c = (
+  c.requires.0,
+  (c.loop-symbol.invariant.sound c.requires.0 c.requires.1 c.requires.3 c.requires.2).fits,
+  owner _ _ c.requires.1 c.requires.3,
+  mapped_all (sym_of g.S.Storage.number) _ _ _ c.symbol-item.is (omega (arith, c.loop-symbol-test.true)) (IsSymbolOf c.requires.0)
+      (all_symbols c.requires.0 _ c.requires.1 c.requires.3),
+)
 
-pub loop-token-init : goal.loop-token-init
-loop-token-init g c = visits_none _ _ _ c.requires.1 c.requires.3 _ _ _ c.requires.2 c.add_epsilon-changed.ensures
+pub returns-then-not-is_empty_symbol : goal.returns-then-not-is_empty_symbol
+returns-then-not-is_empty_symbol g c =
+    let lt : c.loop-symbol.symbol-index < length c.args.symbols.now = omega (arith, c.loop-symbol-test.true) in
+    visits_end _ _ _ _ _ _ _ _ _ (mapped_within (sym_of g.S.Storage.number) _ _ _ c.symbol-item.is lt)
+    (mapped_at (sym_of g.S.Storage.number) _ _ _ c.symbol-item.is lt) c.loop-symbol.invariant
+    (record { epsilons = c.put_first-changed.ensures.epsilons; joins = c.put_first-changed.ensures.joins })
+    (sym c.is_empty_symbol.ensures ∙ c.if-not-is_empty_symbol.true)
 
-pub add_first-changed-requires-clause-rule : goal.add_first-changed-requires-clause-rule
-add_first-changed-requires-clause-rule g c = visits_rows _ _ _ c.requires.1 c.requires.3 _ _ _ _ c.requires.2 c.loop-token.invariant
+pub loop-symbol-preserved : goal.loop-symbol-preserved
+loop-symbol-preserved g c =
+    let lt : c.loop-symbol.symbol-index < length c.args.symbols.now = omega (arith, c.loop-symbol-test.true) in
+    visits_one _ _ _ _ _ _ _ _ _ (mapped_within (sym_of g.S.Storage.number) _ _ _ c.symbol-item.is lt)
+    (mapped_at (sym_of g.S.Storage.number) _ _ _ c.symbol-item.is lt) c.loop-symbol.invariant
+    (record { epsilons = c.put_first-changed.ensures.epsilons; joins = c.put_first-changed.ensures.joins })
+    (sym c.is_empty_symbol.ensures ∙ c.if-not-is_empty_symbol.false)
 
-pub add_first-changed-requires-clause-token : goal.add_first-changed-requires-clause-token
-add_first-changed-requires-clause-token g c =
-    let first = visits_none _ _ _ c.requires.1 c.requires.3 _ _ _ c.requires.2 c.add_epsilon-changed.ensures in
-    let before = visits_columns _ _ _ c.requires.1 c.requires.3 _ _ _ _ c.requires.2 first in
-    let now = visits_columns _ _ _ c.requires.1 c.requires.3 _ _ _ _ c.requires.2 c.loop-token.invariant in
-    let end = c.columns-token-end.ensures ∙ ap (λ x. x.firsts.columns) c.self.view_is in
-    omega (arith, c.loop-token-test.true, end, before, now)
-
-pub loop-token-preserved : goal.loop-token-preserved
-loop-token-preserved g c =
-    let first = visits_none _ _ _ c.requires.1 c.requires.3 _ _ _ c.requires.2 c.add_epsilon-changed.ensures in
-    let before = visits_columns _ _ _ c.requires.1 c.requires.3 _ _ _ _ c.requires.2 first in
-    let end = c.columns-token-end.ensures ∙ ap (λ x. x.firsts.columns) c.self.view_is in
-    visits_one _ _ _ c.requires.1 c.requires.3 _ _ _ _ _ _ c.requires.2 (omega (arith, c.loop-token-test.true, end, before)) c.loop-token.invariant c.add_first-changed.ensures
+pub put_epsilon-requires : goal.put_epsilon-requires
+put_epsilon-requires g c = subst (λ n. g.S.Storage.number c.args.rule.0 < n)
+    (sym (c.loop-symbol.invariant.sound c.requires.0 c.requires.1 c.requires.3 c.requires.2).fits.epsilons) (owner _ _ c.requires.1 c.requires.3)
 
 pub returns : goal.returns
-returns g c =
-    let first = visits_none _ _ _ c.requires.1 c.requires.3 _ _ _ c.requires.2 c.add_epsilon-changed.ensures in
-    let before = visits_columns _ _ _ c.requires.1 c.requires.3 _ _ _ _ c.requires.2 first in
-    let end = c.columns-token-end.ensures ∙ ap (λ x. x.firsts.columns) c.self.view_is in
-    visits_all _ _ _ c.requires.1 c.requires.3 _ _ _ _ c.requires.2 (omega (arith, c.loop-token-test.false, end, before)) c.loop-token.invariant
+returns g c = visits_all _ _ _ _ _ _ _ _ _ c.requires.1 c.requires.3 c.requires.2
+    (simp length-map (omega (arith, c.loop-symbol-test.false, c.loop-symbol.auto.symbol-index-end))) c.loop-symbol.invariant
+    c.put_epsilon.ensures.bits c.put_epsilon.ensures.was
