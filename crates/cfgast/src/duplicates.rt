@@ -35,11 +35,11 @@ fn repeated(
         ≡ map (λ what. record { what = what; spans = [] }) (each_once is_same (repeats (map occurrence_view occurrences.now)))) }
 {
     let mut declared = IndexSet::new(alloc);
-    let mut found = IndexMap::new(alloc);
+    let mut again = IndexMap::new(alloc);
     for occurrence in occurrences {
         if !declared.insert(&occurrence.what)? {
-            found.insert(&occurrence.what, Vec::new(alloc))?;
+            again.insert(&occurrence.what, Vec::new(alloc))?;
         }
     }
-    Ok(found)
+    Ok(again)
 }

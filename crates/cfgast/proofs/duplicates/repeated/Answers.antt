@@ -4,7 +4,7 @@ use Rattle.cfgast.proofs.duplicates.repeated.Goals as goal
 use Rattle.cfgast.proofs.duplicates.repeated.Goals.{then-not-branch+in_ok-insert-2+in-Some-1, then-not-branch+in_ok-insert-2+in-None-1, else-not-branch}
 
 pub loop-occurrence-init : goal.loop-occurrence-init
-loop-occurrence-init c = repeats_start _ _ c.new-declared.ensures.empty c.new-found.ensures.empty
+loop-occurrence-init c = repeats_start _ _ c.new-declared.ensures.empty c.new-again.ensures.empty
 
 pub loop-occurrence-preserved : goal.loop-occurrence-preserved
 loop-occurrence-preserved c =
@@ -13,9 +13,9 @@ loop-occurrence-preserved c =
     let added = c.in_ok-insert.ensures.added in
     elim c.if-not-branch.branch [
       | then-not-branch+in_ok-insert-2+in-Some-1 w ↦ repeats_again _ _ _ _ c.loop-occurrence.invariant _ _ refl inserted _ more _
-          (from_added _ _ false added w.if-not-branch.true) w.new.result w.new.ensures.items (ap (λ m. m.entries) w.found-is ∙ w.in_ok-insert-2.ensures.entries)
+          (from_added _ _ false added w.if-not-branch.true) w.new.result w.new.ensures.items (ap (λ m. m.entries) w.again-is ∙ w.in_ok-insert-2.ensures.entries)
       | then-not-branch+in_ok-insert-2+in-None-1 w ↦ repeats_again _ _ _ _ c.loop-occurrence.invariant _ _ refl inserted _ more _
-          (from_added _ _ false added w.if-not-branch.true) w.new.result w.new.ensures.items (ap (λ m. m.entries) w.found-is ∙ w.in_ok-insert-2.ensures.entries)
+          (from_added _ _ false added w.if-not-branch.true) w.new.result w.new.ensures.items (ap (λ m. m.entries) w.again-is ∙ w.in_ok-insert-2.ensures.entries)
       | else-not-branch w ↦ repeats_first _ _ _ _ c.loop-occurrence.invariant _ _ refl inserted _ more _
-          (from_added _ _ true added w.if-not-branch.false) (ap (λ m. m.entries) w.found-is)
+          (from_added _ _ true added w.if-not-branch.false) (ap (λ m. m.entries) w.again-is)
     ]
