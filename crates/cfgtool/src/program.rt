@@ -2,7 +2,8 @@
 
 ghost use Rattle.std.specs.Prelude.{◌≡◌, ◌++◌, ◌+◌, ◌-◌, ◌^◌, ◌<◌, ◌≤◌, Err, OnErr, OnOk, map};
 ghost use Rattle.std.specs.Io.KnownBytes.{Appends};
-ghost use Rattle.cfgtool.specs.Run.{Ending, HandlesWords, ending_in, ending_of, ending_with, ending_without, faults_at, line_of, status_of};
+ghost use Rattle.cfgtool.specs.Run.{Ending, ending_in, ending_of, ending_with, ending_without, line_of, status_of};
+ghost use Rattle.cfgtool.specs.Run.{HandlesWords, faults_at};
 ghost use Rattle.cfgtool.specs.Sinks.{AppendsBeginning, AppendsOrFaults};
 ghost use Rattle.cfgtool.specs.declared.program.WordsFault.TheVariants as words_fault;
 

@@ -19,8 +19,8 @@ pub struct Ended {
 }
 
 impl Ended {
-    /// The status: 0 where a grammar is told, 1 where its text has errors, 2 where it was not read or not told, 3 where no
-    /// memory was left.
+    /// The status: 0 where a grammar is told, 1 where its text has errors, 2 where it was not read or not told, 3 where
+    /// no memory was left.
     pub fn status(&self) -> u8
         ensures { result ≡ self.now.status }
     {
@@ -37,8 +37,8 @@ impl Termination for Ended {
 }
 
 /// Runs the program `cfgtool` over a runtime: [`run`](crate::run) on the words behind the program's name, over the
-/// runtime's files, its standard input under the name `-`, its standard output and its standard error. Words that are not
-/// UTF-8 are wrong usage.
+/// runtime's files, its standard input under the name `-`, its standard output and its standard error. Words that are
+/// not UTF-8 are wrong usage.
 pub fn run_over<R: Env + Files + Input + Print + Eprint + AllocGlobal>(rt: &R) -> Ended
     ensures { (ending : Ending) × (result.status ≡ status_of ending) }
 {
