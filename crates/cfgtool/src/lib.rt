@@ -4,6 +4,7 @@
 pub mod engine;
 pub mod first_lines;
 pub mod follow_lines;
+pub mod laws;
 pub mod lines;
 pub mod program;
 pub mod sink;
