@@ -1,11 +1,13 @@
 -- What one more item makes of each field of the syntax: one lemma for a field.
-use Rattle.std.proofs.Common.{◌≡◌, ℕ, Bool, true, false, List, [], ◌∷◌, ◌++◌, map, length, filter_map, slice_get, Option, Some, None, option_map, if◌then◌else◌, refl, sym, ap, ◌∙◌, true≢false}
-use Rattle.std.specs.Option.{option_map_or}
+use Rattle.std.proofs.Common.{◌≡◌, ℕ, ◌-◌, Bool, true, false, List, [], ◌∷◌, ◌++◌, map, length, filter_map, slice_get, Option, Some, None, option_map, if◌then◌else◌, refl, sym, ap, ◌∙◌, true≢false, arith, length-append}
+use Rattle.std.specs.Option.{option_map_or, option_or}
 use Rattle.std.specs.Str.{bytes_eq}
 use Rattle.std.specs.Cmp.Lexicographic.{nat_list_eq_equiv}
 use Rattle.std.proofs.lemmas.Bool.{false≢true, false_from_ne_true}
 use Rattle.std.proofs.lemmas.List.{map-append, length-map}
+use Rattle.std.proofs.lemmas.Option.{slice_get-get_or}
 use Rattle.std.proofs.lemmas.Simd.{map-map}
+use Rattle.std.proofs.Math.Seq.{get_or-append_seam}
 use Rattle.lemmas.specs.Lists.{with_fronts, places, pushed, pushed_unless}
 use Rattle.lemmas.proofs.Pushed.{filter_map-pushed, slice_get-push, map-pushed, map-pushed_unless}
 use Rattle.lemmas.proofs.Passing.{places-none, places-push}
@@ -13,7 +15,7 @@ use Rattle.lemmas.proofs.Fronts.{list_any-with_fronts, with_fronts-push}
 use Rattle.lemmas.proofs.Tests.{list_any-map, list_any-filter_map, list_any_weaker}
 use Rattle.cfgwords.specs.Words.{Word}
 use Rattle.cfgast.specs.Items.{Item, RuleHead, TokenDeclared, Alternative}
-use Rattle.cfgast.specs.Syntax.{Rule, Production, word_name, head_name, is_named, index_of, indices_of, token_named, token_declared, rule_named, alternative, alternatives, token_words, declared_words, rule_heads, rule_of}
+use Rattle.cfgast.specs.Syntax.{Rule, Production, word_name, head_name, is_named, index_of, indices_of, token_named, token_declared, rule_named, alternative, alternatives, token_words, declared_words, rule_heads, rule_of, last_of}
 use Rattle.cfgast.specs.Building.{has_name, new_rule, listed, with_first, with_name, with_span, with_directive, with_rule, with_listed}
 use Rattle.cfgast.proofs.Names.{AreAmong, put_first, firsts-filter_map-push, is_named-firsts, has_name-names, names-put, put_there, put_grows, indices-stay, indices-put}
 
@@ -102,6 +104,18 @@ module _ (items : List Item) (item : Item) where
       go : (o : Option A) → slice_get (pushed (filter_map named items) o) 0 ≡ with_first o (slice_get (filter_map named items) 0)
       go None = refl
       go (Some x) = slice_get-push (filter_map named items) x
+
+  -- of what the last item that names it says
+  pub last-push : {A : Type 0} (named : Item → Option A) → last_of (filter_map named (items ++ item ∷ [])) ≡ option_or (named item) (last_of (filter_map named items))
+  last-push {A} named = ap last_of (filter_map-pushed named items item) ∙ go (named item)
+    where
+      go : (o : Option A) → last_of (pushed (filter_map named items) o) ≡ option_or o (last_of (filter_map named items))
+      go None = refl
+      go (Some x) =
+          let xs = filter_map named items in
+          let longer = length-append xs (x ∷ []) in
+          let at : length (xs ++ x ∷ []) - 1 ≡ length xs = omega (arith, longer) in
+          ap (slice_get (xs ++ x ∷ [])) at ∙ slice_get-get_or (xs ++ x ∷ []) (length xs) x (omega (arith, longer)) ∙ ap Some (get_or-append_seam xs x [] x)
 
   token_words-push : token_words (items ++ item ∷ []) ≡ put_first word_name (token_words items) (token_named item)
   unfolding token_words

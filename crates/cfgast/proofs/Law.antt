@@ -10,10 +10,10 @@ use Rattle.lemmas.proofs.Places.{found-position}
 use Rattle.lemmas.proofs.Pushed.{filter_map-pushed}
 use Rattle.cfgast.specs.Items.{Item}
 use Rattle.cfgast.specs.Occurrences.{declared_once}
-use Rattle.cfgast.specs.Syntax.{word_name, is_named, token_declared, start_named, declared_words, index_of, indices_of, finished, expected, expected_reduce_reduce, settings_of, syntax_of}
+use Rattle.cfgast.specs.Syntax.{word_name, is_named, token_declared, start_named, declared_words, index_of, indices_of, finished, expected, expected_reduce_reduce, generics_declared, settings_of, syntax_of}
 use Rattle.cfgast.specs.Building.{has_name, is_declared, grown, add, adds}
 use Rattle.cfgast.proofs.Names.{is_named-firsts, has_name-names, noted}
-use Rattle.cfgast.proofs.Fields.{tokens, declared, declared_token, first-push, rules-push, productions-push, production_rules-push, tokens-push, spans-push, directives-push}
+use Rattle.cfgast.proofs.Fields.{tokens, declared, declared_token, first-push, last-push, rules-push, productions-push, production_rules-push, tokens-push, spans-push, directives-push}
 
 -- a name is declared so far where a `%token` list has it
 is_declared-syntax_of : (items : List Item) (name : List ℕ) → is_named word_name name (filter_map token_declared items) ≡ is_declared (syntax_of items) name
@@ -48,7 +48,7 @@ syntax_of-push items item = (λ i. record {
   settings = record {
     expect = first-push items item expected i;
     expect_reduce_reduce = first-push items item expected_reduce_reduce i;
-    parse_generics = None;
+    parse_generics = last-push items item generics_declared i;
     programs = None;
   };
   occurrences = filter_map-pushed declared_once items item i;

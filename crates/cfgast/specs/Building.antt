@@ -8,7 +8,7 @@ use Rattle.cfgbase.specs.declared.span.Span.{Span}
 use Rattle.cfgwords.specs.Words.{Word}
 use Rattle.cfgast.specs.Items.{Item, RuleHead}
 use Rattle.cfgast.specs.Occurrences.{declared_once}
-use Rattle.cfgast.specs.Syntax.{Syntax, Settings, Rule, Production, word_name, head_name, index_of, token_named, token_declared, start_named, expected, expected_reduce_reduce, rule_named, finished}
+use Rattle.cfgast.specs.Syntax.{Syntax, Settings, Rule, Production, word_name, head_name, index_of, token_named, token_declared, start_named, expected, expected_reduce_reduce, generics_declared, rule_named, finished}
 
 -- whether a name stands among names
 abbrev pub has_name : List ℕ → List (List ℕ) → Bool
@@ -65,6 +65,7 @@ abbrev pub with_settings : Item → Settings → Settings
 with_settings item settings = record settings {
   expect = with_first (expected item) settings.expect;
   expect_reduce_reduce = with_first (expected_reduce_reduce item) settings.expect_reduce_reduce;
+  parse_generics = option_or (generics_declared item) settings.parse_generics;
 }
 
 -- the syntax with what the item names, and with the production that it finishes

@@ -20,6 +20,7 @@ pub data Item : Type 0 where
   StartDeclared : Word → Item  -- the name behind `%start`
   ExpectDeclared : ℕ × Span → Item  -- the number behind `%expect`, and its place
   ExpectReduceReduceDeclared : ℕ × Span → Item  -- the number behind `%expect-rr`, and its place
+  GenericsDeclared : List ℕ → Item  -- the rest of the line behind `%parse-generics`
   RuleNamed : RuleHead → Item  -- a rule, at its name
   TokenQuoted : Word → Item  -- a quoted token in a rule's body
   Alternative : RuleHead → Body → Item  -- a finished production of the rule of that name

@@ -1,11 +1,11 @@
 -- What a list of items says: rules, tokens and productions, by first occurrences in the list.
-use Rattle.std.specs.Prelude.{ℕ, Bool, List, All, map, filter, ◌||◌, not, Option, Some, None, IfSome, slice_get, if◌then◌else◌}
+use Rattle.std.specs.Prelude.{ℕ, ◌-◌, Bool, List, All, length, map, filter, ◌||◌, not, Option, Some, None, IfSome, slice_get, if◌then◌else◌}
 use Rattle.std.specs.List.{list_any, filter_map, position_or_len}
 use Rattle.std.specs.Str.{bytes_eq}
 use Rattle.lemmas.specs.Lists.{with_fronts, places}
 use Rattle.cfgbase.specs.declared.span.Span.{Span}
 use Rattle.cfgwords.specs.Words.{Word, Token, word_of}
-use Rattle.cfgast.specs.Items.{Item, RuleHead, Body, TokenDeclared, StartDeclared, ExpectDeclared, ExpectReduceReduceDeclared, RuleNamed, TokenQuoted, Alternative}
+use Rattle.cfgast.specs.Items.{Item, RuleHead, Body, TokenDeclared, StartDeclared, ExpectDeclared, ExpectReduceReduceDeclared, GenericsDeclared, RuleNamed, TokenQuoted, Alternative}
 use Rattle.cfgast.specs.Occurrences.{Occurrence, declared_once}
 
 -- a symbol of a production: the name of a rule or of a token, and its span
@@ -90,7 +90,7 @@ abbrev pub indices_of : List (List ℕ) → List (List ℕ) → List ℕ
 indices_of some names = map (λ name. index_of name names) some
 
 -- What an item says: the words by which it names a token, a declared token and the start, the numbers of conflicts that it
--- expects, and the rule that it names.
+-- expects, the generics that it declares, and the rule that it names.
 
 abbrev pub token_named : Item → Option Word
 token_named (TokenDeclared word) = Some word
@@ -114,6 +114,10 @@ expected _ = None
 abbrev pub expected_reduce_reduce : Item → Option (ℕ × Span)
 expected_reduce_reduce (ExpectReduceReduceDeclared number) = Some number
 expected_reduce_reduce _ = None
+
+abbrev pub generics_declared : Item → Option (List ℕ)
+generics_declared (GenericsDeclared text) = Some text
+generics_declared _ = None
 
 abbrev pub rule_named : Item → Option RuleHead
 rule_named (RuleNamed head) = Some head
@@ -162,12 +166,17 @@ rule_of alternatives head = (
   },
 )
 
--- Of each setting the first that an item declares counts. No item speaks of generics and programs yet.
+-- the last of a list
+abbrev pub last_of : {A : Type 0} → List A → Option A
+last_of xs = slice_get xs (length xs - 1)
+
+-- Of the numbers of conflicts the first that an item declares counts, of the generics the last. No item speaks of programs
+-- yet.
 unfoldable pub settings_of : List Item → Settings
 settings_of items = record {
   expect = slice_get (filter_map expected items) 0;
   expect_reduce_reduce = slice_get (filter_map expected_reduce_reduce items) 0;
-  parse_generics = None;
+  parse_generics = last_of (filter_map generics_declared items);
   programs = None;
 }
 

@@ -93,6 +93,13 @@ impl GrammarAST {
         &self.settings.expectrr
     }
 
+    /// The parser's generic parameters, as the last `%parse-generics` gives them.
+    pub fn parse_generics(&self) -> &Option<String>
+        ensures { option_map string_bytes result.now ≡ (syntax self.now).settings.parse_generics }
+    {
+        &self.settings.parse_generics
+    }
+
     /// What the file says of its grammar as a whole.
     pub fn settings(&self) -> &Settings
         ensures { settings_view result.now ≡ (syntax self.now).settings }

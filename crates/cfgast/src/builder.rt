@@ -1,5 +1,5 @@
 ghost use Rattle.std.specs.Prelude.{◌≡◌, List, [], ◌∷◌, ◌++◌, map, Some, option_map, string_bytes, IfOk, OnOk};
-ghost use Rattle.cfgast.specs.Items.{Item, TokenDeclared, StartDeclared, ExpectDeclared, ExpectReduceReduceDeclared, RuleNamed, TokenQuoted, Alternative};
+ghost use Rattle.cfgast.specs.Items.{Item, TokenDeclared, StartDeclared, ExpectDeclared, ExpectReduceReduceDeclared, GenericsDeclared, RuleNamed, TokenQuoted, Alternative};
 ghost use Rattle.cfgast.specs.Syntax.{syntax_of, symbol_of, production_of, head_name, index_of};
 ghost use Rattle.cfgast.specs.Occurrences.{of_grammar};
 ghost use Rattle.cfgast.specs.Building.{add, adds, with_first, with_rule, listed, is_declared};
@@ -107,6 +107,14 @@ impl AstBuilder {
             self.ast.settings.expectrr = Some(number);
         }
         self.note(UniqueKind::ExpectReduceReduce, number.1)
+    }
+
+    /// Adds the parser's generic parameters, which replace those that were added before.
+    pub fn declare_generics(&mut self, alloc: Global, text: &str) -> Result<(), AllocError>
+        ensures { OnOk result (syntax_built self.new ≡ add (syntax_built self.old) (GenericsDeclared text.now)) }
+    {
+        self.ast.settings.parse_generics = Some(String::from_str(alloc, text)?);
+        Ok(())
     }
 
     /// Adds a rule, at its name: it is the start where none was named before.

@@ -3,7 +3,8 @@ ghost use Rattle.std.specs.Prelude.{◌≡◌, []};
 use cfgbase::Span;
 use std::alloc::AllocError;
 
-/// What a file says of its grammar as a whole. No declaration that is read so far says more than `expect` and `expectrr`.
+/// What a file says of its grammar as a whole. No declaration that is read so far says
+/// more than `expect`, `expectrr` and `parse_generics`.
 #[derive(Debug, Drop)]
 pub struct Settings {
     /// How many conflicts between shifting and reducing `%expect` allows (Bison), and where it says so.

@@ -17,10 +17,10 @@ use Rattle.cfgwords.specs.Words.{Word, Token, IsName, IsInteger, word_at, intege
 use Rattle.cfgwords.proofs.Cuts.{place_cut, boundary_cut}
 use Rattle.cfgwords.specs.Places.{IsPiece, IsWordAt}
 use Rattle.cfgwords.proofs.NameStarts.{begins_as_name, name_begins}
-use Rattle.cfgwords.proofs.WordPlaces.{IsReached, IsTokenBehind, reached, name_at, integer_is_at, token_is_at, reached_here, reached_on, word_passed, fault_is_at, blank_is_at}
-use Rattle.cfgast.specs.Items.{Item, RuleHead, TokenDeclared, StartDeclared, ExpectDeclared, ExpectReduceReduceDeclared, RuleNamed, TokenQuoted, Alternative}
+use Rattle.cfgwords.proofs.WordPlaces.{IsReached, IsTokenBehind, reached, name_at, integer_is_at, token_is_at, reached_here, reached_on, word_passed, fault_is_at, blank_is_at, line_rest_is_at}
+use Rattle.cfgast.specs.Items.{Item, RuleHead, TokenDeclared, StartDeclared, ExpectDeclared, ExpectReduceReduceDeclared, GenericsDeclared, RuleNamed, TokenQuoted, Alternative}
 use Rattle.cfgsyntax.specs.declared.yacc.kind.YaccKind.{YaccKind}
-use Rattle.cfgsyntax.specs.Grammar.{listed_token, token_declaration, start_declaration, expect_declaration, expect_rr_declaration, declaration, symbol, another, finish, production, rule, file, separator_fault, body_fault, end_of}
+use Rattle.cfgsyntax.specs.Grammar.{listed_token, token_declaration, start_declaration, expect_declaration, expect_rr_declaration, parse_generics_declaration, declaration, symbol, another, finish, production, rule, file, separator_fault, body_fault, end_of}
 
 -- a name is a piece of the text, and begins as names do
 abbrev pub IsNameAt : List ℕ → Word → Type 0
@@ -32,6 +32,7 @@ IsItemAt whole (TokenDeclared word) = IsWordAt whole word
 IsItemAt whole (StartDeclared word) = IsWordAt whole word
 IsItemAt whole (ExpectDeclared number) = IsPiece whole number.1
 IsItemAt whole (ExpectReduceReduceDeclared number) = IsPiece whole number.1
+IsItemAt whole (GenericsDeclared text) = Unit {0}
 IsItemAt whole (RuleNamed head) = IsNameAt whole head.name
 IsItemAt whole (TokenQuoted word) = IsWordAt whole word
 IsItemAt whole (Alternative head body) = IsNameAt whole head.name × All (λ token. IsWordAt whole (word_of token)) body.symbols
@@ -82,6 +83,10 @@ module _ (whole : List ℕ) (utf8 : IsUtf8 whole) where
   unfolding expect_rr_declaration
   expect_rr_declaration_kept from Q q = search (blank_is_at whole utf8, fault_is_at whole utf8, integer_goes, integer_is, q)
 
+  parse_generics_declaration_kept : (from : List ℕ) (Q : Unit {0} → Type 0) → Q tt → KeepsPlaces (parse_generics_declaration len) from Q
+  unfolding parse_generics_declaration
+  parse_generics_declaration_kept from Q q = search (blank_is_at whole utf8, line_rest_is_at whole utf8, q)
+
   declaration_kept : (from : List ℕ) → KeepsPlaces (declaration len) from (λ _. Unit {0})
   unfolding declaration
   declaration_kept from = search (
@@ -89,10 +94,12 @@ module _ (whole : List ℕ) (utf8 : IsUtf8 whole) where
     word_passed whole utf8 (codes "%start") refl,
     word_passed whole utf8 (codes "%expect-rr") refl,
     word_passed whole utf8 (codes "%expect") refl,
+    word_passed whole utf8 (codes "%parse-generics") refl,
     token_declaration_kept,
     start_declaration_kept,
     expect_declaration_kept,
     expect_rr_declaration_kept,
+    parse_generics_declaration_kept,
   )
 
   symbol_kept : (from : List ℕ) (Q : Option Token → Type 0) → ((token : Token) → IsTokenBehind whole from token → Q (Some token)) → Q None → KeepsPlaces (symbol len) from Q

@@ -5,7 +5,7 @@ use Rattle.std.specs.Str.{IsUtf8, IsCharBoundary}
 use Rattle.std.proofs.Math.Seq.{get_or-append_seam}
 use Rattle.std.proofs.lemmas.Bool.{and_parts}
 use Rattle.std.proofs.lemmas.Bool.Decides.{nat_tests}
-use Rattle.std.proofs.lemmas.Str.{IsUtf8-drop, IsUtf8-past_char, IsCharBoundary-at_seam, IsCharBoundary-before_ascii, encode_ascii}
+use Rattle.std.proofs.lemmas.Str.{IsUtf8-nil, IsUtf8-drop, IsUtf8-past_char, IsCharBoundary-at_seam, IsCharBoundary-before_ascii, encode_ascii}
 use Rattle.reading.specs.Pieces.{IsRun}
 use Rattle.cfgwords.specs.declared.bytes.ByteClass.TheVariants as bytes
 use Rattle.cfgwords.specs.Bytes.{holds}
@@ -69,6 +69,13 @@ identifier_cut text word rest is = run_cut (holds bytes.IdentifierByte) (λ b h.
 
 pub integer_cut : (text : List ℕ) (number : ℕ) (rest : List ℕ) → IsInteger text number rest → IsCut text rest
 integer_cut text number rest is = run_cut (holds bytes.Digit) (λ b h. grind (arith, nat_tests)) text is.digits rest is.run.run
+
+-- before what ends a line
+pub line_rest_cut : (text word rest : List ℕ) → IsRun (holds bytes.Line) text word rest → IsCut text rest
+line_rest_cut text word [] is = record { piece = word; whole = is.whole; utf8 = λ u. IsUtf8-nil }
+line_rest_cut text word (b ∷ rest) is =
+    let ascii : b < 128 = grind (arith, nat_tests, is.longest) in
+    cut_same text (word ++ b ∷ rest) (b ∷ rest) is.whole (cut_before word b rest ascii)
 
 -- behind the quote that opens, before the one that closes, and behind that
 quote_ascii : (b : ℕ) → holds bytes.Quote b ≡ true → b < 128

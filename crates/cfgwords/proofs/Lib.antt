@@ -5,6 +5,7 @@ pub mod Cuts
 pub mod Finders
 pub mod Fronts
 pub mod IntegerFinder
+pub mod LineRests
 pub mod NameFinders
 pub mod NameStarts
 pub mod Quoted

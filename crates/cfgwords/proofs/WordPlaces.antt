@@ -1,5 +1,5 @@
 -- Words stand between places of the text.
-use Rattle.std.proofs.Common.{◌≡◌, ℕ, ◌+◌, ◌≤◌, Bool, true, false, List, ◌∷◌, ◌++◌, length, Result, refl, ap, subst, arith, length-append, ltb-true, MatchBool, if◌then◌else◌}
+use Rattle.std.proofs.Common.{◌≡◌, ℕ, ◌+◌, ◌≤◌, Bool, true, false, List, ◌∷◌, ◌++◌, length, Result, Ok, Err, refl, ap, subst, arith, length-append, ltb-true, MatchBool, if◌then◌else◌}
 use Rattle.std.specs.List.{list_all}
 use Rattle.std.specs.Prelude.{nat_lt}
 use Rattle.std.specs.Str.{IsUtf8, IsCharBoundary}
@@ -8,8 +8,8 @@ use Rattle.cfgwords.specs.declared.fault.Fault.{Fault}
 use Rattle.cfgwords.specs.declared.fault.FaultKind.{FaultKind}
 use Rattle.cfgwords.specs.Blank.{Blank}
 use Rattle.cfgwords.specs.Text.{place, span_of, fault_at}
-use Rattle.cfgwords.specs.Words.{TokenText, Token, IsName, IsIdentifier, IsQuoted, IsToken, IsInteger, word_at, token_at, integer_at, word_of}
-use Rattle.cfgwords.proofs.Cuts.{IsCut, cut_here, cut_on, cut_same, cut_word, name_cut, identifier_cut, integer_cut, opened_cut, inside_cut, closed_cut, place_cut, boundary_cut}
+use Rattle.cfgwords.specs.Words.{TokenText, Token, IsName, IsIdentifier, IsQuoted, IsToken, IsInteger, LineRest, word_at, token_at, integer_at, word_of}
+use Rattle.cfgwords.proofs.Cuts.{IsCut, cut_here, cut_on, cut_same, cut_word, name_cut, identifier_cut, integer_cut, line_rest_cut, opened_cut, inside_cut, closed_cut, place_cut, boundary_cut}
 use Rattle.cfgwords.proofs.BlankCuts.{blank_ends_at}
 use Rattle.cfgwords.specs.Places.{IsPiece, IsWordAt}
 
@@ -136,3 +136,8 @@ module _ (whole : List ℕ) (utf8 : IsUtf8 whole) where
   pub blank_is_at : (lines : Bool) (from text : List ℕ) (o : Result (Unit {0} × List ℕ) Fault) → IsReached whole from text → Blank (length whole) lines text o
       → EndsIn (IsReached whole from) (λ fault. IsPiece whole fault.span) (λ _. Unit {0}) o
   blank_is_at lines from = blank_ends_at (IsReached whole from) (λ fault. IsPiece whole fault.span) (length whole) lines (goes_on from) (λ kind text t. fault_is_at kind from text t)
+
+  pub line_rest_is_at : (from text : List ℕ) (o : Result (List ℕ × List ℕ) Fault) → IsReached whole from text → LineRest text o
+      → EndsIn (IsReached whole from) (λ fault. IsPiece whole fault.span) (λ _. Unit {0}) o
+  line_rest_is_at from text (Ok (word, rest)) t is = (goes_on from text rest t (line_rest_cut text word rest is), tt)
+  line_rest_is_at from text (Err fault) t is = absurd is

@@ -1,11 +1,12 @@
--- Words of a grammar file: names, identifiers, quoted tokens, tokens and integers. `P text word rest` says that the text
+-- Words of a grammar file: names, identifiers, quoted tokens, tokens, integers and rests of lines. `P text word rest` says that the text
 -- begins with the word and that rest is left.
-use Rattle.std.specs.Prelude.{◌≡◌, ℕ, Bool, true, false, List, [], ◌∷◌, ◌++◌, length, ◌+◌, ◌^◌, ◌==◌, ◌&&◌, not, take, drop, ◌≤◌, ◌<◌, nat_lt, slice_index, Option, Some, None, MatchBool, if◌then◌else◌}
+use Rattle.std.specs.Prelude.{◌≡◌, ℕ, Bool, true, false, List, [], ◌∷◌, ◌++◌, length, ◌+◌, ◌^◌, ◌==◌, ◌&&◌, not, take, drop, ◌≤◌, ◌<◌, nat_lt, slice_index, Option, Some, None, Result, Ok, Err, MatchBool, if◌then◌else◌}
 use Rattle.std.specs.List.{list_all}
 use Rattle.std.specs.Option.{option_and_then}
 use Rattle.std.specs.Str.Parse.{digits_value}
 use Rattle.cfgbase.specs.declared.span.Span.{Span}
 use Rattle.reading.specs.Pieces.{starts, IsRun, run}
+use Rattle.cfgwords.specs.declared.fault.Fault.{Fault}
 use Rattle.cfgwords.specs.declared.bytes.ByteClass.{ByteClass}
 use Rattle.cfgwords.specs.declared.bytes.ByteClass.TheVariants as bytes
 use Rattle.cfgwords.specs.Bytes.{holds}
@@ -55,6 +56,11 @@ pub record IsInteger (text : List ℕ) (number : ℕ) (rest : List ℕ) : Type 0
   pub run : IsRunFrom bytes.Digit bytes.Digit text digits rest
   pub writes : digits_value 10 digits ≡ number
   pub fits : number < 2 ^ 64
+
+-- the rest of a line: what stands before the next CR or LF, or before the end. It may be empty, so it is always there.
+abbrev pub LineRest : List ℕ → Result (List ℕ × List ℕ) Fault → Type 0
+LineRest text (Ok (word, rest)) = IsRun (holds bytes.Line) text word rest
+LineRest text (Err fault) = ⊥
 
 -- a name with the span of its bytes
 pub record Word : Type 0 where
@@ -131,3 +137,6 @@ number_of (digits, rest) = if nat_lt (digits_value 10 digits) (2 ^ 64) then Some
 
 unfoldable pub integer_of : List ℕ → Option (ℕ × List ℕ)
 integer_of text = option_and_then number_of (run_from bytes.Digit bytes.Digit text)
+
+abbrev pub line_rest : List ℕ → Result (List ℕ × List ℕ) Fault
+line_rest text = Ok (run (holds bytes.Line) text)

@@ -3,7 +3,7 @@
 ghost use Rattle.std.specs.Prelude.{◌≡◌, ℕ, Bool, List};
 ghost use Rattle.reading.specs.Graph.{IsGraph};
 ghost use Rattle.cfgwords.specs.Blank.{IsFront, front_of, Blank, blank};
-ghost use Rattle.cfgwords.specs.Words.{IsName, name_of, IsIdentifier, identifier_of, IsQuoted, quoted_of, TokenText, IsToken, token_of, IsInteger, integer_of};
+ghost use Rattle.cfgwords.specs.Words.{IsName, name_of, IsIdentifier, identifier_of, IsQuoted, quoted_of, TokenText, IsToken, token_of, IsInteger, integer_of, LineRest, line_rest};
 
 /// What stands at the front of a text is one thing, the one that `Front::of` tells.
 #[tactic(auto, using(crate::proofs::Blanks::front_graph))]
@@ -50,4 +50,10 @@ pub fn tokens_found()
 pub fn integers_found()
     ensures sound { (text : List ℕ) (number : ℕ) (rest : List ℕ) → integer_of text ≡ Some (number, rest) → IsInteger text number rest }
     ensures only { (text : List ℕ) (number : ℕ) (rest : List ℕ) → IsInteger text number rest → integer_of text ≡ Some (number, rest) }
+{}
+
+/// The rest of a line is one thing, whatever the text.
+#[tactic(auto, using(crate::proofs::LineRests::line_rest_graph))]
+pub fn line_rest_is_graph()
+    ensures { IsGraph LineRest line_rest }
 {}

@@ -43,6 +43,10 @@ fn syntax_text(alloc: Global, ast: &GrammarAST) -> Result<String, AllocError> {
     }
     write_expected(&mut out, "    expect ", ast.expect())?;
     write_expected(&mut out, "    expect-rr ", ast.expectrr())?;
+    if let Some(generics) = ast.parse_generics() {
+        pen::name(&mut out, "    parse-generics ", generics.as_str())?;
+        out.push('\n')?;
+    }
     for rule in ast.rules().values() {
         write_rule(&mut out, ast, rule)?;
     }

@@ -106,7 +106,12 @@ fn write_lengths<S: Storage>(out: &mut String, grammar: &YaccGrammar<S>) -> Resu
     }
     out.push('\n')?;
     write_expected(out, "    expect ", grammar.expect())?;
-    write_expected(out, "    expect-rr ", grammar.expectrr())
+    write_expected(out, "    expect-rr ", grammar.expectrr())?;
+    if let Some(generics) = grammar.parse_generics() {
+        pen::name(out, "    parse-generics ", generics.as_str())?;
+        out.push('\n')?;
+    }
+    Ok(())
 }
 
 /// Writes how many conflicts are expected.

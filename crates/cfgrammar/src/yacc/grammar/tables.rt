@@ -391,6 +391,14 @@ impl<S: Storage> YaccGrammar<S> {
         }
     }
 
+    /// The parser's generic parameters, as the file gives them.
+    #[tactic(auto, unfolding(crate::specs::View::tables))]
+    pub fn parse_generics(&self) -> &Option<String>
+        ensures { option_map string_bytes result.now ≡ self.now.settings.parse_generics }
+    {
+        &self.settings.parse_generics
+    }
+
     /// A production as text: the rule's name and a colon, and for each symbol a space and the name in double quotes.
     pub fn pp_prod(&self, alloc: Global, pidx: PIdx<S>) -> Result<String, AllocError>
         requires { S.number pidx.0 < length self.now.productions }

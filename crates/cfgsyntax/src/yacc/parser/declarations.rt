@@ -2,7 +2,7 @@
 
 ghost use Rattle.std.specs.Prelude.{◌≡◌, codes};
 ghost use Rattle.reading.specs.Construct.{expect, goes_on, repeat, while_test};
-ghost use Rattle.cfgsyntax.specs.Grammar.{is_listed, is_unread, separator_fault, listed_token, token_declaration, start_declaration, expect_declaration, expect_rr_declaration, declaration};
+ghost use Rattle.cfgsyntax.specs.Grammar.{is_listed, is_unread, separator_fault, listed_token, token_declaration, start_declaration, expect_declaration, expect_rr_declaration, parse_generics_declaration, declaration};
 
 use super::reader::{ReadFault, Reader};
 use cfgwords::fault::FaultKind;
@@ -83,6 +83,17 @@ impl Reader<'_> {
         self.blank(true)
     }
 
+    /// Passes what follows `%parse-generics`.
+    #[tactic(auto, unfolding(crate::specs::Grammar::parse_generics_declaration, cfgast::specs::Building::adds))]
+    fn parse_generics_declaration(&mut self) -> Result<(), ReadFault>
+        ensures { Builds (λ x. x) self.old self.new result (parse_generics_declaration self.old.len) }
+    {
+        self.blank(false)?;
+        let generics = self.line_rest();
+        self.tree.declare_generics(self.alloc, generics)?;
+        self.blank(true)
+    }
+
     /// Whether a declaration stands here that begins as another one does, and isn't read yet.
     fn is_unread(&self) -> bool
         ensures { result ≡ is_unread self.now.rest.now }
@@ -108,6 +119,9 @@ impl Reader<'_> {
             Ok(false)
         } else if self.accept("%expect") {
             self.expect_declaration()?;
+            Ok(true)
+        } else if self.accept("%parse-generics") {
+            self.parse_generics_declaration()?;
             Ok(true)
         } else {
             Ok(false)

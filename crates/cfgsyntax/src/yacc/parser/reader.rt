@@ -1,14 +1,16 @@
 //! The reader: a place in the text, and the tree of what was read so far.
 
-ghost use Rattle.std.specs.Prelude.{◌≡◌, ◌≤◌, length, [], Some, None, MatchBool, IfSome};
+ghost use Rattle.std.specs.Prelude.{◌≡◌, ◌≤◌, length, [], Some, None, Ok, MatchBool, IfSome};
 ghost use Rattle.reading.specs.Pieces.{strip};
 ghost use Rattle.cfgwords.specs.Text.{place, fault_at};
-ghost use Rattle.cfgsyntax.specs.Grammar.{blank_here, name_here, token_here, integer_here};
+ghost use Rattle.cfgsyntax.specs.Grammar.{blank_here, name_here, token_here, integer_here, line_rest_here};
 
 use cfgast::{AstBuilder, GrammarAST};
 use cfgbase::Span;
 use cfgwords::blank::Front;
+use cfgwords::bytes::ByteClass;
 use cfgwords::fault::{Fault, FaultKind};
+use cfgwords::run::run;
 use cfgwords::words::{Token, Word, leading_integer, leading_name, leading_token};
 use reading::after_word;
 use std::alloc::{AllocError, AllocFailed, Global};
@@ -167,6 +169,16 @@ impl<'a> Reader<'a> {
             }
             None => Err(self.fault(FaultKind::IllegalInteger)),
         }
+    }
+
+    /// Passes the rest of the line.
+    #[tactic(auto, unfolding(cfgast::specs::Building::adds))]
+    pub(super) fn line_rest(&mut self) -> &'a str
+        ensures { Builds (λ x. x.now) self.old self.new (Ok result) (line_rest_here self.old.len) }
+    {
+        let (line, rest) = run(self.rest, ByteClass::Line);
+        self.rest = rest;
+        line
     }
 
     /// Passes the token that stands here, if one does.
