@@ -1,0 +1,4 @@
+pub mod Sums
+pub mod TreeSums
+pub mod Splits
+pub mod Bounds

@@ -1,0 +1,49 @@
+-- The certificate of least costs: a list of costs, and a list of choices of productions.
+use Rattle.std.specs.Prelude.{◌≡◌, ℕ, ◌<◌, ◌≤◌, List, [], Option, Some, None, All, length, map, ◌⊎◌, IfSome, IsSomeAnd, slice_index, slice_index_or}
+use Rattle.cfgindex.specs.declared.idxnewtype.PIdx.{PIdx}
+use Rattle.derivation.specs.Grammar.{Sym, Rule, Token, Grammar, Production}
+use Rattle.cfganalysis.specs.Openings.{nth_production}
+use Rattle.cfgcosts.specs.Sums.{sum_of, symbol_cost}
+
+-- the cost of a rule in the list
+abbrev pub rule_cost : List (Option ℕ) → ℕ → Option ℕ
+rule_cost least r = slice_index_or least r None
+
+-- what a row of symbols costs together, by the costs of tokens and the list
+abbrev pub sum_by_lists : List ℕ → List (Option ℕ) → List Sym → Option ℕ
+sum_by_lists costs least symbols = sum_of (symbol_cost (slice_index costs) (rule_cost least)) symbols
+
+-- where the rules of a production all have a cost, its sum is past 65535, or its rule costs at most the sum
+abbrev pub IsCovered : List ℕ → List (Option ℕ) → Production → Type 0
+IsCovered costs least p = IfSome (sum_by_lists costs least p.symbols) (λ n. (65535 < n) ⊎ IsSomeAnd (rule_cost least p.rule) (λ c. c ≤ n))
+
+-- a choice in numbers: a production, and the number that says when it was chosen
+abbrev pub choice_of : {S : Type 0} → (S → ℕ) → Option (PIdx S × ℕ) → Option (ℕ × ℕ)
+choice_of number None = None
+choice_of number (Some choice) = Some (number choice.0.0, choice.1)
+
+-- the choice of a rule in the list
+abbrev pub rule_choice : List (Option (ℕ × ℕ)) → ℕ → Option (ℕ × ℕ)
+rule_choice choices r = slice_index_or choices r None
+
+-- a rule has a choice with a number below n
+abbrev pub IsChosenBelow : List (Option (ℕ × ℕ)) → ℕ → Sym → Type 0
+IsChosenBelow choices n (Token t) = Unit {0}
+IsChosenBelow choices n (Rule r) = IsSomeAnd (rule_choice choices r) (λ choice. choice.1 < n)
+
+-- production p of the rule costs c, and its rules have choices with numbers below n
+pub record RestsOn (g : Grammar) (costs : List ℕ) (least : List (Option ℕ)) (choices : List (Option (ℕ × ℕ))) (r c p n : ℕ) : Type 0 where
+  pub place : p < length g.productions
+  pub owner : (nth_production g p).rule ≡ r
+  pub sum : sum_by_lists costs least (nth_production g p).symbols ≡ Some c
+  pub below : All (IsChosenBelow choices n) (nth_production g p).symbols
+
+-- a rule that has a cost has a choice on which it rests
+abbrev pub IsReached : Grammar → List ℕ → List (Option ℕ) → List (Option (ℕ × ℕ)) → ℕ → Type 0
+IsReached g costs least choices r = IfSome (rule_cost least r) (λ c.
+    IsSomeAnd (rule_choice choices r) (λ choice. RestsOn g costs least choices r c choice.0 choice.1))
+
+-- a symbol that the lists have an entry for
+abbrev pub IsListed : ℕ → ℕ → Sym → Type 0
+IsListed rules tokens (Rule r) = r < rules
+IsListed rules tokens (Token t) = t < tokens

@@ -1,0 +1,94 @@
+//! A certificate of least costs, and what checks it.
+
+ghost use Rattle.std.specs.Prelude.{◌≡◌, ◌↔◌, ℕ, ◌<◌, ◌≤◌, List, All, EachIndex, IfSome, IsTrue, MatchOption, Some, None, length, map, min, option_map, slice_index, slice_index_or};
+ghost use Rattle.derivation.specs.Grammar.{Sym, HasProduction};
+ghost use Rattle.derivation.specs.Sentence.{Sentence, HasSentenceOf, cost_of};
+ghost use Rattle.cfganalysis.specs.Symbols.{sym_of};
+ghost use Rattle.cfgcosts.specs.Certificate.{IsChosenBelow, IsCovered, IsListed, IsReached, RestsOn, choice_of, rule_choice, rule_cost, sum_by_lists};
+ghost use Rattle.cfgcosts.specs.Sums.{symbol_cost};
+
+use cfganalysis::Tables;
+use cfgindex::{PIdx, RIdx, Storage, Symbol, to_storage};
+
+/// The first cost that no answer gives.
+const TOO_LARGE: u32 = 65536;
+
+/// What a symbol costs, by the costs of tokens and of rules.
+fn cost_of_symbol<S: Storage>(costs: &[u8], least: &[Option<u16>], symbol: Symbol<S>) -> Option<u16>
+    requires { IsListed (length least.now) (length costs.now) (sym_of S.number symbol) }
+    ensures { result ≡ symbol_cost (slice_index costs.now) (rule_cost least.now) (sym_of S.number symbol) }
+{
+    match symbol {
+        Symbol::Rule(rule) => least[usize::from(rule)],
+        Symbol::Token(token) => Some(u16::from(costs[usize::from(token)])),
+    }
+}
+
+/// What the symbols cost together, where each has a cost, cut down to `TOO_LARGE`.
+fn cut_sum<S: Storage>(costs: &[u8], least: &[Option<u16>], symbols: &[Symbol<S>]) -> Option<u32>
+    requires { All (IsListed (length least.now) (length costs.now)) (map (sym_of S.number) symbols.now) }
+    ensures { result ≡ option_map (λ n. min n 65536) (sum_by_lists costs.now least.now (map (sym_of S.number) symbols.now)) }
+{
+    let mut sum = 0;
+    for symbol in symbols {
+        let cost = cost_of_symbol(costs, least, *symbol)?;
+        sum = TOO_LARGE.min(sum + u32::from(cost));
+    }
+    Some(sum)
+}
+
+/// Whether the production's sum is past 65535, or its rule costs at most the sum, where its rules all have a cost.
+fn is_covered<S: Storage>(costs: &[u8], least: &[Option<u16>], rule: RIdx<S>, symbols: &[Symbol<S>]) -> bool
+    requires rule { S.number rule.0 < length least.now }
+    requires symbols { All (IsListed (length least.now) (length costs.now)) (map (sym_of S.number) symbols.now) }
+    ensures exact { IsTrue result
+        ↔ IsCovered costs.now least.now (record { rule = S.number rule.0; symbols = map (sym_of S.number) symbols.now }) }
+    ensures range { IfSome (rule_cost least.now (S.number rule.0)) (λ c. c ≤ 65535) }
+{
+    let least_cost = cost_of_symbol(costs, least, Symbol::Rule(rule));
+    match (cut_sum(costs, least, symbols), least_cost) {
+        (None, _) => true,
+        (Some(sum), Some(cost)) => u32::from(cost) <= sum,
+        (Some(sum), None) => sum == TOO_LARGE,
+    }
+}
+
+/// Whether no sentence costs less than `least` says of its rule, as each production shows.
+///
+/// `costs` has the cost of each token, and `least` a cost of each rule, or `None` where no sentence of the rule costs 65535
+/// or less. The answer is true exactly where for each production whose rules all have a cost, the sum of its symbols'
+/// costs is past 65535, or its rule has a cost of at most that sum.
+pub fn check_least<S: Storage, T: Tables<S>>(grm: &T, costs: &[u8], least: &[Option<u16>]) -> bool
+    requires costs { length costs.now ≡ (T.grammar grm.now).tokens }
+    requires least { length least.now ≡ (T.grammar grm.now).rules }
+    ensures exact { IsTrue result ↔ All (IsCovered costs.now least.now) (T.grammar grm.now).productions }
+    ensures bound { IsTrue result → (r : ℕ) (w : List ℕ) → Sentence (HasProduction (T.grammar grm.now)) r w
+        → MatchOption (rule_cost least.now r) (65535 < cost_of (slice_index costs.now) w) (λ c. c ≤ cost_of (slice_index costs.now) w) }
+{
+    prove_eq!(least.len(), usize::from(grm.rules_len()));
+    let prods_len = grm.prods_len().0.to_usize();
+    for number in 0..prods_len {
+        let p = PIdx(to_storage(number));
+        if !is_covered(costs, least, grm.prod_to_rule(p), grm.prod(p)) {
+            return false;
+        }
+    }
+    true
+}
+
+/// Whether the rules among the symbols have choices with numbers below `number`.
+fn are_chosen_below<S: Storage>(choices: &[Option<(PIdx<S>, u32)>], symbols: &[Symbol<S>], number: u32) -> bool
+    requires { (tokens : ℕ) × All (IsListed (length choices.now) tokens) (map (sym_of S.number) symbols.now) }
+    ensures { IsTrue result ↔ All (IsChosenBelow (map (choice_of S.number) choices.now) number) (map (sym_of S.number) symbols.now) }
+{
+    for symbol in symbols {
+        match *symbol {
+            Symbol::Token(_) => {}
+            Symbol::Rule(rule) => match choices[usize::from(rule)] {
+                Some((_, before)) if before < number => {}
+                _ => return false,
+            },
+        }
+    }
+    true
+}
