@@ -7,7 +7,7 @@ use Rattle.derivation.specs.Grammar.{Grammar, Production, IsGrammar}
 use Rattle.cfganalysis.specs.Openings.{nth_production, OpensOne}
 use Rattle.cfganalysis.specs.Rounds.{TakesIn, Sweeps, IsSettled, OpensEach}
 
-same_production : (p q : Production) → p.rule ≡ q.rule → p.symbols ≡ q.symbols → p ≡ q
+pub same_production : (p q : Production) → p.rule ≡ q.rule → p.symbols ≡ q.symbols → p ≡ q
 same_production p q e h = ap (λ r. record { rule = r; symbols = p.symbols }) e ∙ ap (λ s. record { rule = q.rule; symbols = s }) h
 
 pub at_place : (g : Grammar) (n : ℕ) (p : Production) → n < length g.productions → p.rule ≡ (nth_production g n).rule → p.symbols ≡ (nth_production g n).symbols → Contains g.productions p

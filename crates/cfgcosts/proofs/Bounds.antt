@@ -1,12 +1,11 @@
 -- Tables that bound the costs of sentences from below, and tables whose costs are those of sentences.
-use Rattle.std.proofs.Common.{◌≡◌, ℕ, ◌+◌, ◌<◌, ◌≤◌, min, List, [], ◌∷◌, Option, Some, None, arith, refl, sym, ap, subst, ◌∙◌}
-use Rattle.derivation.specs.Grammar.{Sym, Rule, Token}
-use Rattle.derivation.specs.Sentence.{Sentence, cost_of, HasSentenceOf}
+use Rattle.std.proofs.Common.{◌≡◌, ℕ, ◌+◌, ◌≤◌, min, List, Option, Some, arith, refl, sym, ap}
+use Rattle.derivation.specs.Grammar.{Sym}
+use Rattle.derivation.specs.Sentence.{cost_of}
 use Rattle.derivation.specs.Tree.{Yields}
-use Rattle.derivation.proofs.Trees.{trees_from_derivation, derivation_from_trees}
-use Rattle.cfgcosts.specs.Sums.{plus, sum_of, symbol_cost}
+use Rattle.cfgcosts.specs.Sums.{sum_of, symbol_cost}
 use Rattle.cfgcosts.proofs.Sums.{plus_both}
-use Rattle.cfgcosts.proofs.TreeSums.{GoesUp, GoesOver, Choice, Made, sums_by_trees, reached}
+use Rattle.cfgcosts.proofs.TreeSums.{GoesUp, GoesOver, sums_by_trees}
 
 -- a cost that is there, and at most n
 pub record IsAtMost (cost : Option ℕ) (n : ℕ) : Type 0 where
@@ -67,3 +66,19 @@ module _ (P : ℕ → List Sym → Type 0) (cost : ℕ → ℕ) (least : ℕ →
   -- no row of symbols yields words that cost less than the row, cut down to the limit
   pub lower_bound_cut : CoversCut → {a : List Sym} {w : List ℕ} → Yields P a w → IsAtMostCut limit (sum_of (symbol_cost cost least) a) (cost_of cost w)
   lower_bound_cut h t = sums_by_trees P cost (symbol_cost cost least) (IsAtMostCut limit) (goes_up_cut h) t
+
+-- costs in the table that are just those of words
+pub exactly_over : (cost : ℕ → ℕ) (least : ℕ → Option ℕ) → GoesOver cost (symbol_cost cost least) (λ c n. c ≡ n)
+exactly_over cost least = record {
+  none = refl;
+  both = λ a b m n e f. omega (arith, e, f);
+  token = λ t c e. let same : Some (cost t) ≡ Some c = e in let is : cost t ≡ c = cc in sym is;
+}
+
+-- costs in the table that are those of words, both cut down to the limit
+pub cut_over : (cost : ℕ → ℕ) (least : ℕ → Option ℕ) (limit : ℕ) → GoesOver cost (symbol_cost cost least) (λ c n. min c limit ≡ min n limit)
+cut_over cost least limit = record {
+  none = refl;
+  both = λ a b m n e f. omega (arith, e, f);
+  token = λ t c e. let same : Some (cost t) ≡ Some c = e in let is : cost t ≡ c = cc in ap (λ n. min n limit) (sym is);
+}

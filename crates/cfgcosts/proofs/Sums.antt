@@ -1,5 +1,5 @@
 -- Sums of costs, some of which may be missing.
-use Rattle.std.proofs.Common.{◌≡◌, ℕ, ◌+◌, List, [], ◌∷◌, ◌++◌, Option, Some, None, arith, refl, sym, ap, ◌∙◌, add_assoc}
+use Rattle.std.proofs.Common.{◌≡◌, ℕ, ◌+◌, List, [], ◌∷◌, ◌++◌, Option, Some, None, arith, refl, sym, ap, ◌∙◌}
 use Rattle.derivation.specs.Grammar.{Sym}
 use Rattle.cfgcosts.specs.Sums.{plus, sum_of}
 
@@ -26,7 +26,7 @@ plus_assoc (Some m) None c = refl
 plus_assoc (Some m) (Some n) None = refl
 plus_assoc (Some m) (Some n) (Some k) = ap Some (omega arith)
 
-zero_plus : (a : Option ℕ) → plus (Some 0) a ≡ a
+pub zero_plus : (a : Option ℕ) → plus (Some 0) a ≡ a
 zero_plus None = refl
 zero_plus (Some n) = ap Some (omega arith)
 
@@ -39,3 +39,8 @@ sum_of-append costs (s ∷ a) b =
 pub sum_of-same : (f g : Sym → Option ℕ) → ((s : Sym) → f s ≡ g s) → (a : List Sym) → sum_of f a ≡ sum_of g a
 sum_of-same f g same [] = refl
 sum_of-same f g same (s ∷ a) = ap (λ o. plus o (sum_of f a)) (same s) ∙ ap (plus (g s)) (sum_of-same f g same a)
+
+-- a symbol alone costs what it costs
+pub plus_zero : (a : Option ℕ) → plus a (Some 0) ≡ a
+plus_zero None = refl
+plus_zero (Some n) = ap Some (omega arith)

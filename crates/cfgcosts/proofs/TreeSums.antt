@@ -1,7 +1,7 @@
 -- What holds of the sums of productions holds of what sentences cost: a table that is closed under the productions is a
 -- bound, by induction on parse trees, and a well-founded choice of productions reaches the table, by induction on the
 -- numbers of the choice.
-use Rattle.std.proofs.Common.{◌≡◌, ℕ, zero, suc, ◌+◌, ◌<◌, ◌≤◌, min, List, [], ◌∷◌, ◌++◌, Option, Some, None, All, arith, refl, sym, ap, subst, ◌∙◌, append-nil}
+use Rattle.std.proofs.Common.{◌≡◌, ℕ, zero, suc, ◌+◌, ◌<◌, List, [], ◌∷◌, ◌++◌, Option, Some, All, arith, sym, ap, subst, ◌∙◌, append-nil}
 use Rattle.std.proofs.lemmas.List.Sums.{sum_by-append}
 use Rattle.std.proofs.lemmas.List.Elements.{All-head, All-tail}
 use Rattle.derivation.specs.Grammar.{Sym, Rule, Token}
@@ -10,10 +10,17 @@ use Rattle.derivation.specs.Tree.{Yields, empty, token, opened}
 use Rattle.derivation.proofs.Trees.{trees_join}
 use Rattle.cfgcosts.specs.Sums.{plus, sum_of}
 use Rattle.cfgcosts.specs.Numbers.{IsNumberedBelow}
-use Rattle.cfgcosts.proofs.Sums.{plus_parts, plus_both}
+use Rattle.cfgcosts.proofs.Sums.{plus_parts}
 
 pub cost_of-token : (cost : ℕ → ℕ) (t : ℕ) (w : List ℕ) → cost_of cost (t ∷ w) ≡ cost t + cost_of cost w
 cost_of-token cost t w = sum_by-append cost (t ∷ []) w ∙ ap (λ n. n + cost_of cost w) (omega arith)
+
+module _ (cost : ℕ → ℕ) (costs : Sym → Option ℕ) where
+  -- a relation of costs in the table and costs of words that goes over to sums
+  pub record GoesOver (R : ℕ → ℕ → Type 0) : Type 0 where
+    pub none : R 0 0
+    pub both : (a b m n : ℕ) → R a m → R b n → R (a + b) (m + n)
+    pub token : (t c : ℕ) → costs (Token t) ≡ Some c → R c (cost t)
 
 module _ (P : ℕ → List Sym → Type 0) (cost : ℕ → ℕ) (costs : Sym → Option ℕ) where
   -- a relation of costs in the table and costs of words that goes over to sums, and from productions to their rules
@@ -34,12 +41,6 @@ module _ (P : ℕ → List Sym → Type 0) (cost : ℕ → ℕ) (costs : Sym →
       (up.both (costs (Rule r)) (sum_of costs a) (cost_of cost u) (cost_of cost w)
       (up.production r symbols (cost_of cost u) has (sums_by_trees R up h)) (sums_by_trees R up k))
 
-  -- a relation of costs in the table and costs of words that goes over to sums
-  pub record GoesOver (R : ℕ → ℕ → Type 0) : Type 0 where
-    pub none : R 0 0
-    pub both : (a b m n : ℕ) → R a m → R b n → R (a + b) (m + n)
-    pub token : (t c : ℕ) → costs (Token t) ≡ Some c → R c (cost t)
-
   -- a production that a rule's cost rests on: what its sum stands to, so does the cost, and its rules have lesser numbers
   pub record Choice (R : ℕ → ℕ → Type 0) (number : ℕ → ℕ) (r c : ℕ) : Type 0 where
     pub symbols : List Sym
@@ -55,7 +56,7 @@ module _ (P : ℕ → List Sym → Type 0) (cost : ℕ → ℕ) (costs : Sym →
     pub tree : Yields P a word
     pub stands : R c (cost_of cost word)
 
-  module _ (R : ℕ → ℕ → Type 0) (over : GoesOver R) where
+  module _ (R : ℕ → ℕ → Type 0) (over : GoesOver cost costs R) where
     made_both : (a b : List Sym) (c d n : ℕ) → n ≡ c + d → Made R a c → Made R b d → Made R (a ++ b) n
     made_both a b c d n e h k = record {
       word = h.word ++ k.word;
@@ -89,11 +90,11 @@ module _ (P : ℕ → List Sym → Type 0) (cost : ℕ → ℕ) (costs : Sym →
     made_row Q made (Token t ∷ a) c all e =
         let p = plus_parts (costs (Token t)) (sum_of costs a) c e in
         made_both (Token t ∷ []) a p.first p.second c p.whole (made_token t p.first p.first_is)
-            (made_row Q made a p.second (All-tail Q (Token t) a all) p.second_is)
+        (made_row Q made a p.second (All-tail Q (Token t) a all) p.second_is)
     made_row Q made (Rule r ∷ a) c all e =
         let p = plus_parts (costs (Rule r)) (sum_of costs a) c e in
         made_both (Rule r ∷ []) a p.first p.second c p.whole (made r p.first (All-head Q (Rule r) a all) p.first_is)
-            (made_row Q made a p.second (All-tail Q (Rule r) a all) p.second_is)
+        (made_row Q made a p.second (All-tail Q (Rule r) a all) p.second_is)
 
     module _ (number : ℕ → ℕ) (chosen : (r c : ℕ) → costs (Rule r) ≡ Some c → Choice R number r c) where
       made_below : (n r c : ℕ) → number r < n → costs (Rule r) ≡ Some c → Made R (Rule r ∷ []) c
@@ -101,7 +102,7 @@ module _ (P : ℕ → List Sym → Type 0) (cost : ℕ → ℕ) (costs : Sym →
       made_below (suc n) r c below e =
           let choice = chosen r c e in
           made_rule number r c choice (made_row (IsNumberedBelow number (number r))
-              (λ q d h. made_below n q d (omega (arith, below, h))) choice.symbols choice.sum choice.below choice.sum_is)
+          (λ q d h. made_below n q d (omega (arith, below, h))) choice.symbols choice.sum choice.below choice.sum_is)
 
       -- each cost that rests on a choice is that of a sentence
       pub reached : (r c : ℕ) → costs (Rule r) ≡ Some c → Made R (Rule r ∷ []) c

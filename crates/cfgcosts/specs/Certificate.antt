@@ -1,5 +1,5 @@
 -- The certificate of least costs: a list of costs, and a list of choices of productions.
-use Rattle.std.specs.Prelude.{◌≡◌, ℕ, ◌<◌, ◌≤◌, List, [], Option, Some, None, All, length, map, ◌⊎◌, IfSome, IsSomeAnd, slice_index, slice_index_or}
+use Rattle.std.specs.Prelude.{◌≡◌, ℕ, ◌<◌, ◌≤◌, List, Option, Some, None, All, length, ◌⊎◌, IfSome, IsSomeAnd, slice_index, slice_index_or}
 use Rattle.cfgindex.specs.declared.idxnewtype.PIdx.{PIdx}
 use Rattle.derivation.specs.Grammar.{Sym, Rule, Token, Grammar, Production}
 use Rattle.cfganalysis.specs.Openings.{nth_production}
@@ -47,3 +47,7 @@ IsReached g costs least choices r = IfSome (rule_cost least r) (λ c.
 abbrev pub IsListed : ℕ → ℕ → Sym → Type 0
 IsListed rules tokens (Rule r) = r < rules
 IsListed rules tokens (Token t) = t < tokens
+
+-- a cost that the list holds fits its type
+abbrev pub IsCoveredInRange : List ℕ → List (Option ℕ) → Production → Type 0
+IsCoveredInRange costs least p = IsCovered costs least p × IfSome (rule_cost least p.rule) (λ c. c ≤ 65535)

@@ -2,5 +2,6 @@
 #![tactic(auto)]
 
 pub mod certificate;
+pub mod laws;
 
-pub use certificate::check_least;
+pub use certificate::{check_least, check_reached};

@@ -1,0 +1,162 @@
+-- What the certificate of least costs says, read from the lists that pass its checks.
+use Rattle.std.proofs.Common.{◌≡◌, ℕ, ◌+◌, ◌<◌, ◌≤◌, inl, inr, ◌⊎◌, List, [], ◌∷◌, length, take, Option, Some, None, All, arith, refl, sym, ap, subst, ◌∙◌}
+use Rattle.std.specs.Prelude.{IfSome, IsSomeAnd, MatchOption, EachIndex, slice_index}
+use Rattle.std.proofs.lemmas.Bool.{cases_lt}
+use Rattle.std.proofs.lemmas.List.{take_all, get_or_past}
+use Rattle.lemmas.proofs.Elements.{within_from_get_or}
+use Rattle.std.proofs.lemmas.List.Elements.{All-more, All-contains, All-take, All-weaker}
+use Rattle.derivation.specs.Grammar.{Sym, Rule, Token, Grammar, IsGrammar, IsSymbolOf, HasProduction}
+use Rattle.derivation.specs.Sentence.{Sentence, cost_of, HasSentenceOf}
+use Rattle.derivation.specs.Tree.{Yields, opened}
+use Rattle.derivation.proofs.Trees.{trees_from_derivation, derivation_from_trees}
+use Rattle.derivation.specs.Costs.{Least}
+use Rattle.cfganalysis.specs.Openings.{nth_production}
+use Rattle.cfganalysis.proofs.Settling.{same_production, at_place}
+use Rattle.cfgcosts.specs.Sums.{symbol_cost}
+use Rattle.cfgcosts.specs.Numbers.{IsNumberedBelow}
+use Rattle.cfgcosts.specs.Certificate.{IsCovered, IsCoveredInRange, IsChosenBelow, IsListed, IsReached, RestsOn, rule_cost, rule_choice}
+use Rattle.cfgcosts.proofs.Sums.{plus_zero}
+use Rattle.cfgcosts.proofs.TreeSums.{Choice, reached}
+use Rattle.cfgcosts.proofs.Bounds.{IsAtMost, Covers, lower_bound, exactly_over}
+
+module _ (g : Grammar) (costs : List ℕ) (least : List (Option ℕ)) where
+  -- one production more
+  pub covered_more : (n place rule : ℕ) (symbols : List Sym) → n < length g.productions → place ≡ n
+      → rule ≡ (nth_production g place).rule → symbols ≡ (nth_production g place).symbols
+      → All (IsCoveredInRange costs least) (take n g.productions) → IsCoveredInRange costs least (record { rule = rule; symbols = symbols })
+      → All (IsCoveredInRange costs least) (take (n + 1) g.productions)
+  covered_more n place rule symbols within at owner holds all here = All-more (IsCoveredInRange costs least) g.productions n _ within all
+      (subst (IsCoveredInRange costs least) (same_production _ (nth_production g place) owner holds ∙ ap (nth_production g) at) here)
+
+  module _ (n : ℕ) (past : length g.productions ≤ n) (all : All (IsCoveredInRange costs least) (take n g.productions)) where
+    every : All (IsCoveredInRange costs least) g.productions
+    every = subst (All (IsCoveredInRange costs least)) (take_all n g.productions past) all
+
+    pub covered_all : All (IsCovered costs least) g.productions
+    covered_all = All-weaker (IsCoveredInRange costs least) (IsCovered costs least) (λ p h. h.0) g.productions every
+
+    at : (r : ℕ) (symbols : List Sym) → HasProduction g r symbols → IsCoveredInRange costs least (record { rule = r; symbols = symbols })
+    at r symbols has = All-contains (IsCoveredInRange costs least) g.productions _ every has
+
+    covers : Covers (HasProduction g) (slice_index costs) (rule_cost least) 65535
+    covers = record {
+      covers = λ r n symbols has e within. go r n within
+          (subst (λ o. IfSome o (λ n. (65535 < n) ⊎ IsSomeAnd (rule_cost least r) (λ c. c ≤ n))) e (at r symbols has).0);
+    }
+      where
+        some : (o : Option ℕ) (n : ℕ) → IsSomeAnd o (λ c. c ≤ n) → IsAtMost o n
+        some None n h = absurd h
+        some (Some c) n h = record { value = c; is = refl; within = h }
+
+        go : (r n : ℕ) → n ≤ 65535 → (65535 < n) ⊎ IsSomeAnd (rule_cost least r) (λ c. c ≤ n) → IsAtMost (rule_cost least r) n
+        go r n within (inl past) = absurd (omega (arith, within, past))
+        go r n within (inr h) = some (rule_cost least r) n h
+
+    in_range : (r : ℕ) (w : List ℕ) → Yields (HasProduction g) (Rule r ∷ []) w → IfSome (rule_cost least r) (λ c. c ≤ 65535)
+    in_range r w (opened {symbols = symbols} has h k e) = (at r symbols has).1
+
+    bounded : (r : ℕ) (w : List ℕ) → Yields (HasProduction g) (Rule r ∷ []) w → cost_of (slice_index costs) w ≤ 65535
+        → IsAtMost (rule_cost least r) (cost_of (slice_index costs) w)
+    bounded r w tree within = subst (λ o. IsAtMost o (cost_of (slice_index costs) w)) (plus_zero (rule_cost least r))
+        (lower_bound (HasProduction g) (slice_index costs) (rule_cost least) 65535 covers tree within)
+
+    read : (o : Option ℕ) (n : ℕ) → (n ≤ 65535 → IsAtMost o n) → IfSome o (λ c. c ≤ 65535) → MatchOption o (65535 < n) (λ c. c ≤ n)
+    read None n h range = elim (cases_lt 65535 n) [
+      | inl past ↦ past
+      | inr within ↦ let k = h within in let no : None ≡ Some k.value = k.is in absurd (cc)
+    ]
+    read (Some c) n h range = elim (cases_lt 65535 n) [
+      | inl past ↦ omega (arith, past, range)
+      | inr within ↦ let k = h within in let same : Some c ≡ Some k.value = k.is in let is : c ≡ k.value = cc in let w = k.within in omega (arith, is, w)
+    ]
+
+    -- no sentence costs less than the list says
+    pub certified_bound : (r : ℕ) (w : List ℕ) → Sentence (HasProduction g) r w
+        → MatchOption (rule_cost least r) (65535 < cost_of (slice_index costs) w) (λ c. c ≤ cost_of (slice_index costs) w)
+    certified_bound r w s =
+        let tree = trees_from_derivation (HasProduction g) (Rule r ∷ []) w s in
+        read (rule_cost least r) (cost_of (slice_index costs) w) (bounded r w tree) (in_range r w tree)
+
+-- the number of a choice
+abbrev number_of : Option (ℕ × ℕ) → ℕ
+number_of None = 0
+number_of (Some choice) = choice.1
+
+module _ (g : Grammar) (costs : List ℕ) (least : List (Option ℕ)) (choices : List (Option (ℕ × ℕ)))
+    (each : EachIndex least (IsReached g costs least choices)) where
+  abbrev number : ℕ → ℕ
+  number r = number_of (rule_choice choices r)
+
+  numbered_below : (n : ℕ) (s : Sym) → IsChosenBelow choices n s → IsNumberedBelow number n s
+  numbered_below n (Token t) h = tt
+  numbered_below n (Rule r) h = go (rule_choice choices r) h
+    where
+      go : (o : Option (ℕ × ℕ)) → IsSomeAnd o (λ choice. choice.1 < n) → number_of o < n
+      go None h = absurd h
+      go (Some choice) h = h
+
+  choice_from : (r c : ℕ) (o : Option (ℕ × ℕ)) → rule_choice choices r ≡ o → IsSomeAnd o (λ choice. RestsOn g costs least choices r c choice.0 choice.1)
+      → Choice (HasProduction g) (slice_index costs) (symbol_cost (slice_index costs) (rule_cost least)) (λ c n. c ≡ n) number r c
+  choice_from r c None e h = absurd h
+  choice_from r c (Some choice) e h = record {
+    symbols = (nth_production g choice.0).symbols;
+    sum = c;
+    has = at_place g choice.0 _ h.place (sym h.owner) refl;
+    sum_is = h.sum;
+    stands = λ n k. k;
+    below = All-weaker (IsChosenBelow choices choice.1) (IsNumberedBelow number (number r))
+        (λ s k. subst (λ n. IsNumberedBelow number n s) (sym (ap number_of e)) (numbered_below choice.1 s k)) _ h.below;
+  }
+
+  listed : (r c : ℕ) → rule_cost least r ≡ Some c → r < length least
+  listed r c e = within_from_get_or least r None (λ k. let no : None ≡ Some c = sym k ∙ e in absurd (cc))
+
+  chosen : (r c : ℕ) → rule_cost least r ≡ Some c
+      → Choice (HasProduction g) (slice_index costs) (symbol_cost (slice_index costs) (rule_cost least)) (λ c n. c ≡ n) number r c
+  chosen r c e = choice_from r c (rule_choice choices r) refl
+      (subst (λ o. IfSome o (λ c. IsSomeAnd (rule_choice choices r) (λ choice. RestsOn g costs least choices r c choice.0 choice.1))) e (each r (listed r c e)))
+
+  -- each cost of the list is that of a sentence
+  pub certified_sentence : (r c : ℕ) → rule_cost least r ≡ Some c → HasSentenceOf (HasProduction g) (slice_index costs) r c
+  certified_sentence r c e =
+      let made = reached (HasProduction g) (slice_index costs) (symbol_cost (slice_index costs) (rule_cost least)) (λ c n. c ≡ n)
+      (exactly_over (slice_index costs) (rule_cost least)) number chosen r c e in
+      (made.word, derivation_from_trees (HasProduction g) made.tree, sym made.stands)
+
+-- a rule's cost and choice, as lists show them, and what it rests on
+module _ (g : Grammar) (costs : List ℕ) (least : List (Option ℕ)) (choices : List (Option (ℕ × ℕ))) (r c : ℕ) (choice : ℕ × ℕ)
+    (cost_is : rule_cost least r ≡ Some c) (choice_is : rule_choice choices r ≡ Some choice) where
+  pub rests_from_reached : IsReached g costs least choices r → RestsOn g costs least choices r c choice.0 choice.1
+  rests_from_reached h = subst (λ o. IsSomeAnd o (λ choice. RestsOn g costs least choices r c choice.0 choice.1)) choice_is
+      (subst (λ o. IfSome o (λ c. IsSomeAnd (rule_choice choices r) (λ choice. RestsOn g costs least choices r c choice.0 choice.1))) cost_is h)
+
+  pub reached_from_rests : RestsOn g costs least choices r c choice.0 choice.1 → IsReached g costs least choices r
+  reached_from_rests h = subst (λ o. IfSome o (λ c. IsSomeAnd (rule_choice choices r) (λ choice. RestsOn g costs least choices r c choice.0 choice.1))) (sym cost_is)
+      (subst (λ o. IsSomeAnd o (λ choice. RestsOn g costs least choices r c choice.0 choice.1)) (sym choice_is) h)
+
+-- the symbols of a production have entries in the lists
+pub symbols_listed : (g : Grammar) (n : ℕ) → IsGrammar g → n < length g.productions → All (IsListed g.rules g.tokens) (nth_production g n).symbols
+symbols_listed g n is within = All-weaker (IsSymbolOf g) (IsListed g.rules g.tokens) one (nth_production g n).symbols
+    (is.symbols n (record { rule = 0; symbols = [] }) within)
+  where
+    one : (s : Sym) → IsSymbolOf g s → IsListed g.rules g.tokens s
+    one (Rule r) h = h
+    one (Token t) h = omega (arith, h)
+
+-- a cost that is at most 65535, that a sentence has, and that none goes below, is the least
+pub certified_least : (g : Grammar) (costs : List ℕ) (least : List (Option ℕ)) (choices : List (Option (ℕ × ℕ)))
+    → All (IsCovered costs least) g.productions → EachIndex least (IsReached g costs least choices)
+    → All (λ o. IfSome o (λ c. c ≤ 65535)) least
+    → (r c : ℕ) → rule_cost least r ≡ Some c → Least (HasProduction g) (slice_index costs) r c
+certified_least g costs least choices covered each range r c e = (
+  certified_sentence g costs least choices each r c e,
+  λ w s. subst (λ o. MatchOption o (65535 < cost_of (slice_index costs) w) (λ c. c ≤ cost_of (slice_index costs) w)) e
+      (certified_bound g costs least (length g.productions) (omega arith)
+      (All-take (IsCoveredInRange costs least) (length g.productions) g.productions (λ k d h. (covered k d h, in_list _))) r w s),
+)
+  where
+    in_list : (q : ℕ) → IfSome (rule_cost least q) (λ c. c ≤ 65535)
+    in_list q = elim (cases_lt q (length least)) [
+      | inl within ↦ range q None within
+      | inr past ↦ subst (λ o. IfSome o (λ c. c ≤ 65535)) (sym (get_or_past least q None past)) tt
+    ]
