@@ -5,3 +5,9 @@ pub mod Bounds
 pub mod Cut
 pub mod Rows
 pub mod Certified
+pub mod Gains
+pub mod Queued
+pub mod Opened
+pub mod Chosen
+pub mod Walked
+pub mod Settles

@@ -1,14 +1,14 @@
 -- Rows of the code, seen through what shows their elements.
-use Rattle.std.proofs.Common.{◌≡◌, ℕ, suc, ◌+◌, ◌<◌, ◌≤◌, List, ◌∷◌, length, map, take, drop, get_or, All, sym, ap, subst, ◌∙◌, add-one, drop-cons}
-use Rattle.std.proofs.lemmas.List.{get_or-map, length-map, take_all}
+use Rattle.std.proofs.Common.{◌≡◌, ℕ, suc, slice_set, ◌+◌, ◌<◌, ◌≤◌, List, ◌∷◌, length, map, take, drop, get_or, All, sym, ap, subst, ◌∙◌, add-one, drop-cons}
+use Rattle.std.proofs.lemmas.List.{get_or-map, map-set, length-map, take_all}
 use Rattle.std.proofs.lemmas.List.Elements.{All-more, All-get_or}
 
 module _ {A B : Type 0} (f : A → B) (xs : List A) where
   module _ (i : ℕ) (x : A) (within : i < length xs) (is : x ≡ get_or xs i x) where
-    shown_at : get_or (map f xs) i (f x) ≡ f x
+    pub shown_at : get_or (map f xs) i (f x) ≡ f x
     shown_at = get_or-map f xs i x (f x) within ∙ ap f (sym is)
 
-    shown_within : i < length (map f xs)
+    pub shown_within : i < length (map f xs)
     shown_within = subst (λ n. i < n) (sym (length-map xs f)) within
 
     pub next_shown : map f (drop i xs) ≡ f x ∷ map f (drop (i + 1) xs)
@@ -22,3 +22,12 @@ module _ {A B : Type 0} (f : A → B) (xs : List A) where
 
   pub shown_all : (P : B → Type 0) (i : ℕ) → length xs ≤ i → All P (take i (map f xs)) → All P (map f xs)
   shown_all P i past all = subst (All P) (take_all i (map f xs) (subst (λ n. n ≤ i) (sym (length-map xs f)) past)) all
+
+-- an element, and a write, seen through what shows the elements
+pub item_shown : {A B : Type 0} (f : A → B) (xs : List A) (ys : List B) (i : ℕ) (x : A) (d : B) → map f xs ≡ ys → i < length ys → x ≡ get_or xs i x
+    → get_or ys i d ≡ f x
+item_shown f xs ys i x d shown within is = ap (λ l. get_or l i d) (sym shown)
+    ∙ get_or-map f xs i x d (subst (λ n. i < n) (sym (ap length shown) ∙ length-map xs f) within) ∙ ap f (sym is)
+
+pub set_shown : {A B : Type 0} (f : A → B) (xs : List A) (ys : List B) (i : ℕ) (x : A) → map f xs ≡ ys → map f (slice_set xs i x) ≡ slice_set ys i (f x)
+set_shown f xs ys i x shown = map-set f xs i x ∙ ap (λ l. slice_set l i (f x)) shown

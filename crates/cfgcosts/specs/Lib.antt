@@ -1,3 +1,6 @@
 pub mod Sums
 pub mod Numbers
 pub mod Certificate
+pub mod Queue
+pub mod Open
+pub mod Settled

@@ -3,5 +3,10 @@
 
 pub mod certificate;
 pub mod laws;
+pub mod partial;
+mod queue;
+mod settle;
+mod waiting;
+mod walk;
 
 pub use certificate::{check_least, check_reached};

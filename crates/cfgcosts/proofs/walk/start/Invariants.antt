@@ -1,0 +1,11 @@
+use Rattle.std.proofs.Common.{◌≡◌, ◌≤◌, length}
+use Rattle.std.specs.List.{slice_index}
+use Rattle.cfgcosts.specs.Certificate.{rule_cost}
+use Rattle.cfgcosts.specs.Open.{AreOpen}
+use Rattle.cfgcosts.proofs.walk.start.Given as goal
+
+abbrev pub invariant-loop-number : goal.invariant-loop-number
+invariant-loop-number g l = record {
+  state : AreOpen (slice_index l.costs) (rule_cost l.least) (g.T.Tables.grammar l.grm) l.queue l.waiting (λ q. l.number ≤ q) 0;
+  lists : length l.waiting ≡ (g.T.Tables.grammar l.grm).rules;
+}
