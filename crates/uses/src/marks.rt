@@ -8,7 +8,11 @@ use std::alloc::{AllocError, Global};
 /// # Errors
 ///
 /// Want of memory.
-pub fn unused_settings(alloc: Global, settings: &[(u32, u32)], asked: &[u32]) -> Result<Vec<u32>, AllocError> {
+pub fn unused_settings(
+    alloc: Global,
+    settings: &[(u32, u32)],
+    asked: &[u32],
+) -> Result<Vec<u32>, AllocError> {
     let mut map = MarkMap::new(alloc);
     for (key, value) in settings {
         if map.insert(*key, *value).is_err() {

@@ -24,19 +24,26 @@ pub fn average_length(grammar: &YaccGrammar<u32>) -> usize {
     for pidx in grammar.iter_pidxs() {
         symbols = symbols.saturating_add(grammar.prod(pidx).len());
     }
-    let filled = grammar.iter_pidxs().filter(|pidx| !grammar.prod(*pidx).is_empty()).count();
+    let filled = grammar
+        .iter_pidxs()
+        .filter(|pidx| !grammar.prod(*pidx).is_empty())
+        .count();
     symbols.checked_div(filled).unwrap_or(0)
 }
 
 /// The name of the first rule that has more than one production, where there is one.
 pub fn first_choice(grammar: &YaccGrammar<u32>) -> Option<&str> {
-    let ridx = grammar.iter_rules().find(|ridx| grammar.rule_to_prods(*ridx).len() > 1)?;
+    let ridx = grammar
+        .iter_rules()
+        .find(|ridx| grammar.rule_to_prods(*ridx).len() > 1)?;
     Some(grammar.rule_name_str(ridx))
 }
 
 /// The name of the rule with the most productions, the last of those that have as many.
 pub fn busiest_rule(grammar: &YaccGrammar<u32>) -> Option<&str> {
-    let busiest = grammar.iter_rules().max_by_key(|ridx| grammar.rule_to_prods(*ridx).len())?;
+    let busiest = grammar
+        .iter_rules()
+        .max_by_key(|ridx| grammar.rule_to_prods(*ridx).len())?;
     Some(grammar.rule_name_str(busiest))
 }
 
@@ -45,7 +52,10 @@ pub fn busiest_rule(grammar: &YaccGrammar<u32>) -> Option<&str> {
 /// # Errors
 ///
 /// Want of memory.
-pub fn empty_rules<'a>(alloc: Global, grammar: &'a YaccGrammar<u32>) -> Result<Vec<&'a str>, AllocError> {
+pub fn empty_rules<'a>(
+    alloc: Global,
+    grammar: &'a YaccGrammar<u32>,
+) -> Result<Vec<&'a str>, AllocError> {
     grammar
         .iter_pidxs()
         .filter(|pidx| grammar.prod(*pidx).is_empty())
