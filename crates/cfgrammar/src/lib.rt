@@ -1,5 +1,16 @@
 //! Yacc grammars: read from the text of a Yacc file, validated, and turned into numbered tables.
 //!
+//! The productions of a text's grammar, a line each, as the crate `uses` writes them:
+//!
+//! ```
+//! let kind = YaccKind::Original(YaccOriginalActionKind::GenericParseTree);
+//! let grammar = YaccGrammar::<u32>::new(alloc, kind, text)?;
+//! let mut lines = String::new(alloc);
+//! for pidx in grammar.iter_pidxs() {
+//!     writeln!(lines, "{}", grammar.pp_prod(alloc, pidx)?)?;
+//! }
+//! ```
+//!
 //! A crate that lists `cfgrammar` alone in `crates.txt` has all of it but `usize::from` and `u32::from` of an index, for
 //! which it lists `cfgindex` too, and loops over a `&MarkMap`, for which it lists `cfgmarks`.
 #![tactic(auto)]
