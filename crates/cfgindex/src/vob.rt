@@ -1,24 +1,32 @@
 //! Lists of bits.
 
-ghost use Rattle.std.specs.Prelude.{◌≡◌, ◌≢◌, ◌<◌, ◌↔◌, ◌||◌, Bool, List, Some, length, map, not, replicate, slice_get, slice_set, IfOk, IsTrue, MatchBool};
+ghost use Rattle.std.specs.Prelude.{◌≡◌, ◌≢◌, ◌<◌, ◌==◌, ◌↔◌, ◌||◌, ◌-◌, ◌^◌, ℕ, Bool, List, Some, false, if◌then◌else◌, length, map, not, replicate, slice_get, slice_index_or, slice_set, IfOk, IsTrue, MatchBool};
 ghost use Rattle.std.specs.Bool.{beq};
 ghost use Rattle.std.specs.Cmp.{bool_eq_equiv, partial_equiv_from_equiv};
 ghost use Rattle.std.specs.Cmp.Lexicographic.{lists_equiv, lists_per, pointwise};
+ghost use Rattle.std.specs.Int.{bit_at};
 ghost use Rattle.std.specs.List.{zip};
+ghost use Rattle.cfgindex.specs.Words.{AreJoined};
 
 use std::alloc::{AllocError, Global};
 use std::marker::Model;
 
-/// A list of bits, whose length stays.
+/// A list of bits, whose length stays. They stand in words; bits of the last word past the length are off.
 #[derive(Debug, Drop)]
 pub struct Vob {
-    bits: Vec<bool>,
+    len: usize,
+    words: Vec<u64>,
 }
 
 impl Model for Vob {
+    ghost use Rattle.std.specs.Prelude.{Bool, List};
+    ghost use Rattle.cfgindex.specs.Words.{AreWords, bits_of};
+
     ghost Value = { List Bool };
 
-    ghost view = { λ x. x.bits.items };
+    ghost view = { λ x. bits_of x.words.items x.len };
+
+    ghost invariant = { λ x. AreWords x.len x.words.items };
 }
 
 impl Vob {
@@ -30,23 +38,34 @@ impl Vob {
     pub fn from_elem(alloc: Global, bit: bool, len: usize) -> Result<Self, AllocError>
         ensures { IfOk result (λ bits. bits ≡ replicate len bit) }
     {
-        Ok(Vob {
-            bits: vec![in alloc; bit; len]?,
-        })
+        if len == 0 {
+            return Ok(Vob {
+                len,
+                words: Vec::new(alloc),
+            });
+        }
+        let word = filled(bit);
+        let mut words = vec![in alloc; word; (len - 1) / 64 + 1]?;
+        words[(len - 1) / 64] = word >> (63 - (len - 1) % 64);
+        Ok(Vob { len, words })
     }
 
     /// How many bits there are.
     pub fn len(&self) -> usize
         ensures { result ≡ length self.now }
     {
-        self.bits.len()
+        self.len
     }
 
     /// The bit at `i`, or `None` where `i` is not below the length.
     pub fn get(&self, i: usize) -> Option<bool>
         ensures { result ≡ slice_get self.now i }
     {
-        self.bits.get(i).copied()
+        if i < self.len {
+            Some(has_bit(self.words[i / 64], i % 64))
+        } else {
+            None
+        }
     }
 
     /// Makes the bit at `i` be `bit`, and tells whether that changed it.
@@ -55,9 +74,9 @@ impl Vob {
         ensures bits { self.new ≡ slice_set self.old i bit }
         ensures changed { MatchBool result (slice_get self.old i ≡ Some (not bit)) (slice_get self.old i ≡ Some bit) }
     {
-        let changed = self.bits[i] != bit;
-        self.bits[i] = bit;
-        changed
+        let word = self.words[i / 64];
+        self.words[i / 64] = with_bit(word, i % 64, bit);
+        has_bit(word, i % 64) != bit
     }
 
     /// Turns on each bit that `other` has on, and tells whether that changed any.
@@ -66,12 +85,7 @@ impl Vob {
         ensures bits { self.new ≡ map (λ pair. pair.0 || pair.1) (zip self.old other.now) }
         ensures changed { MatchBool result (self.new ≢ self.old) (self.new ≡ self.old) }
     {
-        let mut changed = false;
-        for i in 0..self.len() {
-            let bit = self.bits[i] | other.bits[i];
-            changed |= self.set(i, bit);
-        }
-        changed
+        or_words(self.words.as_mut_slice(), other.words.as_slice())
     }
 }
 
@@ -84,10 +98,52 @@ impl PartialEq for Vob {
         ensures value { result ≡ pointwise beq self.now other.now }
         ensures same { IsTrue result ↔ (self.now ≡ other.now) }
     {
-        self.bits == other.bits
+        self.len == other.len && self.words == other.words
     }
 }
 
 impl Eq for Vob {
     ghost laws = { lists_equiv bool_eq_equiv };
+}
+
+/// The word whose bits are all on, or off.
+fn filled(bit: bool) -> u64
+    ensures { result ≡ (if bit then 2 ^ 64 - 1 else 0) }
+{
+    if bit { u64::MAX } else { 0 }
+}
+
+/// Whether a word's bit is on.
+fn has_bit(word: u64, i: usize) -> bool
+    requires { i < 64 }
+    ensures { result ≡ (bit_at word i == 1) }
+{
+    word >> i & 1 == 1
+}
+
+/// The word with a bit on or off.
+fn with_bit(word: u64, i: usize, bit: bool) -> u64
+    requires { i < 64 }
+    ensures here { bit_at result i ≡ (if bit then 1 else 0) }
+    ensures others { (k : ℕ) → k < 64 → k ≢ i → bit_at result k ≡ bit_at word k }
+{
+    let mask = 1 << i;
+    if bit { word | mask } else { word & !mask }
+}
+
+/// Turns on in each word the bits that the word at its place among the others has on, and tells whether that changed
+/// any.
+fn or_words(words: &mut [u64], others: &[u64]) -> bool
+    requires { length words.old ≡ length others.now }
+    ensures joined { AreJoined words.old others.now words.new }
+    ensures changed { MatchBool result (words.new ≢ words.old) (words.new ≡ words.old) }
+{
+    let mut changed = false;
+    for place in 0..words.len() {
+        let word = words[place];
+        let joined = word | others[place];
+        words[place] = joined;
+        changed |= joined != word;
+    }
+    changed
 }

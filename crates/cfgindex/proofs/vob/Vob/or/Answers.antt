@@ -1,25 +1,58 @@
-use Rattle.std.proofs.Common.{◌≡◌, ◌<◌, length, get_or, arith, ap, ◌∙◌}
-use Rattle.cfgindex.proofs.Bits.{joined_none, joined_more, joined_all, joined_grew}
+use Rattle.std.proofs.Common.{◌≡◌, ◌≢◌, ℕ, Bool, List, Vec, length, MatchBool, refl, subst, sym, ap, ◌∙◌}
+use Rattle.std.specs.Vec.{with_items}
+use Rattle.std.proofs.lemmas.List.{with_items_is}
+use Rattle.cfgindex.specs.Words.{AreWords, AreJoined, bits_of}
+use Rattle.cfgindex.proofs.Bits.{union}
+use Rattle.cfgindex.proofs.Words.{length-bits_of, same_length, words_joined, bits_joined, joined_changed}
 use Rattle.cfgindex.proofs.vob.Vob.or.Goals as goal
 
-pub loop-i-init : goal.loop-i-init
-loop-i-init c = joined_none _ _
+-- the words of two lists that are as long as each other
+module _ (len len' : ℕ) (words others : List ℕ) (x y : List Bool) (isa : AreWords len words) (isb : AreWords len' others)
+    (ex : bits_of words len ≡ x) (ey : bits_of others len' ≡ y) (same : length x ≡ length y) where
+  long : len' ≡ len
+  long = sym (length-bits_of others len') ∙ ap length ey ∙ sym same ∙ sym (ap length ex) ∙ length-bits_of words len
 
-pub loop-i-preserved : goal.loop-i-preserved
-loop-i-preserved c =
-    let len : c.len-i-end.result ≡ length c.args.self.now = c.len-i-end.ensures in
-    let bit : c.index.result.now ≡ get_or c.loop-i.self c.loop-i.i c.index.result.now =
-    c.index.ensures ∙ ap (λ l. get_or l c.loop-i.i c.index.result.now) c.self-in-loop-i.view_is in
-    let on : c.index-in-loop-i.result.now ≡ get_or c.args.other.now c.loop-i.i c.index-in-loop-i.result.now =
-    c.index-in-loop-i.ensures ∙ ap (λ l. get_or l c.loop-i.i c.index-in-loop-i.result.now) c.other.view_is in
-    let below : c.loop-i.i < length c.args.self.now = omega (arith, c.loop-i-test.true) in
-    joined_more c.loop-i.i _ _ c.loop-i.self _ c.loop-i.changed _ _ c.set-changed.result c.set-changed.ensures.bits below c.requires c.loop-i.invariant bit on c.set-changed.ensures.changed
+  are_words : AreWords len others
+  are_words = subst (λ n. AreWords n others) long isb
+
+  as_long : length words ≡ length others
+  as_long = same_length len words others isa are_words
+
+  bits_are : bits_of others len ≡ y
+  bits_are = ap (bits_of others) (sym long) ∙ ey
+
+  module _ {Z : Type 0} (v : Vec ℕ Z) (at : words ≡ v.items) (a b new : List ℕ) (ea : a ≡ words) (eb : b ≡ others) (w : AreJoined a b new) where
+    joined : AreJoined words others new
+    joined = subst (λ l. AreJoined l others new) ea (subst (λ l. AreJoined a l new) eb w)
+
+    items_are : (with_items v new).items ≡ new
+    items_are = with_items_is v new (joined.long ∙ ap length at ∙ sym v.ok.0)
+
+    now_words : AreWords len (with_items v new).items
+    now_words = subst (λ l. AreWords len l) (sym items_are) (words_joined len words others new isa are_words joined)
+
+    now_bits : bits_of (with_items v new).items len ≡ union x y
+    now_bits = ap (λ l. bits_of l len) items_are ∙ bits_joined len words others new isa are_words joined
+        ∙ ap (λ l. union l (bits_of others len)) ex ∙ ap (union x) bits_are
+
+    now_changed : (r : Bool) → MatchBool r (new ≢ a) (new ≡ a)
+        → MatchBool r (bits_of (with_items v new).items len ≢ x) (bits_of (with_items v new).items len ≡ x)
+    now_changed r grew = subst (λ l. MatchBool r (l ≢ x) (l ≡ x)) (sym (ap (λ l. bits_of l len) items_are))
+        (subst (λ l. MatchBool r (bits_of new len ≢ l) (bits_of new len ≡ l)) ex
+        (joined_changed len words others new isa are_words joined r (subst (λ l. MatchBool r (new ≢ l) (new ≡ l)) ea grew)))
+
+pub or_words-requires : goal.or_words-requires
+or_words-requires c = ap length c.as_mut_slice.ensures.value
+    ∙ as_long _ _ _ _ _ _ c.self.invariant c.other.invariant c.self.view_is c.other.view_is c.requires ∙ sym (ap length c.as_slice.ensures.value)
+
+pub invariant_of-self : goal.invariant_of-self
+invariant_of-self c = now_words _ _ _ _ _ _ c.self.invariant c.other.invariant c.self.view_is c.other.view_is c.requires
+    c.self.inside.words refl _ _ _ c.as_mut_slice.ensures.value c.as_slice.ensures.value c.or_words.ensures.joined
 
 pub returns-clause-bits : goal.returns-clause-bits
-returns-clause-bits c =
-    let len : c.len-i-end.result ≡ length c.args.self.now = c.len-i-end.ensures in
-    let end : c.loop-i.i ≡ length c.args.self.now = omega (arith, c.loop-i-test.false, c.loop-i.auto.i-end) in
-    joined_all _ _ _ _ _ end c.requires c.loop-i.invariant
+returns-clause-bits c = now_bits _ _ _ _ _ _ c.self.invariant c.other.invariant c.self.view_is c.other.view_is c.requires
+    c.self.inside.words refl _ _ _ c.as_mut_slice.ensures.value c.as_slice.ensures.value c.or_words.ensures.joined
 
 pub returns-clause-changed : goal.returns-clause-changed
-returns-clause-changed c = joined_grew _ _ _ _ _ c.loop-i.invariant
+returns-clause-changed c = now_changed _ _ _ _ _ _ c.self.invariant c.other.invariant c.self.view_is c.other.view_is c.requires
+    c.self.inside.words refl _ _ _ c.as_mut_slice.ensures.value c.as_slice.ensures.value c.or_words.ensures.joined _ c.or_words.ensures.changed
