@@ -10,7 +10,7 @@ use Rattle.lemmas.proofs.Places.{found-position}
 use Rattle.lemmas.proofs.Pushed.{filter_map-pushed}
 use Rattle.cfgast.specs.Items.{Item}
 use Rattle.cfgast.specs.Occurrences.{declared_once}
-use Rattle.cfgast.specs.Syntax.{word_name, is_named, token_declared, start_named, declared_words, index_of, indices_of, finished, expected, expected_reduce_reduce, generics_declared, settings_of, syntax_of}
+use Rattle.cfgast.specs.Syntax.{word_name, is_named, token_declared, start_named, declared_words, index_of, indices_of, finished, expected, expected_reduce_reduce, generics_declared, expected_unused, settings_of, syntax_of}
 use Rattle.cfgast.specs.Building.{has_name, is_declared, grown, add, adds}
 use Rattle.cfgast.proofs.Names.{is_named-firsts, has_name-names, noted}
 use Rattle.cfgast.proofs.Fields.{tokens, declared, declared_token, first-push, last-push, rules-push, productions-push, production_rules-push, tokens-push, spans-push, directives-push}
@@ -51,6 +51,7 @@ syntax_of-push items item = (λ i. record {
     parse_generics = last-push items item generics_declared i;
     programs = None;
   };
+  expect_unused = filter_map-pushed expected_unused items item i;
   occurrences = filter_map-pushed declared_once items item i;
 }) ∙ ap (grown (syntax_of items) item) (λ i. finished (λ name. is_declared-syntax_of items name i) item)
 

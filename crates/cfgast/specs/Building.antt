@@ -8,7 +8,7 @@ use Rattle.cfgbase.specs.declared.span.Span.{Span}
 use Rattle.cfgwords.specs.Words.{Word}
 use Rattle.cfgast.specs.Items.{Item, RuleHead}
 use Rattle.cfgast.specs.Occurrences.{declared_once}
-use Rattle.cfgast.specs.Syntax.{Syntax, Settings, Rule, Production, word_name, head_name, index_of, token_named, token_declared, start_named, expected, expected_reduce_reduce, generics_declared, rule_named, finished}
+use Rattle.cfgast.specs.Syntax.{Syntax, Settings, Rule, Production, word_name, head_name, index_of, token_named, token_declared, start_named, expected, expected_reduce_reduce, generics_declared, expected_unused, rule_named, finished}
 
 -- whether a name stands among names
 abbrev pub has_name : List ℕ → List (List ℕ) → Bool
@@ -82,6 +82,7 @@ grown s item production =
       spans = with_span (token_named item) s.tokens s.spans;
       token_directives = with_directive (option_map word_name (token_declared item)) tokens s.token_directives;
       settings = with_settings item s.settings;
+      expect_unused = pushed s.expect_unused (expected_unused item);
       occurrences = pushed s.occurrences (declared_once item);
     }
 

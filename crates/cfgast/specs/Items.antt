@@ -15,12 +15,18 @@ pub record Body : Type 0 where
   pub action : Option (List ℕ × Span)
   pub span : Span
 
+-- a symbol: the name of a rule or of a token, and its span
+pub data Symbol : Type 0 where
+  RuleSymbol : Word → Symbol
+  TokenSymbol : Word → Symbol
+
 pub data Item : Type 0 where
   TokenDeclared : Word → Item  -- a token of a `%token` list
   StartDeclared : Word → Item  -- the name behind `%start`
   ExpectDeclared : ℕ × Span → Item  -- the number behind `%expect`, and its place
   ExpectReduceReduceDeclared : ℕ × Span → Item  -- the number behind `%expect-rr`, and its place
   GenericsDeclared : List ℕ → Item  -- the rest of the line behind `%parse-generics`
+  ExpectedUnused : Symbol → Item  -- a symbol of a `%expect-unused` list
   RuleNamed : RuleHead → Item  -- a rule, at its name
   TokenQuoted : Word → Item  -- a quoted token in a rule's body
   Alternative : RuleHead → Body → Item  -- a finished production of the rule of that name

@@ -5,13 +5,9 @@ use Rattle.std.specs.Str.{bytes_eq}
 use Rattle.lemmas.specs.Lists.{with_fronts, places}
 use Rattle.cfgbase.specs.declared.span.Span.{Span}
 use Rattle.cfgwords.specs.Words.{Word, Token, word_of}
-use Rattle.cfgast.specs.Items.{Item, RuleHead, Body, TokenDeclared, StartDeclared, ExpectDeclared, ExpectReduceReduceDeclared, GenericsDeclared, RuleNamed, TokenQuoted, Alternative}
+pub use Rattle.cfgast.specs.Items.{Symbol, RuleSymbol, TokenSymbol}
+use Rattle.cfgast.specs.Items.{Item, RuleHead, Body, TokenDeclared, StartDeclared, ExpectDeclared, ExpectReduceReduceDeclared, GenericsDeclared, ExpectedUnused, RuleNamed, TokenQuoted, Alternative}
 use Rattle.cfgast.specs.Occurrences.{Occurrence, declared_once}
-
--- a symbol of a production: the name of a rule or of a token, and its span
-pub data Symbol : Type 0 where
-  RuleSymbol : Word → Symbol
-  TokenSymbol : Word → Symbol
 
 pub record Production : Type 0 where
   pub symbols : List Symbol
@@ -41,6 +37,7 @@ pub record Syntax : Type 0 where
   pub spans : List Span
   pub token_directives : List ℕ
   pub settings : Settings
+  pub expect_unused : List Symbol
   pub occurrences : List Occurrence  -- of what may be declared only once
 
 -- the name of a symbol, and its span
@@ -64,6 +61,7 @@ pub record EachSpan (P : Span → Type 0) (syntax : Syntax) : Type 0 where
   pub productions : All (EachProductionSpan P) syntax.productions
   pub tokens : All P syntax.spans
   pub settings : EachSettingSpan P syntax.settings
+  pub expect_unused : All (λ symbol. P (symbol_word symbol).span) syntax.expect_unused
   pub occurrences : All (λ occurrence. P occurrence.span) syntax.occurrences
 
 abbrev pub word_name : Word → List ℕ
@@ -90,7 +88,7 @@ abbrev pub indices_of : List (List ℕ) → List (List ℕ) → List ℕ
 indices_of some names = map (λ name. index_of name names) some
 
 -- What an item says: the words by which it names a token, a declared token and the start, the numbers of conflicts that it
--- expects, the generics that it declares, and the rule that it names.
+-- expects, the generics that it declares, the symbol that it expects to be unused, and the rule that it names.
 
 abbrev pub token_named : Item → Option Word
 token_named (TokenDeclared word) = Some word
@@ -118,6 +116,10 @@ expected_reduce_reduce _ = None
 abbrev pub generics_declared : Item → Option (List ℕ)
 generics_declared (GenericsDeclared text) = Some text
 generics_declared _ = None
+
+abbrev pub expected_unused : Item → Option Symbol
+expected_unused (ExpectedUnused symbol) = Some symbol
+expected_unused _ = None
 
 abbrev pub rule_named : Item → Option RuleHead
 rule_named (RuleNamed head) = Some head
@@ -193,5 +195,6 @@ syntax_of items = record {
   spans = map (λ w. w.span) (token_words items);
   token_directives = indices_of (map word_name (declared_words items)) (map word_name (token_words items));
   settings = settings_of items;
+  expect_unused = filter_map expected_unused items;
   occurrences = filter_map declared_once items;
 }

@@ -82,6 +82,7 @@ syntax ast = record {
   spans = ast.spans.items;
   token_directives = ast.token_directives.keys;
   settings = settings_view ast.settings;
+  expect_unused = map symbol_view ast.expect_unused.items;
   occurrences = map occurrence_view ast.occurrences.items;
 }
 

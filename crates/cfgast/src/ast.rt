@@ -2,12 +2,13 @@ ghost use Rattle.std.specs.Prelude.{◌≡◌, ◌↔◌, map, option_map, IfOk,
 ghost use Rattle.std.specs.Map.{lookup};
 ghost use Rattle.std.specs.Str.{bytes_eq};
 ghost use Rattle.std.specs.String.{string_bytes};
-ghost use Rattle.cfgast.specs.View.{production_view, rule_view, named_view, rule_entry, settings_view, occurrence_view};
+ghost use Rattle.cfgast.specs.View.{production_view, rule_view, named_view, rule_entry, settings_view, symbol_view, occurrence_view};
 
 use crate::occurrence::Occurrence;
 use crate::production::Production;
 use crate::rule::Rule;
 use crate::settings::Settings;
+use crate::symbol::Symbol;
 use cfgbase::Span;
 use indexmap::{IndexMap, IndexSet};
 use std::alloc::AllocError;
@@ -23,6 +24,7 @@ pub struct GrammarAST {
     pub(crate) tokens: IndexSet<String>,
     pub(crate) spans: Vec<Span>,
     pub(crate) settings: Settings,
+    pub(crate) expect_unused: Vec<Symbol>,
     pub(crate) occurrences: Vec<Occurrence>,
 }
 
@@ -107,6 +109,13 @@ impl GrammarAST {
         &self.settings
     }
 
+    /// The symbols of the `%expect-unused` lists, in order.
+    pub fn expect_unused(&self) -> &[Symbol]
+        ensures { map symbol_view result.now ≡ (syntax self.now).expect_unused }
+    {
+        &self.expect_unused
+    }
+
     /// Each declaration of what a file may declare only once, in order.
     pub fn occurrences(&self) -> &[Occurrence]
         ensures { map occurrence_view result.now ≡ (syntax self.now).occurrences }
@@ -149,6 +158,16 @@ impl GrammarAST {
         Ok((rules, productions, production_rules))
     }
 
+    // Copies of the symbols that are expected to be unused, and of the occurrences.
+    fn clone_lists(&self) -> Result<(Vec<Symbol>, Vec<Occurrence>), AllocError>
+        ensures expect_unused { IfOk result (λ copy. map symbol_view copy.0.items ≡ (syntax self.now).expect_unused) }
+        ensures occurrences { IfOk result (λ copy. map occurrence_view copy.1.items ≡ (syntax self.now).occurrences) }
+    {
+        let occurrences = self.occurrences.clone()?;
+        let expect_unused = self.expect_unused.clone()?;
+        Ok((expect_unused, occurrences))
+    }
+
     // Copies of the tokens, of their spans, and of the directives.
     fn clone_tokens(&self) -> Result<(IndexSet<String>, Vec<Span>, IndexSet<usize>), AllocError>
         ensures tokens { IfOk result (λ copy. map string_bytes copy.0.keys ≡ (syntax self.now).tokens) }
@@ -170,7 +189,7 @@ impl Clone for GrammarAST {
     fn clone(&self) -> Result<GrammarAST, AllocError> {
         let start = self.start.clone()?;
         let settings = self.settings.clone()?;
-        let occurrences = self.occurrences.clone()?;
+        let (expect_unused, occurrences) = self.clone_lists()?;
         let (tokens, spans, token_directives) = self.clone_tokens()?;
         let (rules, prods, prods_rules) = self.clone_rules()?;
         Ok(GrammarAST {
@@ -182,6 +201,7 @@ impl Clone for GrammarAST {
             tokens,
             spans,
             settings,
+            expect_unused,
             occurrences,
         })
     }

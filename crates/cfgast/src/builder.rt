@@ -1,5 +1,5 @@
 ghost use Rattle.std.specs.Prelude.{◌≡◌, List, [], ◌∷◌, ◌++◌, map, Some, option_map, string_bytes, IfOk, OnOk};
-ghost use Rattle.cfgast.specs.Items.{Item, TokenDeclared, StartDeclared, ExpectDeclared, ExpectReduceReduceDeclared, GenericsDeclared, RuleNamed, TokenQuoted, Alternative};
+ghost use Rattle.cfgast.specs.Items.{Item, TokenDeclared, StartDeclared, ExpectDeclared, ExpectReduceReduceDeclared, GenericsDeclared, ExpectedUnused, RuleSymbol, TokenSymbol, RuleNamed, TokenQuoted, Alternative};
 ghost use Rattle.cfgast.specs.Syntax.{syntax_of, symbol_of, production_of, head_name, index_of};
 ghost use Rattle.cfgast.specs.Occurrences.{of_grammar};
 ghost use Rattle.cfgast.specs.Building.{add, adds, with_first, with_rule, listed, is_declared};
@@ -45,6 +45,7 @@ impl AstBuilder {
                 tokens: IndexSet::new(alloc),
                 spans: Vec::new(alloc),
                 settings: Settings::none(),
+                expect_unused: Vec::new(alloc),
                 occurrences: Vec::new(alloc),
             },
         }
@@ -114,6 +115,24 @@ impl AstBuilder {
         ensures { OnOk result (syntax_built self.new ≡ add (syntax_built self.old) (GenericsDeclared text.now)) }
     {
         self.ast.settings.parse_generics = Some(String::from_str(alloc, text)?);
+        Ok(())
+    }
+
+    /// Adds a rule of a `%expect-unused` list.
+    pub fn expect_unused_rule(&mut self, alloc: Global, word: Word<'_>) -> Result<(), AllocError>
+        ensures { OnOk result (syntax_built self.new ≡ add (syntax_built self.old) (ExpectedUnused (RuleSymbol (word_view word.entry)))) }
+    {
+        let name = String::from_str(alloc, word.name)?;
+        self.ast.expect_unused.push(Symbol::Rule(name, word.span))?;
+        Ok(())
+    }
+
+    /// Adds a token of a `%expect-unused` list.
+    pub fn expect_unused_token(&mut self, alloc: Global, word: Word<'_>) -> Result<(), AllocError>
+        ensures { OnOk result (syntax_built self.new ≡ add (syntax_built self.old) (ExpectedUnused (TokenSymbol (word_view word.entry)))) }
+    {
+        let name = String::from_str(alloc, word.name)?;
+        self.ast.expect_unused.push(Symbol::Token(name, word.span))?;
         Ok(())
     }
 

@@ -45,11 +45,15 @@ resolved s sound = record {
     passes : check_of s ≡ None
     passes = sound.checked refl
 
+    behind_start : Option GrammarError
+    behind_start = option_or (first_error (rule_error s) s.rules) (first_error (symbol_error s) s.expect_unused)
+
     start : (word : Word) × (s.start ≡ Some word) × (is_rule s word.name ≡ true)
-    start = started s s.start (none_first (start_error s s.start) (first_error (rule_error s) s.rules) passes)
+    start = started s s.start (none_first (start_error s s.start) behind_start passes)
 
     rules_ok : All (λ rule. rule_error s rule ≡ None) s.rules
-    rules_ok = no_errors (rule_error s) s.rules (none_second (start_error s s.start) (first_error (rule_error s) s.rules) passes)
+    rules_ok = no_errors (rule_error s) s.rules (none_first (first_error (rule_error s) s.rules) (first_error (symbol_error s) s.expect_unused)
+        (none_second (start_error s s.start) behind_start passes))
 
     place_ok : (i : ℕ) → i < length s.productions → place_error s i ≡ None
     place_ok i within =

@@ -78,9 +78,13 @@ module _ (text : List ℕ) where
 
   check_at : IsUtf8 text → (s : Syntax) → EachSpan (IsPiece text) s → IfSome (check_of s) (IsErrorAt text)
   unfolding check_of
-  check_at utf8 s at = first_of_two (IsErrorAt text) (start_error s s.start) (first_error (rule_error s) s.rules)
-      (start_error_at utf8 s s.start at.start)
+  check_at utf8 s at =
+      let rules = first_error (rule_error s) s.rules in
+      let unused = first_error (symbol_error s) s.expect_unused in
+      first_of_two (IsErrorAt text) (start_error s s.start) (option_or rules unused) (start_error_at utf8 s s.start at.start)
+      (first_of_two (IsErrorAt text) rules unused
       (first_of_all (IsErrorAt text) (rule_error s) s.rules (λ k d lt. rule_error_at s at (get_or s.rules k d)))
+      (first_of_all (IsErrorAt text) (symbol_error s) s.expect_unused (λ k d lt. symbol_error_at s (get_or s.expect_unused k d) (at.expect_unused k d lt))))
 
   stop_error_at : (stop : Option Fault) → IfSome stop (λ fault. IsPiece text fault.span) → IfSome (option_map error_of stop) (IsErrorAt text)
   stop_error_at None h = tt

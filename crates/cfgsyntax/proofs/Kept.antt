@@ -11,16 +11,17 @@ use Rattle.reading.specs.Construct.{Construct, repeat, while_test, Says}
 use Rattle.reading.proofs.Keeps.{Keeps, Given, keeps, given_passes}
 use Rattle.reading.proofs.Yields.{Yields}
 use Rattle.cfgwords.specs.declared.fault.Fault.{Fault}
-use Rattle.cfgwords.specs.declared.fault.FaultKind.TheVariants.{IllegalName, IllegalString, IncompleteRule, PrematureEnd, UnknownDeclaration}
+use Rattle.cfgwords.specs.declared.fault.FaultKind.TheVariants.{IllegalName, IllegalString, IncompleteRule, PrematureEnd, UnknownDeclaration, UnknownSymbol}
 use Rattle.cfgwords.specs.Text.{place}
 use Rattle.cfgwords.specs.Words.{Word, Token, IsName, IsInteger, word_at, integer_at, word_of}
 use Rattle.cfgwords.proofs.Cuts.{place_cut, boundary_cut}
 use Rattle.cfgwords.specs.Places.{IsPiece, IsWordAt}
 use Rattle.cfgwords.proofs.NameStarts.{begins_as_name, name_begins}
 use Rattle.cfgwords.proofs.WordPlaces.{IsReached, IsTokenBehind, reached, name_at, integer_is_at, token_is_at, reached_here, reached_on, word_passed, fault_is_at, blank_is_at, line_rest_is_at}
-use Rattle.cfgast.specs.Items.{Item, RuleHead, TokenDeclared, StartDeclared, ExpectDeclared, ExpectReduceReduceDeclared, GenericsDeclared, RuleNamed, TokenQuoted, Alternative}
+use Rattle.cfgast.specs.Items.{Item, RuleHead, TokenDeclared, StartDeclared, ExpectDeclared, ExpectReduceReduceDeclared, GenericsDeclared, ExpectedUnused, RuleNamed, TokenQuoted, Alternative}
+use Rattle.cfgast.specs.Syntax.{symbol_word}
 use Rattle.cfgsyntax.specs.declared.yacc.kind.YaccKind.{YaccKind}
-use Rattle.cfgsyntax.specs.Grammar.{listed_token, token_declaration, start_declaration, expect_declaration, expect_rr_declaration, parse_generics_declaration, declaration, symbol, another, finish, production, rule, file, separator_fault, body_fault, end_of}
+use Rattle.cfgsyntax.specs.Grammar.{listed_token, token_declaration, start_declaration, expect_declaration, expect_rr_declaration, unused_symbol, expect_unused_declaration, parse_generics_declaration, declaration, symbol, another, finish, production, rule, file, separator_fault, body_fault, end_of}
 
 -- a name is a piece of the text, and begins as names do
 abbrev pub IsNameAt : List ℕ → Word → Type 0
@@ -33,6 +34,7 @@ IsItemAt whole (StartDeclared word) = IsWordAt whole word
 IsItemAt whole (ExpectDeclared number) = IsPiece whole number.1
 IsItemAt whole (ExpectReduceReduceDeclared number) = IsPiece whole number.1
 IsItemAt whole (GenericsDeclared text) = Unit {0}
+IsItemAt whole (ExpectedUnused symbol) = IsWordAt whole (symbol_word symbol)
 IsItemAt whole (RuleNamed head) = IsNameAt whole head.name
 IsItemAt whole (TokenQuoted word) = IsWordAt whole word
 IsItemAt whole (Alternative head body) = IsNameAt whole head.name × All (λ token. IsWordAt whole (word_of token)) body.symbols
@@ -83,6 +85,20 @@ module _ (whole : List ℕ) (utf8 : IsUtf8 whole) where
   unfolding expect_rr_declaration
   expect_rr_declaration_kept from Q q = search (blank_is_at whole utf8, fault_is_at whole utf8, integer_goes, integer_is, q)
 
+  unused_symbol_kept : (from : List ℕ) (Q : Unit {0} → Type 0) → Q tt → KeepsPlaces (unused_symbol len) from Q
+  unfolding unused_symbol
+  unused_symbol_kept from Q q = (
+    λ text word rest t w. let it = name_at whole utf8 from text word rest t w in (it.0, (it.1, (blank_is_at whole utf8 true from, λ _. q))),
+    (
+      λ text word rest t w. let it = token_is_at whole utf8 from text word rest t w in (it.0, (it.1.piece, (blank_is_at whole utf8 true from, λ _. q))),
+      fault_is_at whole utf8 UnknownSymbol from,
+    ),
+  )
+
+  expect_unused_declaration_kept : (from : List ℕ) (Q : Unit {0} → Type 0) → Q tt → KeepsPlaces (expect_unused_declaration len) from Q
+  unfolding expect_unused_declaration while_test repeat
+  expect_unused_declaration_kept from Q q = search (blank_is_at whole utf8, unused_symbol_kept, q)
+
   parse_generics_declaration_kept : (from : List ℕ) (Q : Unit {0} → Type 0) → Q tt → KeepsPlaces (parse_generics_declaration len) from Q
   unfolding parse_generics_declaration
   parse_generics_declaration_kept from Q q = search (blank_is_at whole utf8, line_rest_is_at whole utf8, q)
@@ -93,12 +109,14 @@ module _ (whole : List ℕ) (utf8 : IsUtf8 whole) where
     word_passed whole utf8 (codes "%token") refl,
     word_passed whole utf8 (codes "%start") refl,
     word_passed whole utf8 (codes "%expect-rr") refl,
+    word_passed whole utf8 (codes "%expect-unused") refl,
     word_passed whole utf8 (codes "%expect") refl,
     word_passed whole utf8 (codes "%parse-generics") refl,
     token_declaration_kept,
     start_declaration_kept,
     expect_declaration_kept,
     expect_rr_declaration_kept,
+    expect_unused_declaration_kept,
     parse_generics_declaration_kept,
   )
 

@@ -6,9 +6,9 @@ use Rattle.lemmas.specs.Lists.{with_fronts}
 use Rattle.lemmas.proofs.Fronts.{All-with_fronts}
 use Rattle.lemmas.proofs.Options.{All-slice_get, All-filter_map}
 use Rattle.cfgwords.specs.Words.{Token, word_of}
-use Rattle.cfgast.specs.Items.{Item, TokenDeclared, StartDeclared, ExpectDeclared, ExpectReduceReduceDeclared, RuleNamed, TokenQuoted, Alternative}
+use Rattle.cfgast.specs.Items.{Item, TokenDeclared, StartDeclared, ExpectDeclared, ExpectReduceReduceDeclared, ExpectedUnused, RuleNamed, TokenQuoted, Alternative}
 use Rattle.cfgast.specs.Occurrences.{declared_once}
-use Rattle.cfgast.specs.Syntax.{RuleSymbol, TokenSymbol, EachProductionSpan, EachSpan, symbol_word, word_name, head_name, token_named, start_named, expected, expected_reduce_reduce, rule_named, symbol_of, finished, alternative, alternatives, token_words, rule_heads, rule_of, settings_of, syntax_of}
+use Rattle.cfgast.specs.Syntax.{RuleSymbol, TokenSymbol, EachProductionSpan, EachSpan, symbol_word, word_name, head_name, token_named, start_named, expected, expected_reduce_reduce, expected_unused, rule_named, symbol_of, finished, alternative, alternatives, token_words, rule_heads, rule_of, settings_of, syntax_of}
 use Rattle.cfgast.proofs.Keeps.{All-firsts}
 use Rattle.cfgwords.specs.Places.{IsPiece, IsWordAt}
 use Rattle.cfgwords.proofs.NameStarts.{begins_as_name}
@@ -33,6 +33,10 @@ module _ (whole : List ℕ) where
   expected_reduce_reduce_placed : (item : Item) → IsItemAt whole item → IfSome (expected_reduce_reduce item) (λ number. IsPiece whole number.1)
   expected_reduce_reduce_placed (ExpectReduceReduceDeclared number) h = h
   expected_reduce_reduce_placed _ h = tt
+
+  unused_placed : (item : Item) → IsItemAt whole item → IfSome (expected_unused item) (λ symbol. IsWordAt whole (symbol_word symbol))
+  unused_placed (ExpectedUnused symbol) h = h
+  unused_placed _ h = tt
 
   occurrence_placed : (item : Item) → IsItemAt whole item → IfSome (declared_once item) (λ occurrence. IsPiece whole occurrence.span)
   occurrence_placed (StartDeclared word) h = h
@@ -85,6 +89,7 @@ module _ (whole : List ℕ) where
       expect_reduce_reduce = All-slice_get (λ number. IsPiece whole number.1) (filter_map expected_reduce_reduce items) 0
           (all_placed (λ number. IsPiece whole number.1) expected_reduce_reduce expected_reduce_reduce_placed items all);
     };
+    expect_unused = all_placed (λ symbol. IsWordAt whole (symbol_word symbol)) expected_unused unused_placed items all;
     occurrences = all_placed (λ occurrence. IsPiece whole occurrence.span) declared_once occurrence_placed items all;
   }
 

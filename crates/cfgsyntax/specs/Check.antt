@@ -1,5 +1,6 @@
 -- Validation of a syntax: the first check that fails, in this order. There is a start; the start is a rule; then
--- rule by rule, production by production and symbol by symbol, what the symbol names is there.
+-- rule by rule, production by production and symbol by symbol, what the symbol names is there; then the same of each symbol
+-- of the `%expect-unused` lists.
 use Rattle.std.specs.Prelude.{ℕ, List, [], ◌∷◌, Option, Some, None, Result, Ok, Err, slice_get, if◌then◌else◌, Bool}
 use Rattle.std.specs.List.{list_any}
 use Rattle.std.specs.Option.{option_or, option_and_then}
@@ -41,7 +42,8 @@ abbrev pub rule_error : Syntax → List ℕ × Rule → Option GrammarError
 rule_error syntax rule = first_error (place_error syntax) rule.1.productions
 
 unfoldable pub check_of : Syntax → Option GrammarError
-check_of syntax = option_or (start_error syntax syntax.start) (first_error (rule_error syntax) syntax.rules)
+check_of syntax =
+    option_or (start_error syntax syntax.start) (option_or (first_error (rule_error syntax) syntax.rules) (first_error (symbol_error syntax) syntax.expect_unused))
 
 -- what the code finds, as an error
 abbrev pub unfit_error : Unfit → GrammarError

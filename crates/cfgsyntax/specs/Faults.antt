@@ -24,6 +24,7 @@ kind_of faults.MissingColon = Nameless kinds.MissingColon
 kind_of faults.PrematureEnd = Nameless kinds.PrematureEnd
 kind_of faults.UnknownDeclaration = Nameless kinds.UnknownDeclaration
 kind_of faults.ReachedEOL = Nameless kinds.ReachedEOL
+kind_of faults.UnknownSymbol = Nameless kinds.UnknownSymbol
 
 -- the error for what stopped a reading
 abbrev pub error_of : Fault → GrammarError

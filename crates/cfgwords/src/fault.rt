@@ -12,6 +12,7 @@ pub enum FaultKind {
     PrematureEnd,
     UnknownDeclaration,
     ReachedEOL,
+    UnknownSymbol,
 }
 
 /// What stopped a reading, and where.

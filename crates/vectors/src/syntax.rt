@@ -47,6 +47,11 @@ fn syntax_text(alloc: Global, ast: &GrammarAST) -> Result<String, AllocError> {
         pen::name(&mut out, "    parse-generics ", generics.as_str())?;
         out.push('\n')?;
     }
+    for symbol in ast.expect_unused() {
+        out.push_str("    expect-unused")?;
+        write_symbol(&mut out, symbol)?;
+        out.push('\n')?;
+    }
     for rule in ast.rules().values() {
         write_rule(&mut out, ast, rule)?;
     }

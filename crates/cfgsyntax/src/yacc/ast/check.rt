@@ -2,7 +2,7 @@
 
 ghost use Rattle.std.specs.Prelude.{◌≡◌, IfOk};
 ghost use Rattle.cfgast.specs.View.{syntax, symbol_view, production_view};
-ghost use Rattle.cfgsyntax.specs.Check.{is_rule, is_token, found, unfit_error, start_error, symbol_error, production_error, place_error, first_error, check_of};
+ghost use Rattle.cfgsyntax.specs.Check.{is_rule, is_token, found, unfit_error, start_error, symbol_error, production_error, place_error, rule_error, first_error, check_of};
 
 use crate::yacc::parser::YaccGrammarError;
 use crate::yacc::parser::YaccGrammarErrorKind::{
@@ -95,14 +95,30 @@ fn check_rule<'a>(ast: &'a GrammarAST, rule: &Rule) -> Result<(), Unfit<'a>>
     Ok(())
 }
 
+fn check_rules(ast: &GrammarAST) -> Result<(), Unfit<'_>>
+    ensures { found result ≡ first_error (rule_error (syntax ast.now)) (syntax ast.now).rules }
+{
+    for (_, rule) in ast.rules() {
+        check_rule(ast, rule)?;
+    }
+    Ok(())
+}
+
+fn check_unused(ast: &GrammarAST) -> Result<(), Unfit<'_>>
+    ensures { found result ≡ first_error (symbol_error (syntax ast.now)) (syntax ast.now).expect_unused }
+{
+    for symbol in ast.expect_unused() {
+        check_symbol(ast, symbol)?;
+    }
+    Ok(())
+}
+
 /// The first check that the syntax fails, if it fails one.
 #[tactic(auto, unfolding(crate::specs::Check::check_of))]
 pub(super) fn check(ast: &GrammarAST) -> Result<(), Unfit<'_>>
     ensures { found result ≡ check_of (syntax ast.now) }
 {
     check_start(ast)?;
-    for (_, rule) in ast.rules() {
-        check_rule(ast, rule)?;
-    }
-    Ok(())
+    check_rules(ast)?;
+    check_unused(ast)
 }

@@ -2,11 +2,10 @@
 
 ghost use Rattle.std.specs.Prelude.{◌≡◌, codes};
 ghost use Rattle.reading.specs.Construct.{expect, goes_on, repeat, while_test};
-ghost use Rattle.cfgsyntax.specs.Grammar.{is_listed, is_unread, separator_fault, listed_token, token_declaration, start_declaration, expect_declaration, expect_rr_declaration, parse_generics_declaration, declaration};
+ghost use Rattle.cfgsyntax.specs.Grammar.{is_listed, separator_fault, listed_token, token_declaration, start_declaration, expect_declaration, expect_rr_declaration, unused_symbol, expect_unused_declaration, parse_generics_declaration, declaration};
 
 use super::reader::{ReadFault, Reader};
 use cfgwords::fault::FaultKind;
-use reading::after_word;
 
 impl Reader<'_> {
     ghost use Rattle.cfgsyntax.specs.Builds.{Builds};
@@ -21,7 +20,7 @@ impl Reader<'_> {
         self.blank(true)
     }
 
-    /// Whether a `%token` list goes on here: it ends at `%` and at the end.
+    /// Whether a list of `%token` or `%expect-unused` goes on here: it ends at `%` and at the end.
     fn is_listed(&self) -> bool
         ensures { result ≡ is_listed self.now.rest.now }
     {
@@ -94,11 +93,38 @@ impl Reader<'_> {
         self.blank(true)
     }
 
-    /// Whether a declaration stands here that begins as another one does, and isn't read yet.
-    fn is_unread(&self) -> bool
-        ensures { result ≡ is_unread self.now.rest.now }
+    /// Passes a symbol of an `%expect-unused` list and the blank behind it.
+    #[tactic(auto, unfolding(crate::specs::Grammar::unused_symbol, cfgast::specs::Building::adds))]
+    fn unused_symbol(&mut self) -> Result<(), ReadFault>
+        ensures { Builds (λ x. x) self.old self.new result (unused_symbol self.old.len) }
     {
-        after_word(self.rest, "%expect-unused").is_some()
+        if let Some(name) = self.next_name() {
+            self.tree.expect_unused_rule(self.alloc, name)?;
+        } else if let Some(token) = self.next_token() {
+            self.tree.expect_unused_token(self.alloc, token.word())?;
+        } else {
+            return Err(self.fault(FaultKind::UnknownSymbol));
+        }
+        self.blank(true)
+    }
+
+    /// Passes the symbols of an `%expect-unused` list.
+    fn unused_list(&mut self) -> Result<(), ReadFault>
+        ensures { Builds (λ x. x) self.old self.new result (repeat (while_test is_listed (unused_symbol self.old.len))) }
+    {
+        while self.is_listed() {
+            self.unused_symbol()?;
+        }
+        Ok(())
+    }
+
+    /// Passes what follows `%expect-unused`.
+    #[tactic(auto, unfolding(crate::specs::Grammar::expect_unused_declaration, cfgast::specs::Building::adds))]
+    fn expect_unused_declaration(&mut self) -> Result<(), ReadFault>
+        ensures { Builds (λ x. x) self.old self.new result (expect_unused_declaration self.old.len) }
+    {
+        self.blank(false)?;
+        self.unused_list()
     }
 
     /// Passes a declaration, and tells whether one stands here.
@@ -115,8 +141,9 @@ impl Reader<'_> {
         } else if self.accept("%expect-rr") {
             self.expect_rr_declaration()?;
             Ok(true)
-        } else if self.is_unread() {
-            Ok(false)
+        } else if self.accept("%expect-unused") {
+            self.expect_unused_declaration()?;
+            Ok(true)
         } else if self.accept("%expect") {
             self.expect_declaration()?;
             Ok(true)

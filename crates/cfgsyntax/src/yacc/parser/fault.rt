@@ -22,6 +22,7 @@ impl From<FaultKind> for YaccGrammarErrorKind {
             FaultKind::PrematureEnd => YaccGrammarErrorKind::PrematureEnd,
             FaultKind::UnknownDeclaration => YaccGrammarErrorKind::UnknownDeclaration,
             FaultKind::ReachedEOL => YaccGrammarErrorKind::ReachedEOL,
+            FaultKind::UnknownSymbol => YaccGrammarErrorKind::UnknownSymbol,
         }
     }
 }

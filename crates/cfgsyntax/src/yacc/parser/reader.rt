@@ -63,7 +63,7 @@ pub(crate) struct Reader<'a> {
 }
 
 impl<'a> Reader<'a> {
-    ghost use Rattle.cfgsyntax.specs.Builds.{Builds, Grows, IsPartHere, IsTokenHere};
+    ghost use Rattle.cfgsyntax.specs.Builds.{Builds, Grows, IsPartHere, IsNameHere, IsTokenHere};
     ghost use Rattle.cfgast.specs.View.{syntax, syntax_built, word_view, token_view};
     ghost use Rattle.cfgast.specs.Syntax.{syntax_of};
 
@@ -140,18 +140,28 @@ impl<'a> Reader<'a> {
         Ok(())
     }
 
-    /// Passes the name that must stand here.
-    #[tactic(auto, unfolding(cfgast::specs::Building::adds))]
-    pub(super) fn name(&mut self) -> Result<Word<'a>, ReadFault>
-        ensures { Builds word_view self.old self.new result (name_here self.old.len) }
+    /// Passes the name that stands here, if one does.
+    pub(super) fn next_name(&mut self) -> Option<Word<'a>>
+        ensures { IsNameHere self.old self.new result }
     {
         match leading_name(self.rest) {
             Some((name, rest)) => {
                 let start = self.place();
                 self.rest = rest;
                 let span = Span::new(start, start + name.len());
-                Ok(Word { name, span })
+                Some(Word { name, span })
             }
+            None => None,
+        }
+    }
+
+    /// Passes the name that must stand here.
+    #[tactic(auto, unfolding(cfgast::specs::Building::adds))]
+    pub(super) fn name(&mut self) -> Result<Word<'a>, ReadFault>
+        ensures { Builds word_view self.old self.new result (name_here self.old.len) }
+    {
+        match self.next_name() {
+            Some(name) => Ok(name),
             None => Err(self.fault(FaultKind::IllegalName)),
         }
     }
