@@ -78,16 +78,15 @@ module _ (g : Grammar) (costs : List ℕ) (least : List (Option ℕ)) where
         read (rule_cost least r) (cost_of (slice_index costs) w) (bounded r w tree) (in_range r w tree)
 
 -- the number of a choice
-abbrev number_of : Option (ℕ × ℕ) → ℕ
+abbrev pub number_of : Option (ℕ × ℕ) → ℕ
 number_of None = 0
 number_of (Some choice) = choice.1
 
-module _ (g : Grammar) (costs : List ℕ) (least : List (Option ℕ)) (choices : List (Option (ℕ × ℕ)))
-    (each : EachIndex least (IsReached g costs least choices)) where
-  abbrev number : ℕ → ℕ
+module _ (choices : List (Option (ℕ × ℕ))) where
+  abbrev pub number : ℕ → ℕ
   number r = number_of (rule_choice choices r)
 
-  numbered_below : (n : ℕ) (s : Sym) → IsChosenBelow choices n s → IsNumberedBelow number n s
+  pub numbered_below : (n : ℕ) (s : Sym) → IsChosenBelow choices n s → IsNumberedBelow number n s
   numbered_below n (Token t) h = tt
   numbered_below n (Rule r) h = go (rule_choice choices r) h
     where
@@ -95,8 +94,10 @@ module _ (g : Grammar) (costs : List ℕ) (least : List (Option ℕ)) (choices :
       go None h = absurd h
       go (Some choice) h = h
 
+module _ (g : Grammar) (costs : List ℕ) (least : List (Option ℕ)) (choices : List (Option (ℕ × ℕ)))
+    (each : EachIndex least (IsReached g costs least choices)) where
   choice_from : (r c : ℕ) (o : Option (ℕ × ℕ)) → rule_choice choices r ≡ o → IsSomeAnd o (λ choice. RestsOn g costs least choices r c choice.0 choice.1)
-      → Choice (HasProduction g) (slice_index costs) (symbol_cost (slice_index costs) (rule_cost least)) (λ c n. c ≡ n) number r c
+      → Choice (HasProduction g) (slice_index costs) (symbol_cost (slice_index costs) (rule_cost least)) (λ c n. c ≡ n) (number choices) r c
   choice_from r c None e h = absurd h
   choice_from r c (Some choice) e h = record {
     symbols = (nth_production g choice.0).symbols;
@@ -104,15 +105,15 @@ module _ (g : Grammar) (costs : List ℕ) (least : List (Option ℕ)) (choices :
     has = at_place g choice.0 _ h.place (sym h.owner) refl;
     sum_is = h.sum;
     stands = λ n k. k;
-    below = All-weaker (IsChosenBelow choices choice.1) (IsNumberedBelow number (number r))
-        (λ s k. subst (λ n. IsNumberedBelow number n s) (sym (ap number_of e)) (numbered_below choice.1 s k)) _ h.below;
+    below = All-weaker (IsChosenBelow choices choice.1) (IsNumberedBelow (number choices) (number choices r))
+        (λ s k. subst (λ n. IsNumberedBelow (number choices) n s) (sym (ap number_of e)) (numbered_below choices choice.1 s k)) _ h.below;
   }
 
   listed : (r c : ℕ) → rule_cost least r ≡ Some c → r < length least
   listed r c e = within_from_get_or least r None (λ k. let no : None ≡ Some c = sym k ∙ e in absurd (cc))
 
   chosen : (r c : ℕ) → rule_cost least r ≡ Some c
-      → Choice (HasProduction g) (slice_index costs) (symbol_cost (slice_index costs) (rule_cost least)) (λ c n. c ≡ n) number r c
+      → Choice (HasProduction g) (slice_index costs) (symbol_cost (slice_index costs) (rule_cost least)) (λ c n. c ≡ n) (number choices) r c
   chosen r c e = choice_from r c (rule_choice choices r) refl
       (subst (λ o. IfSome o (λ c. IsSomeAnd (rule_choice choices r) (λ choice. RestsOn g costs least choices r c choice.0 choice.1))) e (each r (listed r c e)))
 
@@ -120,7 +121,7 @@ module _ (g : Grammar) (costs : List ℕ) (least : List (Option ℕ)) (choices :
   pub certified_sentence : (r c : ℕ) → rule_cost least r ≡ Some c → HasSentenceOf (HasProduction g) (slice_index costs) r c
   certified_sentence r c e =
       let made = reached (HasProduction g) (slice_index costs) (symbol_cost (slice_index costs) (rule_cost least)) (λ c n. c ≡ n)
-      (exactly_over (slice_index costs) (rule_cost least)) number chosen r c e in
+      (exactly_over (slice_index costs) (rule_cost least)) (number choices) chosen r c e in
       (made.word, derivation_from_trees (HasProduction g) made.tree, sym made.stands)
 
 -- a rule's cost and choice, as lists show them, and what it rests on

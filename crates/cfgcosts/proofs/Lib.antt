@@ -11,3 +11,6 @@ pub mod Opened
 pub mod Chosen
 pub mod Walked
 pub mod Settles
+pub mod Answered
+pub mod Generated
+pub mod TokenCosts

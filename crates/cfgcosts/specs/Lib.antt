@@ -4,3 +4,4 @@ pub mod Certificate
 pub mod Queue
 pub mod Open
 pub mod Settled
+pub mod Generator

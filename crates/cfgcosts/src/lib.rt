@@ -2,6 +2,8 @@
 #![tactic(auto)]
 
 pub mod certificate;
+pub mod errors;
+pub mod generator;
 pub mod laws;
 pub mod partial;
 mod queue;
@@ -10,3 +12,5 @@ mod waiting;
 mod walk;
 
 pub use certificate::{check_least, check_reached};
+pub use errors::CostError;
+pub use generator::SentenceGenerator;

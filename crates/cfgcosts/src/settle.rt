@@ -21,7 +21,7 @@ pub(crate) struct Settled<S: Storage> {
     pub(crate) least: Vec<Option<u32>>,
     /// The production by which it was settled, and how many rules were settled before it.
     pub(crate) choices: Vec<Option<(PIdx<S>, u32)>>,
-    number: u32,
+    pub(crate) number: u32,
 }
 
 /// No choice, for so many rules.

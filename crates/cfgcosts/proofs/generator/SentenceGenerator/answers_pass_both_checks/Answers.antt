@@ -1,0 +1,16 @@
+use Rattle.std.proofs.Common.{subst}
+use Rattle.cfgcosts.specs.Generator.{CostTables, IsGenerator}
+use Rattle.cfgcosts.proofs.Generated.{answers_covered, answers_reached}
+use Rattle.cfgcosts.proofs.generator.SentenceGenerator.answers_pass_both_checks.Goals as goal
+
+pub returns-clause-least : goal.returns-clause-least
+returns-clause-least g c =
+    let number = c.self.inside.settled.number in
+    let is = subst (λ (x : CostTables). IsGenerator x number) c.self.view_is c.self.invariant in
+    answers_covered c.args.self.now number is
+
+pub returns-clause-reached : goal.returns-clause-reached
+returns-clause-reached g c =
+    let number = c.self.inside.settled.number in
+    let is = subst (λ (x : CostTables). IsGenerator x number) c.self.view_is c.self.invariant in
+    λ least choices rules answered chosen. answers_reached c.args.self.now number is least rules answered choices chosen

@@ -1,0 +1,154 @@
+//! Least costs of the rules of a grammar, and the productions that show them.
+
+ghost use Rattle.std.specs.Prelude.{◌≡◌, ◌↔◌, ℕ, ◌<◌, ◌≤◌, ◌⊎◌, List, Option, All, EachIndex, Err, IfOk, IfSome, None, Ok, length, slice_index};
+ghost use Rattle.std.specs.Result.{result_ok};
+ghost use Rattle.cfgindex.specs.declared.idxnewtype.TIdx.{TIdx};
+ghost use Rattle.derivation.specs.Grammar.{HasProduction};
+ghost use Rattle.derivation.specs.Costs.{Least};
+ghost use Rattle.cfgcosts.specs.Certificate.{IsCovered, IsReached, choice_of, rule_choice, rule_cost};
+ghost use Rattle.cfgcosts.specs.Generator.{AnswersLeast, HasNone, IsLeastProduction, IsTooDear, choice_answer, cost_answer, token_cost};
+
+use crate::errors::CostError;
+use crate::settle::{Settled, settle};
+use crate::walk::TOO_LARGE;
+use cfganalysis::Tables;
+use cfgindex::{PIdx, RIdx, Storage, TIdx, to_storage};
+use std::alloc::{AllocError, Global};
+use std::marker::Model;
+
+/// What each token costs.
+fn token_costs<S: Storage, F: Fn(TIdx<S>) -> u8>(
+    alloc: Global,
+    tokens_len: usize,
+    cost: F,
+) -> Result<Vec<u8>, AllocError>
+    requires callable { F.IsAlwaysCallable cost }
+    requires fits { tokens_len ≤ S.MAX }
+    ensures len { IfOk result (λ costs. length costs.items ≡ tokens_len) }
+    ensures costs { IfOk result (λ costs. (t : TIdx S) → S.number t.0 < tokens_len → F.post cost t (slice_index costs.items (S.number t.0))) }
+{
+    let mut costs = Vec::new(alloc);
+    for number in 0..tokens_len {
+        let token = TIdx(to_storage(number));
+        costs.push(cost(token))?;
+    }
+    Ok(costs)
+}
+
+/// The least costs of a grammar's rules.
+#[derive(Drop)]
+pub struct SentenceGenerator<'a, S: Storage, T: Tables<S>> {
+    tables: &'a T,
+    costs: Vec<u8>,
+    settled: Settled<S>,
+}
+
+impl<'a, S: Storage, T: Tables<S>> Model for SentenceGenerator<'a, S, T> {
+    ghost use Rattle.std.specs.Prelude.{map};
+    ghost use Rattle.cfgcosts.specs.Certificate.{choice_of};
+    ghost use Rattle.cfgcosts.specs.Generator.{CostTables, IsGenerator};
+
+    ghost Value = { CostTables };
+
+    ghost view = { λ x. record {
+      grammar = T.grammar x.tables.now;
+      costs = x.costs.items;
+      least = x.settled.least.items;
+      choices = map (choice_of S.number) x.settled.choices.items;
+    } };
+
+    ghost invariant = { λ x. IsGenerator (record {
+      grammar = T.grammar x.tables.now;
+      costs = x.costs.items;
+      least = x.settled.least.items;
+      choices = map (choice_of S.number) x.settled.choices.items;
+    }) x.settled.number };
+}
+
+impl<'a, S: Storage, T: Tables<S>> SentenceGenerator<'a, S, T> {
+    /// The least costs of the rules, where `cost` says what each token costs. It is called once for each token, in
+    /// order, the end token too.
+    ///
+    /// # Errors
+    ///
+    /// Want of memory.
+    pub fn new<F: Fn(TIdx<S>) -> u8>(
+        alloc: Global,
+        tables: &'a T,
+        cost: F,
+    ) -> Result<Self, AllocError>
+        requires callable { F.IsAlwaysCallable cost }
+        requires positive { (t : TIdx S) (c : ℕ) → F.post cost t c → 0 < c }
+        ensures grammar { IfOk result (λ x. x.grammar ≡ T.grammar tables.now) }
+        ensures tokens { IfOk result (λ x. length x.costs ≡ (T.grammar tables.now).tokens) }
+        ensures costs { IfOk result (λ x. (t : TIdx S) → S.number t.0 < (T.grammar tables.now).tokens
+            → F.post cost t (token_cost x (S.number t.0))) }
+    {
+        let tokens_len = tables.tokens_len().0.to_usize();
+        let costs = token_costs(alloc, tokens_len, cost)?;
+        let settled = settle(alloc, tables, &costs)?;
+        Ok(SentenceGenerator {
+            tables,
+            costs,
+            settled,
+        })
+    }
+
+    /// The least cost of the rule's sentences.
+    ///
+    /// # Errors
+    ///
+    /// `NoSentence` where the rule has no sentence, and `CostTooLarge` where it has some, and each costs more than 65535.
+    pub fn min_sentence_cost(&self, rule: RIdx<S>) -> Result<u16, CostError>
+        requires { S.number rule.0 < self.now.grammar.rules }
+        ensures least { IfOk result (Least (HasProduction self.now.grammar) (token_cost self.now) (S.number rule.0)) }
+        ensures found { (c : ℕ) → Least (HasProduction self.now.grammar) (token_cost self.now) (S.number rule.0) c → c ≤ 65535 → result ≡ Ok c }
+        ensures none { (result ≡ Err CostError.NoSentence) ↔ HasNone (HasProduction self.now.grammar) (S.number rule.0) }
+        ensures dear { (result ≡ Err CostError.CostTooLarge) ↔ IsTooDear (HasProduction self.now.grammar) (token_cost self.now) (S.number rule.0) }
+        ensures answer { result_ok result ≡ cost_answer self.now (S.number rule.0) }
+    {
+        self.settled_cost(usize::from(rule))
+    }
+
+    /// The least cost of the rule of this number.
+    fn settled_cost(&self, rule: usize) -> Result<u16, CostError>
+        requires { rule < self.now.grammar.rules }
+        ensures least { AnswersLeast (HasProduction self.now.grammar) (token_cost self.now) rule result }
+        ensures answer { result_ok result ≡ cost_answer self.now rule }
+    {
+        match self.settled.least[rule] {
+            Some(cost) if cost < TOO_LARGE => Ok(cost as u16),
+            Some(_) => Err(CostError::CostTooLarge),
+            None => Err(CostError::NoSentence),
+        }
+    }
+
+    /// A production of least cost, and a number, which is greater than those of all rules in the production; `None`
+    /// exactly where [`min_sentence_cost`](SentenceGenerator::min_sentence_cost) refuses.
+    pub fn choice(&self, rule: RIdx<S>) -> Option<(PIdx<S>, u32)>
+        requires { S.number rule.0 < self.now.grammar.rules }
+        ensures production { IfSome result (λ choice.
+            IsLeastProduction self.now.grammar (token_cost self.now) (S.number rule.0) (S.number choice.0.0)) }
+        ensures none { (result ≡ None) ↔ (HasNone (HasProduction self.now.grammar) (S.number rule.0)
+            ⊎ IsTooDear (HasProduction self.now.grammar) (token_cost self.now) (S.number rule.0)) }
+        ensures answer { choice_of S.number result ≡ choice_answer self.now (S.number rule.0) }
+    {
+        match self.settled_cost(usize::from(rule)) {
+            Ok(_) => self.settled.choices[usize::from(rule)],
+            Err(_) => None,
+        }
+    }
+
+    /// The generator's own answers pass both checks.
+    pub fn answers_pass_both_checks(&self)
+        ensures least { (least : List (Option ℕ)) → length least ≡ self.now.grammar.rules
+            → ((r : ℕ) → r < self.now.grammar.rules → rule_cost least r ≡ cost_answer self.now r)
+            → All (IsCovered self.now.costs least) self.now.grammar.productions }
+        ensures reached { (least : List (Option ℕ)) (choices : List (Option (ℕ × ℕ))) → length least ≡ self.now.grammar.rules
+            → ((r : ℕ) → r < self.now.grammar.rules → rule_cost least r ≡ cost_answer self.now r)
+            → ((r : ℕ) → r < self.now.grammar.rules → rule_choice choices r ≡ choice_answer self.now r)
+            → EachIndex least (IsReached self.now.grammar self.now.costs least choices) }
+    {
+        let _costs = &self.costs;
+    }
+}
