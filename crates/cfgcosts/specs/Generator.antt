@@ -1,5 +1,5 @@
 -- What a generator of sentences holds and answers.
-use Rattle.std.specs.Prelude.{◌≡◌, ◌↔◌, ℕ, ◌<◌, ◌≤◌, nat_le, if◌then◌else◌, List, Option, Some, None, Result, Ok, Err, IfOk, length, map, slice_index}
+use Rattle.std.specs.Prelude.{◌≡◌, ◌↔◌, ℕ, ◌<◌, ◌≤◌, nat_le, if◌then◌else◌, List, Option, Some, None, Result, Ok, Err, IfOk, All, length, map, slice_index}
 use Rattle.derivation.specs.Grammar.{Sym, Token, Grammar, HasProduction}
 use Rattle.derivation.specs.Derivation.{Derives}
 use Rattle.derivation.specs.Sentence.{Sentence, cost_of}
@@ -64,4 +64,5 @@ pub record IsLeastProduction (g : Grammar) (cost : ℕ → ℕ) (r p : ℕ) : Ty
 -- what a generator holds
 pub record IsGenerator (x : CostTables) (n : ℕ) : Type 0 where
   pub tokens : length x.costs ≡ x.grammar.tokens
+  pub positive : All (λ c. 0 < c) x.costs
   pub settled : AreSettled x.grammar (token_cost x) x.least x.choices n

@@ -110,8 +110,10 @@ fn is_chosen_below<S: Storage>(
     ensures { IsTrue result ↔ IsChosenBelow (map (choice_of S.number) choices.now) number (sym_of S.number symbol) }
 {
     match symbol {
-        Symbol::Rule(rule) => choice_at(choices, usize::from(rule)).is_some_and(|choice| choice.1
-            < number),
+        Symbol::Rule(rule) => {
+            let chosen = choice_at(choices, usize::from(rule));
+            chosen.is_some_and(|choice| choice.1 < number)
+        }
         Symbol::Token(_) => true,
     }
 }

@@ -24,6 +24,8 @@ fn token_costs<S: Storage, F: Fn(TIdx<S>) -> u8>(
 ) -> Result<Vec<u8>, AllocError>
     requires callable { F.IsAlwaysCallable cost }
     requires fits { tokens_len ≤ S.MAX }
+    requires positive { (t : TIdx S) (c : ℕ) → F.post cost t c → 0 < c }
+    ensures positive { IfOk result (λ costs. All (λ c. 0 < c) costs.items) }
     ensures len { IfOk result (λ costs. length costs.items ≡ tokens_len) }
     ensures costs { IfOk result (λ costs. (t : TIdx S) → S.number t.0 < tokens_len → F.post cost t (slice_index costs.items (S.number t.0))) }
 {
@@ -81,6 +83,7 @@ impl<'a, S: Storage, T: Tables<S>> SentenceGenerator<'a, S, T> {
         requires positive { (t : TIdx S) (c : ℕ) → F.post cost t c → 0 < c }
         ensures grammar { IfOk result (λ x. x.grammar ≡ T.grammar tables.now) }
         ensures tokens { IfOk result (λ x. length x.costs ≡ (T.grammar tables.now).tokens) }
+        ensures positive { IfOk result (λ x. All (λ c. 0 < c) x.costs) }
         ensures costs { IfOk result (λ x. (t : TIdx S) → S.number t.0 < (T.grammar tables.now).tokens
             → F.post cost t (token_cost x (S.number t.0))) }
     {
