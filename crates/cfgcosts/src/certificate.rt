@@ -36,7 +36,8 @@ fn cost_of_symbol<S: Storage>(costs: &[u8], least: &[Option<u16>], symbol: Symbo
 /// What the symbols cost together, where each has a cost, cut down to `TOO_LARGE`.
 fn cut_sum<S: Storage>(costs: &[u8], least: &[Option<u16>], symbols: &[Symbol<S>]) -> Option<u32>
     requires { All (IsListed (length least.now) (length costs.now)) (map (sym_of S.number) symbols.now) }
-    ensures { result ≡ option_map (λ n. min n 65536) (sum_by_lists costs.now least.now (map (sym_of S.number) symbols.now)) }
+    ensures { result
+        ≡ option_map (λ n. min n 65536) (sum_by_lists costs.now least.now (map (sym_of S.number) symbols.now)) }
 {
     let mut sum = 0;
     for symbol in symbols {
@@ -56,7 +57,8 @@ fn is_covered<S: Storage>(
     requires rule { S.number rule.0 < length least.now }
     requires symbols { All (IsListed (length least.now) (length costs.now)) (map (sym_of S.number) symbols.now) }
     ensures exact { IsTrue result
-        ↔ IsCovered costs.now least.now (record { rule = S.number rule.0; symbols = map (sym_of S.number) symbols.now }) }
+        ↔ IsCovered costs.now least.now
+        (record { rule = S.number rule.0; symbols = map (sym_of S.number) symbols.now }) }
     ensures range { IfSome (rule_cost least.now (S.number rule.0)) (λ c. c ≤ 65535) }
 {
     match (
@@ -71,15 +73,17 @@ fn is_covered<S: Storage>(
 
 /// Whether no sentence costs less than `least` says of its rule, as each production shows.
 ///
-/// `costs` has the cost of each token, and `least` a cost of each rule, or `None` where no sentence of the rule costs 65535
-/// or less. The answer is true exactly where for each production whose rules all have a cost, the sum of its symbols'
-/// costs is past 65535, or its rule has a cost of at most that sum.
+/// `costs` has the cost of each token, and `least` a cost of each rule, or `None` where no sentence of the rule costs
+/// 65535 or less. The answer is true exactly where for each production whose rules all have a cost, the sum of its
+/// symbols' costs is past 65535, or its rule has a cost of at most that sum.
 pub fn check_least<S: Storage, T: Tables<S>>(grm: &T, costs: &[u8], least: &[Option<u16>]) -> bool
     requires costs { length costs.now ≡ (T.grammar grm.now).tokens }
     requires least { length least.now ≡ (T.grammar grm.now).rules }
     ensures exact { IsTrue result ↔ All (IsCovered costs.now least.now) (T.grammar grm.now).productions }
     ensures bound { IsTrue result → (r : ℕ) (w : List ℕ) → Sentence (HasProduction (T.grammar grm.now)) r w
-        → MatchOption (rule_cost least.now r) (65535 < cost_of (slice_index costs.now) w) (λ c. c ≤ cost_of (slice_index costs.now) w) }
+        → MatchOption (rule_cost least.now r)
+        (65535 < cost_of (slice_index costs.now) w)
+        (λ c. c ≤ cost_of (slice_index costs.now) w) }
 {
     prove_eq!(least.len(), usize::from(grm.rules_len()));
     let prods_len = grm.prods_len().0.to_usize();
@@ -125,7 +129,8 @@ fn are_chosen_below<S: Storage>(
     number: u32,
 ) -> bool
     requires { (tokens : ℕ) × All (IsListed (length choices.now) tokens) (map (sym_of S.number) symbols.now) }
-    ensures { IsTrue result ↔ All (IsChosenBelow (map (choice_of S.number) choices.now) number) (map (sym_of S.number) symbols.now) }
+    ensures { IsTrue result
+        ↔ All (IsChosenBelow (map (choice_of S.number) choices.now) number) (map (sym_of S.number) symbols.now) }
 {
     for symbol in symbols {
         if !is_chosen_below(choices, *symbol, number) {
@@ -174,7 +179,8 @@ fn is_reached<S: Storage, T: Tables<S>>(
     requires choices { length choices.now ≡ (T.grammar grm.now).rules }
     requires rule { rule < (T.grammar grm.now).rules }
     requires content { IsGrammar (T.grammar grm.now) }
-    ensures { IsTrue result ↔ IsReached (T.grammar grm.now) costs.now least.now (map (choice_of S.number) choices.now) rule }
+    ensures { IsTrue result
+        ↔ IsReached (T.grammar grm.now) costs.now least.now (map (choice_of S.number) choices.now) rule }
 {
     let Some(cost) = least_cost(least, rule) else {
         return true;
@@ -203,7 +209,8 @@ pub fn check_reached<S: Storage, T: Tables<S>>(
     requires least { length least.now ≡ (T.grammar grm.now).rules }
     requires choices { length choices.now ≡ (T.grammar grm.now).rules }
     ensures exact { IsTrue result
-        ↔ EachIndex least.now (IsReached (T.grammar grm.now) costs.now least.now (map (choice_of S.number) choices.now)) }
+        ↔ EachIndex least.now
+        (IsReached (T.grammar grm.now) costs.now least.now (map (choice_of S.number) choices.now)) }
     ensures reached { IsTrue result → (r c : ℕ) → rule_cost least.now r ≡ Some c
         → HasSentenceOf (HasProduction (T.grammar grm.now)) (slice_index costs.now) r c }
 {

@@ -27,7 +27,8 @@ fn token_costs<S: Storage, F: Fn(TIdx<S>) -> u8>(
     requires positive { (t : TIdx S) (c : ℕ) → F.post cost t c → 0 < c }
     ensures positive { IfOk result (λ costs. All (λ c. 0 < c) costs.items) }
     ensures len { IfOk result (λ costs. length costs.items ≡ tokens_len) }
-    ensures costs { IfOk result (λ costs. (t : TIdx S) → S.number t.0 < tokens_len → F.post cost t (slice_index costs.items (S.number t.0))) }
+    ensures costs { IfOk result (λ costs. (t : TIdx S) → S.number t.0 < tokens_len
+        → F.post cost t (slice_index costs.items (S.number t.0))) }
 {
     let mut costs = Vec::new(alloc);
     for number in 0..tokens_len {
@@ -101,13 +102,17 @@ impl<'a, S: Storage, T: Tables<S>> SentenceGenerator<'a, S, T> {
     ///
     /// # Errors
     ///
-    /// `NoSentence` where the rule has no sentence, and `CostTooLarge` where it has some, and each costs more than 65535.
+    /// `NoSentence` where the rule has no sentence, and `CostTooLarge` where it has some, and each costs more than
+    /// 65535.
     pub fn min_sentence_cost(&self, rule: RIdx<S>) -> Result<u16, CostError>
         requires { S.number rule.0 < self.now.grammar.rules }
         ensures least { IfOk result (Least (HasProduction self.now.grammar) (token_cost self.now) (S.number rule.0)) }
-        ensures found { (c : ℕ) → Least (HasProduction self.now.grammar) (token_cost self.now) (S.number rule.0) c → c ≤ 65535 → result ≡ Ok c }
-        ensures none { (result ≡ Err CostError.NoSentence) ↔ HasNone (HasProduction self.now.grammar) (S.number rule.0) }
-        ensures dear { (result ≡ Err CostError.CostTooLarge) ↔ IsTooDear (HasProduction self.now.grammar) (token_cost self.now) (S.number rule.0) }
+        ensures found { (c : ℕ) → Least (HasProduction self.now.grammar) (token_cost self.now) (S.number rule.0) c
+            → c ≤ 65535 → result ≡ Ok c }
+        ensures none { (result ≡ Err CostError.NoSentence)
+            ↔ HasNone (HasProduction self.now.grammar) (S.number rule.0) }
+        ensures dear { (result ≡ Err CostError.CostTooLarge)
+            ↔ IsTooDear (HasProduction self.now.grammar) (token_cost self.now) (S.number rule.0) }
         ensures answer { result_ok result ≡ cost_answer self.now (S.number rule.0) }
     {
         self.settled_cost(usize::from(rule))
@@ -147,7 +152,8 @@ impl<'a, S: Storage, T: Tables<S>> SentenceGenerator<'a, S, T> {
         ensures least { (least : List (Option ℕ)) → length least ≡ self.now.grammar.rules
             → ((r : ℕ) → r < self.now.grammar.rules → rule_cost least r ≡ cost_answer self.now r)
             → All (IsCovered self.now.costs least) self.now.grammar.productions }
-        ensures reached { (least : List (Option ℕ)) (choices : List (Option (ℕ × ℕ))) → length least ≡ self.now.grammar.rules
+        ensures reached { (least : List (Option ℕ)) (choices : List (Option (ℕ × ℕ)))
+            → length least ≡ self.now.grammar.rules
             → ((r : ℕ) → r < self.now.grammar.rules → rule_cost least r ≡ cost_answer self.now r)
             → ((r : ℕ) → r < self.now.grammar.rules → rule_choice choices r ≡ choice_answer self.now r)
             → EachIndex least (IsReached self.now.grammar self.now.costs least choices) }

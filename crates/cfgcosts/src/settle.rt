@@ -96,12 +96,14 @@ fn settle_next<S: Storage, T: Tables<S>>(
     requires lists { length waiting.old ≡ (T.grammar grm.now).rules }
     requires chosen { AreChosen (T.grammar grm.now) (slice_index costs.now) settled.old.least.items
         (map (choice_of S.number) settled.old.choices.items) settled.old.number }
-    requires popped { HasPopped (T.grammar grm.now) (slice_index costs.now) settled.old.least.items top queue.old waiting.old }
+    requires popped { HasPopped (T.grammar grm.now) (slice_index costs.now) settled.old.least.items
+        top queue.old waiting.old }
     ensures input { OnOk result (AreInput (T.grammar grm.now) S.MAX costs.now settled.new.least.items) }
     ensures lists { OnOk result (length waiting.new ≡ (T.grammar grm.now).rules) }
     ensures chosen { OnOk result (AreChosen (T.grammar grm.now) (slice_index costs.now) settled.new.least.items
         (map (choice_of S.number) settled.new.choices.items) settled.new.number) }
-    ensures state { OnOk result (AreAllOpen (slice_index costs.now) (rule_cost settled.new.least.items) (T.grammar grm.now) queue.new waiting.new) }
+    ensures state { OnOk result (AreAllOpen (slice_index costs.now) (rule_cost settled.new.least.items) (T.grammar grm.now)
+        queue.new waiting.new) }
     ensures count { OnOk result (count_open queue.new waiting.new ≡ count_open queue.old waiting.old) }
 {
     let (cost, place) = top;

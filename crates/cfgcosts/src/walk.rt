@@ -24,7 +24,8 @@ fn settled_cost<S: Storage>(
     symbol: Symbol<S>,
 ) -> Result<u32, usize>
     requires { IsListed (length least.now) (length costs.now) (sym_of S.number symbol) }
-    ensures cost { IfOk result (λ c. symbol_cost (slice_index costs.now) (rule_cost least.now) (sym_of S.number symbol) ≡ Some c) }
+    ensures cost { IfOk result (λ c.
+        symbol_cost (slice_index costs.now) (rule_cost least.now) (sym_of S.number symbol) ≡ Some c) }
     ensures rule { IfErr result (λ r. sym_of S.number symbol ≡ Rule r) }
     ensures unset { IfErr result (λ r. rule_cost least.now r ≡ None) }
 {
@@ -44,9 +45,12 @@ fn walk<S: Storage>(
 ) -> Result<u32, (usize, Partial)>
     requires listed { All (IsListed (length least.now) (length costs.now)) (map (sym_of S.number) symbols.now) }
     requires taken { partial.taken ≤ length symbols.now }
-    requires sum { IsCutSum (slice_index costs.now) (rule_cost least.now) (take partial.taken (map (sym_of S.number) symbols.now)) partial.sum }
-    ensures whole { IfOk result (λ c. IsCutSum (slice_index costs.now) (rule_cost least.now) (map (sym_of S.number) symbols.now) c) }
-    ensures stop { IfErr result (λ stop. StopsAt (slice_index costs.now) (rule_cost least.now) (map (sym_of S.number) symbols.now) stop.0 stop.1) }
+    requires sum { IsCutSum (slice_index costs.now) (rule_cost least.now)
+        (take partial.taken (map (sym_of S.number) symbols.now)) partial.sum }
+    ensures whole { IfOk result (λ c.
+        IsCutSum (slice_index costs.now) (rule_cost least.now) (map (sym_of S.number) symbols.now) c) }
+    ensures stop { IfErr result (λ stop.
+        StopsAt (slice_index costs.now) (rule_cost least.now) (map (sym_of S.number) symbols.now) stop.0 stop.1) }
     ensures same { IfErr result (λ stop. stop.1.production ≡ partial.production) }
 {
     let Partial {
@@ -119,7 +123,8 @@ pub(crate) fn start<S: Storage, T: Tables<S>>(
     requires least { least.now ≡ replicate (T.grammar grm.now).rules None }
     requires queue { queue.old ≡ [] }
     requires waiting { waiting.old ≡ replicate (T.grammar grm.now).rules [] }
-    ensures state { OnOk result (AreAllOpen (slice_index costs.now) (rule_cost least.now) (T.grammar grm.now) queue.new waiting.new) }
+    ensures state { OnOk result (AreAllOpen (slice_index costs.now) (rule_cost least.now) (T.grammar grm.now)
+        queue.new waiting.new) }
     ensures lists { OnOk result (length waiting.new ≡ (T.grammar grm.now).rules) }
 {
     for number in 0..prods_len {
@@ -148,10 +153,13 @@ pub(crate) fn wake<S: Storage, T: Tables<S>>(
 ) -> Result<(), AllocError>
     requires input { AreInput (T.grammar grm.now) S.MAX costs.now least.now }
     requires lists { length waiting.old ≡ (T.grammar grm.now).rules }
-    requires woken { AreWaking (slice_index costs.now) (rule_cost least.now) (T.grammar grm.now) queue.old waiting.old woken.now 0 }
-    ensures state { OnOk result (AreAllOpen (slice_index costs.now) (rule_cost least.now) (T.grammar grm.now) queue.new waiting.new) }
+    requires woken { AreWaking (slice_index costs.now) (rule_cost least.now) (T.grammar grm.now)
+        queue.old waiting.old woken.now 0 }
+    ensures state { OnOk result (AreAllOpen (slice_index costs.now) (rule_cost least.now) (T.grammar grm.now)
+        queue.new waiting.new) }
     ensures lists { OnOk result (length waiting.new ≡ (T.grammar grm.now).rules) }
-    ensures count { OnOk result (count_open queue.new waiting.new ≡ count_open queue.old waiting.old + length woken.now) }
+    ensures count { OnOk result (count_open queue.new waiting.new
+        ≡ count_open queue.old waiting.old + length woken.now) }
 {
     for partial in woken {
         advance(grm, costs, least, *partial, queue, waiting)?;
