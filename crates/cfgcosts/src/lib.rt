@@ -5,7 +5,7 @@ pub mod certificate;
 pub mod errors;
 pub mod generator;
 pub mod laws;
-pub mod partial;
+mod partial;
 mod queue;
 mod settle;
 mod waiting;

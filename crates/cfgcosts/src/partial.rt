@@ -1,12 +1,12 @@
 //! Sums that are not complete yet.
 
 /// The sum of a production's first symbols, cut down to 65536.
-#[derive(Clone, Copy, Debug)]
-pub struct Partial {
+#[derive(Clone, Copy)]
+pub(crate) struct Partial {
     /// The production's number.
-    pub production: u32,
+    pub(crate) production: u32,
     /// How many symbols were taken.
-    pub taken: usize,
+    pub(crate) taken: usize,
     /// What they cost together.
-    pub sum: u32,
+    pub(crate) sum: u32,
 }
