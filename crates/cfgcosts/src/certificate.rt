@@ -8,11 +8,9 @@ ghost use Rattle.cfganalysis.specs.Symbols.{sym_of};
 ghost use Rattle.cfgcosts.specs.Certificate.{IsChosenBelow, IsCovered, IsListed, IsReached, RestsOn, choice_of, rule_choice, rule_cost, sum_by_lists};
 ghost use Rattle.cfgcosts.specs.Sums.{symbol_cost};
 
+use crate::walk::TOO_LARGE;
 use cfganalysis::Tables;
 use cfgindex::{PIdx, RIdx, Storage, Symbol, to_storage};
-
-/// The first cost that no answer gives.
-const TOO_LARGE: u32 = 65536;
 
 /// The cost of a rule in the list.
 fn least_cost(least: &[Option<u16>], rule: usize) -> Option<u16>
