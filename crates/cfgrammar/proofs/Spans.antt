@@ -59,4 +59,5 @@ module _ (P : Span → Type 0) (added : P nowhere) where
   too_small_spans faults.OutOfMemory told = tt
   too_small_spans (faults.Errors list) told =
       subst (All (EachErrorSpan P)) (sym told)
-      (All-cons (EachErrorSpan P) (error_at (Nameless StorageTooSmall) nowhere) [] (All-cons P nowhere [] added (All-nil P)) (All-nil (EachErrorSpan P)))
+      (All-cons (EachErrorSpan P) (error_at (Nameless StorageTooSmall) nowhere) []
+      (record { some = omega arith; each = All-cons P nowhere [] added (All-nil P) }) (All-nil (EachErrorSpan P)))

@@ -1,10 +1,14 @@
--- The spans of a text's errors begin and end at places of the text.
-use Rattle.std.proofs.Common.{ℕ, Bool, true, false, List, [], ◌∷◌, ◌++◌, map, All, get_or, slice_get, option_map, Option, Some, None, Ok, Err, Result, subst, arith, if◌then◌else◌}
+-- Each error of a text has a span, and its spans begin and end at places of the text.
+use Rattle.std.proofs.Common.{◌≡◌, ℕ, ◌<◌, Bool, true, false, cond, ◌||◌, List, [], ◌∷◌, ◌++◌, map, filter, length, All, get_or, slice_get, option_map, Option, Some, None, Ok, Err, Result, sym, subst, arith, true≢false, if◌then◌else◌}
+use Rattle.std.specs.List.{list_any}
 use Rattle.std.specs.Prelude.{IfSome}
 use Rattle.std.specs.Option.{option_or, option_and_then, option_to_list}
 use Rattle.std.specs.Str.{IsUtf8, IsCharBoundary}
 use Rattle.std.proofs.lemmas.Str.{IsCharBoundary-start}
+use Rattle.std.proofs.lemmas.List.{length-map}
 use Rattle.std.proofs.lemmas.List.Elements.{All-nil, All-cons, All-head, All-tail, All-append, All-map, All-filter}
+use Rattle.std.proofs.lemmas.List.Folds.{list_any_at}
+use Rattle.lemmas.proofs.Fronts.{All-with_fronts}
 use Rattle.lemmas.proofs.Options.{All-slice_get, All-option_to_list}
 use Rattle.cfgbase.specs.declared.span.Span.{Span}
 use Rattle.reading.specs.Read.{stop_of}
@@ -13,13 +17,14 @@ use Rattle.cfgwords.specs.declared.fault.Fault.{Fault}
 use Rattle.cfgwords.specs.Words.{Word}
 use Rattle.cfgwords.proofs.Cuts.{cut_here}
 use Rattle.cfgast.specs.Items.{Item}
-use Rattle.cfgast.specs.Occurrences.{Occurrence, is_same, each_once, repeats, places_of, duplicates}
+use Rattle.cfgast.specs.Occurrences.{Unique, Occurrence, is_same, each_once, repeats, places_of, duplicates}
+use Rattle.cfgast.proofs.Repeats.{is_same_equivalence}
 use Rattle.cfgast.specs.Syntax.{Symbol, RuleSymbol, TokenSymbol, EachProductionSpan, EachSpan, symbol_word, Production, Rule, Syntax, syntax_of}
 use Rattle.cfgsyntax.specs.declared.yacc.kind.YaccKind.{YaccKind}
 use Rattle.cfgsyntax.specs.declared.yacc.parser.error.YaccGrammarErrorKind.TheVariants.{NoStartRule}
 use Rattle.cfgsyntax.specs.Errors.{ErrorKind, GrammarError, InvalidStartRule, UnknownRuleRef, UnknownToken, Nameless, error_at}
 use Rattle.cfgsyntax.specs.Check.{is_rule, is_token, first_error, start_error, symbol_error, production_error, place_error, rule_error, check_of}
-use Rattle.cfgsyntax.specs.Faults.{error_of, duplicate_error, errors_of}
+use Rattle.cfgsyntax.specs.Faults.{kind_of, error_of, duplicate_error, errors_of}
 use Rattle.cfgwords.specs.Places.{IsPiece, IsWordAt}
 use Rattle.cfgsyntax.specs.Reads.{Reads}
 use Rattle.cfgsyntax.specs.Spans.{EachErrorSpan}
@@ -28,9 +33,39 @@ use Rattle.cfgwords.proofs.WordPlaces.{IsReached}
 use Rattle.cfgsyntax.proofs.SyntaxPlaces.{syntax_at, rules_are_names}
 use Rattle.cfgwords.proofs.NameStarts.{begins_as_name}
 
--- an error's spans are pieces of the text
+-- an error has a span, and its spans are pieces of the text
 abbrev pub IsErrorAt : List ℕ → GrammarError → Type 0
 IsErrorAt text = EachErrorSpan (IsPiece text)
+
+-- What is declared again has a place.
+
+filter_some : {A : Type 0} (p : A → Bool) (xs : List A) → list_any p xs ≡ true → 0 < length (filter p xs)
+filter_some p [] found = absurd (true≢false (sym found))
+filter_some {A} p (x ∷ xs) found = go (p x) found (filter_some p xs)
+  where
+    go : (here : Bool) → (here || list_any p xs) ≡ true → (list_any p xs ≡ true → 0 < length (filter p xs)) → 0 < length (cond here (x ∷ filter p xs) (filter p xs))
+    go true found rest = omega arith
+    go false found rest = rest found
+
+each_once_all : {A : Type 0} (same : A → A → Bool) (P : A → Type 0) (xs : List A) → All P xs → All P (each_once same xs)
+each_once_all same P xs all =
+    All-map P (λ x. x.1) _ (All-filter _ (λ x. P x.1) _ (All-with_fronts (λ x. P x.1) P (λ front x h. h) xs all))
+
+abbrev IsPlaced : List Occurrence → Unique → Type 0
+IsPlaced occurrences what = 0 < length (places_of occurrences what)
+
+repeats_placed : (occurrences : List Occurrence) → All (IsPlaced occurrences) (repeats occurrences)
+unfolding repeats
+repeats_placed occurrences =
+    All-map (IsPlaced occurrences) (λ x. x.1.what) _ (All-filter _ (λ x. IsPlaced occurrences x.1.what) _
+    (All-with_fronts (λ x. IsPlaced occurrences x.1.what) (λ o. IsPlaced occurrences o.what) (λ front o h. h) occurrences placed))
+  where
+    placed : All (λ o. IsPlaced occurrences o.what) occurrences
+    placed k d within =
+        let o = get_or occurrences k d in
+        let is = λ (other : Occurrence). is_same other.what o.what in
+        subst (λ n. 0 < n) (sym (length-map (filter is occurrences) (λ (o : Occurrence). o.span)))
+        (filter_some is occurrences (list_any_at is occurrences k d within (is_same_equivalence.refl o.what)))
 
 -- The first error of several.
 
@@ -49,7 +84,7 @@ first_there P f (Some x) h = h
 
 module _ (text : List ℕ) where
   one_span : (kind : ErrorKind) (span : Span) → IsPiece text span → IsErrorAt text (error_at kind span)
-  one_span kind span piece = All-cons (IsPiece text) span [] piece (All-nil (IsPiece text))
+  one_span kind span piece = record { some = omega arith; each = All-cons (IsPiece text) span [] piece (All-nil (IsPiece text)) }
 
   unless_known : (known : Bool) (kind : ErrorKind) (span : Span) → IsPiece text span → IfSome (if known then None else Some (error_at kind span)) (IsErrorAt text)
   unless_known true kind span piece = tt
@@ -88,14 +123,17 @@ module _ (text : List ℕ) where
 
   stop_error_at : (stop : Option Fault) → IfSome stop (λ fault. IsPiece text fault.span) → IfSome (option_map error_of stop) (IsErrorAt text)
   stop_error_at None h = tt
-  stop_error_at (Some fault) h = All-cons (IsPiece text) fault.span [] h (All-nil (IsPiece text))
+  stop_error_at (Some fault) h = one_span (kind_of fault.kind) fault.span h
 
   duplicates_at : (occurrences : List Occurrence) → All (λ o. IsPiece text o.span) occurrences → All (IsErrorAt text) (map duplicate_error (duplicates occurrences))
   unfolding duplicates
   duplicates_at occurrences h =
       All-map (IsErrorAt text) duplicate_error (duplicates occurrences)
-      (All-map (λ d. All (IsPiece text) d.spans) (λ what. record { what = what; spans = places_of occurrences what }) (each_once is_same (repeats occurrences))
-      (λ k d lt. All-map (IsPiece text) (λ o. o.span) _ (All-filter (λ o. is_same o.what (get_or (each_once is_same (repeats occurrences)) k d)) (λ o. IsPiece text o.span) occurrences h)))
+      (All-map (λ d. IsErrorAt text (duplicate_error d)) (λ what. record { what = what; spans = places_of occurrences what }) (each_once is_same (repeats occurrences))
+      (λ k d lt. record {
+        some = each_once_all is_same (IsPlaced occurrences) (repeats occurrences) (repeats_placed occurrences) k d lt;
+        each = All-map (IsPiece text) (λ o. o.span) _ (All-filter (λ o. is_same o.what (get_or (each_once is_same (repeats occurrences)) k d)) (λ o. IsPiece text o.span) occurrences h);
+      }))
 
   ended_at : {A : Type 0} (T : List ℕ → Type 0) (S : Fault → Type 0) (Q : A → Type 0) (o : Result (A × List ℕ) Fault) → EndsIn T S Q o → IfSome (stop_of o) S
   ended_at T S Q (Ok (a, rest)) h = tt

@@ -1,12 +1,14 @@
--- What holds of each span of an error, and of whatever was parsed.
-use Rattle.std.specs.Prelude.{All}
+-- What holds of each span of an error, which has one at least, and of whatever was parsed.
+use Rattle.std.specs.Prelude.{◌<◌, All, length}
 use Rattle.cfgbase.specs.declared.span.Span.{Span}
 use Rattle.cfgast.specs.Syntax.{EachSpan}
 use Rattle.cfgsyntax.specs.Errors.{GrammarError}
 use Rattle.cfgsyntax.specs.Parsed.{Parsed}
 
-abbrev pub EachErrorSpan : (Span → Type 0) → GrammarError → Type 0
-EachErrorSpan P error = All P error.spans
+-- an error has a span, and P holds of each that it has
+pub record EachErrorSpan (P : Span → Type 0) (error : GrammarError) : Type 0 where
+  pub some : 0 < length error.spans
+  pub each : All P error.spans
 
 pub record EachParsedSpan (P : Span → Type 0) (parsed : Parsed) : Type 0 where
   pub errors : All (EachErrorSpan P) parsed.errors

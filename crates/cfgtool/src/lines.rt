@@ -22,7 +22,7 @@ pub fn production_lines(alloc: Global, grammar: &YaccGrammar<u32>) -> Result<Str
     Ok(lines)
 }
 
-/// The errors of a text, each as a line: its place, if it has one, and what it says.
+/// The errors of a text, each as a line: its place and what it says.
 pub fn error_lines(
     alloc: Global,
     text: &str,
@@ -69,11 +69,7 @@ fn write_place(
     requires placed { EachErrorSpan (IsPiece text.now) error.now }
     ensures { OnOk result (string_bytes lines.new ≡ string_bytes lines.old ++ error_place text.now error.now) }
 {
-    let Some(span) = error.spans().first() else {
-        return Ok(());
-    };
-    let Some((line, column)) = places.byte_to_line_num_and_col_num(text, span.start()) else {
-        return Ok(());
-    };
+    let start = error.spans()[0].start();
+    let (line, column) = places.byte_to_line_num_and_col_num(text, start).unwrap();
     write!(lines, "{line}:{column}: ")
 }

@@ -21,11 +21,9 @@ pub fn print_errors(alloc: Global, text: &str) -> anyhow::Result<String> {
     };
     let cache = NewlineCache::from_str(alloc, text)?;
     for error in &errors {
-        if let Some(span) = error.spans().first() {
-            if let Some((line, column)) = cache.byte_to_line_num_and_col_num(text, span.start()) {
-                writeln!(lines, "{line}:{column}: {error}")?;
-            }
-        }
+        let start = error.spans()[0].start();
+        let (line, column) = cache.byte_to_line_num_and_col_num(text, start).unwrap();
+        writeln!(lines, "{line}:{column}: {error}")?;
     }
     Ok(lines)
 }

@@ -48,8 +48,8 @@ impl ASTWithValidityInfo {
     /// did. The syntax is what these items say. The errors are the fault that stopped the reading, if there is
     /// one, and then the first check that the syntax fails, if it fails one.
     ///
-    /// Each span of the syntax and of an error begins and ends at a place of the text: where a character begins, or
-    /// where the text ends.
+    /// Each error has a span. Each span of the syntax and of an error begins and ends at a place of the text: where a
+    /// character begins, or where the text ends.
     pub fn new(alloc: Global, kind: YaccKind, text: &str) -> Result<Self, AllocError>
         ensures one { HasOneReading kind text.now }
         ensures kind { IfOk result (λ parsed. parsed.kind ≡ kind) }

@@ -77,8 +77,8 @@ impl<S: Storage> YaccGrammar<S> {
     /// The text has exactly one reading. Where that has no errors, and `S` can count the grammar, the answer is the
     /// grammar of what was read.
     ///
-    /// Each span of the grammar and of an error begins and ends at a place of the text: where a character begins, or
-    /// where the text ends. That of what is added is (0,0).
+    /// Each error has a span. Each span of the grammar and of an error begins and ends at a place of the text: where a
+    /// character begins, or where the text ends. That of what is added is (0,0).
     ///
     /// # Errors
     ///
