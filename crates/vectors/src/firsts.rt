@@ -2,9 +2,8 @@
 
 use crate::pen;
 use cfgrammar::yacc::YaccGrammar;
-use cfgrammar::yacc::firsts::{YaccFirsts, firsts_over};
-use cfgrammar::yacc::grammar::Productions;
-use cfgrammar::{PIdx, RIdx, Storage, TIdx};
+use cfgrammar::yacc::firsts::YaccFirsts;
+use cfgrammar::{RIdx, Storage, TIdx};
 use std::alloc::{AllocError, Global};
 
 /// Writes the FIRST sets of a grammar.
@@ -40,40 +39,6 @@ fn tokens_in<S: Storage>(grammar: &YaccGrammar<S>, firsts: &YaccFirsts<S>, ridx:
         tokens = tokens.saturating_add(u64::from(firsts.is_set(ridx, tidx)));
     }
     tokens
-}
-
-/// Writes how often a production of the text's grammar was opened at the most while the sets were found, where that is
-/// never, or more than rules x (tokens + 1) + 1 times.
-pub(crate) fn write_openings(
-    out: &mut String,
-    alloc: Global,
-    grammar: &YaccGrammar<u32>,
-) -> Result<(), AllocError> {
-    let most = most_opened(alloc, grammar)?;
-    let rules = u128::from(grammar.rules_len().0);
-    let tokens = u128::from(grammar.tokens_len().0);
-    if most == 0 || u128::from(most) > rules * (tokens + 1) + 1 {
-        writeln!(out, "    opened {most} times")?;
-    }
-    Ok(())
-}
-
-/// The greatest count of a production's openings, after the FIRST sets were found.
-fn most_opened(alloc: Global, grammar: &YaccGrammar<u32>) -> Result<u64, AllocError> {
-    let mut productions = grammar.productions(alloc)?;
-    let _firsts = firsts_over(alloc, &mut productions)?;
-    Ok(greatest_count(&productions))
-}
-
-/// The greatest count of a production's openings.
-fn greatest_count<S: Storage, P: Productions<S>>(productions: &P) -> u64 {
-    let mut most = 0;
-    for number in 0..usize::from(productions.prods_len()) {
-        if let Some(number) = S::from_usize(number) {
-            most = most.max(productions.opened(PIdx(number)));
-        }
-    }
-    most
 }
 
 /// Writes each rule's set: the tokens by their indices, and whether the rule is empty.

@@ -1,7 +1,7 @@
 //! Rows on the texts of grammars.
 
 use crate::row::{Row, numbers};
-use crate::{accessors, cuts, errors, firsts, syntax, tables, text};
+use crate::{accessors, cuts, errors, firsts, openings, paths, syntax, tables, text};
 use cfgrammar::yacc::ast::ASTWithValidityInfo;
 use cfgrammar::yacc::parser::YaccFault;
 use cfgrammar::yacc::{YaccGrammar, YaccKind, YaccOriginalActionKind};
@@ -30,7 +30,10 @@ pub(crate) fn tell(
             text::write_text(out, text)?;
             cuts::write_cuts(out, alloc, kind, text)
         }
-        Some("brief") => tell_brief(out, alloc, kind, text),
+        Some("brief") => {
+            tell_brief(out, alloc, kind, text)?;
+            tell_analyses(out, alloc, row, text)
+        }
         Some("accessors") => {
             text::write_text(out, text)?;
             accessors::write_accessors(out, alloc, kind, text)
@@ -69,7 +72,7 @@ pub(crate) fn grammar_of(
     }
 }
 
-/// Writes what the analyses of a text's grammar do beside what they answer.
+/// Writes what the analyses of a text's grammar do beside what they answer, and what the row asks of them.
 fn tell_analyses(
     out: &mut String,
     alloc: Global,
@@ -79,13 +82,27 @@ fn tell_analyses(
     let Some(grammar) = grammar_of(alloc, kind_of(row), text)? else {
         return Ok(());
     };
-    firsts::write_openings(out, alloc, &grammar)?;
+    openings::write_openings(out, alloc, &grammar)?;
     for (word, rest) in &row.lines {
-        if *word == "set" {
-            firsts::write_set(out, alloc, &grammar, numbers(*rest))?;
-        }
+        tell_asked(out, alloc, &grammar, *word, *rest)?;
     }
     Ok(())
+}
+
+/// Writes what a line of the row asks of the analyses, if it asks anything.
+fn tell_asked(
+    out: &mut String,
+    alloc: Global,
+    grammar: &YaccGrammar<u32>,
+    word: &str,
+    rest: &str,
+) -> Result<(), AllocError> {
+    match word {
+        "set" => firsts::write_set(out, alloc, grammar, numbers(rest)),
+        "paths" => paths::write_paths(out, alloc, grammar),
+        "path" => paths::write_path(out, alloc, grammar, rest),
+        _ => Ok(()),
+    }
 }
 
 /// Writes the errors of a text, and how much there is in its syntax and its tables.

@@ -7,7 +7,10 @@ mod accessors;
 mod cuts;
 mod errors;
 mod firsts;
+mod follows;
 mod grammar;
+mod openings;
+mod paths;
 mod syntax;
 mod tables;
 

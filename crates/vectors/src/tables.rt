@@ -4,6 +4,7 @@ ghost use Rattle.std.specs.Prelude.{◌<◌, length};
 
 use crate::errors::{write_error_lines, write_span};
 use crate::firsts::{self, write_firsts};
+use crate::follows::{self, write_follows};
 use crate::pen;
 use crate::text::push_pictures;
 use cfgrammar::yacc::YaccGrammar;
@@ -83,6 +84,7 @@ fn grammar_text<S: Storage>(alloc: Global, grammar: &YaccGrammar<S>) -> Result<S
     write_rule_names(&mut out, grammar)?;
     write_token_names(&mut out, grammar)?;
     write_firsts(&mut out, alloc, grammar)?;
+    write_follows(&mut out, alloc, grammar)?;
     Ok(out)
 }
 
@@ -301,7 +303,7 @@ pub(crate) fn write_lengths_of_all(
     write_once(out, narrow.as_str(), middle.as_str(), wide.as_str())
 }
 
-/// How much there is in the tables of a text that was read, and in their FIRST sets.
+/// How much there is in the tables of a text that was read, and in their FIRST and FOLLOW sets.
 fn lengths_text<S: Storage>(
     alloc: Global,
     text: &str,
@@ -312,6 +314,7 @@ fn lengths_text<S: Storage>(
             let mut out = String::from_str(alloc, "\n")?;
             write_lengths(&mut out, &grammar)?;
             firsts::write_lengths(&mut out, alloc, &grammar)?;
+            follows::write_lengths(&mut out, alloc, &grammar)?;
             Ok(out)
         }
         Err(fault) => fault_text(alloc, text, parsed, fault),

@@ -1,0 +1,59 @@
+//! How often the analyses of a grammar open its productions.
+
+use cfgrammar::yacc::YaccGrammar;
+use cfgrammar::yacc::firsts::firsts_over;
+use cfgrammar::yacc::follows::follows_over;
+use cfgrammar::yacc::grammar::Productions;
+use cfgrammar::{PIdx, Storage};
+use std::alloc::{AllocError, Global};
+
+/// Writes how often a production of a grammar was opened at the most while the FIRST sets were found, and while the
+/// FOLLOW sets were, where that is never, or more than rules x (tokens + 1) + 1 times.
+pub(crate) fn write_openings(
+    out: &mut String,
+    alloc: Global,
+    grammar: &YaccGrammar<u32>,
+) -> Result<(), AllocError> {
+    let firsts = opened_by_firsts(alloc, grammar)?;
+    if !is_expected(grammar, firsts) {
+        writeln!(out, "    opened {firsts} times for firsts")?;
+    }
+    let follows = opened_by_follows(alloc, grammar)?;
+    if !is_expected(grammar, follows) {
+        writeln!(out, "    opened {follows} times for follows")?;
+    }
+    Ok(())
+}
+
+/// Whether a production may have been opened so often at the most.
+fn is_expected(grammar: &YaccGrammar<u32>, most: u64) -> bool {
+    let rules = u128::from(grammar.rules_len().0);
+    let tokens = u128::from(grammar.tokens_len().0);
+    0 < most && u128::from(most) <= rules * (tokens + 1) + 1
+}
+
+/// The greatest count of a production's openings, after the FIRST sets were found.
+fn opened_by_firsts(alloc: Global, grammar: &YaccGrammar<u32>) -> Result<u64, AllocError> {
+    let mut productions = grammar.productions(alloc)?;
+    let _firsts = firsts_over(alloc, &mut productions)?;
+    Ok(greatest_count(&productions))
+}
+
+/// The greatest count of a production's openings, after the FOLLOW sets were found.
+fn opened_by_follows(alloc: Global, grammar: &YaccGrammar<u32>) -> Result<u64, AllocError> {
+    let firsts = grammar.firsts(alloc)?;
+    let mut productions = grammar.productions(alloc)?;
+    let _follows = follows_over(alloc, &mut productions, &firsts)?;
+    Ok(greatest_count(&productions))
+}
+
+/// The greatest count of a production's openings.
+fn greatest_count<S: Storage, P: Productions<S>>(productions: &P) -> u64 {
+    let mut most = 0;
+    for number in 0..usize::from(productions.prods_len()) {
+        if let Some(number) = S::from_usize(number) {
+            most = most.max(productions.opened(PIdx(number)));
+        }
+    }
+    most
+}
