@@ -48,7 +48,8 @@ BeginsList x a t = Begins (IsEpsilon x.firsts) (IsAmongFirsts x.firsts) a t
 abbrev pub VanishesList : FollowSets → List Sym → Type 0
 VanishesList x a = Vanishes (IsEpsilon x.firsts) a
 
--- what stands behind a symbol of the rule's production: what begins the rest, or, where it vanishes, what follows the rule
+-- what stands behind a symbol of the rule's production: what begins the rest, or, where it vanishes, what follows
+-- the rule
 abbrev pub Behind : FollowSets → ℕ → List Sym → ℕ → Type 0
 Behind x rule rest t = BeginsList x rest t ⊎ (VanishesList x rest × HasBit x.follows rule t)
 

@@ -103,8 +103,10 @@ fn join_lists(lists: &mut [Vob], to: usize, from: usize) -> bool
     requires from { from < length lists.old }
     requires apart { to ≢ from }
     requires lengths { length (slice_index_or lists.old to []) ≡ length (slice_index_or lists.old from []) }
-    ensures bits { lists.new ≡ slice_set lists.old to (joined (slice_index_or lists.old to []) (slice_index_or lists.old from [])) }
-    ensures changed { GrewTo (slice_index_or lists.old to []) (joined (slice_index_or lists.old to []) (slice_index_or lists.old from [])) result }
+    ensures bits { lists.new ≡ slice_set lists.old to
+        (joined (slice_index_or lists.old to []) (slice_index_or lists.old from [])) }
+    ensures changed { GrewTo (slice_index_or lists.old to [])
+        (joined (slice_index_or lists.old to []) (slice_index_or lists.old from [])) result }
 {
     if to < from {
         let (front, back) = lists.split_at_mut(from);

@@ -107,7 +107,8 @@ impl<S: Storage> YaccFirsts<S> {
 
     /// Puts what begins the symbol into the rule's set, and tells whether that changed anything.
     fn put_first(&mut self, rule: RIdx<S>, symbol: Symbol<S>) -> bool
-        requires { (g : Grammar) × FitsGrammar g self.old × (S.number rule.0 < g.rules) × IsSymbolOf g (sym_of S.number symbol) }
+        requires { (g : Grammar) × FitsGrammar g self.old × (S.number rule.0 < g.rules)
+            × IsSymbolOf g (sym_of S.number symbol) }
         ensures epsilons { self.new.epsilons ≡ self.old.epsilons }
         ensures joins { Joins (λ r t. (r ≡ S.number rule.0) × BeginsBy self.old (sym_of S.number symbol ∷ []) t)
             self.old.firsts self.new.firsts result }
@@ -122,7 +123,8 @@ impl<S: Storage> YaccFirsts<S> {
     fn put_epsilon(&mut self, rule: RIdx<S>) -> bool
         requires { S.number rule.0 < length self.old.epsilons }
         ensures bits { self.new ≡ with_epsilon self.old (S.number rule.0) }
-        ensures was { MatchBool result (epsilon_bit self.old (S.number rule.0) ≡ false) (epsilon_bit self.old (S.number rule.0) ≡ true) }
+        ensures was { MatchBool result (epsilon_bit self.old (S.number rule.0) ≡ false)
+            (epsilon_bit self.old (S.number rule.0) ≡ true) }
     {
         self.epsilons.set(usize::from(rule), true)
     }

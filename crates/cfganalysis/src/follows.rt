@@ -81,8 +81,10 @@ impl<'a, S: Storage> Model for FollowAnalysis<'a, S> {
 impl<'a, S: Storage> FollowAnalysis<'a, S> {
     /// Puts what begins the symbol behind the rule, and tells whether that changed anything.
     fn put_first(&mut self, before: RIdx<S>, symbol: Symbol<S>) -> bool
-        requires { (g : Grammar) × FitFollows g self.old × (S.number before.0 < g.rules) × IsSymbolOf g (sym_of S.number symbol) }
-        ensures { Puts (λ r t. (r ≡ S.number before.0) × BeginsList self.old (sym_of S.number symbol ∷ []) t) self.old self.new result }
+        requires { (g : Grammar) × FitFollows g self.old × (S.number before.0 < g.rules)
+            × IsSymbolOf g (sym_of S.number symbol) }
+        ensures { Puts (λ r t. (r ≡ S.number before.0) × BeginsList self.old (sym_of S.number symbol ∷ []) t)
+            self.old self.new result }
     {
         match symbol {
             Symbol::Token(token) => self.follows.set(usize::from(before), usize::from(token)),
@@ -95,7 +97,8 @@ impl<'a, S: Storage> FollowAnalysis<'a, S> {
     /// Puts what follows the rule behind the other, and tells whether that changed anything.
     fn put_follows(&mut self, before: RIdx<S>, rule: RIdx<S>) -> bool
         requires { (g : Grammar) × FitFollows g self.old × (S.number before.0 < g.rules) × (S.number rule.0 < g.rules) }
-        ensures { Puts (λ r t. (r ≡ S.number before.0) × HasBit self.old.follows (S.number rule.0) t) self.old self.new result }
+        ensures { Puts (λ r t. (r ≡ S.number before.0) × HasBit self.old.follows (S.number rule.0) t)
+            self.old self.new result }
     {
         self.follows
             .join_row(usize::from(before), usize::from(rule))
@@ -106,7 +109,8 @@ impl<'a, S: Storage> FollowAnalysis<'a, S> {
     fn put_rest(&mut self, rule: RIdx<S>, before: RIdx<S>, rest: &[Symbol<S>]) -> bool
         requires { (g : Grammar) × FitFollows g self.old × (S.number rule.0 < g.rules) × (S.number before.0 < g.rules)
             × All (IsSymbolOf g) (map (sym_of S.number) rest.now) }
-        ensures { Puts (λ r t. (r ≡ S.number before.0) × Behind self.old (S.number rule.0) (map (sym_of S.number) rest.now) t)
+        ensures { Puts (λ r t. (r ≡ S.number before.0)
+            × Behind self.old (S.number rule.0) (map (sym_of S.number) rest.now) t)
             self.old self.new result }
     {
         let mut changed = false;
@@ -122,9 +126,11 @@ impl<'a, S: Storage> FollowAnalysis<'a, S> {
     /// Puts what the rest of a production gives behind the symbol before it where that is a rule, and tells whether
     /// that changed anything.
     fn put_behind(&mut self, rule: RIdx<S>, symbol: Symbol<S>, rest: &[Symbol<S>]) -> bool
-        requires { (g : Grammar) × FitFollows g self.old × (S.number rule.0 < g.rules) × IsSymbolOf g (sym_of S.number symbol)
+        requires { (g : Grammar) × FitFollows g self.old × (S.number rule.0 < g.rules)
+            × IsSymbolOf g (sym_of S.number symbol)
             × All (IsSymbolOf g) (map (sym_of S.number) rest.now) }
-        ensures { Puts (λ r t. (Rule r ≡ sym_of S.number symbol) × Behind self.old (S.number rule.0) (map (sym_of S.number) rest.now) t)
+        ensures { Puts (λ r t. (Rule r ≡ sym_of S.number symbol)
+            × Behind self.old (S.number rule.0) (map (sym_of S.number) rest.now) t)
             self.old self.new result }
     {
         match symbol {

@@ -1,4 +1,5 @@
-//! Analyses of grammars: the sets of tokens that rules begin with, of those that follow them, and paths from rule to rule.
+//! Analyses of grammars: the sets of tokens that rules begin with, those of tokens that follow them, and paths from
+//! rule to rule.
 #![tactic(auto)]
 
 pub mod bits;

@@ -48,7 +48,8 @@ impl<S: Storage> Search<S> {
     /// A rule that waits, which then waits no longer.
     fn next(&mut self) -> Option<RIdx<S>>
         ensures rules { self.new.rules ≡ self.old.rules }
-        ensures waiting { MatchOption result (self.old.waiting ≡ []) (λ r. self.old.waiting ≡ self.new.waiting ++ S.number r.0 ∷ []) }
+        ensures waiting { MatchOption result (self.old.waiting ≡ [])
+            (λ r. self.old.waiting ≡ self.new.waiting ++ S.number r.0 ∷ []) }
     {
         self.waiting.pop()
     }
@@ -77,8 +78,10 @@ impl<S: Storage> Search<S> {
 
     /// Reaches the rules among the symbols.
     fn reach_symbols(&mut self, symbols: &[Symbol<S>]) -> Result<(), AllocError>
-        requires { (g : Grammar) × (length self.old.rules ≡ g.rules) × All (IsSymbolOf g) (map (sym_of S.number) symbols.now) }
-        ensures { IfOk result (λ _. Reaches (λ r. Contains (map (sym_of S.number) symbols.now) (Rule r)) self.old self.new) }
+        requires { (g : Grammar) × (length self.old.rules ≡ g.rules)
+            × All (IsSymbolOf g) (map (sym_of S.number) symbols.now) }
+        ensures { IfOk result (λ _. Reaches (λ r. Contains (map (sym_of S.number) symbols.now) (Rule r))
+            self.old self.new) }
     {
         for symbol in symbols {
             self.reach_symbol(*symbol)?;
@@ -90,7 +93,8 @@ impl<S: Storage> Search<S> {
     fn reach_from<T: Tables<S>>(&mut self, tables: &T, rule: RIdx<S>) -> Result<(), AllocError>
         requires rules { length self.old.rules ≡ (T.grammar tables.now).rules }
         requires rule { S.number rule.0 < (T.grammar tables.now).rules }
-        ensures { IfOk result (λ _. Reaches (Holds (HasProduction (T.grammar tables.now)) (S.number rule.0)) self.old self.new) }
+        ensures { IfOk result (λ _. Reaches (Holds (HasProduction (T.grammar tables.now)) (S.number rule.0))
+            self.old self.new) }
     {
         let _rules = tables.rules_len();
         for production in tables.rule_to_prods(rule) {
@@ -113,7 +117,8 @@ pub fn has_path<S: Storage, T: Tables<S>>(
     to: RIdx<S>,
 ) -> Result<bool, AllocError>
     requires { S.number from.0 < (T.grammar tables.now).rules }
-    ensures { IfOk result (λ b. IsTrue b ↔ Path (HasProduction (T.grammar tables.now)) (S.number from.0) (S.number to.0)) }
+    ensures { IfOk result (λ b. IsTrue b
+        ↔ Path (HasProduction (T.grammar tables.now)) (S.number from.0) (S.number to.0)) }
 {
     let mut search = Search::new(alloc, usize::from(tables.rules_len()))?;
     search.reach_from(tables, from)?;
