@@ -1,0 +1,6 @@
+use Rattle.derivation.specs.Grammar.{HasProduction}
+use Rattle.cfggreatest.proofs.Rising.{unbounded_set}
+use Rattle.cfggreatest.proofs.laws.sets_that_grow_are_unbounded.Goals as goal
+
+pub returns : goal.returns
+returns c = λ g cost. unbounded_set (HasProduction g) cost

@@ -1,0 +1,15 @@
+-- Rows of symbols, seen through what is said of rules.
+use Rattle.std.specs.Prelude.{ℕ, ◌+◌, ◌&&◌, Bool, true, cond, List, [], ◌∷◌}
+use Rattle.derivation.specs.Grammar.{Sym, Rule, Token}
+
+-- whether all rules of the row are in the set
+abbrev pub are_in : (ℕ → Bool) → List Sym → Bool
+are_in set [] = true
+are_in set (Rule r ∷ a) = set r && are_in set a
+are_in set (Token t ∷ a) = are_in set a
+
+-- how many symbols of the row are tokens, or rules of the set
+abbrev pub count_positive : (ℕ → Bool) → List Sym → ℕ
+count_positive set [] = 0
+count_positive set (Rule r ∷ a) = cond (set r) 1 0 + count_positive set a
+count_positive set (Token t ∷ a) = 1 + count_positive set a

@@ -1,0 +1,4 @@
+//! The greatest costs of sentences.
+#![tactic(auto)]
+
+pub mod laws;
