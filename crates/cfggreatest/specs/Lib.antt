@@ -1,3 +1,4 @@
 pub mod Rows
 pub mod Growth
 pub mod Tops
+pub mod Peel
