@@ -1,31 +1,24 @@
 -- Rows whose rules have bounded costs, and how one bound gives the next.
-use Rattle.std.proofs.Common.{◌≡◌, ℕ, ◌+◌, ◌*◌, ◌<◌, ◌≤◌, ◌⊎◌, inl, inr, ◌&&◌, ◌||◌, Bool, true, false, cond, List, [], ◌∷◌, ◌++◌, length, append-nil, refl, sym, ap, subst, ◌∙◌, arith, true≢false}
+use Rattle.std.proofs.Common.{◌≡◌, ℕ, ◌+◌, ◌*◌, ◌≤◌, ◌⊎◌, inl, inr, Bool, true, false, cond, List, [], ◌∷◌, length, append-nil, refl, sym, ap, ◌∙◌, arith, true≢false}
 use Rattle.std.proofs.Math.Nat.{mul-le-mul_right}
 use Rattle.std.proofs.lemmas.Bool.{cases_Bool, cases_lt, and_parts, and_from}
 use Rattle.std.proofs.lemmas.List.Sums.{sum_by-append}
-use Rattle.derivation.specs.Grammar.{Sym, Rule, Token}
+use Rattle.derivation.specs.Grammar.{Sym, Rule}
 use Rattle.derivation.specs.Sentence.{cost_of}
 use Rattle.derivation.specs.Tree.{Yields, empty, token, opened}
 use Rattle.cfgcosts.proofs.TreeSums.{cost_of-token}
 use Rattle.cfggreatest.specs.Rows.{are_in, count_positive}
+use Rattle.cfggreatest.specs.Peel.{HasLive, IsBoundBy}
 
 module _ (P : ℕ → List Sym → Type 0) (cost : ℕ → ℕ) where
-  -- the set has each rule that has a production whose rules are all in it
-  abbrev pub HasLive : (ℕ → Bool) → Type 0
-  HasLive live = (r : ℕ) (symbols : List Sym) → P r symbols → are_in live symbols ≡ true → live r ≡ true
-
   -- what yields a word has rules of such a set alone
-  pub row_lives : (live : ℕ → Bool) → HasLive live → {a : List Sym} {w : List ℕ} → Yields P a w → are_in live a ≡ true
+  pub row_lives : (live : ℕ → Bool) → HasLive P live → {a : List Sym} {w : List ℕ} → Yields P a w → are_in live a ≡ true
   row_lives live has empty = refl
   row_lives live has (token h) = row_lives live has h
   row_lives live has (opened {r = r} {symbols = symbols} {a = a} p h k e) =
       and_from (live r) (are_in live a) (has r symbols p (row_lives live has h)) (row_lives live has k)
 
-  -- no sentence of a rule in the set costs more than n
-  abbrev pub IsBoundBy : (ℕ → Bool) → ℕ → Type 0
-  IsBoundBy bounded n = (r : ℕ) (w : List ℕ) → bounded r ≡ true → Yields P (Rule r ∷ []) w → cost_of cost w ≤ n
-
-  module _ (live positive : ℕ → Bool) (has : HasLive live)
+  module _ (live positive : ℕ → Bool) (has : HasLive P live)
       (costly : (r : ℕ) (symbols : List Sym) → P r symbols → are_in live symbols ≡ true → 1 ≤ count_positive positive symbols → positive r ≡ true) where
     -- a row of symbols that cost nothing costs nothing
     pub row_free : {a : List Sym} {w : List ℕ} → Yields P a w → count_positive positive a ≡ 0 → cost_of cost w ≡ 0
@@ -46,7 +39,7 @@ module _ (P : ℕ → List Sym → Type 0) (cost : ℕ → ℕ) where
     pub rule_free : (r : ℕ) (w : List ℕ) → positive r ≡ false → Yields P (Rule r ∷ []) w → cost_of cost w ≡ 0
     rule_free r w y tree = row_free tree (let z : ◌≡◌ {A = ℕ} (cond (positive r) 1 0) 0 = ap (λ b. cond b 1 0) y in omega (arith, z))
 
-    module _ (bounded : ℕ → Bool) (n m : ℕ) (bound : IsBoundBy bounded n) (dearest : (t : ℕ) → cost t ≤ m) where
+    module _ (bounded : ℕ → Bool) (n m : ℕ) (bound : IsBoundBy P cost bounded n) (dearest : (t : ℕ) → cost t ≤ m) where
       -- a row of bounded rules and tokens
       pub row_bound : {a : List Sym} {w : List ℕ} → Yields P a w → are_in bounded a ≡ true → cost_of cost w ≤ length a * (n + m)
       row_bound empty h = omega arith
@@ -64,7 +57,7 @@ module _ (P : ℕ → List Sym → Type 0) (cost : ℕ → ℕ) where
       module _ (further : ℕ → Bool) (longest : ℕ)
           (short : (r : ℕ) (symbols : List Sym) → P r symbols → length symbols ≤ longest)
           (kept : (r : ℕ) (symbols : List Sym) → P r symbols → further r ≡ true → are_in live symbols ≡ true
-            → (are_in further symbols ≡ true) × ((are_in bounded symbols ≡ true) ⊎ (count_positive positive symbols ≤ 1))) where
+          → (are_in further symbols ≡ true) × ((are_in bounded symbols ≡ true) ⊎ (count_positive positive symbols ≤ 1))) where
         row_most : {a : List Sym} {w : List ℕ} → Yields P a w → are_in further a ≡ true → count_positive positive a ≤ 1
             → cost_of cost w ≤ longest * (n + m) + m
         row_most empty h few = omega arith
@@ -93,7 +86,7 @@ module _ (P : ℕ → List Sym → Type 0) (cost : ℕ → ℕ) where
             ]
 
         -- bounds the rules of the further set
-        pub bound_more : IsBoundBy further (longest * (n + m) + m)
+        pub bound_more : IsBoundBy P cost further (longest * (n + m) + m)
         bound_more r w f tree = row_most tree (and_from (further r) true f refl) (le r (positive r))
           where
             le : (r : ℕ) (b : Bool) → cond b 1 0 + 0 ≤ 1

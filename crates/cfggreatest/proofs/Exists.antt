@@ -1,30 +1,25 @@
 -- A table that no production betters exists, and so a bounded rule with a sentence has a greatest cost.
-use Rattle.std.proofs.Common.{◌≡◌, ℕ, zero, suc, ◌+◌, ◌*◌, ◌<◌, ◌≤◌, ◌⊎◌, inl, inr, min, Bool, true, List, [], ◌∷◌, length, slice_set, replicate, sum_by, Option, Some, None, Contains, refl, sym, subst, ◌∙◌, arith, true≢false, below_more}
-use Rattle.std.proofs.lemmas.Bool.{cases_Bool, cases_lt}
+use Rattle.std.proofs.Common.{◌≡◌, ℕ, zero, suc, ◌+◌, ◌*◌, ◌<◌, ◌≤◌, ◌⊎◌, inl, inr, min, Bool, true, List, [], ◌∷◌, length, slice_set, replicate, sum_by, Option, Some, None, Contains, refl, sym, subst, ◌∙◌, arith, below_more}
+use Rattle.std.proofs.lemmas.Bool.{cases_lt}
 use Rattle.std.proofs.lemmas.List.{get_or_default}
 use Rattle.std.proofs.lemmas.List.Elements.{Contains-get_or}
 use Rattle.derivation.specs.Grammar.{Sym, Rule, Token, Grammar, Production, IsGrammar, HasProduction}
 use Rattle.derivation.specs.Sentence.{cost_of, Sentence}
 use Rattle.derivation.specs.Costs.{Greatest}
-use Rattle.derivation.specs.Tree.{Yields}
 use Rattle.derivation.proofs.Trees.{trees_from_derivation, derivation_from_trees}
 use Rattle.cfganalysis.specs.Openings.{nth_production}
 use Rattle.cfgcosts.specs.Certificate.{rule_cost}
 use Rattle.cfgcosts.specs.Sums.{sum_of, symbol_cost}
 use Rattle.cfggreatest.specs.Rows.{are_in}
-use Rattle.cfggreatest.specs.Tops.{IsAtLeastCut, IsTopped, rank}
-use Rattle.cfggreatest.proofs.Tops.{AreReached, Betters, none_reached, ranks_small, raised_reached, raised_more, rule_topped}
+use Rattle.cfggreatest.specs.Tops.{AreReached, AreTopped, IsAtLeastCut, IsTopped, rank}
+use Rattle.cfggreatest.proofs.Tops.{Betters, none_reached, ranks_small, raised_reached, raised_more, rule_topped}
 
 pub at_least_by_rank : (limit : ℕ) (o : Option ℕ) (n : ℕ) → min n limit + 1 ≤ rank o → IsAtLeastCut limit o n
 at_least_by_rank limit None n h = absurd (omega (arith, h))
 at_least_by_rank limit (Some c) n h = record { value = c; is = refl; within = omega (arith, h) }
 
 module _ (g : Grammar) (cost : ℕ → ℕ) (limit : ℕ) (set : ℕ → Bool) where
-  -- no production of a rule in the set costs more than the rule
-  abbrev pub AreTopped : List (Option ℕ) → Type 0
-  AreTopped table = (q : ℕ) → q < length g.productions → IsTopped cost limit set table (nth_production g q)
-
-  pub topped_at : (table : List (Option ℕ)) → AreTopped table → (r n : ℕ) (symbols : List Sym) → HasProduction g r symbols → set r ≡ true
+  pub topped_at : (table : List (Option ℕ)) → AreTopped g cost limit set table → (r n : ℕ) (symbols : List Sym) → HasProduction g r symbols → set r ≡ true
       → sum_of (symbol_cost cost (rule_cost table)) symbols ≡ Some n → IsAtLeastCut limit (rule_cost table r) n
   topped_at table all r n symbols has among e = subst (IsTopped cost limit set table)
       (get_or_default g.productions has.0 _ _ has.1 ∙ has.2) (all has.0 has.1) among n e
@@ -60,7 +55,7 @@ module _ (g : Grammar) (cost : ℕ → ℕ) (limit : ℕ) (set : ℕ → Bool) w
   pub record Topped : Type 0 where
     pub table : List (Option ℕ)
     pub reached : AreReached g cost limit table
-    pub all : AreTopped table
+    pub all : AreTopped g cost limit set table
 
   settle_table : IsGrammar g → (fuel : ℕ) (table : List (Option ℕ)) → AreReached g cost limit table
       → g.rules * (limit + 1) < sum_by rank table + fuel → Topped
@@ -105,11 +100,14 @@ module _ (g : Grammar) (is : IsGrammar g) (cost : ℕ → ℕ) (r n : ℕ)
       let y = topped.reached.yielded r h.value h.is in
       let d = derivation_from_trees (HasProduction g) y.tree in (
         (cost_of cost y.word),
-        ((y.word, d, refl), λ v k.
-          let i = at_least v k in
-          let one : Some h.value ≡ Some i.value = sym h.is ∙ i.is in
-          let value : h.value ≡ i.value = cc in
-          let w = i.within in
-          let e = y.same in
-          omega (arith, bound v k, bound y.word d, value, w, e)),
+        (
+          (y.word, d, refl),
+          λ v k.
+              let i = at_least v k in
+              let one : Some h.value ≡ Some i.value = sym h.is ∙ i.is in
+              let value : h.value ≡ i.value = cc in
+              let w = i.within in
+              let e = y.same in
+              omega (arith, bound v k, bound y.word d, value, w, e),
+        ),
       )

@@ -1,14 +1,13 @@
 -- Rules are peeled away till those that stay are bounded, or till nothing stays and the others are unbounded.
-use Rattle.std.proofs.Common.{◌≡◌, ℕ, ◌+◌, ◌*◌, ◌<◌, ◌≤◌, ◌⊎◌, inl, inr, Bool, true, false, List, [], ◌∷◌, length, refl, sym, subst, ◌∙◌, arith, true≢false}
+use Rattle.std.proofs.Common.{◌≡◌, ℕ, ◌+◌, ◌*◌, ◌≤◌, ◌⊎◌, inl, inr, Bool, true, false, List, [], ◌∷◌, length, refl, sym, ◌∙◌, arith, true≢false}
 use Rattle.std.proofs.lemmas.Bool.{cases_Bool, and_parts, and_from}
 use Rattle.derivation.specs.Grammar.{Sym, Rule, Token}
-use Rattle.derivation.specs.Sentence.{cost_of}
 use Rattle.derivation.specs.Costs.{Unbounded}
-use Rattle.derivation.specs.Tree.{Yields}
-use Rattle.cfggreatest.specs.Rows.{are_in, count_positive}
-use Rattle.cfggreatest.specs.Peel.{Keeps, Leaves}
-use Rattle.cfggreatest.proofs.Rising.{AtLeast, Rises, TokensCost, at_least_fewer, at_least_rule, row_some, row_leads, row_grows, unbounded_from_rises}
-use Rattle.cfggreatest.proofs.Bounded.{HasLive, IsBoundBy, bound_more}
+use Rattle.cfggreatest.specs.Rows.{are_in}
+use Rattle.cfggreatest.specs.Peel.{AreBounded, AreSigns, IsRemoved, Keeps, Leaves}
+use Rattle.cfggreatest.specs.Rising.{Rises, TokensCost}
+use Rattle.cfggreatest.proofs.Rising.{at_least_fewer, at_least_rule, row_some, row_leads, row_grows, unbounded_from_rises}
+use Rattle.cfggreatest.proofs.Bounded.{bound_more}
 
 pub are_in_more : (f h : ℕ → Bool) → ((r : ℕ) → f r ≡ true → h r ≡ true) → (a : List Sym) → are_in f a ≡ true → are_in h a ≡ true
 are_in_more f h more [] e = refl
@@ -17,29 +16,8 @@ are_in_more f h more (Rule r ∷ a) e = let k = and_parts (f r) (are_in f a) e i
     and_from (h r) (are_in h a) (more r k.0) (are_in_more f h more a k.1)
 
 module _ (P : ℕ → List Sym → Type 0) (cost : ℕ → ℕ) (live positive : ℕ → Bool) where
-  -- what the tables say of rules that have sentences, and sentences that cost something
-  pub record AreSigns : Type 0 where
-    pub lives : (r : ℕ) → live r ≡ true → AtLeast P cost (Rule r ∷ []) 0
-    pub costs : (r : ℕ) → positive r ≡ true → AtLeast P cost (Rule r ∷ []) 1
-    pub has : HasLive P cost live
-    pub costly : (r : ℕ) (symbols : List Sym) → P r symbols → are_in live symbols ≡ true → 1 ≤ count_positive positive symbols → positive r ≡ true
-
-  -- the set is closed under productions, and one number bounds its costs
-  pub record AreBounded (bounded : ℕ → Bool) : Type 0 where
-    pub bound : ℕ
-    pub limits : IsBoundBy P cost bounded bound
-    pub closed : (r : ℕ) (symbols : List Sym) → P r symbols → bounded r ≡ true → are_in live symbols ≡ true → are_in bounded symbols ≡ true
-
-  module _ (signs : AreSigns) (bounded further : ℕ → Bool) where
-    -- a rule that was removed rises from a rule that is not bounded
-    pub record IsRemoved (r : ℕ) : Type 0 where
-      pub some : AtLeast P cost (Rule r ∷ []) 0
-      pub rises : Rises P cost (λ x. bounded x ≡ false) (Rule r ∷ []) 1
-
-    abbrev pub AreRemoved : Type 0
-    AreRemoved = (r : ℕ) → further r ≡ false → IsRemoved r
-
-    module _ (r : ℕ) (symbols : List Sym) (has : P r symbols) (tokens : TokensCost cost symbols) (removed : (x : ℕ) → further x ≡ false → IsRemoved x) where
+  module _ (signs : AreSigns P cost live positive) (bounded further : ℕ → Bool) where
+    module _ (r : ℕ) (symbols : List Sym) (has : P r symbols) (tokens : TokensCost cost symbols) (removed : (x : ℕ) → further x ≡ false → IsRemoved P cost bounded x) where
       over : Rises P cost (λ x. bounded x ≡ false) symbols 1 → Rises P cost (λ x. bounded x ≡ false) (Rule r ∷ []) 1
       over h = record { rule = h.rule; among = h.among; rise = λ n i. at_least_rule P cost r symbols (n + 1) has (h.rise n i) }
 
@@ -51,7 +29,7 @@ module _ (P : ℕ → List Sym → Type 0) (cost : ℕ → ℕ) (live positive :
       }
 
       -- a production that leaves removes its rule
-      pub removed_one : Leaves live positive bounded further symbols → IsRemoved r
+      pub removed_one : Leaves live positive bounded further symbols → IsRemoved P cost bounded r
       removed_one h = record {
         some = at_least_rule P cost r symbols 0 has (row_some P cost live positive signs.lives signs.costs symbols h.lives);
         rises = over (elim h.outside [
@@ -60,24 +38,13 @@ module _ (P : ℕ → List Sym → Type 0) (cost : ℕ → ℕ) (live positive :
         ]);
       }
 
-    -- where all that stayed is bounded, what isn't bounded is unbounded
-    pub unbounded_at_end : ((r : ℕ) → further r ≡ false → IsRemoved r) → ((r : ℕ) → further r ≡ true → bounded r ≡ true)
-        → (r : ℕ) → bounded r ≡ false → Unbounded P cost r
-    unbounded_at_end removed within = unbounded_from_rises P cost (λ r. bounded r ≡ false) (λ r u. (gone r u).some) (λ r u. (gone r u).rises)
-      where
-        gone : (r : ℕ) → bounded r ≡ false → IsRemoved r
-        gone r u = elim (cases_Bool (further r)) [
-          | inl e ↦ absurd (true≢false (sym (within r e) ∙ u))
-          | inr e ↦ removed r e
-        ]
-
     -- where no production leaves, what stayed is bounded
-    module _ (is : AreBounded bounded) (dearest longest : ℕ) (cheap : (t : ℕ) → cost t ≤ dearest)
+    module _ (is : AreBounded P cost live bounded) (dearest longest : ℕ) (cheap : (t : ℕ) → cost t ≤ dearest)
         (short : (r : ℕ) (symbols : List Sym) → P r symbols → length symbols ≤ longest)
         (kept : (r : ℕ) (symbols : List Sym) → P r symbols → further r ≡ true → Keeps live positive bounded further symbols)
         (next : ℕ → Bool) (old : (r : ℕ) → bounded r ≡ true → next r ≡ true) (new : (r : ℕ) → further r ≡ true → next r ≡ true)
         (only : (r : ℕ) → next r ≡ true → (bounded r ≡ true) ⊎ (further r ≡ true)) where
-      pub bounded_more : AreBounded next
+      pub bounded_more : AreBounded P cost live next
       bounded_more = record {
         bound = is.bound + (longest * (is.bound + dearest) + dearest);
         limits = λ r w n tree. elim (only r n) [
@@ -91,3 +58,15 @@ module _ (P : ℕ → List Sym → Type 0) (cost : ℕ → ℕ) (live positive :
           | inr f ↦ are_in_more further next new symbols (kept r symbols has f l).0
         ];
       }
+
+module _ (P : ℕ → List Sym → Type 0) (cost : ℕ → ℕ) (bounded further : ℕ → Bool) where
+  -- where all that stayed is bounded, what isn't bounded is unbounded
+  pub unbounded_at_end : ((r : ℕ) → further r ≡ false → IsRemoved P cost bounded r) → ((r : ℕ) → further r ≡ true → bounded r ≡ true)
+      → (r : ℕ) → bounded r ≡ false → Unbounded P cost r
+  unbounded_at_end removed within = unbounded_from_rises P cost (λ r. bounded r ≡ false) (λ r u. (gone r u).some) (λ r u. (gone r u).rises)
+    where
+      gone : (r : ℕ) → bounded r ≡ false → IsRemoved P cost bounded r
+      gone r u = elim (cases_Bool (further r)) [
+        | inl e ↦ absurd (true≢false (sym (within r e) ∙ u))
+        | inr e ↦ removed r e
+      ]

@@ -1,24 +1,21 @@
 -- Tables of what sentences cost, cut down to a limit, which no production betters.
-use Rattle.std.proofs.Common.{◌≡◌, ℕ, zero, suc, ◌+◌, ◌*◌, ◌<◌, ◌≤◌, ◌⊎◌, inl, inr, min, Bool, true, false, List, [], ◌∷◌, length, get_or, slice_set, replicate, sum_by, ◌&&◌, Option, Some, None, All, Contains, length-set, append-nil, refl, sym, ap, subst, ◌∙◌, arith, true≢false, below_more}
-use Rattle.std.proofs.lemmas.Bool.{cases_Bool, cases_lt, and_parts}
-use Rattle.std.proofs.lemmas.List.{length-replicate, get_or_default}
+use Rattle.std.proofs.Common.{◌≡◌, ℕ, ◌+◌, ◌*◌, ◌<◌, ◌≤◌, inl, inr, min, Bool, true, List, [], ◌∷◌, length, slice_set, replicate, sum_by, ◌&&◌, Option, Some, None, Contains, length-set, append-nil, refl, sym, ap, subst, ◌∙◌, arith}
+use Rattle.std.proofs.lemmas.Bool.{and_parts}
+use Rattle.std.proofs.lemmas.List.{length-replicate}
 use Rattle.std.proofs.lemmas.List.Sums.{sum_by-append, sum_by-set, sum_by-le}
-use Rattle.std.proofs.lemmas.List.Elements.{All-set, All-replicate, Contains-get_or}
+use Rattle.std.proofs.lemmas.List.Elements.{All-set, All-replicate}
 use Rattle.lemmas.proofs.Elements.{get_or-set, get_or-replicate_default}
-use Rattle.derivation.specs.Grammar.{Sym, Rule, Token, Grammar, Production, IsGrammar, HasProduction}
-use Rattle.derivation.specs.Sentence.{cost_of, Sentence}
-use Rattle.derivation.specs.Costs.{Greatest}
+use Rattle.derivation.specs.Grammar.{Sym, Rule, Grammar, Production, IsGrammar, HasProduction}
+use Rattle.derivation.specs.Sentence.{cost_of}
 use Rattle.derivation.specs.Tree.{Yields, empty, token, opened}
-use Rattle.derivation.proofs.Trees.{trees_from_derivation, derivation_from_trees}
-use Rattle.cfganalysis.specs.Openings.{nth_production}
 use Rattle.cfganalysis.proofs.FirstBits.{owner}
 use Rattle.cfgcosts.specs.Certificate.{rule_cost}
-use Rattle.cfgcosts.specs.Sums.{plus, sum_of, symbol_cost}
+use Rattle.cfgcosts.specs.Sums.{sum_of, symbol_cost}
 use Rattle.cfgcosts.proofs.Sums.{plus_both, plus_zero}
 use Rattle.cfgcosts.proofs.Bounds.{cut_over}
 use Rattle.cfgcosts.proofs.TreeSums.{made_row, cost_of-token}
 use Rattle.cfggreatest.specs.Rows.{are_in}
-use Rattle.cfggreatest.specs.Tops.{IsAtLeastCut, IsTopped, rank}
+use Rattle.cfggreatest.specs.Tops.{AreReached, IsAtLeastCut, Yielded, rank}
 
 -- costs that are the same when they are cut down to the limit
 abbrev pub IsCutSame : ℕ → ℕ → ℕ → Type 0
@@ -50,36 +47,24 @@ module _ (P : ℕ → List Sym → Type 0) (cost : ℕ → ℕ) (limit : ℕ) (s
   pub rule_topped : (r : ℕ) (w : List ℕ) → set r ≡ true → Yields P (Rule r ∷ []) w → IsAtLeastCut limit (top r) (cost_of cost w)
   rule_topped r w among tree = subst (λ o. IsAtLeastCut limit o (cost_of cost w)) (plus_zero (top r)) (row_topped tree (ap (λ b. b && true) among))
 
--- a word that the symbols yield, whose cost is this one, both cut down to the limit
-pub record Yielded (P : ℕ → List Sym → Type 0) (cost : ℕ → ℕ) (limit : ℕ) (a : List Sym) (c : ℕ) : Type 0 where
-  pub word : List ℕ
-  pub tree : Yields P a word
-  pub same : min c limit ≡ min (cost_of cost word) limit
-
 -- what a row costs in a table of costs of words is the cost of a word of it
 pub row_yielded : (P : ℕ → List Sym → Type 0) (cost : ℕ → ℕ) (limit : ℕ) (top : ℕ → Option ℕ)
     → ((r c : ℕ) → top r ≡ Some c → Yielded P cost limit (Rule r ∷ []) c)
     → (a : List Sym) (n : ℕ) → sum_of (symbol_cost cost top) a ≡ Some n → Yielded P cost limit a n
 row_yielded P cost limit top yielded a n e =
     let row = made_row P cost (symbol_cost cost top) (IsCutSame limit) (cut_over cost top limit) (λ s. Unit {0})
-        (λ r c q h. let y = yielded r c h in record { word = y.word; tree = y.tree; stands = y.same }) a n (λ k d h. tt) e in
+    (λ r c q h. let y = yielded r c h in record { word = y.word; tree = y.tree; stands = y.same }) a n (λ k d h. tt) e in
     record { word = row.word; tree = row.tree; same = row.stands }
 
 module _ (g : Grammar) (cost : ℕ → ℕ) (limit : ℕ) where
-  -- each cost of the table is that of a sentence, cut down to the limit
-  pub record AreReached (table : List (Option ℕ)) : Type 0 where
-    pub rules : length table ≡ g.rules
-    pub yielded : (r c : ℕ) → rule_cost table r ≡ Some c → Yielded (HasProduction g) cost limit (Rule r ∷ []) c
-    pub small : All (λ o. rank o ≤ limit + 1) table
-
-  pub none_reached : AreReached (replicate g.rules None)
+  pub none_reached : AreReached g cost limit (replicate g.rules None)
   none_reached = record {
     rules = length-replicate g.rules None;
     yielded = λ r c e. let no : None ≡ Some c = sym (get_or-replicate_default g.rules r None) ∙ e in absurd (cc);
     small = All-replicate (λ o. rank o ≤ limit + 1) g.rules None (omega arith);
   }
 
-  pub ranks_small : (table : List (Option ℕ)) → AreReached table → sum_by rank table ≤ g.rules * (limit + 1)
+  pub ranks_small : (table : List (Option ℕ)) → AreReached g cost limit table → sum_by rank table ≤ g.rules * (limit + 1)
   ranks_small table is = subst (λ n. sum_by rank table ≤ n * (limit + 1)) is.rules (sum_by-le rank (limit + 1) table is.small)
 
   -- a production that costs more than its rule does in the table
@@ -89,7 +74,7 @@ module _ (g : Grammar) (cost : ℕ → ℕ) (limit : ℕ) where
     pub is : sum_of (symbol_cost cost (rule_cost table)) p.symbols ≡ Some sum
     pub more : rank (rule_cost table p.rule) < min sum limit + 1
 
-  module _ (grammar : IsGrammar g) (table : List (Option ℕ)) (is : AreReached table) (p : Production) (b : Betters table p) where
+  module _ (grammar : IsGrammar g) (table : List (Option ℕ)) (is : AreReached g cost limit table) (p : Production) (b : Betters table p) where
     raised : List (Option ℕ)
     raised = slice_set table p.rule (Some (min b.sum limit))
 
@@ -100,7 +85,7 @@ module _ (g : Grammar) (cost : ℕ → ℕ) (limit : ℕ) where
       same = let e = h.same in omega (arith, e);
     }
 
-    pub raised_reached : AreReached (slice_set table p.rule (Some (min b.sum limit)))
+    pub raised_reached : AreReached g cost limit (slice_set table p.rule (Some (min b.sum limit)))
     raised_reached = record {
       rules = length-set table p.rule (Some (min b.sum limit)) ∙ is.rules;
       yielded = λ r c e. elim (get_or-set table p.rule r (Some (min b.sum limit)) None) [

@@ -1,4 +1,5 @@
 pub mod Rows
+pub mod Rising
 pub mod Growth
 pub mod Tops
 pub mod Peel

@@ -1,7 +1,10 @@
 -- Which rules may have bounded costs: those that no production shows to rise from rules outside.
-use Rattle.std.specs.Prelude.{◌≡◌, ℕ, ◌≤◌, ◌⊎◌, Bool, true, false, List}
-use Rattle.derivation.specs.Grammar.{Sym}
+use Rattle.std.specs.Prelude.{◌≡◌, ℕ, ◌≤◌, ◌⊎◌, Bool, true, false, List, [], ◌∷◌}
+use Rattle.derivation.specs.Grammar.{Sym, Rule}
+use Rattle.derivation.specs.Sentence.{cost_of}
+use Rattle.derivation.specs.Tree.{Yields}
 use Rattle.cfggreatest.specs.Rows.{are_in, count_positive}
+use Rattle.cfggreatest.specs.Rising.{AtLeast, Rises}
 
 module _ (live positive bounded further : ℕ → Bool) (a : List Sym) where
   -- if the row's rules all have sentences, they are all in the further set, and in the bounded one if two of the symbols
@@ -14,3 +17,29 @@ module _ (live positive bounded further : ℕ → Bool) (a : List Sym) where
   pub record Leaves : Type 0 where
     pub lives : are_in live a ≡ true
     pub outside : (are_in further a ≡ false) ⊎ ((are_in bounded a ≡ false) × (2 ≤ count_positive positive a))
+
+-- the set has each rule that has a production whose rules are all in it
+abbrev pub HasLive : (ℕ → List Sym → Type 0) → (ℕ → Bool) → Type 0
+HasLive P live = (r : ℕ) (symbols : List Sym) → P r symbols → are_in live symbols ≡ true → live r ≡ true
+
+-- no sentence of a rule in the set costs more than n
+abbrev pub IsBoundBy : (ℕ → List Sym → Type 0) → (ℕ → ℕ) → (ℕ → Bool) → ℕ → Type 0
+IsBoundBy P cost bounded n = (r : ℕ) (w : List ℕ) → bounded r ≡ true → Yields P (Rule r ∷ []) w → cost_of cost w ≤ n
+
+-- what the tables say of rules that have sentences, and sentences that cost something
+pub record AreSigns (P : ℕ → List Sym → Type 0) (cost : ℕ → ℕ) (live positive : ℕ → Bool) : Type 0 where
+  pub lives : (r : ℕ) → live r ≡ true → AtLeast P cost (Rule r ∷ []) 0
+  pub costs : (r : ℕ) → positive r ≡ true → AtLeast P cost (Rule r ∷ []) 1
+  pub has : HasLive P live
+  pub costly : (r : ℕ) (symbols : List Sym) → P r symbols → are_in live symbols ≡ true → 1 ≤ count_positive positive symbols → positive r ≡ true
+
+-- the set is closed under productions, and one number bounds its costs
+pub record AreBounded (P : ℕ → List Sym → Type 0) (cost : ℕ → ℕ) (live bounded : ℕ → Bool) : Type 0 where
+  pub bound : ℕ
+  pub limits : IsBoundBy P cost bounded bound
+  pub closed : (r : ℕ) (symbols : List Sym) → P r symbols → bounded r ≡ true → are_in live symbols ≡ true → are_in bounded symbols ≡ true
+
+-- a rule that was removed rises from a rule that is not bounded
+pub record IsRemoved (P : ℕ → List Sym → Type 0) (cost : ℕ → ℕ) (bounded : ℕ → Bool) (r : ℕ) : Type 0 where
+  pub some : AtLeast P cost (Rule r ∷ []) 0
+  pub rises : Rises P cost (λ x. bounded x ≡ false) (Rule r ∷ []) 1

@@ -1,7 +1,9 @@
 -- Tables of the costs that rules' sentences reach, cut down to a limit.
-use Rattle.std.specs.Prelude.{◌≡◌, ℕ, ◌<◌, ◌≤◌, ◌+◌, min, Bool, true, List, Option, Some, None, length, sum_by, slice_index_or}
-use Rattle.derivation.specs.Grammar.{Sym, Production, Grammar, HasProduction}
-use Rattle.derivation.specs.Sentence.{Sentence, cost_of}
+use Rattle.std.specs.Prelude.{◌≡◌, ℕ, zero, suc, ◌<◌, ◌≤◌, ◌+◌, min, Bool, true, false, List, [], ◌∷◌, All, Option, Some, None, length, sum_by}
+use Rattle.derivation.specs.Grammar.{Sym, Rule, Production, Grammar, HasProduction}
+use Rattle.derivation.specs.Sentence.{cost_of}
+use Rattle.derivation.specs.Tree.{Yields}
+use Rattle.cfganalysis.specs.Openings.{nth_production}
 use Rattle.cfgcosts.specs.Certificate.{rule_cost}
 use Rattle.cfgcosts.specs.Sums.{sum_of, symbol_cost}
 
@@ -20,3 +22,33 @@ IsTopped cost limit set table p = set p.rule ≡ true → (n : ℕ) → sum_of (
 abbrev pub rank : Option ℕ → ℕ
 rank None = 0
 rank (Some c) = c + 1
+
+abbrev pub sum_ranks : List (Option ℕ) → ℕ
+sum_ranks table = sum_by rank table
+
+-- a word that the symbols yield, whose cost is this one, both cut down to the limit
+pub record Yielded (P : ℕ → List Sym → Type 0) (cost : ℕ → ℕ) (limit : ℕ) (a : List Sym) (c : ℕ) : Type 0 where
+  pub word : List ℕ
+  pub tree : Yields P a word
+  pub same : min c limit ≡ min (cost_of cost word) limit
+
+-- each cost of the table is that of a sentence, cut down to the limit
+pub record AreReached (g : Grammar) (cost : ℕ → ℕ) (limit : ℕ) (table : List (Option ℕ)) : Type 0 where
+  pub rules : length table ≡ g.rules
+  pub yielded : (r c : ℕ) → rule_cost table r ≡ Some c → Yielded (HasProduction g) cost limit (Rule r ∷ []) c
+  pub small : All (λ o. rank o ≤ limit + 1) table
+
+-- no production of a rule in the set costs more than the rule
+abbrev pub AreTopped : Grammar → (ℕ → ℕ) → ℕ → (ℕ → Bool) → List (Option ℕ) → Type 0
+AreTopped g cost limit set table = (q : ℕ) → q < length g.productions → IsTopped cost limit set table (nth_production g q)
+
+-- a rule that has a cost in the table
+abbrev pub has_cost : Option ℕ → Bool
+has_cost None = false
+has_cost (Some c) = true
+
+-- a rule that has a cost above 0 in the table
+abbrev pub has_more : Option ℕ → Bool
+has_more None = false
+has_more (Some zero) = false
+has_more (Some (suc c)) = true
