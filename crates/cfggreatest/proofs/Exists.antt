@@ -22,7 +22,7 @@ module _ (g : Grammar) (cost : ℕ → ℕ) (limit : ℕ) (set : ℕ → Bool) w
   pub topped_at : (table : List (Option ℕ)) → AreTopped g cost limit set table → (r n : ℕ) (symbols : List Sym) → HasProduction g r symbols → set r ≡ true
       → sum_of (symbol_cost cost (rule_cost table)) symbols ≡ Some n → IsAtLeastCut limit (rule_cost table r) n
   topped_at table all r n symbols has among e = subst (IsTopped cost limit set table)
-      (get_or_default g.productions has.0 _ _ has.1 ∙ has.2) (all has.0 has.1) among n e
+      (get_or_default g.productions has.0 _ _ has.1 ∙ has.2) (all.each has.0 has.1) among n e
 
   by_sum : (table : List (Option ℕ)) (p : Production) → Contains g.productions p → (o : Option ℕ)
       → sum_of (symbol_cost cost (rule_cost table)) p.symbols ≡ o → Betters g cost limit table p ⊎ IsTopped cost limit set table p
@@ -65,7 +65,7 @@ module _ (g : Grammar) (cost : ℕ → ℕ) (limit : ℕ) (set : ℕ → Bool) w
         let more = raised_more g cost limit is table reached f.production f.betters in
         settle_table is fuel (slice_set table f.production.rule (Some (min f.betters.sum limit)))
         (raised_reached g cost limit is table reached f.production f.betters) (omega (arith, h, more))
-    | inr all ↦ record { table = table; reached = reached; all = all }
+    | inr all ↦ record { table = table; reached = reached; all = record { each = all } }
   ]
 
   pub tables_exist : IsGrammar g → Topped

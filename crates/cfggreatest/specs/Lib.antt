@@ -2,4 +2,5 @@ pub mod Rows
 pub mod Rising
 pub mod Growth
 pub mod Tops
+pub mod Raise
 pub mod Peel

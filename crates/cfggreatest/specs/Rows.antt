@@ -1,5 +1,5 @@
 -- Rows of symbols, seen through what is said of rules.
-use Rattle.std.specs.Prelude.{ℕ, ◌+◌, ◌&&◌, Bool, true, cond, List, [], ◌∷◌}
+use Rattle.std.specs.Prelude.{ℕ, ◌+◌, ◌&&◌, Bool, true, cond, List, [], ◌∷◌, slice_index_or}
 use Rattle.derivation.specs.Grammar.{Sym, Rule, Token}
 
 -- whether all rules of the row are in the set
@@ -13,3 +13,7 @@ abbrev pub count_positive : (ℕ → Bool) → List Sym → ℕ
 count_positive set [] = 0
 count_positive set (Rule r ∷ a) = cond (set r) 1 0 + count_positive set a
 count_positive set (Token t ∷ a) = 1 + count_positive set a
+
+-- a rule that the list has in the set; a rule past its end is in it
+abbrev pub in_set : List Bool → ℕ → Bool
+in_set bits r = slice_index_or bits r true

@@ -39,8 +39,8 @@ pub record AreReached (g : Grammar) (cost : ℕ → ℕ) (limit : ℕ) (table : 
   pub small : All (λ o. rank o ≤ limit + 1) table
 
 -- no production of a rule in the set costs more than the rule
-abbrev pub AreTopped : Grammar → (ℕ → ℕ) → ℕ → (ℕ → Bool) → List (Option ℕ) → Type 0
-AreTopped g cost limit set table = (q : ℕ) → q < length g.productions → IsTopped cost limit set table (nth_production g q)
+pub record AreTopped (g : Grammar) (cost : ℕ → ℕ) (limit : ℕ) (set : ℕ → Bool) (table : List (Option ℕ)) : Type 0 where
+  pub each : (q : ℕ) → q < length g.productions → IsTopped cost limit set table (nth_production g q)
 
 -- a rule that has a cost in the table
 abbrev pub has_cost : Option ℕ → Bool

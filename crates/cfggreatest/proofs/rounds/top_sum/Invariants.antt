@@ -1,0 +1,11 @@
+use Rattle.std.proofs.Common.{map, drop}
+use Rattle.std.specs.List.{slice_index}
+use Rattle.cfganalysis.specs.Symbols.{sym_of}
+use Rattle.cfgcosts.specs.Sums.{symbol_cost}
+use Rattle.cfgcosts.specs.Certificate.{rule_cost}
+use Rattle.cfggreatest.proofs.CutTo.{SumTo}
+use Rattle.cfggreatest.proofs.rounds.top_sum.Given as goal
+
+abbrev pub invariant-loop-symbol : goal.invariant-loop-symbol
+invariant-loop-symbol g l = SumTo l.limit (symbol_cost (slice_index l.costs) (rule_cost l.table)) (map (sym_of g.S.Storage.number) l.symbols)
+    (map (sym_of g.S.Storage.number) (drop l.symbol-index l.symbols)) l.sum
