@@ -1,5 +1,7 @@
 //! FIRST sets of a grammar.
 
+ghost use Rattle.std.specs.Prelude.{◌≡◌, ◌<◌, length};
+
 use crate::pen;
 use cfgrammar::yacc::YaccGrammar;
 use cfgrammar::yacc::firsts::YaccFirsts;
@@ -41,26 +43,46 @@ fn tokens_in<S: Storage>(grammar: &YaccGrammar<S>, firsts: &YaccFirsts<S>, ridx:
     tokens
 }
 
-/// Writes each rule's set: the tokens by their indices, and whether the rule is empty.
+/// Writes each rule's set: the tokens by their indices, where the two accessors differ, and whether the rule is empty.
 fn write_sets<S: Storage>(
     out: &mut String,
     grammar: &YaccGrammar<S>,
     firsts: &YaccFirsts<S>,
-) -> Result<(), AllocError> {
+) -> Result<(), AllocError>
+    requires { length firsts.now.firsts.rows ≡ length grammar.now.rules }
+{
     for ridx in grammar.iter_rules() {
-        pen::number(out, "    first of ", usize::from(ridx))?;
-        out.push(':')?;
-        for tidx in grammar.iter_tidxs() {
-            if firsts.is_set(ridx, tidx) {
-                pen::number(out, " ", usize::from(tidx))?;
-            }
-        }
-        if firsts.is_epsilon_set(ridx) {
-            out.push_str(" empty")?;
-        }
-        out.push('\n')?;
+        write_rule(out, grammar, firsts, ridx)?;
     }
     Ok(())
+}
+
+/// Writes a rule's set.
+fn write_rule<S: Storage>(
+    out: &mut String,
+    grammar: &YaccGrammar<S>,
+    firsts: &YaccFirsts<S>,
+    ridx: RIdx<S>,
+) -> Result<(), AllocError>
+    requires { S.number ridx.0 < length firsts.now.firsts.rows }
+{
+    pen::number(out, "    first of ", usize::from(ridx))?;
+    out.push(':')?;
+    let tokens = firsts.firsts(ridx);
+    for tidx in grammar.iter_tidxs() {
+        let begins = firsts.is_set(ridx, tidx);
+        if begins {
+            pen::number(out, " ", usize::from(tidx))?;
+        }
+        if tokens.get(usize::from(tidx)) != Some(begins) {
+            out.push_str(" differs")?;
+        }
+    }
+    out.push_str(if firsts.is_epsilon_set(ridx) {
+        " empty\n"
+    } else {
+        "\n"
+    })
 }
 
 /// Sets one bit of the FIRST sets of a grammar twice, and writes whether it was set before, and the sets.
