@@ -2,6 +2,7 @@
 pub mod firsts;
 pub mod follows;
 pub mod grammar;
+pub mod sentences;
 
 pub use cfgsyntax::yacc::{
     YaccFault, YaccGrammarError, YaccGrammarErrorKind, YaccGrammarResult, YaccGrammarWarning,

@@ -1,14 +1,17 @@
 //! A grammar as analyses go through it, and what they find.
 
-ghost use Rattle.std.specs.Prelude.{◌≡◌, ◌↔◌, ◌<◌, length, replicate, IfOk, IsTrue};
+ghost use Rattle.std.specs.Prelude.{◌≡◌, ◌↔◌, ℕ, ◌<◌, All, length, replicate, IfOk, IsTrue};
 ghost use Rattle.derivation.specs.Grammar.{HasProduction};
 ghost use Rattle.derivation.specs.Path.{Path};
 ghost use Rattle.cfganalysis.specs.Firsts.{AreFirsts};
 ghost use Rattle.cfganalysis.specs.Follows.{AreFollows};
+ghost use Rattle.cfgcosts.specs.Generator.{token_cost};
+ghost use Rattle.cfgindex.specs.declared.idxnewtype.TIdx.{TIdx};
 ghost use Rattle.cfgrammar.specs.Numbered.{core};
 
 use super::tables::YaccGrammar;
 use cfganalysis::{CountedTables, Tables, YaccFirsts, YaccFollows, has_path};
+use cfgcosts::SentenceGenerator;
 use cfgindex::{PIdx, RIdx, Storage, Symbol, TIdx};
 use std::alloc::{AllocError, Global};
 
@@ -92,6 +95,28 @@ impl<S: Storage> YaccGrammar<S> {
         ensures { IfOk result (λ b. IsTrue b ↔ Path (HasProduction (core self.now)) (S.number from.0) (S.number to.0)) }
     {
         has_path(alloc, self, from, to)
+    }
+
+    /// What the sentences of the grammar's rules cost, where a token costs what `cost` answers of it, at least 1. That
+    /// is asked once of each token, in order, the end token too.
+    ///
+    /// # Errors
+    ///
+    /// Want of memory.
+    pub fn sentence_generator<F: Fn(TIdx<S>) -> u8>(
+        &self,
+        alloc: Global,
+        cost: F,
+    ) -> Result<SentenceGenerator<'_, S, YaccGrammar<S>>, AllocError>
+        requires callable { F.IsAlwaysCallable cost }
+        requires positive { (t : TIdx S) (c : ℕ) → F.post cost t c → 0 < c }
+        ensures grammar { IfOk result (λ x. x.grammar ≡ core self.now) }
+        ensures tokens { IfOk result (λ x. length x.costs ≡ length self.now.tokens) }
+        ensures positive { IfOk result (λ x. All (λ c. 0 < c) x.costs) }
+        ensures costs { IfOk result (λ x. (t : TIdx S) → S.number t.0 < length self.now.tokens
+            → F.post cost t (token_cost x (S.number t.0))) }
+    {
+        SentenceGenerator::new(alloc, self, cost)
     }
 
     /// The grammar's productions, which are opened one at a time and counted.
