@@ -1,5 +1,5 @@
 -- A table that is cut down to 1 tells which rules have sentences, and which have sentences that cost something.
-use Rattle.std.proofs.Common.{◌≡◌, ℕ, zero, suc, ◌+◌, ◌<◌, ◌≤◌, true, cond, List, [], ◌∷◌, length, Option, Some, None, All, refl, sym, ap, arith, true≢false}
+use Rattle.std.proofs.Common.{◌≡◌, ℕ, zero, Bool, suc, ◌+◌, ◌<◌, ◌≤◌, true, cond, List, [], ◌∷◌, length, Option, Some, None, All, refl, sym, ap, arith, true≢false}
 use Rattle.std.specs.List.{slice_index}
 use Rattle.std.proofs.lemmas.Bool.{and_parts}
 use Rattle.std.proofs.lemmas.List.Elements.{All-head, All-tail, All-get_or}
@@ -69,7 +69,7 @@ module _ (cost : ℕ → ℕ) (top : ℕ → Option ℕ) where
       }
 
 module _ (g : Grammar) (cost : ℕ → ℕ) (table : List (Option ℕ)) (reached : AreReached g cost 1 table)
-    (all : AreTopped g cost 1 (λ r. true) table)
+    (set : ℕ → Bool) (everything : (r : ℕ) → set r ≡ true) (all : AreTopped g cost 1 set table)
     (tokens : (r : ℕ) (symbols : List Sym) → HasProduction g r symbols → TokensCost cost symbols) where
   more_costs : (r : ℕ) (o : Option ℕ) → rule_cost table r ≡ o → has_more o ≡ true → AtLeast (HasProduction g) cost (Rule r ∷ []) 1
   more_costs r None e h = absurd (true≢false (sym h))
@@ -84,11 +84,11 @@ module _ (g : Grammar) (cost : ℕ → ℕ) (table : List (Option ℕ)) (reached
     costs = λ r h. more_costs r (rule_cost table r) refl h;
     has = λ r symbols p live.
         let s = row_sum cost (rule_cost table) symbols live (tokens r symbols p) in
-        let t = topped_at g cost 1 (λ r. true) table all r s.value symbols p refl s.is in
+        let t = topped_at g cost 1 set table all r s.value symbols p (everything r) s.is in
         ap has_cost t.is;
     costly = λ r symbols p live many.
         let s = row_sum cost (rule_cost table) symbols live (tokens r symbols p) in
-        let t = topped_at g cost 1 (λ r. true) table all r s.value symbols p refl s.is in
+        let t = topped_at g cost 1 set table all r s.value symbols p (everything r) s.is in
         let within = t.within in
         more_from (rule_cost table r) t.value t.is (omega (arith, within, s.more many));
   }

@@ -2,17 +2,20 @@
 use Rattle.std.specs.Prelude.{ℕ, ◌+◌, ◌&&◌, Bool, true, cond, List, [], ◌∷◌, slice_index_or}
 use Rattle.derivation.specs.Grammar.{Sym, Rule, Token}
 
+-- whether a rule is in the set; a token is
+abbrev pub is_in : (ℕ → Bool) → Sym → Bool
+is_in set (Rule r) = set r
+is_in set (Token t) = true
+
 -- whether all rules of the row are in the set
 abbrev pub are_in : (ℕ → Bool) → List Sym → Bool
 are_in set [] = true
-are_in set (Rule r ∷ a) = set r && are_in set a
-are_in set (Token t ∷ a) = are_in set a
+are_in set (s ∷ a) = is_in set s && are_in set a
 
 -- how many symbols of the row are tokens, or rules of the set
 abbrev pub count_positive : (ℕ → Bool) → List Sym → ℕ
 count_positive set [] = 0
-count_positive set (Rule r ∷ a) = cond (set r) 1 0 + count_positive set a
-count_positive set (Token t ∷ a) = 1 + count_positive set a
+count_positive set (s ∷ a) = cond (is_in set s) 1 0 + count_positive set a
 
 -- a rule that the list has in the set; a rule past its end is in it
 abbrev pub in_set : List Bool → ℕ → Bool

@@ -52,3 +52,10 @@ abbrev pub has_more : Option ℕ → Bool
 has_more None = false
 has_more (Some zero) = false
 has_more (Some (suc c)) = true
+
+-- the rules that have a cost in the table, and those that have one above 0
+abbrev pub live_in : List (Option ℕ) → ℕ → Bool
+live_in table r = has_cost (rule_cost table r)
+
+abbrev pub positive_in : List (Option ℕ) → ℕ → Bool
+positive_in table r = has_more (rule_cost table r)

@@ -1,21 +1,22 @@
 //! The costs that rules' sentences reach, cut down to a limit: rounds over all productions, till one raises nothing.
 
 ghost use Rattle.std.specs.Prelude.{◌≡◌, ◌↔◌, ℕ, ◌<◌, ◌≤◌, ◌+◌, All, Contains, false, true, IfOk, IsTrue, List, None, Option, Some, length, map, min, option_map, replicate, slice_index, slice_index_or};
-ghost use Rattle.derivation.specs.Grammar.{Grammar, IsGrammar};
+ghost use Rattle.derivation.specs.Grammar.{Grammar, HasProduction, IsGrammar};
 ghost use Rattle.cfganalysis.specs.Rounds.{Sweeps, TakesIn};
 ghost use Rattle.cfganalysis.specs.Symbols.{sym_of};
 ghost use Rattle.cfgcosts.specs.Certificate.{IsListed, rule_cost, sum_by_lists};
 ghost use Rattle.cfgcosts.specs.Sums.{symbol_cost};
 ghost use Rattle.cfggreatest.specs.Raise.{Raises};
 ghost use Rattle.cfggreatest.specs.Rows.{in_set};
-ghost use Rattle.cfggreatest.specs.Tops.{AreReached, AreTopped, IsTopped, rank, sum_ranks};
+ghost use Rattle.cfggreatest.specs.Tops.{AreReached, AreTopped, IsTopped, live_in, positive_in, rank, sum_ranks};
+ghost use Rattle.cfggreatest.specs.Peel.{AreSigns};
 
 use cfganalysis::Tables;
 use cfgindex::{PIdx, RIdx, Storage, Symbol, to_storage};
 use std::alloc::{AllocError, Global};
 
 /// The cost of a rule in the table.
-fn rule_top(table: &[Option<u32>], rule: usize) -> Option<u32>
+pub(crate) fn rule_top(table: &[Option<u32>], rule: usize) -> Option<u32>
     requires { rule < length table.now }
     ensures { result ≡ rule_cost table.now rule }
 {
@@ -184,5 +185,36 @@ pub(crate) fn tops<S: Storage, T: Tables<S>>(
     let rules_len = grm.rules_len().0.to_usize();
     let mut table = vec![in alloc; None; rules_len]?;
     settle(grm, costs, set, limit, &mut table);
+    Ok(table)
+}
+
+/// A set of all rules.
+///
+/// # Errors
+///
+/// Want of memory.
+fn all_rules(alloc: Global, rules: usize) -> Result<Vec<bool>, AllocError>
+    ensures { IfOk result (λ set. set.items ≡ replicate rules true) }
+{
+    Ok(vec![in alloc; true; rules]?)
+}
+
+/// For each rule that has a sentence 1 if some sentence of it costs something, and else 0.
+///
+/// # Errors
+///
+/// Want of memory.
+pub fn signs<S: Storage, T: Tables<S>>(
+    alloc: Global,
+    grm: &T,
+    costs: &[u8],
+) -> Result<Vec<Option<u32>>, AllocError>
+    requires costs { length costs.now ≡ (T.grammar grm.now).tokens }
+    requires positive { All (λ c. 1 ≤ c) costs.now }
+    ensures { IfOk result (λ x. AreSigns (HasProduction (T.grammar grm.now)) (slice_index costs.now) (live_in x.items) (positive_in x.items)) }
+{
+    let rules_len = grm.rules_len().0.to_usize();
+    let everything = all_rules(alloc, rules_len)?;
+    let table = tops(alloc, grm, costs, &everything, 1)?;
     Ok(table)
 }

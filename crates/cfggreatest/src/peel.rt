@@ -1,0 +1,119 @@
+//! Which rules have bounded costs: a rule is removed where a production shows that it rises from rules that are not bounded.
+
+ghost use Rattle.std.specs.Prelude.{◌≡◌, ℕ, ◌<◌, ◌≤◌, All, Bool, Contains, IfOk, List, Option, false, length, map, true};
+ghost use Rattle.derivation.specs.Grammar.{Grammar, IsGrammar};
+ghost use Rattle.cfganalysis.specs.Rounds.{Sweeps, TakesIn};
+ghost use Rattle.cfganalysis.specs.Symbols.{sym_of};
+ghost use Rattle.cfgcosts.specs.Certificate.{IsListed};
+ghost use Rattle.cfggreatest.specs.Rows.{are_in, count_positive, in_set, is_in};
+ghost use Rattle.cfggreatest.specs.Tops.{has_more, live_in, positive_in};
+ghost use Rattle.cfggreatest.specs.Peel.{Keeps, Leaves};
+
+use crate::rounds::rule_top;
+use cfganalysis::Tables;
+use cfgindex::{PIdx, Storage, Symbol, to_storage};
+use std::alloc::{AllocError, Global};
+
+/// Whether a rule is in the set; a token is.
+fn is_in<S: Storage>(set: &[bool], symbol: Symbol<S>) -> bool
+    requires { (tokens : ℕ) × IsListed (length set.now) tokens (sym_of S.number symbol) }
+    ensures { result ≡ is_in (in_set set.now) (sym_of S.number symbol) }
+{
+    match symbol {
+        Symbol::Rule(rule) => set[usize::from(rule)],
+        Symbol::Token(_) => true,
+    }
+}
+
+/// Whether the rules among the symbols are all in the set.
+fn are_in<S: Storage>(set: &[bool], symbols: &[Symbol<S>]) -> bool
+    requires { (tokens : ℕ) × All (IsListed (length set.now) tokens) (map (sym_of S.number) symbols.now) }
+    ensures { result ≡ are_in (in_set set.now) (map (sym_of S.number) symbols.now) }
+{
+    for symbol in symbols {
+        if !is_in(set, *symbol) {
+            return false;
+        }
+    }
+    true
+}
+
+/// Whether a rule has a sentence; a token is one.
+fn is_live<S: Storage>(signs: &[Option<u32>], symbol: Symbol<S>) -> bool
+    requires { (tokens : ℕ) × IsListed (length signs.now) tokens (sym_of S.number symbol) }
+    ensures { result ≡ is_in (live_in signs.now) (sym_of S.number symbol) }
+{
+    match symbol {
+        Symbol::Rule(rule) => rule_top(signs, usize::from(rule)).is_some(),
+        Symbol::Token(_) => true,
+    }
+}
+
+/// Whether the rules among the symbols all have sentences.
+fn are_live<S: Storage>(signs: &[Option<u32>], symbols: &[Symbol<S>]) -> bool
+    requires { (tokens : ℕ) × All (IsListed (length signs.now) tokens) (map (sym_of S.number) symbols.now) }
+    ensures { result ≡ are_in (live_in signs.now) (map (sym_of S.number) symbols.now) }
+{
+    for symbol in symbols {
+        if !is_live(signs, *symbol) {
+            return false;
+        }
+    }
+    true
+}
+
+/// Whether a cost is there and above 0.
+fn is_more(cost: Option<u32>) -> bool
+    ensures { result ≡ has_more cost }
+{
+    match cost {
+        Some(cost) => cost > 0,
+        None => false,
+    }
+}
+
+/// Whether a symbol is a token, or a rule with a sentence that costs something.
+fn is_positive<S: Storage>(signs: &[Option<u32>], symbol: Symbol<S>) -> bool
+    requires { (tokens : ℕ) × IsListed (length signs.now) tokens (sym_of S.number symbol) }
+    ensures { result ≡ is_in (positive_in signs.now) (sym_of S.number symbol) }
+{
+    match symbol {
+        Symbol::Rule(rule) => is_more(rule_top(signs, usize::from(rule))),
+        Symbol::Token(_) => true,
+    }
+}
+
+/// How many of the symbols are positive.
+fn count_positive<S: Storage>(signs: &[Option<u32>], symbols: &[Symbol<S>]) -> usize
+    requires { (tokens : ℕ) × All (IsListed (length signs.now) tokens) (map (sym_of S.number) symbols.now) }
+    ensures { result ≡ count_positive (positive_in signs.now) (map (sym_of S.number) symbols.now) }
+{
+    let mut count = 0;
+    for symbol in symbols {
+        count += usize::from(is_positive(signs, *symbol));
+    }
+    count
+}
+
+/// Whether a production keeps its rule in the further set.
+fn is_kept<S: Storage>(
+    signs: &[Option<u32>],
+    bounded: &[bool],
+    further: &[bool],
+    symbols: &[Symbol<S>],
+) -> bool
+    requires { (tokens : ℕ) × All (IsListed (length signs.now) tokens) (map (sym_of S.number) symbols.now)
+        × (length bounded.now ≡ length signs.now) × (length further.now ≡ length signs.now) }
+    ensures keeps { result ≡ true → Keeps (live_in signs.now) (positive_in signs.now) (in_set bounded.now) (in_set further.now)
+        (map (sym_of S.number) symbols.now) }
+    ensures leaves { result ≡ false → Leaves (live_in signs.now) (positive_in signs.now) (in_set bounded.now) (in_set further.now)
+        (map (sym_of S.number) symbols.now) }
+{
+    if !are_live(signs, symbols) {
+        return true;
+    }
+    if !are_in(further, symbols) {
+        return false;
+    }
+    are_in(bounded, symbols) || count_positive(signs, symbols) <= 1
+}
