@@ -1,10 +1,11 @@
 -- Which rules may have bounded costs: those that no production shows to rise from rules outside.
-use Rattle.std.specs.Prelude.{◌≡◌, ℕ, ◌≤◌, ◌⊎◌, Bool, true, false, List, [], ◌∷◌}
-use Rattle.derivation.specs.Grammar.{Sym, Rule}
+use Rattle.std.specs.Prelude.{◌≡◌, ℕ, ◌≤◌, ◌⊎◌, Bool, true, false, cond, List, [], ◌∷◌, Option, length, slice_set, sum_by}
+use Rattle.derivation.specs.Grammar.{Sym, Rule, Grammar, Production, HasProduction}
 use Rattle.derivation.specs.Sentence.{cost_of}
 use Rattle.derivation.specs.Tree.{Yields}
-use Rattle.cfggreatest.specs.Rows.{are_in, count_positive}
-use Rattle.cfggreatest.specs.Rising.{AtLeast, Rises}
+use Rattle.cfggreatest.specs.Rows.{are_in, count_positive, in_set}
+use Rattle.cfggreatest.specs.Rising.{AtLeast, Rises, TokensCost}
+use Rattle.cfggreatest.specs.Tops.{live_in, positive_in}
 
 module _ (live positive bounded further : ℕ → Bool) (a : List Sym) where
   -- if the row's rules all have sentences, they are all in the further set, and in the bounded one if two of the symbols
@@ -43,3 +44,26 @@ pub record AreBounded (P : ℕ → List Sym → Type 0) (cost : ℕ → ℕ) (li
 pub record IsRemoved (P : ℕ → List Sym → Type 0) (cost : ℕ → ℕ) (bounded : ℕ → Bool) (r : ℕ) : Type 0 where
   pub some : AtLeast P cost (Rule r ∷ []) 0
   pub rises : Rises P cost (λ x. bounded x ≡ false) (Rule r ∷ []) 1
+
+-- removed rules rise from rules that are not bounded, whatever the costs for which the signs are true
+pub record IsPeeled (g : Grammar) (signs : List (Option ℕ)) (bounded further : List Bool) : Type 0 where
+  pub rules : length further ≡ g.rules
+  pub removed : (cost : ℕ → ℕ) → AreSigns (HasProduction g) cost (live_in signs) (positive_in signs)
+      → ((r : ℕ) (symbols : List Sym) → HasProduction g r symbols → TokensCost cost symbols)
+      → (r : ℕ) → in_set further r ≡ false → IsRemoved (HasProduction g) cost (in_set bounded) r
+
+-- a rule of the further set is kept by its production
+abbrev pub IsKept : List (Option ℕ) → List Bool → List Bool → Production → Type 0
+IsKept signs bounded further p = in_set further p.rule ≡ true → Keeps (live_in signs) (positive_in signs) (in_set bounded) (in_set further) p.symbols
+
+-- how many rules were removed
+abbrev pub count_removed : List Bool → ℕ
+count_removed further = sum_by (λ b. cond b 0 1) further
+
+-- the rule was removed, if it was in the further set and its production leaves; else all stays
+pub record Peels (signs : List (Option ℕ)) (bounded : List Bool) (rule : ℕ) (symbols : List Sym) (old new : List Bool) (changed : Bool) : Type 0 where
+  pub leaves : changed ≡ true → Leaves (live_in signs) (positive_in signs) (in_set bounded) (in_set old) symbols
+  pub was : changed ≡ true → in_set old rule ≡ true
+  pub put : changed ≡ true → new ≡ slice_set old rule false
+  pub same : changed ≡ false → new ≡ old
+  pub kept : changed ≡ false → in_set old rule ≡ true → Keeps (live_in signs) (positive_in signs) (in_set bounded) (in_set old) symbols

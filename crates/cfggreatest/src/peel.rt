@@ -2,12 +2,12 @@
 
 ghost use Rattle.std.specs.Prelude.{◌≡◌, ℕ, ◌<◌, ◌≤◌, All, Bool, Contains, IfOk, List, Option, false, length, map, true};
 ghost use Rattle.derivation.specs.Grammar.{Grammar, IsGrammar};
-ghost use Rattle.cfganalysis.specs.Rounds.{Sweeps, TakesIn};
+ghost use Rattle.cfganalysis.specs.Rounds.{IsSettled, Sweeps};
 ghost use Rattle.cfganalysis.specs.Symbols.{sym_of};
 ghost use Rattle.cfgcosts.specs.Certificate.{IsListed};
 ghost use Rattle.cfggreatest.specs.Rows.{are_in, count_positive, in_set, is_in};
 ghost use Rattle.cfggreatest.specs.Tops.{has_more, live_in, positive_in};
-ghost use Rattle.cfggreatest.specs.Peel.{Keeps, Leaves};
+ghost use Rattle.cfggreatest.specs.Peel.{IsKept, IsPeeled, Keeps, Leaves, Peels, count_removed};
 
 use crate::rounds::rule_top;
 use cfganalysis::Tables;
@@ -116,4 +116,68 @@ fn is_kept<S: Storage>(
         return false;
     }
     are_in(bounded, symbols) || count_positive(signs, symbols) <= 1
+}
+
+/// Removes a rule from the further set where its production shows that it rises, and tells whether it removed it.
+fn peel_one<S: Storage>(
+    signs: &[Option<u32>],
+    bounded: &[bool],
+    further: &mut [bool],
+    rule: usize,
+    symbols: &[Symbol<S>],
+) -> bool
+    requires listed { (tokens : ℕ) × All (IsListed (length signs.now) tokens) (map (sym_of S.number) symbols.now)
+        × (length bounded.now ≡ length signs.now) × (length further.old ≡ length signs.now) }
+    requires rule { rule < length further.old }
+    ensures { Peels signs.now bounded.now rule (map (sym_of S.number) symbols.now) further.old further.new result }
+{
+    if !further[rule] || is_kept(signs, bounded, further, symbols) {
+        return false;
+    }
+    further[rule] = false;
+    true
+}
+
+/// One round over all productions. It tells whether a rule was removed.
+fn peel_round<S: Storage, T: Tables<S>>(
+    grm: &T,
+    signs: &[Option<u32>],
+    bounded: &[bool],
+    further: &mut [bool],
+) -> bool
+    requires signs { length signs.now ≡ (T.grammar grm.now).rules }
+    requires bounded { length bounded.now ≡ (T.grammar grm.now).rules }
+    requires peeled { IsPeeled (T.grammar grm.now) signs.now bounded.now further.old }
+    requires content { IsGrammar (T.grammar grm.now) }
+    ensures { Sweeps (λ g x. IsPeeled g signs.now bounded.now x) (λ x p. IsKept signs.now bounded.now x p) count_removed (T.grammar grm.now)
+        (length (T.grammar grm.now).productions) further.old further.new result }
+{
+    let mut changed = false;
+    let prods_len = grm.prods_len().0.to_usize();
+    for number in 0..prods_len {
+        let p = PIdx(to_storage(number));
+        let rule = usize::from(grm.prod_to_rule(p));
+        changed |= peel_one(signs, bounded, further, rule, grm.prod(p));
+    }
+    changed
+}
+
+/// Removes rules from the further set, till every production keeps its rule.
+fn peel<S: Storage, T: Tables<S>>(
+    grm: &T,
+    signs: &[Option<u32>],
+    bounded: &[bool],
+    further: &mut [bool],
+)
+    requires signs { length signs.now ≡ (T.grammar grm.now).rules }
+    requires bounded { length bounded.now ≡ (T.grammar grm.now).rules }
+    requires peeled { IsPeeled (T.grammar grm.now) signs.now bounded.now further.old }
+    requires content { IsGrammar (T.grammar grm.now) }
+    ensures peeled { IsPeeled (T.grammar grm.now) signs.now bounded.now further.new }
+    ensures kept { IsSettled (λ x p. IsKept signs.now bounded.now x p) (T.grammar grm.now) further.new }
+{
+    let mut changed = true;
+    while changed {
+        changed = peel_round(grm, signs, bounded, further);
+    }
 }
