@@ -1,5 +1,5 @@
 -- A rule is removed from the further set, or its production keeps it.
-use Rattle.std.proofs.Common.{◌≡◌, ℕ, ◌+◌, ◌-◌, ◌<◌, ◌≤◌, inl, inr, Bool, true, false, cond, List, Option, Contains, length, get_or, slice_set, length-set, sym, ap, subst, ◌∙◌, arith, true≢false, refl}
+use Rattle.std.proofs.Common.{◌≡◌, ℕ, ◌<◌, ◌≤◌, inl, inr, Bool, true, false, cond, List, Option, Contains, length, get_or, slice_set, length-set, sym, ap, subst, ◌∙◌, arith}
 use Rattle.std.proofs.lemmas.Bool.{cases_Bool}
 use Rattle.std.proofs.lemmas.List.Sums.{sum_by-set, sum_by-le}
 use Rattle.lemmas.proofs.Elements.{get_or-set}
@@ -46,12 +46,3 @@ module _ (signs : List (Option ℕ)) (bounded : List Bool) (rule : ℕ) (symbols
     same = h.same;
     closed = λ e among. h.kept e among;
   }
-
--- rounds end: each adds to the size, or is the last
-pub round_smaller_by : {X : Type 0} (size : X → ℕ) (most : ℕ) (old new : X) (changed again : Bool) → changed ≡ true → size new ≤ most
-    → (again ≡ true → size old < size new) → (again ≡ false → new ≡ old)
-    → (most - size new) + cond again 1 0 < (most - size old) + cond changed 1 0
-round_smaller_by size most old new true true on few more same = let h = more refl in omega (arith, h, few)
-round_smaller_by size most old new true false on few more same =
-    subst (λ x. (most - size x) + 0 < (most - size old) + 1) (sym (same refl)) (omega arith)
-round_smaller_by size most old new false again on few more same = absurd (true≢false (sym on))

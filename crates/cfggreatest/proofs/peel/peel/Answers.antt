@@ -1,7 +1,8 @@
 use Rattle.std.proofs.Common.{◌≤◌, sym, subst}
 use Rattle.cfganalysis.specs.Openings.{nth_production}
 use Rattle.cfggreatest.specs.Peel.{IsKept, count_removed}
-use Rattle.cfggreatest.proofs.Removing.{few_removed, round_smaller_by}
+use Rattle.cfggreatest.proofs.Ending.{round_smaller_by}
+use Rattle.cfggreatest.proofs.Removing.{few_removed}
 use Rattle.cfggreatest.proofs.peel.peel.Goals as goal
 
 pub loop-changed-smaller : goal.loop-changed-smaller
