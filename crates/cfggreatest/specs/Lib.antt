@@ -4,3 +4,4 @@ pub mod Growth
 pub mod Tops
 pub mod Raise
 pub mod Peel
+pub mod Merge
