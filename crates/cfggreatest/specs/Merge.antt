@@ -1,5 +1,5 @@
 -- Two sets of rules made one.
-use Rattle.std.specs.Prelude.{◌≡◌, ℕ, ◌<◌, ◌⊎◌, Bool, true, false, List, length}
+use Rattle.std.specs.Prelude.{◌≡◌, ℕ, ◌<◌, ◌⊎◌, Bool, true, false, List, length, slice_set}
 use Rattle.cfggreatest.specs.Rows.{in_set}
 use Rattle.cfggreatest.specs.Peel.{count_removed}
 
@@ -11,3 +11,11 @@ pub record Merges (n : ℕ) (further old new : List Bool) (changed : Bool) : Typ
   pub added : (r : ℕ) → r < n → in_set further r ≡ true → in_set new r ≡ true
   pub same : changed ≡ false → new ≡ old
   pub fewer : changed ≡ true → count_removed new < count_removed old
+
+-- the rule was added, if it is in the further set and was not there; else all stays
+pub record Adds (rule : ℕ) (further old new : List Bool) (changed : Bool) : Type 0 where
+  pub among : changed ≡ true → in_set further rule ≡ true
+  pub missed : changed ≡ true → in_set old rule ≡ false
+  pub put : changed ≡ true → new ≡ slice_set old rule true
+  pub same : changed ≡ false → new ≡ old
+  pub had : changed ≡ false → in_set further rule ≡ true → in_set old rule ≡ true

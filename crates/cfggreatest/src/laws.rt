@@ -29,7 +29,8 @@ pub fn bounds_give_bounds()
         → AreSigns (HasProduction g) cost live positive → AreBounded (HasProduction g) cost live bounded
         → ((t : ℕ) → cost t ≤ dearest)
         → ((r : ℕ) (symbols : List Sym) → HasProduction g r symbols → length symbols ≤ longest)
-        → ((r : ℕ) (symbols : List Sym) → HasProduction g r symbols → further r ≡ true → Keeps live positive bounded further symbols)
+        → ((r : ℕ) (symbols : List Sym) → HasProduction g r symbols → further r ≡ true
+        → Keeps live positive bounded further symbols)
         → ((r : ℕ) → bounded r ≡ true → next r ≡ true) → ((r : ℕ) → further r ≡ true → next r ≡ true)
         → ((r : ℕ) → next r ≡ true → (bounded r ≡ true) ⊎ (further r ≡ true))
         → AreBounded (HasProduction g) cost live next }
@@ -46,16 +47,17 @@ pub fn removed_rules_are_unbounded()
 
 /// A table that no production of a bounded set betters has the greatest costs of its rules, cut down to the limit.
 pub fn topped_tables_show_greatest()
-    ensures none { (g : Grammar) (cost : ℕ → ℕ) (limit : ℕ) (live set : ℕ → Bool) (positive : ℕ → Bool) (table : List (Option ℕ))
+    ensures none { (g : Grammar) (cost : ℕ → ℕ) (limit : ℕ) (live positive set : ℕ → Bool) (table : List (Option ℕ))
         → IsGrammar g → AreSigns (HasProduction g) cost live positive → AreBounded (HasProduction g) cost live set
         → AreReached g cost limit table → AreTopped g cost limit set table → (r : ℕ) → set r ≡ true
         → rule_cost table r ≡ None → (w : List ℕ) → Sentence (HasProduction g) r w → ⊥ }
-    ensures greatest { (g : Grammar) (cost : ℕ → ℕ) (limit : ℕ) (live set : ℕ → Bool) (positive : ℕ → Bool) (table : List (Option ℕ))
+    ensures greatest { (g : Grammar) (cost : ℕ → ℕ) (limit : ℕ) (live positive set : ℕ → Bool) (table : List (Option ℕ))
         → IsGrammar g → AreSigns (HasProduction g) cost live positive → AreBounded (HasProduction g) cost live set
         → AreReached g cost limit table → AreTopped g cost limit set table → (r : ℕ) → set r ≡ true
         → (c : ℕ) → rule_cost table r ≡ Some c → c < limit → Greatest (HasProduction g) cost r c }
-    ensures larger { (g : Grammar) (cost : ℕ → ℕ) (limit : ℕ) (live set : ℕ → Bool) (positive : ℕ → Bool) (table : List (Option ℕ))
+    ensures larger { (g : Grammar) (cost : ℕ → ℕ) (limit : ℕ) (live positive set : ℕ → Bool) (table : List (Option ℕ))
         → IsGrammar g → AreSigns (HasProduction g) cost live positive → AreBounded (HasProduction g) cost live set
         → AreReached g cost limit table → AreTopped g cost limit set table → (r : ℕ) → set r ≡ true
-        → (c : ℕ) → rule_cost table r ≡ Some c → limit ≤ c → (n : ℕ) × Greatest (HasProduction g) cost r n × (limit ≤ n) }
+        → (c : ℕ) → rule_cost table r ≡ Some c → limit ≤ c
+        → (n : ℕ) × Greatest (HasProduction g) cost r n × (limit ≤ n) }
 {}

@@ -1,4 +1,5 @@
-//! Which rules have bounded costs: a rule is removed where a production shows that it rises from rules that are not bounded.
+//! Which rules have bounded costs: a rule is removed where a production shows that it rises from rules that are not
+//! bounded.
 
 ghost use Rattle.std.specs.Prelude.{◌≡◌, ℕ, ◌<◌, ◌≤◌, All, Bool, Contains, IfOk, List, Option, false, length, map, true};
 ghost use Rattle.derivation.specs.Grammar.{Grammar, IsGrammar};
@@ -7,6 +8,7 @@ ghost use Rattle.cfganalysis.specs.Symbols.{sym_of};
 ghost use Rattle.cfgcosts.specs.Certificate.{IsListed};
 ghost use Rattle.cfggreatest.specs.Rows.{are_in, count_positive, in_set, is_in};
 ghost use Rattle.cfggreatest.specs.Tops.{has_more, live_in, positive_in};
+ghost use Rattle.cfggreatest.specs.Merge.{Adds, Merges};
 ghost use Rattle.cfggreatest.specs.Peel.{IsKept, IsPeeled, Keeps, Leaves, Peels, count_removed};
 
 use crate::rounds::rule_top;
@@ -104,10 +106,10 @@ fn is_kept<S: Storage>(
 ) -> bool
     requires { (tokens : ℕ) × All (IsListed (length signs.now) tokens) (map (sym_of S.number) symbols.now)
         × (length bounded.now ≡ length signs.now) × (length further.now ≡ length signs.now) }
-    ensures keeps { result ≡ true → Keeps (live_in signs.now) (positive_in signs.now) (in_set bounded.now) (in_set further.now)
-        (map (sym_of S.number) symbols.now) }
-    ensures leaves { result ≡ false → Leaves (live_in signs.now) (positive_in signs.now) (in_set bounded.now) (in_set further.now)
-        (map (sym_of S.number) symbols.now) }
+    ensures keeps { result ≡ true → Keeps (live_in signs.now) (positive_in signs.now) (in_set bounded.now)
+        (in_set further.now) (map (sym_of S.number) symbols.now) }
+    ensures leaves { result ≡ false → Leaves (live_in signs.now) (positive_in signs.now) (in_set bounded.now)
+        (in_set further.now) (map (sym_of S.number) symbols.now) }
 {
     if !are_live(signs, symbols) {
         return true;
@@ -149,8 +151,8 @@ fn peel_round<S: Storage, T: Tables<S>>(
     requires bounded { length bounded.now ≡ (T.grammar grm.now).rules }
     requires peeled { IsPeeled (T.grammar grm.now) signs.now bounded.now further.old }
     requires content { IsGrammar (T.grammar grm.now) }
-    ensures { Sweeps (λ g x. IsPeeled g signs.now bounded.now x) (λ x p. IsKept signs.now bounded.now x p) count_removed (T.grammar grm.now)
-        (length (T.grammar grm.now).productions) further.old further.new result }
+    ensures { Sweeps (λ g x. IsPeeled g signs.now bounded.now x) (λ x p. IsKept signs.now bounded.now x p) count_removed
+        (T.grammar grm.now) (length (T.grammar grm.now).productions) further.old further.new result }
 {
     let mut changed = false;
     let prods_len = grm.prods_len().0.to_usize();
@@ -180,4 +182,29 @@ fn peel<S: Storage, T: Tables<S>>(
     while changed {
         changed = peel_round(grm, signs, bounded, further);
     }
+}
+
+/// Adds the rule to the set, if it is in the further one, and tells whether it was not there.
+fn add_one(bounded: &mut [bool], further: &[bool], rule: usize) -> bool
+    requires bounded { rule < length bounded.old }
+    requires further { rule < length further.now }
+    ensures { Adds rule further.now bounded.old bounded.new result }
+{
+    if !further[rule] || bounded[rule] {
+        return false;
+    }
+    bounded[rule] = true;
+    true
+}
+
+/// Adds the further rules to the set, and tells whether one of them was not there.
+fn merge(bounded: &mut [bool], further: &[bool]) -> bool
+    requires { length further.now ≡ length bounded.old }
+    ensures { Merges (length bounded.old) further.now bounded.old bounded.new result }
+{
+    let mut changed = false;
+    for rule in 0..further.len() {
+        changed |= add_one(bounded, further, rule);
+    }
+    changed
 }

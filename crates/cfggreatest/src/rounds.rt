@@ -51,7 +51,8 @@ fn top_sum<S: Storage>(
 ) -> Option<u32>
     requires listed { All (IsListed (length table.now) (length costs.now)) (map (sym_of S.number) symbols.now) }
     requires limit { limit < 4294967295 }
-    ensures { result ≡ option_map (λ n. min n limit) (sum_by_lists costs.now table.now (map (sym_of S.number) symbols.now)) }
+    ensures { result ≡ option_map (λ n. min n limit)
+        (sum_by_lists costs.now table.now (map (sym_of S.number) symbols.now)) }
 {
     let mut sum = 0;
     for symbol in symbols {
@@ -180,7 +181,8 @@ pub(crate) fn tops<S: Storage, T: Tables<S>>(
     requires set { length set.now ≡ (T.grammar grm.now).rules }
     requires limit { limit < 4294967295 }
     ensures reached { IfOk result (λ x. AreReached (T.grammar grm.now) (slice_index costs.now) limit x.items) }
-    ensures topped { IfOk result (λ x. AreTopped (T.grammar grm.now) (slice_index costs.now) limit (in_set set.now) x.items) }
+    ensures topped { IfOk result (λ x.
+        AreTopped (T.grammar grm.now) (slice_index costs.now) limit (in_set set.now) x.items) }
 {
     let rules_len = grm.rules_len().0.to_usize();
     let mut table = vec![in alloc; None; rules_len]?;
@@ -211,7 +213,8 @@ pub fn signs<S: Storage, T: Tables<S>>(
 ) -> Result<Vec<Option<u32>>, AllocError>
     requires costs { length costs.now ≡ (T.grammar grm.now).tokens }
     requires positive { All (λ c. 1 ≤ c) costs.now }
-    ensures { IfOk result (λ x. AreSigns (HasProduction (T.grammar grm.now)) (slice_index costs.now) (live_in x.items) (positive_in x.items)) }
+    ensures { IfOk result (λ x. AreSigns (HasProduction (T.grammar grm.now)) (slice_index costs.now)
+        (live_in x.items) (positive_in x.items)) }
 {
     let rules_len = grm.rules_len().0.to_usize();
     let everything = all_rules(alloc, rules_len)?;
