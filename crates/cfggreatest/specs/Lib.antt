@@ -5,3 +5,4 @@ pub mod Tops
 pub mod Raise
 pub mod Peel
 pub mod Merge
+pub mod Stages

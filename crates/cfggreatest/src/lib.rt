@@ -4,3 +4,4 @@
 pub mod laws;
 pub mod peel;
 pub mod rounds;
+pub mod stages;

@@ -165,7 +165,7 @@ fn peel_round<S: Storage, T: Tables<S>>(
 }
 
 /// Removes rules from the further set, till every production keeps its rule.
-fn peel<S: Storage, T: Tables<S>>(
+pub(crate) fn peel<S: Storage, T: Tables<S>>(
     grm: &T,
     signs: &[Option<u32>],
     bounded: &[bool],
@@ -198,7 +198,7 @@ fn add_one(bounded: &mut [bool], further: &[bool], rule: usize) -> bool
 }
 
 /// Adds the further rules to the set, and tells whether one of them was not there.
-fn merge(bounded: &mut [bool], further: &[bool]) -> bool
+pub(crate) fn merge(bounded: &mut [bool], further: &[bool]) -> bool
     requires { length further.now ≡ length bounded.old }
     ensures { Merges (length bounded.old) further.now bounded.old bounded.new result }
 {

@@ -195,7 +195,7 @@ pub(crate) fn tops<S: Storage, T: Tables<S>>(
 /// # Errors
 ///
 /// Want of memory.
-fn all_rules(alloc: Global, rules: usize) -> Result<Vec<bool>, AllocError>
+pub(crate) fn all_rules(alloc: Global, rules: usize) -> Result<Vec<bool>, AllocError>
     ensures { IfOk result (λ set. set.items ≡ replicate rules true) }
 {
     Ok(vec![in alloc; true; rules]?)
