@@ -36,14 +36,14 @@ module _ (x : CostTables) (n : ℕ) (is : IsGenerator x n) where
   reads_dear r c e large = answers_dear x.grammar (token_cost x) x.least x.choices n is.settled r c e large
 
 -- a cost that is answered is that of the table, and at most 65535
-answered_some : (o : Option ℕ) (c : ℕ) → up_to_limit o ≡ Some c → (o ≡ Some c) × (c ≤ 65535)
+pub answered_some : (o : Option ℕ) (c : ℕ) → up_to_limit o ≡ Some c → (o ≡ Some c) × (c ≤ 65535)
 answered_some None c e = let no : None ≡ Some c = e in absurd (cc)
 answered_some (Some d) c e = elim (leb_tells d 65535) [
   | inl h ↦ let same : Some d ≡ Some c = sym (ap (λ b. cond b (Some d) None) h.0) ∙ e in let is : d ≡ c = cc in let small = h.1 in (same, omega (arith, is, small))
   | inr h ↦ let no : None ≡ Some c = sym (ap (λ b. cond b (Some d) None) h.0) ∙ e in absurd (cc)
 ]
 
-some_answered : (o : Option ℕ) (c : ℕ) → o ≡ Some c → c ≤ 65535 → up_to_limit o ≡ Some c
+pub some_answered : (o : Option ℕ) (c : ℕ) → o ≡ Some c → c ≤ 65535 → up_to_limit o ≡ Some c
 some_answered o c e small = ap up_to_limit e ∙ ap (λ b. cond b (Some c) None) (le-leb c 65535 small)
 
 -- a sum up to the limit stays, if each cost up to the limit does

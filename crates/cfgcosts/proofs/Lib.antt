@@ -14,3 +14,5 @@ pub mod Settles
 pub mod Answered
 pub mod Generated
 pub mod TokenCosts
+pub mod Steps
+pub mod Sentences

@@ -5,3 +5,4 @@ pub mod Queue
 pub mod Open
 pub mod Settled
 pub mod Generator
+pub mod Sentences

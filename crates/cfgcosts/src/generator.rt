@@ -41,7 +41,7 @@ fn token_costs<S: Storage, F: Fn(TIdx<S>) -> u8>(
 /// The least costs of a grammar's rules.
 #[derive(Drop)]
 pub struct SentenceGenerator<'a, S: Storage, T: Tables<S>> {
-    tables: &'a T,
+    pub(crate) tables: &'a T,
     costs: Vec<u8>,
     settled: Settled<S>,
 }

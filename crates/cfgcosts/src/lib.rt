@@ -7,10 +7,11 @@ pub mod generator;
 pub mod laws;
 mod partial;
 mod queue;
+mod sentence;
 mod settle;
 mod waiting;
 mod walk;
 
 pub use certificate::{check_least, check_reached};
-pub use errors::CostError;
+pub use errors::{CostError, SentenceError};
 pub use generator::SentenceGenerator;

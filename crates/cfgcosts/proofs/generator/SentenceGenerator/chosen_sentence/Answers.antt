@@ -1,0 +1,71 @@
+use Rattle.std.proofs.Common.{◌≡◌, ◌-◌, ◌<◌, ◌++◌, List, [], ◌∷◌, map, take, sym, ap, subst, ◌∙◌}
+use Rattle.std.proofs.lemmas.List.{map-append}
+use Rattle.derivation.specs.Grammar.{Sym, IsGrammar, HasProduction}
+use Rattle.derivation.specs.Costs.{Minimal}
+use Rattle.cfgindex.specs.declared.idxnewtype.Symbol.TheVariants as symbols
+use Rattle.cfganalysis.specs.Symbols.{sym_of}
+use Rattle.cfgcosts.specs.Generator.{CostTables, IsGenerator, token_cost}
+use Rattle.cfgcosts.proofs.Sentences.{IsOnTheWay, left_to_take, begins, last_is_symbol, goes_on, takes_less, ends, map-reverse}
+use Rattle.cfgcosts.proofs.generator.SentenceGenerator.chosen_sentence.Goals as goal
+
+pub loop-symbol-init : goal.loop-symbol-init
+loop-symbol-init g c =
+    let number = g.S.Storage.number in
+    let n = c.self.inside.settled.number in
+    let is = subst (λ (x : CostTables). IsGenerator x n) c.self.view_is c.self.invariant in
+    let grammar = subst (λ (x : CostTables). IsGrammar x.grammar) c.self.view_is c.rules_len-rules.ensures.content in
+    begins c.args.self.now n is grammar (number c.args.rule.0) _ _ c.requires.rule c.requires.cost
+    (ap (map (sym_of number)) (c.in_ok-push.ensures.items ∙ ap (λ l. l ++ symbols.Rule c.args.rule ∷ []) c.new-pending.ensures.items))
+    (ap (map (λ t. number t.0)) c.new-sentence.ensures.items)
+
+pub advance-requires : goal.advance-requires
+advance-requires g c =
+    let number = g.S.Storage.number in
+    let n = c.self.inside.settled.number in
+    let is = subst (λ (x : CostTables). IsGenerator x n) c.self.view_is c.self.invariant in
+    let grammar = subst (λ (x : CostTables). IsGrammar x.grammar) c.self.view_is c.rules_len-rules.ensures.content in
+    let rest = map (sym_of number) c.pop.new.self.items in
+    let word = map (λ t. number t.0) c.loop-symbol.sentence.items in
+    let split = ap (map (sym_of number)) c.in-Some.ensures.items ∙ map-append (sym_of number) c.pop.new.self.items (c.in-Some.symbol ∷ []) in
+    last_is_symbol c.args.self.now n is grammar (number c.args.rule.0) rest (sym_of number c.in-Some.symbol) word
+    (subst (λ (l : List Sym). IsOnTheWay c.args.self.now (number c.args.rule.0) l word) split c.loop-symbol.invariant)
+
+pub loop-symbol-smaller : goal.loop-symbol-smaller
+loop-symbol-smaller g c =
+    let number = g.S.Storage.number in
+    let n = c.self.inside.settled.number in
+    let is = subst (λ (x : CostTables). IsGenerator x n) c.self.view_is c.self.invariant in
+    let grammar = subst (λ (x : CostTables). IsGrammar x.grammar) c.self.view_is c.rules_len-rules.ensures.content in
+    let rest = map (sym_of number) c.pop.new.self.items in
+    let word = map (λ t. number t.0) c.loop-symbol.sentence.items in
+    let pending = map (sym_of number) c.advance.new.pending.items in
+    let split = ap (map (sym_of number)) c.in-Some.ensures.items ∙ map-append (sym_of number) c.pop.new.self.items (c.in-Some.symbol ∷ []) in
+    subst (λ (l : List Sym). left_to_take c.args.self.now pending < left_to_take c.args.self.now l) (sym split)
+    (takes_less c.args.self.now n is grammar (number c.args.rule.0) rest (sym_of number c.in-Some.symbol) pending word _
+    (subst (λ (l : List Sym). IsOnTheWay c.args.self.now (number c.args.rule.0) l word) split c.loop-symbol.invariant) c.in_ok-advance.ensures)
+
+pub loop-symbol-preserved : goal.loop-symbol-preserved
+loop-symbol-preserved g c =
+    let number = g.S.Storage.number in
+    let n = c.self.inside.settled.number in
+    let is = subst (λ (x : CostTables). IsGenerator x n) c.self.view_is c.self.invariant in
+    let grammar = subst (λ (x : CostTables). IsGrammar x.grammar) c.self.view_is c.rules_len-rules.ensures.content in
+    let rest = map (sym_of number) c.pop.new.self.items in
+    let word = map (λ t. number t.0) c.loop-symbol.sentence.items in
+    let split = ap (map (sym_of number)) c.in-Some.ensures.items ∙ map-append (sym_of number) c.pop.new.self.items (c.in-Some.symbol ∷ []) in
+    goes_on c.args.self.now n is grammar (number c.args.rule.0) rest (sym_of number c.in-Some.symbol) _ word _
+    (subst (λ (l : List Sym). IsOnTheWay c.args.self.now (number c.args.rule.0) l word) split c.loop-symbol.invariant) c.in_ok-advance.ensures
+
+pub returns : goal.returns
+returns g c =
+    let number = g.S.Storage.number in
+    let n = c.self.inside.settled.number in
+    let is = subst (λ (x : CostTables). IsGenerator x n) c.self.view_is c.self.invariant in
+    let grammar = subst (λ (x : CostTables). IsGrammar x.grammar) c.self.view_is c.rules_len-rules.ensures.content in
+    let word = map (λ t. number t.0) c.loop-symbol.sentence.items in
+    let rest : c.pop.new.self.items ≡ [] = c.in_default.ensures.rest ∙ ap (λ n. take (n - 1) c.loop-symbol.pending.items) c.in_default.ensures.cases.0 in
+    let none : c.loop-symbol.pending.items ≡ [] = c.in_default.ensures.items ∙ ap (λ l. l ++ []) rest in
+    subst (Minimal (HasProduction c.args.self.now.grammar) (token_cost c.args.self.now) (number c.args.rule.0))
+    (sym (ap (map (λ t. number t.0)) c.reverse.ensures.items ∙ map-reverse (λ t. number t.0) c.loop-symbol.sentence.items))
+    (ends c.args.self.now n is grammar (number c.args.rule.0) word
+    (subst (λ (l : List Sym). IsOnTheWay c.args.self.now (number c.args.rule.0) l word) (ap (map (sym_of number)) none) c.loop-symbol.invariant))

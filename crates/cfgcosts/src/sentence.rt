@@ -1,0 +1,130 @@
+//! One minimal sentence of a rule, by the productions that were chosen.
+
+ghost use Rattle.std.specs.Prelude.{◌≡◌, ◌↔◌, ℕ, ◌<◌, ◌++◌, Err, IfOk, IsTrue, OnOk, Some, map};
+ghost use Rattle.derivation.specs.Grammar.{HasProduction, IsSymbolOf};
+ghost use Rattle.derivation.specs.Costs.{Minimal};
+ghost use Rattle.cfganalysis.specs.Symbols.{sym_of};
+ghost use Rattle.cfgcosts.specs.Generator.{HasNone, IsTooDear, cost_answer, token_cost};
+ghost use Rattle.cfgcosts.specs.Sentences.{Advances, Replaces};
+
+use crate::errors::SentenceError;
+use crate::generator::SentenceGenerator;
+use cfganalysis::Tables;
+use cfgindex::{RIdx, Storage, Symbol, TIdx};
+use std::alloc::{AllocError, Global};
+
+/// Adds the symbols behind those that are pending.
+///
+/// # Errors
+///
+/// Want of memory.
+fn push_symbols<S: Storage>(
+    pending: &mut Vec<Symbol<S>>,
+    symbols: &[Symbol<S>],
+) -> Result<(), AllocError>
+    ensures { OnOk result (pending.new.items ≡ pending.old.items ++ symbols.now) }
+{
+    for symbol in symbols {
+        pending.push(*symbol)?;
+    }
+    Ok(())
+}
+
+impl<'a, S: Storage, T: Tables<S>> SentenceGenerator<'a, S, T> {
+    /// Whether the rule's least cost is 0, so that its only minimal sentence is the empty one.
+    fn is_free(&self, rule: RIdx<S>) -> bool
+        requires { S.number rule.0 < self.now.grammar.rules }
+        ensures { IsTrue result ↔ (cost_answer self.now (S.number rule.0) ≡ Some 0) }
+    {
+        match self.min_sentence_cost(rule) {
+            Ok(cost) => cost == 0,
+            Err(_) => false,
+        }
+    }
+
+    /// Replaces a rule by the symbols of the production that was chosen for it. A rule of cost 0 isn't opened.
+    ///
+    /// # Errors
+    ///
+    /// Want of memory.
+    fn open_rule(&self, rule: RIdx<S>, pending: &mut Vec<Symbol<S>>) -> Result<(), AllocError>
+        requires { S.number rule.0 < self.now.grammar.rules }
+        ensures { OnOk result (Replaces self.now (S.number rule.0)
+            (map (sym_of S.number) pending.old.items) (map (sym_of S.number) pending.new.items)) }
+    {
+        if self.is_free(rule) {
+            return Ok(());
+        }
+        match self.choice(rule) {
+            Some((p, _)) => push_symbols(pending, self.tables.prod(p)),
+            None => Ok(()),
+        }
+    }
+
+    /// Replaces a rule, or moves a token to the sentence.
+    ///
+    /// # Errors
+    ///
+    /// Want of memory.
+    fn advance(
+        &self,
+        symbol: Symbol<S>,
+        pending: &mut Vec<Symbol<S>>,
+        sentence: &mut Vec<TIdx<S>>,
+    ) -> Result<(), AllocError>
+        requires { IsSymbolOf self.now.grammar (sym_of S.number symbol) }
+        ensures { OnOk result (Advances self.now (sym_of S.number symbol)
+            (map (sym_of S.number) pending.old.items) (map (sym_of S.number) pending.new.items)
+            (map (λ t. S.number t.0) sentence.old.items) (map (λ t. S.number t.0) sentence.new.items)) }
+    {
+        match symbol {
+            Symbol::Rule(rule) => self.open_rule(rule, pending),
+            Symbol::Token(token) => {
+                sentence.push(token)?;
+                Ok(())
+            }
+        }
+    }
+
+    /// The sentence that the chosen productions derive, from its last token to its first.
+    ///
+    /// # Errors
+    ///
+    /// Want of memory.
+    fn chosen_sentence(&self, alloc: Global, rule: RIdx<S>) -> Result<Vec<TIdx<S>>, AllocError>
+        requires rule { S.number rule.0 < self.now.grammar.rules }
+        requires cost { (c : ℕ) × (cost_answer self.now (S.number rule.0) ≡ Some c) }
+        ensures { IfOk result (λ sentence. Minimal (HasProduction self.now.grammar) (token_cost self.now)
+            (S.number rule.0) (map (λ t. S.number t.0) sentence.items)) }
+    {
+        let _rules = self.tables.rules_len();
+        let mut sentence = Vec::new(alloc);
+        let mut pending = Vec::new(alloc);
+        pending.push(Symbol::Rule(rule))?;
+        while let Some(symbol) = pending.pop() {
+            self.advance(symbol, &mut pending, &mut sentence)?;
+        }
+        sentence.reverse();
+        Ok(sentence)
+    }
+
+    /// A sentence of the rule that no other of its sentences costs less than.
+    ///
+    /// # Errors
+    ///
+    /// Where [`min_sentence_cost`](SentenceGenerator::min_sentence_cost) refuses, the same refusal; else none but want
+    /// of memory.
+    pub fn min_sentence(&self, alloc: Global, rule: RIdx<S>) -> Result<Vec<TIdx<S>>, SentenceError>
+        requires { S.number rule.0 < self.now.grammar.rules }
+        ensures minimal { IfOk result (λ sentence. Minimal (HasProduction self.now.grammar) (token_cost self.now)
+            (S.number rule.0) (map (λ t. S.number t.0) sentence.items)) }
+        ensures none { (result ≡ Err SentenceError.NoSentence)
+            ↔ HasNone (HasProduction self.now.grammar) (S.number rule.0) }
+        ensures dear { (result ≡ Err SentenceError.CostTooLarge)
+            ↔ IsTooDear (HasProduction self.now.grammar) (token_cost self.now) (S.number rule.0) }
+    {
+        self.min_sentence_cost(rule)?;
+        let sentence = self.chosen_sentence(alloc, rule)?;
+        Ok(sentence)
+    }
+}
