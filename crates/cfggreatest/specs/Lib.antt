@@ -6,3 +6,4 @@ pub mod Raise
 pub mod Peel
 pub mod Merge
 pub mod Stages
+pub mod Words

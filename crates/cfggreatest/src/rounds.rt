@@ -206,14 +206,15 @@ pub(crate) fn all_rules(alloc: Global, rules: usize) -> Result<Vec<bool>, AllocE
 /// # Errors
 ///
 /// Want of memory.
-pub fn signs<S: Storage, T: Tables<S>>(
+pub(crate) fn signs<S: Storage, T: Tables<S>>(
     alloc: Global,
     grm: &T,
     costs: &[u8],
 ) -> Result<Vec<Option<u32>>, AllocError>
     requires costs { length costs.now ≡ (T.grammar grm.now).tokens }
     requires positive { All (λ c. 1 ≤ c) costs.now }
-    ensures { IfOk result (λ x. AreSigns (HasProduction (T.grammar grm.now)) (slice_index costs.now)
+    ensures rules { IfOk result (λ x. length x.items ≡ (T.grammar grm.now).rules) }
+    ensures signs { IfOk result (λ x. AreSigns (HasProduction (T.grammar grm.now)) (slice_index costs.now)
         (live_in x.items) (positive_in x.items)) }
 {
     let rules_len = grm.rules_len().0.to_usize();

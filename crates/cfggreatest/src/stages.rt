@@ -80,6 +80,7 @@ pub(crate) fn bounded_rules<S: Storage, T: Tables<S>>(
     requires signs { length signs.now ≡ (T.grammar grm.now).rules }
     ensures found { IfOk result (λ x. AreFoundBounded (T.grammar grm.now) signs.now x.items) }
     ensures rest { IfOk result (λ x. AreOthersUnbounded (T.grammar grm.now) signs.now x.items) }
+    ensures content { IfOk result (λ x. IsGrammar (T.grammar grm.now)) }
 {
     let rules_len = grm.rules_len().0.to_usize();
     let mut bounded = no_rules(alloc, rules_len)?;

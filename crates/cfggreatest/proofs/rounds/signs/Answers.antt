@@ -5,8 +5,8 @@ use Rattle.cfggreatest.specs.Rows.{in_set}
 use Rattle.cfggreatest.proofs.Signs.{signs_from_table, tokens_cost}
 use Rattle.cfggreatest.proofs.rounds.signs.Goals as goal
 
-pub returns : goal.returns
-returns g c =
+pub returns-clause-signs : goal.returns-clause-signs
+returns-clause-signs g c =
     let grammar = g.T.Tables.grammar c.args.grm.now in
     signs_from_table grammar (slice_index c.args.costs.now) c.in_ok-table.table.items c.in_ok-table.ensures.reached (in_set c.deref.result.now)
     (λ r. ap (λ l. get_or l r true) (c.deref.ensures.value ∙ c.in_ok-everything.ensures) ∙ get_or-replicate_default c.to_usize-rules_len.result r true)
