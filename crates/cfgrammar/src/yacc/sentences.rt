@@ -1,3 +1,3 @@
-//! What the sentences of rules cost, and the certificate of least costs.
+//! What the sentences of rules cost, minimal sentences, and the certificate of least costs.
 
-pub use cfgcosts::{CostError, SentenceGenerator, check_least, check_reached};
+pub use cfgcosts::{CostError, SentenceError, SentenceGenerator, check_least, check_reached};
