@@ -15,4 +15,5 @@ pub mod Answered
 pub mod Generated
 pub mod TokenCosts
 pub mod Steps
+pub mod Lengths
 pub mod Sentences

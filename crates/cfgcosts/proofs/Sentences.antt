@@ -1,7 +1,7 @@
 -- The symbols that are pending and the tokens behind them are on the way from a rule to a minimal sentence of it.
-use Rattle.std.proofs.Common.{◌≡◌, ℕ, zero, suc, ◌+◌, ◌<◌, ◌≤◌, List, [], ◌∷◌, ◌++◌, map, reverse, Option, Some, None, All, arith, refl, sym, ap, subst, ◌∙◌, append-nil, append_assoc}
+use Rattle.std.proofs.Common.{◌≡◌, ℕ, zero, suc, ◌+◌, ◌<◌, ◌≤◌, List, [], ◌∷◌, ◌++◌, length, map, reverse, Option, Some, None, All, arith, refl, sym, ap, subst, ◌∙◌, append-nil, append_assoc}
 use Rattle.std.specs.Prelude.{IsSomeAnd, sum_by}
-use Rattle.std.proofs.lemmas.List.{reverse-append, map-append}
+use Rattle.std.proofs.lemmas.List.{reverse-append, map-append, length-map}
 use Rattle.std.proofs.lemmas.List.Sums.{sum_by-append}
 use Rattle.std.proofs.lemmas.List.Elements.{All-nil, All-cons, All-head, All-tail, All-append, All-pop, All-get_or}
 use Rattle.derivation.specs.Grammar.{Sym, Rule, Token, IsGrammar, IsSymbolOf, HasProduction}
@@ -18,10 +18,16 @@ use Rattle.cfgcosts.specs.Generator.{CostTables, IsGenerator, cost_answer, choic
 use Rattle.cfgcosts.specs.Sentences as sentences
 use Rattle.cfgcosts.proofs.Sums.{plus_parts, plus_both, plus_zero, sum_of-append}
 use Rattle.cfgcosts.proofs.Generated.{answered_some, some_answered, reads_cost}
+use Rattle.cfgcosts.proofs.Lengths.{sentence_length}
 use Rattle.cfgcosts.proofs.Steps.{steps, steps_positive, steps_opened, sum_by-cons}
 
 abbrev cost_by : CostTables → Sym → Option ℕ
 cost_by x = symbol_cost (token_cost x) (rule_cost x.least)
+
+map-reverse : {A B : Type 0} (f : A → B) (xs : List A) → map f (reverse xs) ≡ reverse (map f xs)
+map-reverse f [] = refl
+map-reverse f (y ∷ xs) = ap (map f) (reverse-append (y ∷ []) xs) ∙ map-append f (reverse xs) (y ∷ [])
+    ∙ ap (λ l. l ++ f y ∷ []) (map-reverse f xs) ∙ sym (reverse-append (f y ∷ []) (map f xs))
 
 -- what the pending symbols yield, before the word in reverse, the rule yields; and together they cost the least
 pub record IsOnTheWay (x : CostTables) (r : ℕ) (pending : List Sym) (word : List ℕ) : Type 0 where
@@ -277,7 +283,7 @@ module _ (x : CostTables) (n : ℕ) (is : IsGenerator x n) (grammar : IsGrammar 
       (less_opened r q p m rest word (subst (λ s. IsOnTheWay x r (rest ++ s ∷ []) word) e way) choice))
 
   -- when nothing is pending, the word in reverse is a minimal sentence
-  pub ends : (r : ℕ) (word : List ℕ) → IsOnTheWay x r [] word → Minimal P (token_cost x) r (reverse word)
+  ends : (r : ℕ) (word : List ℕ) → IsOnTheWay x r [] word → Minimal P (token_cost x) r (reverse word)
   ends r word way =
       let none : Some 0 ≡ Some way.left = way.left_is in
       let left : 0 ≡ way.left = cc in
@@ -286,7 +292,10 @@ module _ (x : CostTables) (n : ℕ) (is : IsGenerator x n) (grammar : IsGrammar 
       let least = (reads_cost x n is r way.cost known.0 known.1).least in
       (minimal_if_least P (token_cost x) r way.cost (reverse word) least).1 (derivation_from_trees P (way.derived [] empty), omega (arith, left, whole))
 
-pub map-reverse : {A B : Type 0} (f : A → B) (xs : List A) → map f (reverse xs) ≡ reverse (map f xs)
-map-reverse f [] = refl
-map-reverse f (y ∷ xs) = ap (map f) (reverse-append (y ∷ []) xs) ∙ map-append f (reverse xs) (y ∷ [])
-    ∙ ap (λ l. l ++ f y ∷ []) (map-reverse f xs) ∙ sym (reverse-append (f y ∷ []) (map f xs))
+  -- the tokens in the order of the sentence
+  pub finished : {A : Type 0} (f : A → ℕ) (items turned : List A) (r : ℕ) → turned ≡ reverse items → IsOnTheWay x r [] (map f items)
+      → Minimal P (token_cost x) r (map f turned) × (length turned ≤ cost_of (token_cost x) (map f turned))
+  finished f items turned r e way =
+      let minimal = subst (Minimal P (token_cost x) r) (sym (ap (map f) e ∙ map-reverse f items)) (ends r (map f items) way) in
+      let short = sentence_length x.grammar x.costs grammar is.tokens is.positive r (map f turned) minimal.0 in
+      (minimal, subst (λ m. m ≤ cost_of (token_cost x) (map f turned)) (length-map turned f) short)

@@ -1,7 +1,8 @@
 //! Laws of least costs, which hold of every grammar.
 
-ghost use Rattle.std.specs.Prelude.{◌≡◌, ℕ, ◌≤◌, List, Option, Some, All, EachIndex, IfSome, slice_index};
-ghost use Rattle.derivation.specs.Grammar.{Grammar, HasProduction};
+ghost use Rattle.std.specs.Prelude.{◌≡◌, ℕ, ◌<◌, ◌≤◌, List, Option, Some, All, EachIndex, IfSome, length, slice_index};
+ghost use Rattle.derivation.specs.Grammar.{Grammar, IsGrammar, HasProduction};
+ghost use Rattle.derivation.specs.Sentence.{Sentence, cost_of};
 ghost use Rattle.derivation.specs.Costs.{Least};
 ghost use Rattle.cfgcosts.specs.Certificate.{IsCovered, IsReached, rule_cost};
 
@@ -11,4 +12,10 @@ pub fn certificates_show_least()
         → All (IsCovered costs least) g.productions → EachIndex least (IsReached g costs least choices)
         → All (λ o. IfSome o (λ c. c ≤ 65535)) least
         → (r c : ℕ) → rule_cost least r ≡ Some c → Least (HasProduction g) (slice_index costs) r c }
+{}
+
+/// Where each token costs at least one, a sentence has at most as many tokens as its cost.
+pub fn sentences_cost_their_length()
+    ensures { (g : Grammar) (costs : List ℕ) → IsGrammar g → length costs ≡ g.tokens → All (λ c. 0 < c) costs
+        → (r : ℕ) (w : List ℕ) → Sentence (HasProduction g) r w → length w ≤ cost_of (slice_index costs) w }
 {}

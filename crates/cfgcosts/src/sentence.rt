@@ -1,7 +1,8 @@
 //! One minimal sentence of a rule, by the productions that were chosen.
 
-ghost use Rattle.std.specs.Prelude.{◌≡◌, ◌↔◌, ℕ, ◌<◌, ◌++◌, Err, IfOk, IsTrue, OnOk, Some, map};
+ghost use Rattle.std.specs.Prelude.{◌≡◌, ◌↔◌, ℕ, ◌<◌, ◌≤◌, ◌++◌, Err, IfOk, IsTrue, OnOk, Some, length, map};
 ghost use Rattle.derivation.specs.Grammar.{HasProduction, IsSymbolOf};
+ghost use Rattle.derivation.specs.Sentence.{cost_of};
 ghost use Rattle.derivation.specs.Costs.{Minimal};
 ghost use Rattle.cfganalysis.specs.Symbols.{sym_of};
 ghost use Rattle.cfgcosts.specs.Generator.{HasNone, IsTooDear, cost_answer, token_cost};
@@ -94,8 +95,10 @@ impl<'a, S: Storage, T: Tables<S>> SentenceGenerator<'a, S, T> {
     fn chosen_sentence(&self, alloc: Global, rule: RIdx<S>) -> Result<Vec<TIdx<S>>, AllocError>
         requires rule { S.number rule.0 < self.now.grammar.rules }
         requires cost { (c : ℕ) × (cost_answer self.now (S.number rule.0) ≡ Some c) }
-        ensures { IfOk result (λ sentence. Minimal (HasProduction self.now.grammar) (token_cost self.now)
+        ensures minimal { IfOk result (λ sentence. Minimal (HasProduction self.now.grammar) (token_cost self.now)
             (S.number rule.0) (map (λ t. S.number t.0) sentence.items)) }
+        ensures length { IfOk result (λ sentence.
+            length sentence.items ≤ cost_of (token_cost self.now) (map (λ t. S.number t.0) sentence.items)) }
     {
         let _rules = self.tables.rules_len();
         let mut sentence = Vec::new(alloc);
@@ -108,7 +111,8 @@ impl<'a, S: Storage, T: Tables<S>> SentenceGenerator<'a, S, T> {
         Ok(sentence)
     }
 
-    /// A sentence of the rule that no other of its sentences costs less than.
+    /// A sentence of the rule that no other of its sentences costs less than. It has at most as many tokens as it
+    /// costs.
     ///
     /// # Errors
     ///
@@ -118,6 +122,8 @@ impl<'a, S: Storage, T: Tables<S>> SentenceGenerator<'a, S, T> {
         requires { S.number rule.0 < self.now.grammar.rules }
         ensures minimal { IfOk result (λ sentence. Minimal (HasProduction self.now.grammar) (token_cost self.now)
             (S.number rule.0) (map (λ t. S.number t.0) sentence.items)) }
+        ensures length { IfOk result (λ sentence.
+            length sentence.items ≤ cost_of (token_cost self.now) (map (λ t. S.number t.0) sentence.items)) }
         ensures none { (result ≡ Err SentenceError.NoSentence)
             ↔ HasNone (HasProduction self.now.grammar) (S.number rule.0) }
         ensures dear { (result ≡ Err SentenceError.CostTooLarge)

@@ -1,11 +1,10 @@
 use Rattle.std.proofs.Common.{◌≡◌, ◌-◌, ◌<◌, ◌++◌, List, [], ◌∷◌, map, take, sym, ap, subst, ◌∙◌}
 use Rattle.std.proofs.lemmas.List.{map-append}
-use Rattle.derivation.specs.Grammar.{Sym, IsGrammar, HasProduction}
-use Rattle.derivation.specs.Costs.{Minimal}
+use Rattle.derivation.specs.Grammar.{Sym, IsGrammar}
 use Rattle.cfgindex.specs.declared.idxnewtype.Symbol.TheVariants as symbols
 use Rattle.cfganalysis.specs.Symbols.{sym_of}
-use Rattle.cfgcosts.specs.Generator.{CostTables, IsGenerator, token_cost}
-use Rattle.cfgcosts.proofs.Sentences.{IsOnTheWay, left_to_take, begins, last_is_symbol, goes_on, takes_less, ends, map-reverse}
+use Rattle.cfgcosts.specs.Generator.{CostTables, IsGenerator}
+use Rattle.cfgcosts.proofs.Sentences.{IsOnTheWay, left_to_take, begins, last_is_symbol, goes_on, takes_less, finished}
 use Rattle.cfgcosts.proofs.generator.SentenceGenerator.chosen_sentence.Goals as goal
 
 pub loop-symbol-init : goal.loop-symbol-init
@@ -56,8 +55,8 @@ loop-symbol-preserved g c =
     goes_on c.args.self.now n is grammar (number c.args.rule.0) rest (sym_of number c.in-Some.symbol) _ word _
     (subst (λ (l : List Sym). IsOnTheWay c.args.self.now (number c.args.rule.0) l word) split c.loop-symbol.invariant) c.in_ok-advance.ensures
 
-pub returns : goal.returns
-returns g c =
+pub returns-clause-minimal : goal.returns-clause-minimal
+returns-clause-minimal g c =
     let number = g.S.Storage.number in
     let n = c.self.inside.settled.number in
     let is = subst (λ (x : CostTables). IsGenerator x n) c.self.view_is c.self.invariant in
@@ -65,7 +64,17 @@ returns g c =
     let word = map (λ t. number t.0) c.loop-symbol.sentence.items in
     let rest : c.pop.new.self.items ≡ [] = c.in_default.ensures.rest ∙ ap (λ n. take (n - 1) c.loop-symbol.pending.items) c.in_default.ensures.cases.0 in
     let none : c.loop-symbol.pending.items ≡ [] = c.in_default.ensures.items ∙ ap (λ l. l ++ []) rest in
-    subst (Minimal (HasProduction c.args.self.now.grammar) (token_cost c.args.self.now) (number c.args.rule.0))
-    (sym (ap (map (λ t. number t.0)) c.reverse.ensures.items ∙ map-reverse (λ t. number t.0) c.loop-symbol.sentence.items))
-    (ends c.args.self.now n is grammar (number c.args.rule.0) word
-    (subst (λ (l : List Sym). IsOnTheWay c.args.self.now (number c.args.rule.0) l word) (ap (map (sym_of number)) none) c.loop-symbol.invariant))
+    (finished c.args.self.now n is grammar (λ t. number t.0) c.loop-symbol.sentence.items c.reverse.new.self.items (number c.args.rule.0) c.reverse.ensures.items
+    (subst (λ (l : List Sym). IsOnTheWay c.args.self.now (number c.args.rule.0) l word) (ap (map (sym_of number)) none) c.loop-symbol.invariant)).0
+
+pub returns-clause-length : goal.returns-clause-length
+returns-clause-length g c =
+    let number = g.S.Storage.number in
+    let n = c.self.inside.settled.number in
+    let is = subst (λ (x : CostTables). IsGenerator x n) c.self.view_is c.self.invariant in
+    let grammar = subst (λ (x : CostTables). IsGrammar x.grammar) c.self.view_is c.rules_len-rules.ensures.content in
+    let word = map (λ t. number t.0) c.loop-symbol.sentence.items in
+    let rest : c.pop.new.self.items ≡ [] = c.in_default.ensures.rest ∙ ap (λ n. take (n - 1) c.loop-symbol.pending.items) c.in_default.ensures.cases.0 in
+    let none : c.loop-symbol.pending.items ≡ [] = c.in_default.ensures.items ∙ ap (λ l. l ++ []) rest in
+    (finished c.args.self.now n is grammar (λ t. number t.0) c.loop-symbol.sentence.items c.reverse.new.self.items (number c.args.rule.0) c.reverse.ensures.items
+    (subst (λ (l : List Sym). IsOnTheWay c.args.self.now (number c.args.rule.0) l word) (ap (map (sym_of number)) none) c.loop-symbol.invariant)).1

@@ -1,0 +1,5 @@
+use Rattle.cfgcosts.proofs.Lengths.{sentence_length}
+use Rattle.cfgcosts.proofs.laws.sentences_cost_their_length.Goals as goal
+
+pub returns : goal.returns
+returns c = sentence_length
