@@ -243,7 +243,7 @@ module _ (x : CostTables) (n : ℕ) (is : IsGenerator x n) (grammar : IsGrammar 
   goes_on r rest s pending word word' way (sentences.rule q e (sentences.unchosen none f) h) =
       let (p, m, o, answer) = chosen_last r q rest word (subst (λ s. IsOnTheWay x r (rest ++ s ∷ []) word) e way) in
       let no : ◌≡◌ {A = Option (ℕ × ℕ)} None (Some (p, m)) = sym none ∙ answer in absurd (cc)
-  goes_on r rest s pending word word' way (sentences.rule q e (sentences.opened p m choice f) h) =
+  goes_on r rest s pending word word' way (sentences.rule q e (sentences.opened p m costly choice f) h) =
       subst (λ a. IsOnTheWay x r a word') (sym f) (subst (IsOnTheWay x r (rest ++ (nth_production x.grammar p).symbols)) (sym h)
       (after_opened r q p m rest word (subst (λ s. IsOnTheWay x r (rest ++ s ∷ []) word) e way) choice))
 
@@ -277,7 +277,7 @@ module _ (x : CostTables) (n : ℕ) (is : IsGenerator x n) (grammar : IsGrammar 
       subst (λ a. left_to_take x a < left_to_take x (rest ++ s ∷ [])) (sym f) (one_less rest s)
   takes_less r rest s pending word word' way (sentences.rule q e (sentences.unchosen none f) h) =
       subst (λ a. left_to_take x a < left_to_take x (rest ++ s ∷ [])) (sym f) (one_less rest s)
-  takes_less r rest s pending word word' way (sentences.rule q e (sentences.opened p m choice f) h) =
+  takes_less r rest s pending word word' way (sentences.rule q e (sentences.opened p m costly choice f) h) =
       subst (λ a. left_to_take x a < left_to_take x (rest ++ s ∷ [])) (sym f)
       (subst (λ s. left_to_take x (rest ++ (nth_production x.grammar p).symbols) < left_to_take x (rest ++ s ∷ [])) (sym e)
       (less_opened r q p m rest word (subst (λ s. IsOnTheWay x r (rest ++ s ∷ []) word) e way) choice))

@@ -19,11 +19,12 @@ sentence_error_text NoSentence = codes "the rule has no sentence"
 sentence_error_text CostTooLarge = codes "each sentence of the rule costs more than 65535"
 sentence_error_text OutOfMemory = codes "out of memory"
 
--- a rule behind the pending symbols was replaced by the symbols of its choice, or dropped, as it costs nothing or has none
+-- a rule behind the pending symbols was dropped, as it costs nothing or has no choice, or replaced by the symbols of its
+-- choice; one that costs nothing isn't opened
 pub data Replaces (x : CostTables) (r : ℕ) (pending pending' : List Sym) : Type 0 where
   free : cost_answer x r ≡ Some 0 → pending' ≡ pending → Replaces x r pending pending'
   unchosen : choice_answer x r ≡ None → pending' ≡ pending → Replaces x r pending pending'
-  opened : (p m : ℕ) → choice_answer x r ≡ Some (p, m) → pending' ≡ pending ++ (nth_production x.grammar p).symbols → Replaces x r pending pending'
+  opened : (p m : ℕ) → (cost_answer x r ≡ Some 0 → ⊥) → choice_answer x r ≡ Some (p, m) → pending' ≡ pending ++ (nth_production x.grammar p).symbols → Replaces x r pending pending'
 
 -- a symbol behind the pending ones was replaced, or went to the word, which is made from its end
 pub data Advances (x : CostTables) (s : Sym) (pending pending' : List Sym) (word word' : List ℕ) : Type 0 where
