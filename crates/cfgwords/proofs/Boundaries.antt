@@ -68,3 +68,13 @@ pub behind_blank : (text : List ℕ) → IsUtf8 text → holds Blank (get_or tex
 behind_blank text utf8 h some =
     let ascii : get_or text 0 0 < 128 = grind (arith, nat_tests, h) in
     IsCharBoundary-after_ascii text 0 utf8 (omega arith) ascii
+
+-- or behind a quote, the one that a string is closed by, or a brace
+pub behind_byte : (text : List ℕ) → IsUtf8 text → get_or text 0 0 < 128 → 1 ≤ length text → IsCharBoundary text 1
+behind_byte text utf8 ascii some = IsCharBoundary-after_ascii text 0 utf8 (omega arith) ascii
+
+pub behind_quote : (text : List ℕ) → IsUtf8 text → holds Quote (get_or text 0 0) ≡ true → 1 ≤ length text → IsCharBoundary text 1
+behind_quote text utf8 h some = let ascii : get_or text 0 0 < 128 = grind (arith, nat_tests, h) in behind_byte text utf8 ascii some
+
+pub behind_closing : (text : List ℕ) (quote : ℕ) → IsUtf8 text → holds Quote quote ≡ true → get_or text 0 0 ≡ quote → 1 ≤ length text → IsCharBoundary text 1
+behind_closing text quote utf8 h e some = behind_quote text utf8 (rw e h) some

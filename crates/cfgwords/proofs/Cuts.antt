@@ -1,16 +1,21 @@
 -- Behind each word and each part of a blank, what is left of a text in UTF-8 is in UTF-8 too.
-use Rattle.std.proofs.Common.{◌≡◌, ℕ, ◌+◌, ◌<◌, Bool, true, List, [], ◌∷◌, ◌++◌, length, refl, sym, ap, subst, ◌∙◌, arith, append_assoc, length-append, drop_at}
+use Rattle.std.proofs.Common.{◌≡◌, ℕ, ◌+◌, ◌<◌, Bool, true, List, [], ◌∷◌, ◌++◌, length, refl, sym, ap, subst, ◌∙◌, arith, append_assoc, length-append, take_at, drop_at}
 use Rattle.std.specs.List.{list_all}
 use Rattle.std.specs.Str.{IsUtf8, IsCharBoundary}
 use Rattle.std.proofs.Math.Seq.{get_or-append_seam}
 use Rattle.std.proofs.lemmas.Bool.{and_parts}
 use Rattle.std.proofs.lemmas.Bool.Decides.{nat_tests}
-use Rattle.std.proofs.lemmas.Str.{IsUtf8-nil, IsUtf8-drop, IsUtf8-past_char, IsCharBoundary-at_seam, IsCharBoundary-before_ascii, encode_ascii}
+use Rattle.std.proofs.lemmas.List.{append-nil}
+use Rattle.std.proofs.lemmas.Str.{IsUtf8-nil, IsUtf8-take, IsUtf8-drop, IsUtf8-past_char, IsCharBoundary-at_seam, IsCharBoundary-before_ascii, encode_ascii}
 use Rattle.reading.specs.Pieces.{IsRun}
 use Rattle.cfgwords.specs.declared.bytes.ByteClass.TheVariants as bytes
+use Rattle.cfgwords.specs.declared.passed.Passed.{Passed}
+use Rattle.cfgwords.specs.declared.passed.Passed.TheVariants.{InString}
 use Rattle.cfgwords.specs.Bytes.{holds}
+use Rattle.cfgwords.specs.Passed.{stops, EndsInAscii}
 use Rattle.cfgwords.specs.Text.{place}
 use Rattle.cfgwords.specs.Words.{IsName, IsIdentifier, IsQuoted, IsInteger}
+use Rattle.cfgwords.proofs.PassedLemmas.{stop_ascii}
 
 -- A text that may be cut where rest is left.
 pub record IsCut (text rest : List ℕ) : Type 0 where
@@ -57,6 +62,17 @@ cut_before front b rest ascii = record {
       (IsUtf8-drop (front ++ b ∷ rest) (length front) u (IsCharBoundary-before_ascii (front ++ b ∷ rest) (length front) (omega arith) (omega arith)));
 }
 
+-- at the end, and what stands before an ASCII byte
+pub cut_end : (text : List ℕ) → IsCut text []
+cut_end text = record { piece = text; whole = sym (append-nil text); utf8 = λ u. IsUtf8-nil }
+
+pub front_utf8 : (front : List ℕ) (b : ℕ) (rest : List ℕ) → b < 128 → IsUtf8 (front ++ b ∷ rest) → IsUtf8 front
+front_utf8 front b rest ascii u =
+    let seam = get_or-append_seam front b rest 0 in
+    let long = length-append front (b ∷ rest) in
+    subst IsUtf8 (take_at front (b ∷ rest) (length front) refl)
+    (IsUtf8-take (front ++ b ∷ rest) (length front) u (IsCharBoundary-before_ascii (front ++ b ∷ rest) (length front) (omega arith) (omega arith)))
+
 -- behind a name, an identifier, an integer and a quoted token
 run_cut : (test : ℕ → Bool) → ((b : ℕ) → test b ≡ true → b < 128) → (text word rest : List ℕ) → IsRun test text word rest → IsCut text rest
 run_cut test ascii text word rest run = cut_same text (word ++ rest) rest run.whole (cut_word test ascii word rest run.passes)
@@ -91,6 +107,27 @@ inside_cut text word rest is = cut_before word is.quote rest (quote_ascii is.quo
 
 pub closed_cut : (text word rest : List ℕ) (is : IsQuoted text word rest) → IsCut (is.quote ∷ rest) rest
 closed_cut text word rest is = cut_byte is.quote rest (quote_ascii is.quote is.is_quote)
+
+-- where it stops that something is passed, behind a string and before one that is broken, and behind an action
+pub stopped_cut : (kind : Passed) (inside left : List ℕ) → EndsInAscii kind → stops kind left ≡ true → IsCut (inside ++ left) left
+stopped_cut kind inside [] ascii ends = record { piece = inside; whole = refl; utf8 = λ u. IsUtf8-nil }
+stopped_cut kind inside (b ∷ rest) ascii ends = cut_before inside b rest (stop_ascii kind b rest ascii ends)
+
+pub string_cut : (quote : ℕ) (inside rest : List ℕ) → holds bytes.Quote quote ≡ true → IsCut (quote ∷ (inside ++ quote ∷ rest)) rest
+string_cut quote inside rest h =
+    let ascii = quote_ascii quote h in
+    cut_on (quote ∷ (inside ++ quote ∷ rest)) (inside ++ quote ∷ rest) rest (cut_byte quote (inside ++ quote ∷ rest) ascii)
+    (cut_on (inside ++ quote ∷ rest) (quote ∷ rest) rest (cut_before inside quote rest ascii) (cut_byte quote rest ascii))
+
+pub broken_cut : (quote : ℕ) (inside left : List ℕ) → holds bytes.Quote quote ≡ true → stops (InString quote) left ≡ true → IsCut (quote ∷ (inside ++ left)) left
+broken_cut quote inside left h ends =
+    let ascii = quote_ascii quote h in
+    cut_on (quote ∷ (inside ++ left)) (inside ++ left) left (cut_byte quote (inside ++ left) ascii) (stopped_cut (InString quote) inside left ascii ends)
+
+pub action_cut : (inside rest : List ℕ) → IsCut (123 ∷ (inside ++ 125 ∷ rest)) rest
+action_cut inside rest =
+    cut_on (123 ∷ (inside ++ 125 ∷ rest)) (inside ++ 125 ∷ rest) rest (cut_byte 123 (inside ++ 125 ∷ rest) (omega arith))
+    (cut_on (inside ++ 125 ∷ rest) (125 ∷ rest) rest (cut_before inside 125 rest (omega arith)) (cut_byte 125 rest (omega arith)))
 
 -- the offset of what is left
 pub place_cut : (text rest : List ℕ) → IsCut text rest → place (length text) rest + length rest ≡ length text

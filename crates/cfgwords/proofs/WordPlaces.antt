@@ -1,17 +1,22 @@
 -- Words stand between places of the text.
-use Rattle.std.proofs.Common.{◌≡◌, ℕ, ◌+◌, ◌≤◌, Bool, true, false, List, ◌∷◌, ◌++◌, length, Result, Ok, Err, refl, ap, subst, arith, length-append, ltb-true, MatchBool, if◌then◌else◌}
+use Rattle.std.proofs.Common.{◌≡◌, ℕ, ◌+◌, ◌≤◌, Bool, true, false, List, [], ◌∷◌, ◌++◌, length, Result, Ok, Err, refl, ap, subst, arith, length-append, ltb-true, MatchBool, if◌then◌else◌}
 use Rattle.std.specs.List.{list_all}
 use Rattle.std.specs.Prelude.{nat_lt}
 use Rattle.std.specs.Str.{IsUtf8, IsCharBoundary}
 use Rattle.reading.proofs.Yields.{EndsIn}
 use Rattle.cfgwords.specs.declared.fault.Fault.{Fault}
 use Rattle.cfgwords.specs.declared.fault.FaultKind.{FaultKind}
+use Rattle.cfgwords.specs.declared.fault.FaultKind.TheVariants.{InvalidString, ReachedEOL}
+use Rattle.cfgwords.specs.Actions.{IsAction, action_at}
 use Rattle.cfgwords.specs.Blank.{Blank}
+use Rattle.cfgwords.specs.ColonText.{ColonText, single, missing}
+use Rattle.cfgwords.specs.Strings.{EppString, closed, unopened, broken}
 use Rattle.cfgwords.specs.Text.{place, span_of, fault_at}
 use Rattle.cfgwords.specs.Words.{TokenText, Token, IsName, IsIdentifier, IsQuoted, IsToken, IsInteger, LineRest, word_at, token_at, integer_at, word_of}
-use Rattle.cfgwords.proofs.Cuts.{IsCut, cut_here, cut_on, cut_same, cut_word, name_cut, identifier_cut, integer_cut, line_rest_cut, opened_cut, inside_cut, closed_cut, place_cut, boundary_cut}
+use Rattle.cfgwords.proofs.Cuts.{IsCut, cut_here, cut_byte, cut_before, cut_end, front_utf8, string_cut, broken_cut, action_cut, cut_on, cut_same, cut_word, name_cut, identifier_cut, integer_cut, line_rest_cut, opened_cut, inside_cut, closed_cut, place_cut, boundary_cut}
 use Rattle.cfgwords.proofs.BlankCuts.{blank_ends_at}
-use Rattle.cfgwords.specs.Places.{IsPiece, IsWordAt}
+use Rattle.cfgwords.proofs.Trimming.{trim_no_longer}
+use Rattle.cfgwords.specs.Places.{IsPiece, IsWithin, IsWordAt}
 
 abbrev pub is_ascii_word : List ℕ → Bool
 is_ascii_word word = list_all (λ b. nat_lt b 128) word
@@ -141,3 +146,42 @@ module _ (whole : List ℕ) (utf8 : IsUtf8 whole) where
       → EndsIn (IsReached whole from) (λ fault. IsPiece whole fault.span) (λ _. Unit {0}) o
   line_rest_is_at from text (Ok (word, rest)) t is = (goes_on from text rest t (line_rest_cut text word rest is), tt)
   line_rest_is_at from text (Err fault) t is = absurd is
+
+  pub epp_string_is_at : (from text : List ℕ) (o : Result (List ℕ × List ℕ) Fault) → IsReached whole from text → EppString (length whole) text o
+      → EndsIn (IsReached whole from) (λ fault. IsPiece whole fault.span) (λ _. Unit {0}) o
+  epp_string_is_at from text o t (closed quote inside rest q passes e) =
+      (goes_on from text rest t (cut_same text (quote ∷ (inside ++ quote ∷ rest)) rest e (string_cut quote inside rest q)), tt)
+  epp_string_is_at from text o t (unopened other) = fault_is_at InvalidString from text t
+  epp_string_is_at from text o t (broken quote inside left q passes e ends other) =
+      fault_is_at InvalidString from left (goes_on from text left t (cut_same text (quote ∷ (inside ++ left)) left e (broken_cut quote inside left q ends)))
+
+  pub colon_text_is_at : (from text : List ℕ) (o : Result (List ℕ × List ℕ) Fault) → IsReached whole from text → ColonText (length whole) text o
+      → EndsIn (IsReached whole from) (λ fault. IsPiece whole fault.span) (λ _. Unit {0}) o
+  colon_text_is_at from text o t (single inside tail passes e alone) =
+      (goes_on from text (58 ∷ tail) t (cut_same text (inside ++ 58 ∷ tail) (58 ∷ tail) e (cut_before inside 58 tail (omega arith))), tt)
+  colon_text_is_at from text o t (missing passes) = fault_is_at ReachedEOL from [] (goes_on from text [] t (cut_end text))
+
+  -- what stands from a place to a later one
+  pub reached_piece : (from text : List ℕ) → IsReached whole from text
+      → IsPiece whole (record { start = place (length whole) from; end = place (length whole) text })
+  reached_piece from text t = record {
+    ordered = omega (arith, place_cut from text t.further, place_cut whole from t.origin);
+    begins_at = boundary_cut whole from utf8 t.origin;
+    ends_at = boundary_cut whole text utf8 (reached from text t);
+  }
+
+  pub action_is_at : (from text word rest : List ℕ) → IsReached whole from text → IsAction text word rest
+      → IsReached whole from rest × IsWithin whole (action_at (length whole) text word rest).1
+  action_is_at from text word rest t is = (
+    goes_on from text rest t (cut_same text (123 ∷ (is.inside ++ 125 ∷ rest)) rest is.whole (action_cut is.inside rest)),
+    record { ordered = omega arith; within = omega (arith, place_cut whole text here, ap length is.whole, length-append is.inside (125 ∷ rest), shorter) },
+  )
+    where
+      here : IsCut whole text
+      here = reached from text t
+
+      opened : IsUtf8 (is.inside ++ 125 ∷ rest)
+      opened = (cut_same text (123 ∷ (is.inside ++ 125 ∷ rest)) (is.inside ++ 125 ∷ rest) is.whole (cut_byte 123 (is.inside ++ 125 ∷ rest) (omega arith))).utf8 (here.utf8 utf8)
+
+      shorter : length word ≤ length is.inside
+      shorter = subst (λ w. length w ≤ length is.inside) is.trimmed (trim_no_longer is.inside (front_utf8 is.inside 125 rest (omega arith) opened))

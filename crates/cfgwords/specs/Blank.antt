@@ -1,5 +1,5 @@
 -- Blanks: spaces, tabs, CRs, LFs, line comments and block comments, in a row as long as possible.
-use Rattle.std.specs.Prelude.{◌≡◌, ◌≢◌, ℕ, Bool, true, false, List, [], ◌∷◌, ◌++◌, drop, Option, Some, None, Result, Ok, Err, ◌||◌, not, codes, if◌then◌else◌}
+use Rattle.std.specs.Prelude.{◌≡◌, ◌≢◌, ℕ, Bool, true, false, List, [], ◌∷◌, ◌++◌, length, ◌-◌, take, drop, Option, Some, None, Result, Ok, Err, ◌||◌, not, codes, if◌then◌else◌}
 use Rattle.std.specs.List.{list_any}
 use Rattle.reading.specs.Pieces.{starts, IsRun, run, strip, IsFirst, split_first}
 use Rattle.reading.specs.Turns.{Turn, again, ends, Turns, all_turns}
@@ -78,6 +78,10 @@ blank_step len lines text = turn_of len text (part_of lines (front_of text))
 
 unfoldable pub blank : ℕ → Bool → List ℕ → Result (Unit {0} × List ℕ) Fault
 blank len lines text = all_turns (blank_step len lines) (Ok (tt, [])) text
+
+-- whether a CR or an LF stands between the place where text is left of a file and a later one, where rest is left
+unfoldable pub passes_line_end : List ℕ → List ℕ → Bool
+passes_line_end text rest = list_any (holds bytes.LineEnd) (take (length text - length rest) text)
 
 -- what the code's front stands for
 abbrev pub front_view : CodeFront → Front

@@ -1,5 +1,9 @@
+pub mod Actions
 pub mod Blank
 pub mod Bytes
+pub mod ColonText
+pub mod Passed
 pub mod Places
+pub mod Strings
 pub mod Text
 pub mod Words

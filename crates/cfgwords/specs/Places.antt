@@ -1,6 +1,7 @@
 -- Places of a text: where a character begins, and the text's end. A span goes from a place to another that isn't
--- before it, so what it names is a piece of the text.
-use Rattle.std.specs.Prelude.{ℕ, ◌≤◌, List}
+-- before it, so what it names is a piece of the text. The span of what was trimmed has its length, but begins where
+-- the trimming began, so it may end inside a character: it lies within the text.
+use Rattle.std.specs.Prelude.{ℕ, ◌≤◌, List, length}
 use Rattle.std.specs.Str.{IsCharBoundary}
 use Rattle.cfgbase.specs.declared.span.Span.{Span}
 use Rattle.cfgwords.specs.Words.{Word}
@@ -12,3 +13,7 @@ pub record IsPiece (text : List ℕ) (span : Span) : Type 0 where
 
 abbrev pub IsWordAt : List ℕ → Word → Type 0
 IsWordAt text word = IsPiece text word.span
+
+pub record IsWithin (text : List ℕ) (span : Span) : Type 0 where
+  pub ordered : span.start ≤ span.end
+  pub within : span.end ≤ length text

@@ -3,6 +3,7 @@
 ghost use Rattle.std.specs.Prelude.{◌≡◌, drop, true, false, length, ◌≤◌};
 ghost use Rattle.std.specs.List.{list_any};
 ghost use Rattle.reading.specs.Pieces.{starts};
+ghost use Rattle.cfgwords.specs.Blank.{passes_line_end};
 ghost use Rattle.cfgwords.specs.Bytes.{holds};
 
 use crate::bytes::ByteClass;
@@ -41,6 +42,17 @@ fn has_line_end(text: &str) -> bool
     ensures { result ≡ list_any (holds ByteClass.LineEnd) text.now }
 {
     text.as_bytes().iter().any(|b| ByteClass::LineEnd.holds(*b))
+}
+
+/// Whether a CR or an LF was passed on the way from the place where `text` is left to a later one, where `rest` is left.
+#[tactic(auto, unfolding(crate::specs::Blank::passes_line_end))]
+pub fn passes_line_end(text: &str, rest: &str) -> bool
+    ensures { result ≡ passes_line_end text.now rest.now }
+{
+    let passed = text.len().saturating_sub(rest.len());
+    text.as_bytes()[..passed]
+        .iter()
+        .any(|b| ByteClass::LineEnd.holds(*b))
 }
 
 impl<'a> Front<'a> {

@@ -3,6 +3,9 @@
 ghost use Rattle.std.specs.Prelude.{◌≡◌, ℕ, Bool, List};
 ghost use Rattle.reading.specs.Graph.{IsGraph};
 ghost use Rattle.cfgwords.specs.Blank.{IsFront, front_of, Blank, blank};
+ghost use Rattle.cfgwords.specs.Strings.{EppString, epp_string};
+ghost use Rattle.cfgwords.specs.ColonText.{ColonText, colon_text};
+ghost use Rattle.cfgwords.specs.Actions.{IsAction, action_of};
 ghost use Rattle.cfgwords.specs.Words.{IsName, name_of, IsIdentifier, identifier_of, IsQuoted, quoted_of, TokenText, IsToken, token_of, IsInteger, integer_of, LineRest, line_rest};
 
 /// What stands at the front of a text is one thing, the one that `Front::of` tells.
@@ -56,4 +59,23 @@ pub fn integers_found()
 #[tactic(auto, using(crate::proofs::LineRests::line_rest_graph))]
 pub fn line_rest_is_graph()
     ensures { IsGraph LineRest line_rest }
+{}
+
+/// The string of an `%epp` is one thing, whatever the text.
+#[tactic(auto, using(crate::proofs::EppStrings::epp_string_graph))]
+pub fn epp_string_is_graph()
+    ensures { (len : ℕ) → IsGraph (EppString len) (epp_string len) }
+{}
+
+/// The text up to a single colon is one thing, whatever the text.
+#[tactic(auto, using(crate::proofs::ColonTexts::colon_text_graph))]
+pub fn colon_text_is_graph()
+    ensures { (len : ℕ) → IsGraph (ColonText len) (colon_text len) }
+{}
+
+/// Every action is found, and only actions are.
+#[tactic(auto, using(crate::proofs::Finders::action_finder))]
+pub fn actions_found()
+    ensures sound { (text word rest : List ℕ) → action_of text ≡ Some (word, rest) → IsAction text word rest }
+    ensures only { (text word rest : List ℕ) → IsAction text word rest → action_of text ≡ Some (word, rest) }
 {}

@@ -1,0 +1,39 @@
+//! Actions.
+
+ghost use Rattle.std.specs.Prelude.{◌≡◌, ◌+◌, ◌≤◌, length, None, IfSome, MatchOption};
+ghost use Rattle.std.specs.Option.{option_map};
+ghost use Rattle.cfgwords.specs.Actions.{action_of, split_balanced, IsClosedAt};
+
+use reading::after_word;
+
+/// How many bytes stand before the brace that closes one more than those that open.
+fn balanced_len(bytes: &[u8]) -> Option<usize>
+    ensures { MatchOption result (split_balanced 0 bytes.now ≡ None) (λ n. IsClosedAt bytes.now n) }
+{
+    let mut depth: usize = 0;
+    for (i, b) in bytes.iter().enumerate() {
+        if *b == b'{' {
+            depth += 1;
+        } else if *b == b'}' {
+            if depth == 0 {
+                return Some(i);
+            }
+            depth -= 1;
+        }
+    }
+    None
+}
+
+/// The action at the front of the text, trimmed, and what is left behind its closing brace: what stands between a
+/// brace and the one that balances it, whatever stands in strings and comments there.
+#[tactic(auto, unfolding(crate::specs::Actions::action_of))]
+pub fn leading_action(text: &str) -> Option<(&str, &str)>
+    ensures exact { option_map (λ x. (x.0.now, x.1.now)) result ≡ action_of text.now }
+    ensures lengths { IfSome result (λ x. 2 + length x.0.now + length x.1.now ≤ length text.now) }
+{
+    let opened = after_word(text, "{")?;
+    let len = balanced_len(opened.as_bytes())?;
+    let (inside, closed) = opened.split_at(len);
+    let (_, rest) = closed.split_at(1);
+    Some((inside.trim(), rest))
+}

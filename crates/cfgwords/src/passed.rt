@@ -1,0 +1,69 @@
+//! What is passed on the way to the byte that ends a word.
+
+ghost use Rattle.std.specs.Prelude.{◌≡◌, ◌+◌, length};
+ghost use Rattle.cfgwords.specs.Passed.{passes_one, passes_two, step_len, EndsInAscii, passed_len, passed};
+
+use crate::bytes::ByteClass;
+
+/// Single bytes, and bytes two at a time, that are passed on the way to the byte that ends a word.
+#[derive(Clone, Copy, Debug, PartialEq, Eq)]
+pub enum Passed {
+    /// In a string, up to this quote: a backslash with a quote behind it (`"` or `'`), and any other byte but a backslash, a
+    /// CR and an LF.
+    InString(u8),
+    /// Before a single colon: two colons, and any other byte.
+    BeforeColon,
+}
+
+impl Passed {
+    fn passes_one(self, b: u8) -> bool
+        ensures { result ≡ passes_one self b }
+    {
+        match self {
+            Passed::InString(quote) => b != quote && b != b'\\' && !ByteClass::LineEnd.holds(b),
+            Passed::BeforeColon => b != b':',
+        }
+    }
+
+    fn passes_two(self, b: u8, c: u8) -> bool
+        ensures { result ≡ passes_two self b c }
+    {
+        match self {
+            Passed::InString(_) => b == b'\\' && ByteClass::Quote.holds(c),
+            Passed::BeforeColon => b == b':' && c == b':',
+        }
+    }
+
+    /// How many bytes at the front are passed at once: one, or two; none where it stops.
+    fn step_len(self, bytes: &[u8]) -> usize
+        ensures { result ≡ step_len self bytes.now }
+    {
+        match bytes {
+            [b, ..] if self.passes_one(*b) => 1,
+            [b, c, ..] if self.passes_two(*b, *c) => 2,
+            _ => 0,
+        }
+    }
+}
+
+/// How many bytes at the front are passed.
+fn passed_len(bytes: &[u8], kind: Passed) -> usize
+    ensures { result ≡ passed_len kind bytes.now }
+{
+    let mut i: usize = 0;
+    let mut step = kind.step_len(bytes);
+    while step > 0 {
+        i += step;
+        step = kind.step_len(&bytes[i..]);
+    }
+    i
+}
+
+/// The front that is passed, as long as possible, and what is left behind it. The quote of a string is ASCII.
+pub(crate) fn pass(text: &str, kind: Passed) -> (&str, &str)
+    requires { EndsInAscii kind }
+    ensures parts { (result.0.now, result.1.now) ≡ passed kind text.now }
+    ensures lengths { length result.0.now + length result.1.now ≡ length text.now }
+{
+    text.split_at(passed_len(text.as_bytes(), kind))
+}
