@@ -11,13 +11,13 @@ use Rattle.std.proofs.Math.Seq.{get_or-append_seam}
 use Rattle.lemmas.specs.Lists.{with_fronts, places, pushed, pushed_unless}
 use Rattle.lemmas.proofs.Pushed.{filter_map-pushed, slice_get-push, map-pushed, map-pushed_unless}
 use Rattle.lemmas.proofs.Passing.{places-none, places-push}
-use Rattle.lemmas.proofs.Fronts.{list_any-with_fronts, with_fronts-push}
+use Rattle.lemmas.proofs.Fronts.{with_fronts-push}
 use Rattle.lemmas.proofs.Tests.{list_any-map, list_any-filter_map, list_any_weaker}
 use Rattle.cfgwords.specs.Words.{Word}
 use Rattle.cfgast.specs.Items.{Item, RuleHead, TokenDeclared, Alternative}
-use Rattle.cfgast.specs.Syntax.{Rule, Production, word_name, head_name, is_named, index_of, indices_of, token_named, token_declared, rule_named, alternative, alternatives, token_words, declared_words, rule_heads, rule_of, last_of}
-use Rattle.cfgast.specs.Building.{has_name, new_rule, listed, with_first, with_name, with_span, with_directive, with_rule, with_listed}
-use Rattle.cfgast.proofs.Names.{AreAmong, put_first, firsts-filter_map-push, is_named-firsts, has_name-names, names-put, put_there, put_grows, indices-stay, indices-put}
+use Rattle.cfgast.specs.Syntax.{Rule, Production, word_name, head_name, entry_name, is_named, firsts, index_of, indices_of, token_named, token_declared, typed_rule, alternative, alternatives, token_words, declared_words, rule_heads, word_entry, marked, rule_of, last_of}
+use Rattle.cfgast.specs.Building.{has_name, new_rule, listed, with_first, with_name, with_span, with_directive, with_rule, with_listed, with_entry, with_marked}
+use Rattle.cfgast.proofs.Names.{AreAmong, put_first, put_first-entry, firsts-filter_map-push, is_named-firsts, has_name-names, names-put, entries-put, put_there, put_grows, indices-stay, indices-put}
 
 abbrev pub tokens : List Item → List (List ℕ)
 tokens items = map word_name (token_words items)
@@ -53,9 +53,9 @@ declared_token items name h =
 pub alternative_named : (items : List Item) → AreAmong (production_names items) (rule_names items)
 unfolding rule_heads alternatives
 alternative_named items name h =
-    has_name-names head_name name (rule_heads items) ∙ is_named-firsts head_name name (filter_map rule_named items) ∙ list_any-filter_map has rule_named items
-    ∙ sym (list_any-with_fronts (λ x. option_map_or has (rule_named x) false) items)
-    ∙ list_any_weaker (λ x. option_map_or of_rule (alternative x) false) (λ x. option_map_or has (rule_named x.1) false) go (with_fronts items)
+    has_name-names head_name name (rule_heads items) ∙ is_named-firsts head_name name (filter_map typed_rule (with_fronts items))
+    ∙ list_any-filter_map has typed_rule (with_fronts items)
+    ∙ list_any_weaker (λ x. option_map_or of_rule (alternative x) false) (λ x. option_map_or has (typed_rule x) false) go (with_fronts items)
     (sym (list_any-filter_map of_rule alternative (with_fronts items)) ∙ sym (list_any-map (bytes_eq name) (λ a. a.0) (alternatives items)) ∙ h)
   where
     of_rule : List ℕ × Production → Bool
@@ -64,7 +64,7 @@ alternative_named items name h =
     has : RuleHead → Bool
     has head = bytes_eq name (head_name head)
 
-    go : (x : List Item × Item) → option_map_or of_rule (alternative x) false ≡ true → option_map_or has (rule_named x.1) false ≡ true
+    go : (x : List Item × Item) → option_map_or of_rule (alternative x) false ≡ true → option_map_or has (typed_rule x) false ≡ true
     go (front, Alternative head body) e = e
     go (front, _) e = absurd (false≢true e)
 
@@ -96,6 +96,18 @@ rules-listed done (Some (name, production)) heads = (λ i. map (λ head. same he
         ∙ (λ i. if nat_list_eq_equiv.symm (head_name head) name i then at head ++ next_is i ∷ [] else at head))
         ∙ branch head (bytes_eq name (head_name head))
 
+-- one more that is said of marked tokens
+words-pushed : (said : List (Option Word)) (o : Option Word) → map word_entry (firsts word_name (filter_map (λ o. o) (said ++ o ∷ [])))
+    ≡ with_entry (option_map word_entry o) (map word_entry (firsts word_name (filter_map (λ o. o) said)))
+words-pushed said o =
+    ap (map word_entry) (firsts-filter_map-push word_name (λ o. o) said o) ∙ entries-put word_name (λ w. w.span) (firsts word_name (filter_map (λ o. o) said)) o
+
+marked-pushed : (said : List (Option Word)) (o : Option (Option Word)) → marked (pushed said o) ≡ with_marked o (marked said)
+unfolding firsts
+marked-pushed said None = refl
+marked-pushed [] (Some o) = ap Some (words-pushed [] o)
+marked-pushed (x ∷ said) (Some o) = ap Some (words-pushed (x ∷ said) o)
+
 module _ (items : List Item) (item : Item) where
   -- of what the first item that names it says
   pub first-push : {A : Type 0} (named : Item → Option A) → slice_get (filter_map named (items ++ item ∷ [])) 0 ≡ with_first (named item) (slice_get (filter_map named items) 0)
@@ -117,6 +129,26 @@ module _ (items : List Item) (item : Item) where
           let at : length (xs ++ x ∷ []) - 1 ≡ length xs = omega (arith, longer) in
           ap (slice_get (xs ++ x ∷ [])) at ∙ slice_get-get_or (xs ++ x ∷ []) (length xs) x (omega (arith, longer)) ∙ ap Some (get_or-append_seam xs x [] x)
 
+  -- of what an item says behind those that stand before it: all, and the first of each name
+  fronts-push : {A : Type 0} (said : List Item × Item → Option A) → filter_map said (with_fronts (items ++ item ∷ [])) ≡ pushed (filter_map said (with_fronts items)) (said (items, item))
+  fronts-push said = ap (filter_map said) (with_fronts-push items item) ∙ filter_map-pushed said (with_fronts items) (items, item)
+
+  firsts-push : {A : Type 0} (name_of : A → List ℕ) (said : List Item × Item → Option A)
+      → firsts name_of (filter_map said (with_fronts (items ++ item ∷ []))) ≡ put_first name_of (firsts name_of (filter_map said (with_fronts items))) (said (items, item))
+  firsts-push name_of said = ap (λ xs. firsts name_of (filter_map said xs)) (with_fronts-push items item) ∙ firsts-filter_map-push name_of said (with_fronts items) (items, item)
+
+  -- of entries, where the first of each name counts
+  pub entries-push : {V : Type 0} (said : Item → Option (List ℕ × V)) → firsts entry_name (filter_map said (items ++ item ∷ [])) ≡ with_entry (said item) (firsts entry_name (filter_map said items))
+  entries-push said = firsts-filter_map-push entry_name said items item ∙ put_first-entry (firsts entry_name (filter_map said items)) (said item)
+
+  pub entries_behind-push : {V : Type 0} (said : List Item × Item → Option (List ℕ × V))
+      → firsts entry_name (filter_map said (with_fronts (items ++ item ∷ []))) ≡ with_entry (said (items, item)) (firsts entry_name (filter_map said (with_fronts items)))
+  entries_behind-push said = firsts-push entry_name said ∙ put_first-entry (firsts entry_name (filter_map said (with_fronts items))) (said (items, item))
+
+  -- of a table of marked tokens
+  pub marked-push : (said : Item → Option (Option Word)) → marked (filter_map said (items ++ item ∷ [])) ≡ with_marked (said item) (marked (filter_map said items))
+  marked-push said = ap marked (filter_map-pushed said items item) ∙ marked-pushed (filter_map said items) (said item)
+
   token_words-push : token_words (items ++ item ∷ []) ≡ put_first word_name (token_words items) (token_named item)
   unfolding token_words
   token_words-push = firsts-filter_map-push word_name token_named items item
@@ -125,13 +157,17 @@ module _ (items : List Item) (item : Item) where
   unfolding declared_words
   declared_words-push = firsts-filter_map-push word_name token_declared items item
 
-  rule_heads-push : rule_heads (items ++ item ∷ []) ≡ put_first head_name (rule_heads items) (rule_named item)
+  -- the rule that the item names, with the type of its actions
+  abbrev named : Option RuleHead
+  named = typed_rule (items, item)
+
+  rule_heads-push : rule_heads (items ++ item ∷ []) ≡ put_first head_name (rule_heads items) named
   unfolding rule_heads
-  rule_heads-push = firsts-filter_map-push head_name rule_named items item
+  rule_heads-push = firsts-push head_name typed_rule
 
   alternatives-push : alternatives (items ++ item ∷ []) ≡ pushed (alternatives items) (alternative (items, item))
   unfolding alternatives
-  alternatives-push = ap (filter_map alternative) (with_fronts-push items item) ∙ filter_map-pushed alternative (with_fronts items) (items, item)
+  alternatives-push = fronts-push alternative
 
   pub tokens-push : tokens (items ++ item ∷ []) ≡ with_name (option_map word_name (token_named item)) (tokens items)
   tokens-push = ap (map word_name) token_words-push ∙ names-put word_name (token_words items) (token_named item)
@@ -189,17 +225,17 @@ module _ (items : List Item) (item : Item) where
       go true e = refl
       go false e = map-append (rule_of (alternatives items)) (rule_heads items) (head ∷ []) ∙ ap (λ rule. rules items ++ rule ∷ []) (unlisted head e)
 
-  pub rules-push : rules (items ++ item ∷ []) ≡ with_listed (alternative (items, item)) (length (map (λ a. a.1) (alternatives items))) (with_rule (rule_named item) (rules items))
+  pub rules-push : rules (items ++ item ∷ []) ≡ with_listed (alternative (items, item)) (length (map (λ a. a.1) (alternatives items))) (with_rule named (rules items))
   rules-push =
       (λ i. map (rule_of (alternatives-push i)) (rule_heads-push i))
-      ∙ rules-listed (alternatives items) (alternative (items, item)) (put_first head_name (rule_heads items) (rule_named item))
-      ∙ ap (with_listed (alternative (items, item)) (length (map (λ a. a.1) (alternatives items)))) (rules-named (rule_named item))
+      ∙ rules-listed (alternatives items) (alternative (items, item)) (put_first head_name (rule_heads items) named)
+      ∙ ap (with_listed (alternative (items, item)) (length (map (λ a. a.1) (alternatives items)))) (rules-named named)
 
   pub productions-push : map (λ a. a.1) (alternatives (items ++ item ∷ [])) ≡ pushed (map (λ a. a.1) (alternatives items)) (option_map (λ a. a.1) (alternative (items, item)))
   productions-push = ap (map (λ a. a.1)) alternatives-push ∙ map-pushed (λ a. a.1) (alternatives items) (alternative (items, item))
 
   pub production_rules-push : indices_of (production_names (items ++ item ∷ [])) (rule_names (items ++ item ∷ []))
-      ≡ pushed (indices_of (production_names items) (rule_names items)) (option_map (λ a. index_of a.0 (map (λ rule. rule.0) (with_rule (rule_named item) (rules items)))) (alternative (items, item)))
+      ≡ pushed (indices_of (production_names items) (rule_names items)) (option_map (λ a. index_of a.0 (map (λ rule. rule.0) (with_rule named (rules items)))) (alternative (items, item)))
   production_rules-push =
       ap (λ ns. indices_of ns names) (ap (map (λ a. a.0)) alternatives-push ∙ map-pushed (λ a. a.0) (alternatives items) (alternative (items, item)))
       ∙ map-pushed (λ n. index_of n names) (production_names items) (option_map (λ a. a.0) (alternative (items, item)))
@@ -207,20 +243,20 @@ module _ (items : List Item) (item : Item) where
       ∙ go (alternative (items, item))
     where
       heads : List RuleHead
-      heads = put_first head_name (rule_heads items) (rule_named item)
+      heads = put_first head_name (rule_heads items) named
 
       names : List (List ℕ)
       names = rule_names (items ++ item ∷ [])
 
       stay : indices_of (production_names items) names ≡ indices_of (production_names items) (rule_names items)
-      stay = ap (indices_of (production_names items)) (ap (map head_name) rule_heads-push ∙ names-put head_name (rule_heads items) (rule_named item))
-          ∙ indices-stay (production_names items) (rule_names items) (alternative_named items) (option_map head_name (rule_named item))
+      stay = ap (indices_of (production_names items)) (ap (map head_name) rule_heads-push ∙ names-put head_name (rule_heads items) named)
+          ∙ indices-stay (production_names items) (rule_names items) (alternative_named items) (option_map head_name named)
 
-      named : names ≡ map (λ rule. rule.0) (with_rule (rule_named item) (rules items))
-      named = ap (map head_name) rule_heads-push ∙ sym (map-map (λ (rule : List ℕ × Rule). rule.0) (rule_of (alternatives items)) heads)
-          ∙ ap (map (λ rule. rule.0)) (rules-named (rule_named item))
+      names_are : names ≡ map (λ rule. rule.0) (with_rule named (rules items))
+      names_are = ap (map head_name) rule_heads-push ∙ sym (map-map (λ (rule : List ℕ × Rule). rule.0) (rule_of (alternatives items)) heads)
+          ∙ ap (map (λ rule. rule.0)) (rules-named named)
 
       go : (o : Option (List ℕ × Production)) → pushed (indices_of (production_names items) (rule_names items)) (option_map (λ n. index_of n names) (option_map (λ a. a.0) o))
-          ≡ pushed (indices_of (production_names items) (rule_names items)) (option_map (λ a. index_of a.0 (map (λ rule. rule.0) (with_rule (rule_named item) (rules items)))) o)
+          ≡ pushed (indices_of (production_names items) (rule_names items)) (option_map (λ a. index_of a.0 (map (λ rule. rule.0) (with_rule named (rules items)))) o)
       go None = refl
-      go (Some a) = ap (λ ns. indices_of (production_names items) (rule_names items) ++ index_of a.0 ns ∷ []) named
+      go (Some a) = ap (λ ns. indices_of (production_names items) (rule_names items) ++ index_of a.0 ns ∷ []) names_are

@@ -10,10 +10,10 @@ use Rattle.lemmas.proofs.Places.{found-position}
 use Rattle.lemmas.proofs.Pushed.{filter_map-pushed}
 use Rattle.cfgast.specs.Items.{Item}
 use Rattle.cfgast.specs.Occurrences.{declared_once}
-use Rattle.cfgast.specs.Syntax.{word_name, is_named, token_declared, start_named, declared_words, index_of, indices_of, finished, expected, expected_reduce_reduce, generics_declared, expected_unused, settings_of, syntax_of}
+use Rattle.cfgast.specs.Syntax.{word_name, is_named, token_declared, start_named, declared_words, index_of, indices_of, finished, action_type_declared, printed_form_declared, expected, expected_reduce_reduce, expected_unused, parse_param_declared, generics_declared, avoid_insert_said, implicit_tokens_said, precedence_at, level_ended, programs_given, settings_of, tables_of, syntax_of}
 use Rattle.cfgast.specs.Building.{has_name, is_declared, grown, add, adds}
 use Rattle.cfgast.proofs.Names.{is_named-firsts, has_name-names, noted}
-use Rattle.cfgast.proofs.Fields.{tokens, declared, declared_token, first-push, last-push, rules-push, productions-push, production_rules-push, tokens-push, spans-push, directives-push}
+use Rattle.cfgast.proofs.Fields.{tokens, declared, declared_token, first-push, last-push, entries-push, entries_behind-push, marked-push, rules-push, productions-push, production_rules-push, tokens-push, spans-push, directives-push}
 
 -- a name is declared so far where a `%token` list has it
 is_declared-syntax_of : (items : List Item) (name : List ℕ) → is_named word_name name (filter_map token_declared items) ≡ is_declared (syntax_of items) name
@@ -36,7 +36,7 @@ is_declared-syntax_of items name =
 
 -- one more item adds to the syntax what `add` does
 pub syntax_of-push : (items : List Item) (item : Item) → syntax_of (items ++ item ∷ []) ≡ add (syntax_of items) item
-unfolding add syntax_of settings_of
+unfolding add syntax_of settings_of tables_of
 syntax_of-push items item = (λ i. record {
   start = first-push items item start_named i;
   rules = rules-push items item i;
@@ -45,11 +45,20 @@ syntax_of-push items item = (λ i. record {
   tokens = tokens-push items item i;
   spans = spans-push items item i;
   token_directives = directives-push items item i;
+  tables = record {
+    precedences = entries_behind-push items item precedence_at i;
+    printed_forms = entries-push items item printed_form_declared i;
+    avoid_insert = marked-push items item avoid_insert_said i;
+    implicit_tokens = marked-push items item implicit_tokens_said i;
+    levels = filter_map-pushed level_ended items item i;
+  };
   settings = record {
+    action_type = first-push items item action_type_declared i;
     expect = first-push items item expected i;
     expect_reduce_reduce = first-push items item expected_reduce_reduce i;
+    parse_param = last-push items item parse_param_declared i;
     parse_generics = last-push items item generics_declared i;
-    programs = None;
+    programs = last-push items item programs_given i;
   };
   expect_unused = filter_map-pushed expected_unused items item i;
   occurrences = filter_map-pushed declared_once items item i;

@@ -16,8 +16,8 @@ use Rattle.lemmas.proofs.Fronts.{with_fronts-push}
 use Rattle.lemmas.proofs.Growing.{from_pushes}
 use Rattle.lemmas.proofs.Places.{found-position, position_or_len-append, position_or_len-distinct}
 use Rattle.lemmas.proofs.Tests.{list_any-map}
-use Rattle.cfgast.specs.Syntax.{is_named, is_first, firsts, index_of, indices_of}
-use Rattle.cfgast.specs.Building.{with_name, with_directive, has_name}
+use Rattle.cfgast.specs.Syntax.{is_named, is_first, firsts, entry_name, index_of, indices_of}
+use Rattle.cfgast.specs.Building.{with_name, with_directive, with_entry, has_name}
 
 module _ {A : Type 0} (name_of : A → List ℕ) where
   pub firsts-push : (xs : List A) (x : A) → firsts name_of (xs ++ x ∷ []) ≡ pushed_unless (is_named name_of (name_of x) xs) (firsts name_of xs) x
@@ -76,6 +76,17 @@ module _ {A : Type 0} (name_of : A → List ℕ) where
       map-pushed_unless name_of (is_named name_of (name_of x) xs) xs x
       ∙ ap (λ b. pushed_unless b (map name_of xs) (name_of x)) (sym (has_name-names (name_of x) xs))
 
+  -- as entries, each with a value
+  pub entries-put : {B : Type 0} (value_of : A → B) (xs : List A) (o : Option A)
+      → map (λ x. (name_of x, value_of x)) (put_first xs o) ≡ with_entry (option_map (λ x. (name_of x, value_of x)) o) (map (λ x. (name_of x, value_of x)) xs)
+  entries-put value_of xs None = refl
+  entries-put {B} value_of xs (Some x) =
+      map-pushed_unless entry_of (is_named name_of (name_of x) xs) xs x
+      ∙ ap (λ b. pushed_unless b (map entry_of xs) (entry_of x)) (sym (list_any-map (λ (entry : List ℕ × B). bytes_eq (name_of x) entry.0) entry_of xs))
+    where
+      entry_of : A → List ℕ × B
+      entry_of x = (name_of x, value_of x)
+
   -- first occurrences differ
   pub firsts-distinct : (xs : List A) → IsDistinct bytes_eq (map name_of (firsts name_of xs))
   unfolding firsts IsDistinct
@@ -89,6 +100,11 @@ module _ {A : Type 0} (name_of : A → List ℕ) where
           go false e =
               subst (IsDistinct bytes_eq) (sym (map-append name_of (firsts name_of xs) (x ∷ [])))
               (IsDistinct-push nat_list_eq_equiv (map name_of (firsts name_of xs)) (name_of x) before (has_name-names (name_of x) (firsts name_of xs) ∙ is_named-firsts (name_of x) xs ∙ e))
+
+-- of entries, under their own names
+pub put_first-entry : {V : Type 0} (entries : List (List ℕ × V)) (o : Option (List ℕ × V)) → put_first entry_name entries o ≡ with_entry o entries
+put_first-entry entries None = refl
+put_first-entry entries (Some entry) = refl
 
 -- Places of names.
 

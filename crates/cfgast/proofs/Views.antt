@@ -1,6 +1,6 @@
 -- What the views of keys, entries and copies show.
-use Rattle.std.proofs.Common.{◌≡◌, ℕ, Bool, true, false, cond, List, [], ◌∷◌, ◌++◌, map, Some, None, String, Global, string_bytes, string_eq, if◌then◌else◌, is_some, refl, sym, ap, subst, ◌∙◌}
-use Rattle.std.specs.List.{list_any, position_or_len, AllByRecursion, IsDistinct}
+use Rattle.std.proofs.Common.{◌≡◌, ℕ, Bool, true, false, cond, List, [], ◌∷◌, ◌++◌, map, Option, Some, None, option_map, String, Global, string_bytes, string_eq, if◌then◌else◌, is_some, refl, sym, ap, subst, ◌∙◌}
+use Rattle.std.specs.List.{list_any, position_or_len, AllByRecursion, AllZip, IsDistinct}
 use Rattle.std.specs.Map.{lookup, set_value, keys_of}
 use Rattle.std.specs.Str.{bytes_eq}
 use Rattle.std.specs.Cmp.Lexicographic.{bytes_decides, nat_list_eq_equiv}
@@ -9,14 +9,20 @@ use Rattle.std.proofs.lemmas.Simd.{map-map}
 use Rattle.std.proofs.lemmas.Map.Keys.{IsDistinct-head, IsDistinct-tail}
 use Rattle.std.proofs.lemmas.Map.Made.{is_some-lookup}
 use Rattle.lemmas.specs.Lists.{pushed_unless}
+use Rattle.lemmas.proofs.Copies.{AreCopies, map-copies, option_map-copies}
+use Rattle.lemmas.proofs.Options.{None-from_is_some}
 use Rattle.lemmas.proofs.Pushed.{map-pushed_unless}
 use Rattle.lemmas.proofs.Places.{position_or_len-map, position_or_len-push}
 use Rattle.lemmas.proofs.Tests.{list_any-map}
+use Rattle.indexmap.specs.IndexMap.{IndexMap, insert_entry}
 use Rattle.indexmap.specs.IndexSet.{insert_key}
-use Rattle.cfgast.specs.Syntax.{index_of, Rule}
-use Rattle.cfgast.specs.Building.{listed, has_name, has_rule}
-use Rattle.cfgast.specs.View.{rule_entry, rule_view}
+use Rattle.indexmap.proofs.CallerLemmas.{insert_entry-new}
+use Rattle.cfgbase.specs.declared.span.Span.{Span}
+use Rattle.cfgast.specs.Syntax.{index_of, entry_name, Rule}
+use Rattle.cfgast.specs.Building.{listed, has_name, has_entry, with_entry}
+use Rattle.cfgast.specs.View.{text_view, rule_entry, rule_view, span_entry}
 use Rattle.cfgast.specs.declared.rule.Rule as source
+use Rattle.cfgast.proofs.Names.{entries-put}
 
 -- the test by which a text is looked up among keys
 abbrev pub is_key : List ℕ → String Global → Bool
@@ -47,10 +53,50 @@ index_of-insert_key name keys key is =
     go true = refl
     go false = position_or_len-push (is_key (string_bytes key)) keys key (nat_list_eq_equiv.refl (string_bytes key))
 
-pub has_rule-entries : (name : List ℕ) (es : List (String Global × source.Rule)) → has_rule name (map rule_entry es) ≡ is_some (lookup (is_key name) es)
-has_rule-entries name es =
-    list_any-map (λ (r : List ℕ × Rule). bytes_eq name r.0) rule_entry es
-    ∙ sym (list_any-map (is_key name) (λ (e : String Global × source.Rule). e.0) es) ∙ sym (is_some-lookup (is_key name) es)
+-- Entries under the bytes of their keys, with what they show of their values.
+module _ {V W : Type 0} (show : V → W) where
+  abbrev pub shown_entry : String Global × V → List ℕ × W
+  shown_entry entry = (string_bytes entry.0, show entry.1)
+
+  pub has_entry-entries : (name : List ℕ) (es : List (String Global × V)) → has_entry name (map shown_entry es) ≡ is_some (lookup (is_key name) es)
+  has_entry-entries name es =
+      list_any-map (λ (r : List ℕ × W). bytes_eq name r.0) shown_entry es
+      ∙ sym (list_any-map (is_key name) (λ (e : String Global × V). e.0) es) ∙ sym (is_some-lookup (is_key name) es)
+
+  -- one more entry, under a name that none has yet
+  pub entries-new : {S : Type 0} (name : List ℕ) (m : IndexMap (String Global) V S) (key : String Global) (value : V) → string_bytes key ≡ name
+      → has_entry name (map shown_entry m.entries) ≡ false → map shown_entry (insert_entry string_eq m.entries key value) ≡ map shown_entry m.entries ++ (name, show value) ∷ []
+  entries-new name m key value is new =
+      let absent : lookup (string_eq key) m.entries ≡ None =
+      ap (λ n. lookup (is_key n) m.entries) is ∙ None-from_is_some _ (sym (has_entry-entries name m.entries) ∙ new) in
+      ap (map shown_entry) (insert_entry-new string_eq m key value absent)
+      ∙ map-append shown_entry m.entries ((key, value) ∷ []) ∙ ap (λ n. map shown_entry m.entries ++ (n, show value) ∷ []) is
+
+-- a value that is put under a name, as what it shows
+pub shown-put : {V W : Type 0} (show : V → W) (name : List ℕ) (value : V) (before after : List (String Global × V))
+    → map (shown_entry (λ v. v)) after ≡ with_entry (Some (name, value)) (map (shown_entry (λ v. v)) before)
+    → map (shown_entry show) after ≡ with_entry (Some (name, show value)) (map (shown_entry show) before)
+shown-put {V} {W} show name value before after put =
+    sym (map-map second plain after) ∙ ap (map second) put
+    ∙ entries-put entry_name (λ (entry : List ℕ × V). show entry.1) (map plain before) (Some (name, value))
+    ∙ ap (with_entry (Some (name, show value))) (map-map second plain before)
+  where
+    plain : String Global × V → List ℕ × V
+    plain = shown_entry (λ v. v)
+
+    second : List ℕ × V → List ℕ × W
+    second entry = (entry.0, show entry.1)
+
+abbrev pub form_view : Span × (String Global × Span) → Span × (List ℕ × Span)
+form_view form = (form.0, text_view form.1)
+
+-- a copy of a table of marked tokens, where there is one
+pub marked-copies : {S : Type 0} (R : String Global × Span → String Global × Span → Type 0) → ((x y : String Global × Span) → R x y → span_entry y ≡ span_entry x)
+    → (o p : Option (IndexMap (String Global) Span S)) → AreCopies (λ x y. AllZip R x.entries y.entries) o p
+    → option_map (λ table. map span_entry table.entries) p ≡ option_map (λ table. map span_entry table.entries) o
+marked-copies {S} R same o p h =
+    option_map-copies (λ x y. AllZip R x.entries y.entries) (λ (table : IndexMap (String Global) Span S). map span_entry table.entries)
+    (λ x y h. map-copies R span_entry same x.entries y.entries h) o p h
 
 -- the place of a rule's name among the rules
 pub rule_index : (name : List ℕ) (es : List (String Global × source.Rule)) → index_of name (map (λ (rule : List ℕ × Rule). rule.0) (map rule_entry es)) ≡ position_or_len (is_key name) (keys_of es)

@@ -1,6 +1,7 @@
 -- The syntax of a list of items is well formed.
-use Rattle.std.proofs.Common.{◌≡◌, ℕ, ◌<◌, ◌==◌, true, List, [], map, length, filter_map, get_or, slice_get, All, Option, Some, None, option_map, refl, sym, ap, subst, ◌∙◌}
-use Rattle.std.specs.List.{IsDistinct}
+use Rattle.std.proofs.Common.{◌≡◌, ℕ, ◌<◌, ◌==◌, true, false, List, [], ◌∷◌, map, length, filter_map, get_or, slice_get, All, Option, Some, None, IfSome, option_map, refl, sym, ap, subst, ◌∙◌}
+use Rattle.std.specs.List.{IsDistinct, list_any}
+use Rattle.std.specs.Option.{option_map_or}
 use Rattle.std.specs.Str.{bytes_eq}
 use Rattle.std.specs.Cmp.Lexicographic.{nat_list_eq_equiv}
 use Rattle.std.proofs.lemmas.List.{length-map}
@@ -8,16 +9,19 @@ use Rattle.std.proofs.lemmas.List.Elements.{All-map}
 use Rattle.std.proofs.lemmas.List.Folds.{list_any_at}
 use Rattle.std.proofs.lemmas.Option.{slice_get-map, slice_get_within, get_or_from_slice_get, same_Some}
 use Rattle.std.proofs.lemmas.Simd.{map-map}
-use Rattle.lemmas.specs.Lists.{places}
+use Rattle.lemmas.specs.Lists.{with_fronts, places}
+use Rattle.lemmas.proofs.Options.{All-filter_map}
 use Rattle.lemmas.proofs.Passing.{places-same, places-map}
-use Rattle.lemmas.proofs.Tests.{list_any-map}
+use Rattle.lemmas.proofs.Tests.{list_any-map, list_any-filter_map}
 use Rattle.cfgwords.specs.Words.{Word}
-use Rattle.cfgast.specs.Items.{Item, RuleHead}
-use Rattle.cfgast.specs.Syntax.{Rule, Production, word_name, head_name, index_of, indices_of, token_named, rule_named, alternatives, token_words, declared_words, rule_heads, rule_of, syntax_of}
+use Rattle.cfgbase.specs.declared.span.Span.{Span}
+use Rattle.cfgast.specs.Items.{Item, ImplicitTokensBegun, ImplicitTokenDeclared, RuleHead}
+use Rattle.cfgast.specs.Syntax.{Rule, Production, word_name, head_name, index_of, indices_of, firsts, token_named, implicit_tokens_said, typed_rule, alternatives, token_words, declared_words, rule_heads, word_entry, marked, rule_of, tables_of, syntax_of}
 use Rattle.cfgast.specs.Building.{has_name}
 use Rattle.cfgast.specs.WellFormed.{IsWellFormed}
-use Rattle.cfgast.proofs.Names.{AreAmong, firsts-distinct, index_of-within, same_place}
-use Rattle.cfgast.proofs.Fields.{declared_token, alternative_named, rule_names, production_names}
+use Rattle.cfgast.proofs.Keeps.{All-firsts}
+use Rattle.cfgast.proofs.Names.{AreAmong, is_named-firsts, has_name-names, firsts-distinct, index_of-within, same_place}
+use Rattle.cfgast.proofs.Fields.{tokens, declared_token, alternative_named, rule_names, production_names}
 
 -- each of the names has a place among those that they stand among
 indices-within : (some all : List (List ℕ)) → AreAmong some all → All (λ i. i < length all) (indices_of some all)
@@ -31,7 +35,7 @@ module _ (items : List Item) where
 
   distinct : IsDistinct bytes_eq (rule_names items)
   unfolding rule_heads
-  distinct = firsts-distinct head_name (filter_map rule_named items)
+  distinct = firsts-distinct head_name (filter_map typed_rule (with_fronts items))
 
   lists_own : (r : ℕ) (head : RuleHead) → slice_get (rule_heads items) r ≡ Some head
       → places (λ a. bytes_eq (head_name head) a.0) done ≡ places (λ other. r == other) (indices_of (production_names items) (rule_names items))
@@ -61,8 +65,39 @@ module _ (items : List Item) where
       at None e is = let no : None ≡ Some rule = is in cc
       at (Some head) e is = ap (λ (r : List ℕ × Rule). r.1.productions) (sym (same_Some (rule_of done head) rule is)) ∙ lists_own r head e
 
+-- each implicit token is a token
+module _ (items : List Item) where
+  abbrev IsToken : Word → Type 0
+  IsToken word = has_name word.name (tokens items) ≡ true
+
+  tokens_named : (k : ℕ) (d : Item) → k < length items → IfSome (token_named (get_or items k d)) IsToken
+  unfolding token_words
+  tokens_named k d within = go (token_named (get_or items k d)) refl
+    where
+      go : (o : Option Word) → token_named (get_or items k d) ≡ o → IfSome o IsToken
+      go None e = tt
+      go (Some word) e =
+          let has = λ (w : Word). bytes_eq word.name w.name in
+          has_name-names word_name word.name (token_words items) ∙ is_named-firsts word_name word.name (filter_map token_named items) ∙ list_any-filter_map has token_named items
+          ∙ list_any_at (λ item. option_map_or has (token_named item) false) items k d within (ap (λ o. option_map_or has o false) e ∙ nat_list_eq_equiv.refl word.name)
+
+  implicit_named : (item : Item) → IfSome (token_named item) IsToken → IfSome (implicit_tokens_said item) (λ o. IfSome o IsToken)
+  implicit_named ImplicitTokensBegun h = tt
+  implicit_named (ImplicitTokenDeclared word) h = h
+  implicit_named _ h = tt
+
+  implicit_are_tokens : IfSome (marked (filter_map implicit_tokens_said items)) (λ table. All (λ entry. list_any (bytes_eq entry.0) (tokens items) ≡ true) table)
+  implicit_are_tokens = go (filter_map implicit_tokens_said items) (All-filter_map (λ o. IfSome o IsToken) implicit_tokens_said items (λ k d h. implicit_named (get_or items k d) (tokens_named k d h)))
+    where
+      go : (said : List (Option Word)) → All (λ o. IfSome o IsToken) said → IfSome (marked said) (λ table. All (λ entry. list_any (bytes_eq entry.0) (tokens items) ≡ true) table)
+      go [] h = tt
+      go (o ∷ said) h =
+          let words = filter_map (λ (o : Option Word). o) (o ∷ said) in
+          All-map (λ (entry : List ℕ × Span). list_any (bytes_eq entry.0) (tokens items) ≡ true) word_entry (firsts word_name words)
+          (All-firsts word_name IsToken words (All-filter_map IsToken (λ o. o) (o ∷ said) h))
+
 pub syntax_of-IsWellFormed : (items : List Item) → IsWellFormed (syntax_of items)
-unfolding syntax_of token_words done
+unfolding syntax_of tables_of token_words done
 syntax_of-IsWellFormed items = record {
   rules_named = All-map (λ rule. rule.0 ≡ rule.1.name.name) (rule_of (alternatives items)) (rule_heads items) (λ k d h. refl);
   rules_distinct = subst (IsDistinct bytes_eq) (sym (map-map (λ (rule : List ℕ × Rule). rule.0) (rule_of (alternatives items)) (rule_heads items))) (distinct items);
@@ -74,4 +109,5 @@ syntax_of-IsWellFormed items = record {
   productions_listed = listed items;
   spans_as_long = length-map (token_words items) (λ (w : Word). w.span) ∙ sym (length-map (token_words items) word_name);
   directives_within = indices-within (map word_name (declared_words items)) (map word_name (token_words items)) (declared_token items);
+  implicit_are_tokens = implicit_are_tokens items;
 }

@@ -8,7 +8,7 @@ use Rattle.cfgbase.specs.declared.span.Span.{Span}
 use Rattle.cfgwords.specs.Words.{Word}
 use Rattle.cfgast.specs.Items.{Item, RuleHead}
 use Rattle.cfgast.specs.Occurrences.{declared_once}
-use Rattle.cfgast.specs.Syntax.{Syntax, Settings, Rule, Production, word_name, head_name, index_of, token_named, token_declared, start_named, expected, expected_reduce_reduce, generics_declared, expected_unused, rule_named, finished}
+use Rattle.cfgast.specs.Syntax.{Syntax, Settings, Tables, Rule, Production, word_name, head_name, index_of, token_named, token_declared, start_named, action_type_declared, printed_form_declared, expected, expected_reduce_reduce, expected_unused, parse_param_declared, generics_declared, avoid_insert_said, implicit_tokens_said, precedence_declared, level_ended, programs_given, rule_named, typed, word_entry, finished}
 
 -- whether a name stands among names
 abbrev pub has_name : List ℕ → List (List ℕ) → Bool
@@ -61,17 +61,43 @@ with_listed (Some production) i rules = map (listed production.0 i) rules
 unfoldable pub is_declared : Syntax → List ℕ → Bool
 is_declared s name = option_map_or (λ i. list_any (λ j. i == j) s.token_directives) (position (bytes_eq name) s.tokens) false
 
+-- an entry, where none has its name yet
+abbrev pub has_entry : {A : Type 0} → List ℕ → List (List ℕ × A) → Bool
+has_entry name entries = list_any (λ entry. bytes_eq name entry.0) entries
+
+abbrev pub with_entry : {A : Type 0} → Option (List ℕ × A) → List (List ℕ × A) → List (List ℕ × A)
+with_entry None entries = entries
+with_entry (Some entry) entries = pushed_unless (has_entry entry.0 entries) entries entry
+
+-- the table of marked tokens, which is there from the first list on
+abbrev pub with_marked : Option (Option Word) → Option (List (List ℕ × Span)) → Option (List (List ℕ × Span))
+with_marked None table = table
+with_marked (Some said) None = Some (with_entry (option_map word_entry said) [])
+with_marked (Some said) (Some entries) = Some (with_entry (option_map word_entry said) entries)
+
 abbrev pub with_settings : Item → Settings → Settings
-with_settings item settings = record settings {
+with_settings item settings = record {
+  action_type = with_first (action_type_declared item) settings.action_type;
   expect = with_first (expected item) settings.expect;
   expect_reduce_reduce = with_first (expected_reduce_reduce item) settings.expect_reduce_reduce;
+  parse_param = option_or (parse_param_declared item) settings.parse_param;
   parse_generics = option_or (generics_declared item) settings.parse_generics;
+  programs = option_or (programs_given item) settings.programs;
+}
+
+abbrev pub with_tables : Item → Tables → Tables
+with_tables item tables = record {
+  precedences = with_entry (precedence_declared (length tables.levels) item) tables.precedences;
+  printed_forms = with_entry (printed_form_declared item) tables.printed_forms;
+  avoid_insert = with_marked (avoid_insert_said item) tables.avoid_insert;
+  implicit_tokens = with_marked (implicit_tokens_said item) tables.implicit_tokens;
+  levels = pushed tables.levels (level_ended item);
 }
 
 -- the syntax with what the item names, and with the production that it finishes
 abbrev pub grown : Syntax → Item → Option (List ℕ × Production) → Syntax
 grown s item production =
-    let rules = with_rule (rule_named item) s.rules in
+    let rules = with_rule (option_map (typed s.settings.action_type) (rule_named item)) s.rules in
     let tokens = with_name (option_map word_name (token_named item)) s.tokens in
     record {
       start = with_first (start_named item) s.start;
@@ -81,6 +107,7 @@ grown s item production =
       tokens = tokens;
       spans = with_span (token_named item) s.tokens s.spans;
       token_directives = with_directive (option_map word_name (token_declared item)) tokens s.token_directives;
+      tables = with_tables item s.tables;
       settings = with_settings item s.settings;
       expect_unused = pushed s.expect_unused (expected_unused item);
       occurrences = pushed s.occurrences (declared_once item);

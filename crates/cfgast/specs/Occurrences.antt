@@ -6,9 +6,10 @@ use Rattle.std.specs.Str.{bytes_eq}
 use Rattle.lemmas.specs.Lists.{with_fronts}
 use Rattle.cfgbase.specs.declared.span.Span.{Span}
 use Rattle.cfgast.specs.declared.occurrence.UniqueKind.{UniqueKind}
-use Rattle.cfgast.specs.declared.occurrence.UniqueKind.TheVariants.{Start, Expect, ExpectReduceReduce}
+use Rattle.cfgast.specs.declared.occurrence.UniqueKind.TheVariants.{Start, ActionType, Expect, ExpectReduceReduce, PrintedForm, Precedence, AvoidInsert, ImplicitToken}
 use Rattle.cfgast.specs.contracts.occurrence.UniqueKindPartialEq.TheImpl.{ghosts as kinds}
-use Rattle.cfgast.specs.Items.{Item, StartDeclared, ExpectDeclared, ExpectReduceReduceDeclared}
+use Rattle.cfgwords.specs.Words.{Word}
+use Rattle.cfgast.specs.Items.{Item, StartDeclared, ActionTypeDeclared, PrintedFormDeclared, ExpectDeclared, ExpectReduceReduceDeclared, AvoidInsertDeclared, ImplicitTokenDeclared, PrecedenceDeclared}
 
 -- what may be declared only once: something of the grammar as a whole, or of the token of this name
 pub record Unique : Type 0 where
@@ -28,11 +29,19 @@ pub record Duplicate : Type 0 where
 abbrev pub of_grammar : UniqueKind → Span → Occurrence
 of_grammar kind span = record { what = record { kind = kind; token = None }; span = span }
 
+abbrev pub of_token : UniqueKind → Word → Occurrence
+of_token kind token = record { what = record { kind = kind; token = Some token.name }; span = token.span }
+
 -- what an item declares of that
 abbrev pub declared_once : Item → Option Occurrence
 declared_once (StartDeclared word) = Some (of_grammar Start word.span)
+declared_once (ActionTypeDeclared text) = Some (of_grammar ActionType text.1)
+declared_once (PrintedFormDeclared token form) = Some (of_token PrintedForm token)
 declared_once (ExpectDeclared number) = Some (of_grammar Expect number.1)
 declared_once (ExpectReduceReduceDeclared number) = Some (of_grammar ExpectReduceReduce number.1)
+declared_once (AvoidInsertDeclared token) = Some (of_token AvoidInsert token)
+declared_once (ImplicitTokenDeclared token) = Some (of_token ImplicitToken token)
+declared_once (PrecedenceDeclared kind token) = Some (of_token Precedence token)
 declared_once _ = None
 
 abbrev pub is_same : Unique → Unique → Bool

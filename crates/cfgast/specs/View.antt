@@ -15,6 +15,8 @@ use Rattle.cfgast.specs.declared.symbol.Symbol.TheVariants as symbols
 use Rattle.cfgast.specs.declared.production.Production.{Production}
 use Rattle.cfgast.specs.declared.rule.Rule.{Rule}
 use Rattle.cfgast.specs.declared.settings.Settings.{Settings}
+use Rattle.cfgast.specs.declared.tables.Tables.{Tables}
+use Rattle.cfgast.specs.declared.precedence.Precedence.{Precedence}
 use Rattle.cfgast.specs.declared.ast.GrammarAST.{GrammarAST}
 use Rattle.cfgast.specs.Items as items
 use Rattle.cfgast.specs.declared.builder.AstBuilder.{AstBuilder}
@@ -54,12 +56,36 @@ rule_view rule = record {
 abbrev pub rule_entry : String Global × Rule → List ℕ × plain.Rule
 rule_entry entry = (string_bytes entry.0, rule_view entry.1)
 
+abbrev pub pair_view : String Global × String Global → List ℕ × List ℕ
+pair_view pair = (string_bytes pair.0, string_bytes pair.1)
+
 abbrev pub settings_view : Settings → plain.Settings
 settings_view settings = record {
+  action_type = option_map string_bytes settings.action_type;
   expect = settings.expect;
   expect_reduce_reduce = settings.expectrr;
+  parse_param = option_map pair_view settings.parse_param;
   parse_generics = option_map string_bytes settings.parse_generics;
   programs = option_map string_bytes settings.programs;
+}
+
+-- what is said of a token, under its name
+abbrev pub precedence_entry : String Global × (Precedence × Span) → List ℕ × (Precedence × Span)
+precedence_entry entry = (string_bytes entry.0, entry.1)
+
+abbrev pub printed_entry : String Global × (Span × (String Global × Span)) → List ℕ × (Span × (List ℕ × Span))
+printed_entry entry = (string_bytes entry.0, (entry.1.0, text_view entry.1.1))
+
+abbrev pub span_entry : String Global × Span → List ℕ × Span
+span_entry entry = (string_bytes entry.0, entry.1)
+
+abbrev pub tables_view : Tables → plain.Tables
+tables_view tables = record {
+  precedences = map precedence_entry tables.precs.entries;
+  printed_forms = map printed_entry tables.epp.entries;
+  avoid_insert = option_map (λ table. map span_entry table.entries) tables.avoid_insert;
+  implicit_tokens = option_map (λ table. map span_entry table.entries) tables.implicit_tokens;
+  levels = tables.levels.items;
 }
 
 abbrev pub unique_view : Unique → once.Unique
@@ -81,6 +107,7 @@ syntax ast = record {
   tokens = map string_bytes ast.tokens.keys;
   spans = ast.spans.items;
   token_directives = ast.token_directives.keys;
+  tables = tables_view ast.tables;
   settings = settings_view ast.settings;
   expect_unused = map symbol_view ast.expect_unused.items;
   occurrences = map occurrence_view ast.occurrences.items;

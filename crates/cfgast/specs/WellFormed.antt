@@ -1,6 +1,6 @@
 -- What holds of the syntax of any list of items.
-use Rattle.std.specs.Prelude.{◌≡◌, ℕ, ◌<◌, ◌==◌, List, map, length, All, slice_get, Some}
-use Rattle.std.specs.List.{IsDistinct}
+use Rattle.std.specs.Prelude.{◌≡◌, ℕ, ◌<◌, ◌==◌, List, map, length, All, IfSome, slice_get, Some, true}
+use Rattle.std.specs.List.{IsDistinct, list_any}
 use Rattle.std.specs.Str.{bytes_eq}
 use Rattle.lemmas.specs.Lists.{places}
 use Rattle.cfgast.specs.Syntax.{Rule, Syntax}
@@ -17,3 +17,5 @@ pub record IsWellFormed (s : Syntax) : Type 0 where
   -- each token has a span, and each directive is the place of a token
   pub spans_as_long : length s.spans ≡ length s.tokens
   pub directives_within : All (λ i. i < length s.tokens) s.token_directives
+  -- each implicit token is a token
+  pub implicit_are_tokens : IfSome s.tables.implicit_tokens (λ table. All (λ entry. list_any (bytes_eq entry.0) s.tokens ≡ true) table)

@@ -2,13 +2,15 @@ ghost use Rattle.std.specs.Prelude.{◌≡◌, ◌↔◌, map, option_map, IfOk,
 ghost use Rattle.std.specs.Map.{lookup};
 ghost use Rattle.std.specs.Str.{bytes_eq};
 ghost use Rattle.std.specs.String.{string_bytes};
-ghost use Rattle.cfgast.specs.View.{production_view, rule_view, named_view, rule_entry, settings_view, symbol_view, occurrence_view};
+ghost use Rattle.cfgast.specs.View.{production_view, rule_view, named_view, rule_entry, settings_view, tables_view, precedence_entry, printed_entry, span_entry, pair_view, symbol_view, occurrence_view};
 
 use crate::occurrence::Occurrence;
+use crate::precedence::Precedence;
 use crate::production::Production;
 use crate::rule::Rule;
 use crate::settings::Settings;
 use crate::symbol::Symbol;
+use crate::tables::Tables;
 use cfgbase::Span;
 use indexmap::{IndexMap, IndexSet};
 use std::alloc::AllocError;
@@ -23,6 +25,7 @@ pub struct GrammarAST {
     pub(crate) token_directives: IndexSet<usize>,
     pub(crate) tokens: IndexSet<String>,
     pub(crate) spans: Vec<Span>,
+    pub(crate) tables: Tables,
     pub(crate) settings: Settings,
     pub(crate) expect_unused: Vec<Symbol>,
     pub(crate) occurrences: Vec<Occurrence>,
@@ -81,6 +84,34 @@ impl GrammarAST {
         &self.spans
     }
 
+    /// The precedences of tokens (POSIX yacc), each with the place where the token is given one first.
+    pub fn precs(&self) -> &IndexMap<String, (Precedence, Span)>
+        ensures { map precedence_entry result.now.entries ≡ (syntax self.now).tables.precedences }
+    {
+        &self.tables.precs
+    }
+
+    /// The tokens of the `%avoid_insert` lists, each with its first place there, where there is such a list.
+    pub fn avoid_insert(&self) -> &Option<IndexMap<String, Span>>
+        ensures { option_map (λ table. map span_entry table.entries) result.now ≡ (syntax self.now).tables.avoid_insert }
+    {
+        &self.tables.avoid_insert
+    }
+
+    /// The tokens of the `%implicit_tokens` lists, each with its first place there, where there is such a list.
+    pub fn implicit_tokens(&self) -> &Option<IndexMap<String, Span>>
+        ensures { option_map (λ table. map span_entry table.entries) result.now ≡ (syntax self.now).tables.implicit_tokens }
+    {
+        &self.tables.implicit_tokens
+    }
+
+    /// The printed forms of tokens: the place of the token behind its first `%epp`, and the form with its own place.
+    pub fn epp(&self) -> &IndexMap<String, (Span, (String, Span))>
+        ensures { map printed_entry result.now.entries ≡ (syntax self.now).tables.printed_forms }
+    {
+        &self.tables.epp
+    }
+
     /// How many conflicts between shifting and reducing `%expect` allows, and where it says so first.
     pub fn expect(&self) -> &Option<(usize, Span)>
         ensures { result.now ≡ (syntax self.now).settings.expect }
@@ -95,11 +126,25 @@ impl GrammarAST {
         &self.settings.expectrr
     }
 
+    /// The name and the type of the parser's parameter, as the last `%parse-param` gives them.
+    pub fn parse_param(&self) -> &Option<(String, String)>
+        ensures { option_map pair_view result.now ≡ (syntax self.now).settings.parse_param }
+    {
+        &self.settings.parse_param
+    }
+
     /// The parser's generic parameters, as the last `%parse-generics` gives them.
     pub fn parse_generics(&self) -> &Option<String>
         ensures { option_map string_bytes result.now ≡ (syntax self.now).settings.parse_generics }
     {
         &self.settings.parse_generics
+    }
+
+    /// The text of the programs part.
+    pub fn programs(&self) -> &Option<String>
+        ensures { option_map string_bytes result.now ≡ (syntax self.now).settings.programs }
+    {
+        &self.settings.programs
     }
 
     /// What the file says of its grammar as a whole.
@@ -168,6 +213,16 @@ impl GrammarAST {
         Ok((expect_unused, occurrences))
     }
 
+    // Copies of what the file says of its grammar as a whole and of single tokens.
+    fn clone_settings(&self) -> Result<(Settings, Tables), AllocError>
+        ensures settings { IfOk result (λ copy. settings_view copy.0 ≡ (syntax self.now).settings) }
+        ensures tables { IfOk result (λ copy. tables_view copy.1 ≡ (syntax self.now).tables) }
+    {
+        let tables = self.tables.clone()?;
+        let settings = self.settings.clone()?;
+        Ok((settings, tables))
+    }
+
     // Copies of the tokens, of their spans, and of the directives.
     fn clone_tokens(&self) -> Result<(IndexSet<String>, Vec<Span>, IndexSet<usize>), AllocError>
         ensures tokens { IfOk result (λ copy. map string_bytes copy.0.keys ≡ (syntax self.now).tokens) }
@@ -188,7 +243,7 @@ impl Clone for GrammarAST {
 
     fn clone(&self) -> Result<GrammarAST, AllocError> {
         let start = self.start.clone()?;
-        let settings = self.settings.clone()?;
+        let (settings, tables) = self.clone_settings()?;
         let (expect_unused, occurrences) = self.clone_lists()?;
         let (tokens, spans, token_directives) = self.clone_tokens()?;
         let (rules, prods, prods_rules) = self.clone_rules()?;
@@ -200,6 +255,7 @@ impl Clone for GrammarAST {
             token_directives,
             tokens,
             spans,
+            tables,
             settings,
             expect_unused,
             occurrences,

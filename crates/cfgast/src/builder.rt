@@ -1,17 +1,19 @@
-ghost use Rattle.std.specs.Prelude.{◌≡◌, List, [], ◌∷◌, ◌++◌, map, Some, option_map, string_bytes, IfOk, OnOk};
-ghost use Rattle.cfgast.specs.Items.{Item, TokenDeclared, StartDeclared, ExpectDeclared, ExpectReduceReduceDeclared, GenericsDeclared, ExpectedUnused, RuleSymbol, TokenSymbol, RuleNamed, TokenQuoted, Alternative};
-ghost use Rattle.cfgast.specs.Syntax.{syntax_of, symbol_of, production_of, head_name, index_of};
-ghost use Rattle.cfgast.specs.Occurrences.{of_grammar};
-ghost use Rattle.cfgast.specs.Building.{add, adds, with_first, with_rule, listed, is_declared};
+ghost use Rattle.std.specs.Prelude.{◌≡◌, List, [], ◌∷◌, ◌++◌, map, Some, string_bytes, IfOk, OnOk};
+ghost use Rattle.cfgast.specs.Items.{Item, TokenDeclared, StartDeclared, ActionTypeDeclared, PrintedFormDeclared, ExpectDeclared, ExpectReduceReduceDeclared, ExpectedUnused, ParseParamDeclared, GenericsDeclared, AvoidInsertBegun, AvoidInsertDeclared, ImplicitTokensBegun, ImplicitTokenDeclared, PrecedenceDeclared, LevelEnded, RuleSymbol, TokenSymbol, RuleBegun, RuleNamed, TokenQuoted, PrecedenceUsed, Alternative, ProgramsGiven};
+ghost use Rattle.cfgast.specs.Syntax.{syntax_of, symbol_of, production_of, head_name, index_of, typed};
+ghost use Rattle.cfgast.specs.Occurrences.{of_grammar, of_token};
+ghost use Rattle.cfgast.specs.Building.{add, adds, with_first, with_rule, new_rule, listed, is_declared};
 ghost use Rattle.cfgast.specs.WellFormed.{IsWellFormed};
 
 use crate::ast::GrammarAST;
 use crate::item::{Body, RuleHead};
 use crate::occurrence::{Occurrence, Unique, UniqueKind};
+use crate::precedence::{AssocKind, Precedence};
 use crate::production::Production;
 use crate::rule::Rule;
 use crate::settings::Settings;
 use crate::symbol::Symbol;
+use crate::tables::{Tables, begin_marked, put_entry, put_marked};
 use cfgbase::Span;
 use cfgwords::words::{Token, Word};
 use indexmap::{IndexMap, IndexSet};
@@ -29,7 +31,7 @@ pub struct AstBuilder {
 
 #[tactic(auto, unfolding(crate::specs::View::syntax_built, crate::specs::View::syntax, crate::specs::Building::add))]
 impl AstBuilder {
-    ghost use Rattle.cfgast.specs.View.{syntax, syntax_built, production_view, symbol_view, word_view, token_view, head_view, body_view};
+    ghost use Rattle.cfgast.specs.View.{syntax, syntax_built, production_view, rule_view, symbol_view, word_view, token_view, head_view, body_view};
 
     /// A builder that no item was added to.
     pub fn new(alloc: Global) -> Self
@@ -44,6 +46,7 @@ impl AstBuilder {
                 token_directives: IndexSet::new(alloc),
                 tokens: IndexSet::new(alloc),
                 spans: Vec::new(alloc),
+                tables: Tables::none(alloc),
                 settings: Settings::none(),
                 expect_unused: Vec::new(alloc),
                 occurrences: Vec::new(alloc),
@@ -74,6 +77,90 @@ impl AstBuilder {
         Ok(())
     }
 
+    /// Adds a token of a `%left`, `%right` or `%nonassoc` list, at the level of that list. The first one of its name counts.
+    pub fn declare_precedence(
+        &mut self,
+        alloc: Global,
+        kind: AssocKind,
+        word: Word<'_>,
+    ) -> Result<(), AllocError>
+        ensures { OnOk result (syntax_built self.new ≡ add (syntax_built self.old) (PrecedenceDeclared kind (word_view word.entry))) }
+    {
+        let level = self.ast.tables.levels.len() as u64;
+        let precedence = Precedence { level, kind };
+        put_entry(
+            alloc,
+            &mut self.ast.tables.precs,
+            word.name,
+            (precedence, word.span),
+        )?;
+        self.note_token(alloc, UniqueKind::Precedence, word)
+    }
+
+    /// Adds the end of a `%left`, `%right` or `%nonassoc` list.
+    pub fn end_level(&mut self, kind: AssocKind) -> Result<(), AllocError>
+        ensures { OnOk result (syntax_built self.new ≡ add (syntax_built self.old) (LevelEnded kind)) }
+    {
+        self.ast.tables.levels.push(kind)?;
+        Ok(())
+    }
+
+    /// Adds the beginning of an `%avoid_insert` list.
+    pub fn begin_avoid_insert(&mut self, alloc: Global)
+        ensures { syntax_built self.new ≡ add (syntax_built self.old) AvoidInsertBegun }
+    {
+        begin_marked(alloc, &mut self.ast.tables.avoid_insert);
+    }
+
+    /// Adds a token of an `%avoid_insert` list. The first one of its name counts.
+    pub fn declare_avoid_insert(&mut self, alloc: Global, word: Word<'_>) -> Result<(), AllocError>
+        ensures { OnOk result (syntax_built self.new ≡ add (syntax_built self.old) (AvoidInsertDeclared (word_view word.entry))) }
+    {
+        self.put_token(alloc, word)?;
+        put_marked(alloc, &mut self.ast.tables.avoid_insert, word)?;
+        self.note_token(alloc, UniqueKind::AvoidInsert, word)
+    }
+
+    /// Adds the beginning of an `%implicit_tokens` list.
+    pub fn begin_implicit_tokens(&mut self, alloc: Global)
+        ensures { syntax_built self.new ≡ add (syntax_built self.old) ImplicitTokensBegun }
+    {
+        begin_marked(alloc, &mut self.ast.tables.implicit_tokens);
+    }
+
+    /// Adds a token of an `%implicit_tokens` list. The first one of its name counts.
+    pub fn declare_implicit_token(
+        &mut self,
+        alloc: Global,
+        word: Word<'_>,
+    ) -> Result<(), AllocError>
+        ensures { OnOk result (syntax_built self.new ≡ add (syntax_built self.old) (ImplicitTokenDeclared (word_view word.entry))) }
+    {
+        self.put_token(alloc, word)?;
+        put_marked(alloc, &mut self.ast.tables.implicit_tokens, word)?;
+        self.note_token(alloc, UniqueKind::ImplicitToken, word)
+    }
+
+    /// Adds the printed form of a token, with its place; the token's span has its quotes too. The first form counts.
+    pub fn declare_printed_form(
+        &mut self,
+        alloc: Global,
+        token: Word<'_>,
+        form: String,
+        span: Span,
+    ) -> Result<(), AllocError>
+        ensures { OnOk result (syntax_built self.new
+            ≡ add (syntax_built self.old) (PrintedFormDeclared (word_view token.entry) (string_bytes form, span))) }
+    {
+        put_entry(
+            alloc,
+            &mut self.ast.tables.epp,
+            token.name,
+            (token.span, (form, span)),
+        )?;
+        self.note_token(alloc, UniqueKind::PrintedForm, token)
+    }
+
     /// Adds a quoted token of a rule's body.
     pub fn quote_token(&mut self, alloc: Global, word: Word<'_>) -> Result<(), AllocError>
         ensures { OnOk result (syntax_built self.new ≡ add (syntax_built self.old) (TokenQuoted (word_view word.entry))) }
@@ -82,12 +169,35 @@ impl AstBuilder {
         Ok(())
     }
 
-    /// Adds the rule that a `%start` names: it is the start where no rule was named before.
+    /// Adds the token that a production takes its precedence from.
+    pub fn use_precedence(&mut self, alloc: Global, word: Word<'_>) -> Result<(), AllocError>
+        ensures { OnOk result (syntax_built self.new ≡ add (syntax_built self.old) (PrecedenceUsed (word_view word.entry))) }
+    {
+        self.put_token(alloc, word)?;
+        Ok(())
+    }
+
+    /// Adds the rule that a `%start` names: it is the start where none was named before.
     pub fn declare_start(&mut self, alloc: Global, word: Word<'_>) -> Result<(), AllocError>
         ensures { OnOk result (syntax_built self.new ≡ add (syntax_built self.old) (StartDeclared (word_view word.entry))) }
     {
         self.put_start(alloc, word)?;
         self.note(UniqueKind::Start, word.span)
+    }
+
+    /// Adds the type that the actions of all rules answer, with its place. The first one counts.
+    pub fn declare_action_type(
+        &mut self,
+        alloc: Global,
+        text: &str,
+        span: Span,
+    ) -> Result<(), AllocError>
+        ensures { OnOk result (syntax_built self.new ≡ add (syntax_built self.old) (ActionTypeDeclared (text.now, span))) }
+    {
+        if self.ast.settings.action_type.is_none() {
+            self.ast.settings.action_type = Some(String::from_str(alloc, text)?);
+        }
+        self.note(UniqueKind::ActionType, span)
     }
 
     /// Adds the number of a `%expect`, with its place.
@@ -108,6 +218,21 @@ impl AstBuilder {
             self.ast.settings.expectrr = Some(number);
         }
         self.note(UniqueKind::ExpectReduceReduce, number.1)
+    }
+
+    /// Adds the name and the type of the parser's parameter, which replace those that were added before.
+    pub fn declare_parse_param(
+        &mut self,
+        alloc: Global,
+        name: &str,
+        kind: &str,
+    ) -> Result<(), AllocError>
+        ensures { OnOk result (syntax_built self.new ≡ add (syntax_built self.old) (ParseParamDeclared (name.now, kind.now))) }
+    {
+        let name = String::from_str(alloc, name)?;
+        let kind = String::from_str(alloc, kind)?;
+        self.ast.settings.parse_param = Some((name, kind));
+        Ok(())
     }
 
     /// Adds the parser's generic parameters, which replace those that were added before.
@@ -136,11 +261,25 @@ impl AstBuilder {
         Ok(())
     }
 
-    /// Adds a rule, at its name: it is the start where none was named before.
+    /// Adds the text of the programs part, which replaces one that was added before.
+    pub fn give_programs(&mut self, alloc: Global, text: &str) -> Result<(), AllocError>
+        ensures { OnOk result (syntax_built self.new ≡ add (syntax_built self.old) (ProgramsGiven text.now)) }
+    {
+        self.ast.settings.programs = Some(String::from_str(alloc, text)?);
+        Ok(())
+    }
+
+    /// Adds the name of a rule: it is the start where none was named before.
+    pub fn begin_rule(&mut self, alloc: Global, word: Word<'_>) -> Result<(), AllocError>
+        ensures { OnOk result (syntax_built self.new ≡ add (syntax_built self.old) (RuleBegun (word_view word.entry))) }
+    {
+        self.put_start(alloc, word)
+    }
+
+    /// Adds a rule once its head is read. Where the head says no type of its actions, the one of all rules counts.
     pub fn name_rule(&mut self, alloc: Global, head: RuleHead<'_>) -> Result<(), AllocError>
         ensures { OnOk result (syntax_built self.new ≡ add (syntax_built self.old) (RuleNamed (head_view head.entry))) }
     {
-        self.put_start(alloc, head.name)?;
         self.put_rule(alloc, head)?;
         Ok(())
     }
@@ -157,7 +296,6 @@ impl AstBuilder {
             ≡ add (syntax_built self.old) (Alternative (head_view head.entry) (body_view body.entry))) }
     {
         let production = self.production_of(alloc, body)?;
-        self.put_start(alloc, head.name)?;
         let rule = self.put_rule(alloc, head)?;
         let index = self.ast.prods.len();
         self.list_production(head.name.name, index)?;
@@ -174,6 +312,28 @@ impl AstBuilder {
     {
         let what = Unique { kind, token: None };
         self.ast.occurrences.push(Occurrence { what, span })?;
+        Ok(())
+    }
+
+    // Notes where the file declares what it may declare only once of a token.
+    fn note_token(
+        &mut self,
+        alloc: Global,
+        kind: UniqueKind,
+        token: Word<'_>,
+    ) -> Result<(), AllocError>
+        ensures { OnOk result (syntax_built self.new ≡ record (syntax_built self.old) {
+          occurrences = (syntax_built self.old).occurrences ++ of_token kind (word_view token.entry) ∷ [];
+        }) }
+    {
+        let what = Unique {
+            kind,
+            token: Some(String::from_str(alloc, token.name)?),
+        };
+        self.ast.occurrences.push(Occurrence {
+            what,
+            span: token.span,
+        })?;
         Ok(())
     }
 
@@ -208,25 +368,37 @@ impl AstBuilder {
     // The index of the rule of this name, which is added where it is new.
     fn put_rule(&mut self, alloc: Global, head: RuleHead<'_>) -> Result<usize, AllocError>
         ensures added { OnOk result (syntax_built self.new ≡ record (syntax_built self.old) {
-          rules = with_rule (Some (head_view head.entry)) (syntax_built self.old).rules;
+          rules = with_rule (Some (typed (syntax_built self.old).settings.action_type (head_view head.entry))) (syntax_built self.old).rules;
         }) }
         ensures index { IfOk result (λ index. index
             ≡ index_of (head_name (head_view head.entry)) (map (λ rule. rule.0) (syntax_built self.new).rules)) }
     {
-        let Word { name, span } = head.name;
+        let name = head.name.name;
         if let Some(index) = self.ast.rules.get_index_of(name) {
             return Ok(index);
         }
-        let rule = Rule {
-            name: (String::from_str(alloc, name)?, span),
-            pidxs: Vec::new(alloc),
-            actiont: copy_of(alloc, head.action_type)?,
-        };
+        let rule = self.new_rule(alloc, head)?;
         let (index, _) = self
             .ast
             .rules
             .insert_full(String::from_str(alloc, name)?, rule)?;
         Ok(index)
+    }
+
+    // A rule with no production yet. Where its head says no type, it has the one of all rules.
+    fn new_rule(&self, alloc: Global, head: RuleHead<'_>) -> Result<Rule, AllocError>
+        ensures { IfOk result (λ rule. rule_view rule
+            ≡ (new_rule (typed (syntax_built self.now).settings.action_type (head_view head.entry))).1) }
+    {
+        let actiont = match head.action_type {
+            Some(text) => Some(String::from_str(alloc, text)?),
+            None => self.ast.settings.action_type.clone()?,
+        };
+        Ok(Rule {
+            name: (String::from_str(alloc, head.name.name)?, head.name.span),
+            pidxs: Vec::new(alloc),
+            actiont,
+        })
     }
 
     // Lists the production of this index with the rule of this name.
@@ -244,13 +416,17 @@ impl AstBuilder {
     fn production_of(&self, alloc: Global, body: Body<'_, '_>) -> Result<Production, AllocError>
         ensures { IfOk result (λ made. production_view made ≡ production_of (is_declared (syntax_built self.now)) (body_view body.entry)) }
     {
+        let precedence = match body.precedence {
+            Some(name) => Some(String::from_str(alloc, name)?),
+            None => None,
+        };
         let action = match body.action {
             Some((text, span)) => Some((String::from_str(alloc, text)?, span)),
             None => None,
         };
         Ok(Production {
             symbols: self.symbols_of(alloc, body.symbols)?,
-            precedence: copy_of(alloc, body.precedence)?,
+            precedence,
             action,
             prod_span: body.span,
         })
@@ -287,15 +463,6 @@ impl AstBuilder {
             Some(index) => self.ast.token_directives.contains(&index),
             None => false,
         }
-    }
-}
-
-fn copy_of(alloc: Global, text: Option<&str>) -> Result<Option<String>, AllocError>
-    ensures { IfOk result (λ copy. option_map string_bytes copy ≡ option_map (λ text. text.now) text.entry) }
-{
-    match text {
-        Some(text) => Ok(Some(String::from_str(alloc, text)?)),
-        None => Ok(None),
     }
 }
 

@@ -10,10 +10,20 @@ use std::alloc::AllocError;
 pub enum UniqueKind {
     /// `%start`: the rule to start from.
     Start,
+    /// `%actiontype`: the type that the actions of all rules answer.
+    ActionType,
     /// `%expect`: how many conflicts there are between shifting and reducing.
     Expect,
     /// `%expect-rr`: how many conflicts there are between reductions.
     ExpectReduceReduce,
+    /// `%epp`: a token's printed form.
+    PrintedForm,
+    /// `%left`, `%right` and `%nonassoc`: a token's precedence.
+    Precedence,
+    /// `%avoid_insert`: that a repair avoids to insert a token.
+    AvoidInsert,
+    /// `%implicit_tokens`: that a token may stand anywhere.
+    ImplicitToken,
 }
 
 /// What a file may declare only once: something of the grammar as a whole, or of a token.

@@ -3,14 +3,17 @@ ghost use Rattle.std.specs.Prelude.{◌≡◌, []};
 use cfgbase::Span;
 use std::alloc::AllocError;
 
-/// What a file says of its grammar as a whole. No declaration that is read so far says
-/// more than `expect`, `expectrr` and `parse_generics`.
+/// What a file says of its grammar as a whole.
 #[derive(Debug, Drop)]
 pub struct Settings {
+    /// The type that the actions of all rules answer, where a rule says none of its own.
+    pub action_type: Option<String>,
     /// How many conflicts between shifting and reducing `%expect` allows (Bison), and where it says so.
     pub expect: Option<(usize, Span)>,
     /// How many conflicts between reductions `%expect-rr` allows (Bison), and where it says so.
     pub expectrr: Option<(usize, Span)>,
+    /// The name and the type of the parser's parameter.
+    pub parse_param: Option<(String, String)>,
     /// The parser's generic parameters.
     pub parse_generics: Option<String>,
     /// The text of the programs part.
@@ -27,8 +30,10 @@ impl Settings {
         ensures { settings_view result ≡ settings_of [] }
     {
         Settings {
+            action_type: None,
             expect: None,
             expectrr: None,
+            parse_param: None,
             parse_generics: None,
             programs: None,
         }
@@ -42,8 +47,10 @@ impl Clone for Settings {
 
     fn clone(&self) -> Result<Settings, AllocError> {
         Ok(Settings {
+            action_type: self.action_type.clone()?,
             expect: self.expect,
             expectrr: self.expectrr,
+            parse_param: self.parse_param.clone()?,
             parse_generics: self.parse_generics.clone()?,
             programs: self.programs.clone()?,
         })

@@ -1,6 +1,6 @@
 use Rattle.std.proofs.Common.{rules, ◌≡◌, option_map}
 use Rattle.lemmas.proofs.Copies.{option_map-copies}
-use Rattle.cfgast.specs.View.{syntax, named_view, settings_view}
+use Rattle.cfgast.specs.View.{syntax, named_view}
 use Rattle.cfgast.proofs.ast.GrammarASTClone.clone.Goals as goal
 
 pub returns : goal.returns
@@ -8,7 +8,7 @@ unfolding syntax
 returns c =
     let old = c.args.self.now in
     let start : option_map named_view c.in_ok-start.start ≡ option_map named_view old.start = option_map-copies _ named_view (λ x y h. search rules) _ _ c.in_ok-start.ensures.cases in
-    let settings : settings_view c.in_ok-settings.settings ≡ settings_view old.settings = c.in_ok-settings.ensures.cases in
+    let said = c.in_ok-settings.ensures in
     let lists = c.in_ok-expect_unused.ensures in
     let tokens = c.in_ok-tokens.ensures in
     let copied = c.in_ok-rules.ensures in
@@ -21,7 +21,8 @@ returns c =
         tokens = tokens.tokens i;
         spans = tokens.spans i;
         token_directives = tokens.token_directives i;
-        settings = settings i;
+        tables = said.tables i;
+        settings = said.settings i;
         expect_unused = lists.expect_unused i;
         occurrences = lists.occurrences i;
       };

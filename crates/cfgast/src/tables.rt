@@ -1,0 +1,108 @@
+//! What a file says of single tokens.
+
+ghost use Rattle.std.specs.Prelude.{◌≡◌, [], map, option_map, string_bytes, None, Some, OnOk};
+ghost use Rattle.cfgast.specs.Building.{with_entry, with_marked};
+ghost use Rattle.cfgast.specs.View.{span_entry, word_view};
+
+use crate::precedence::{AssocKind, Precedence};
+use cfgbase::Span;
+use cfgwords::words::Word;
+use indexmap::IndexMap;
+use std::alloc::{AllocError, Global};
+
+/// What a file says of single tokens, each under its name, in the order in which they come first.
+#[derive(Debug, Drop)]
+pub struct Tables {
+    /// The tokens of `%left`, `%right` and `%nonassoc` lists, with their precedences (POSIX yacc) and places.
+    pub precs: IndexMap<String, (Precedence, Span)>,
+    /// The keys of `%epp`, with their places, and their printed forms with theirs.
+    pub epp: IndexMap<String, (Span, (String, Span))>,
+    /// The tokens of `%avoid_insert` lists, with their places, where there is such a list.
+    pub avoid_insert: Option<IndexMap<String, Span>>,
+    /// The tokens of `%implicit_tokens` lists, with their places, where there is such a list.
+    pub implicit_tokens: Option<IndexMap<String, Span>>,
+    /// The declarations of precedence that ended, in order.
+    pub levels: Vec<AssocKind>,
+}
+
+impl Tables {
+    ghost use Rattle.cfgast.specs.Syntax.{tables_of};
+    ghost use Rattle.cfgast.specs.View.{tables_view};
+
+    /// Nothing of any token.
+    #[tactic(auto, unfolding(crate::specs::Syntax::tables_of))]
+    pub fn none(alloc: Global) -> Self
+        ensures { tables_view result ≡ tables_of [] }
+    {
+        Tables {
+            precs: IndexMap::new(alloc),
+            epp: IndexMap::new(alloc),
+            avoid_insert: None,
+            implicit_tokens: None,
+            levels: Vec::new(alloc),
+        }
+    }
+}
+
+impl Clone for Tables {
+    ghost use Rattle.cfgast.specs.View.{tables_view};
+
+    ghost is_clone = { λ tables copy. tables_view copy ≡ tables_view tables };
+
+    fn clone(&self) -> Result<Tables, AllocError> {
+        let levels = self.levels.clone()?;
+        let implicit_tokens = self.implicit_tokens.clone()?;
+        let avoid_insert = self.avoid_insert.clone()?;
+        let epp = self.epp.clone()?;
+        let precs = self.precs.clone()?;
+        Ok(Tables {
+            precs,
+            epp,
+            avoid_insert,
+            implicit_tokens,
+            levels,
+        })
+    }
+}
+
+// The value, under the name where none has it yet.
+pub(crate) fn put_entry<V: Drop>(
+    alloc: Global,
+    entries: &mut IndexMap<String, V>,
+    name: &str,
+    value: V,
+) -> Result<(), AllocError>
+    ensures { OnOk result (map (λ entry. (string_bytes entry.0, entry.1)) entries.new.entries
+        ≡ with_entry (Some (name.now, value)) (map (λ entry. (string_bytes entry.0, entry.1)) entries.old.entries)) }
+{
+    if !entries.contains_key(name) {
+        entries.insert(String::from_str(alloc, name)?, value)?;
+    }
+    Ok(())
+}
+
+// The table of marked tokens, from the beginning of a list on.
+pub(crate) fn begin_marked(alloc: Global, table: &mut Option<IndexMap<String, Span>>)
+    ensures { option_map (λ table. map span_entry table.entries) table.new
+        ≡ with_marked (Some None) (option_map (λ table. map span_entry table.entries) table.old) }
+{
+    if table.is_none() {
+        *table = Some(IndexMap::new(alloc));
+    }
+}
+
+// The table of marked tokens, with a token of a list.
+pub(crate) fn put_marked(
+    alloc: Global,
+    table: &mut Option<IndexMap<String, Span>>,
+    word: Word<'_>,
+) -> Result<(), AllocError>
+    ensures { OnOk result (option_map (λ table. map span_entry table.entries) table.new
+        ≡ with_marked (Some (Some (word_view word.entry))) (option_map (λ table. map span_entry table.entries) table.old)) }
+{
+    begin_marked(alloc, table);
+    if let Some(entries) = table {
+        put_entry(alloc, entries, word.name, word.span)?;
+    }
+    Ok(())
+}
