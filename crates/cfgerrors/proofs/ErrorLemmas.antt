@@ -1,0 +1,76 @@
+-- Two errors are told apart by `==` exactly where callers see two.
+use Rattle.std.proofs.Common.{◌≡◌, ◌↔◌, ◌∙◌, refl, ap, sym, subst, IsTrue, true, ℕ, List, String, Global, string_bytes, string_eq, ◌==◌}
+use Rattle.std.proofs.lemmas.Bool.{and_from, and_parts, eq-eqb, eqb-true}
+use Rattle.std.proofs.Math.Bool.{and-true}
+use lib.Pointwise.{bytes_decides, pointwise_decides}
+use Rattle.lemmas.proofs.Variants.{shows_same}
+use Rattle.cfgbase.specs.declared.span.Span.{Span}
+use Rattle.cfgerrors.specs.declared.error.YaccGrammarErrorKind.{YaccGrammarErrorKind}
+use Rattle.cfgerrors.specs.declared.error.YaccGrammarErrorKind.TheVariants as rust
+use Rattle.cfgerrors.specs.contracts.error.YaccGrammarErrorKindPartialEq.TheImpl.{ghosts as kinds}
+use Rattle.cfgerrors.specs.contracts.error.YaccGrammarErrorKind.{enum}
+use Rattle.cfgerrors.specs.Errors.{ErrorKind, InvalidStartRule, UnknownRuleRef, UnknownToken, NoPrecForToken, UnknownEPP, Nameless, GrammarError, kind_view, same_error, same_error-equivalence, same_kind, same_kind-equivalence, same_span, same_spans}
+
+-- the derived `==` of kinds compares what callers see of them
+pub eq_kind_view : (x y : YaccGrammarErrorKind) → kinds.eq x y ≡ same_kind (kind_view x) (kind_view y)
+eq_kind_view (rust.InvalidStartRule x) (rust.InvalidStartRule y) = sym (and-true _)
+eq_kind_view (rust.UnknownRuleRef x) (rust.UnknownRuleRef y) = sym (and-true _)
+eq_kind_view (rust.UnknownToken x) (rust.UnknownToken y) = sym (and-true _)
+eq_kind_view (rust.NoPrecForToken x) (rust.NoPrecForToken y) = sym (and-true _)
+eq_kind_view (rust.UnknownEPP x) (rust.UnknownEPP y) = sym (and-true _)
+eq_kind_view (rust.InvalidStartRule x) y = refl
+eq_kind_view (rust.UnknownRuleRef x) y = refl
+eq_kind_view (rust.UnknownToken x) y = refl
+eq_kind_view (rust.NoPrecForToken x) y = refl
+eq_kind_view (rust.UnknownEPP x) y = refl
+eq_kind_view x y = elim y as (λ z. kinds.eq x z ≡ same_kind (kind_view x) (kind_view z)) [ rust.IllegalInteger ↦ refl | _ ↦ refl ]
+
+-- and where it finds two the same, so do callers
+kind_view-eq : (x y : YaccGrammarErrorKind) → kinds.eq x y ≡ true → kind_view x ≡ kind_view y
+kind_view-eq x y h =
+    sym (ap kind_view (enum.eta x))
+    ∙ shows_same enum.parts _ (λ c. kind_view (enum.make c))
+    (same InvalidStartRule, (same UnknownRuleRef, (same UnknownToken, (same NoPrecForToken, (same UnknownEPP, (expected, tt))))))
+    (enum.as_values x) (enum.as_values y) h
+    ∙ ap kind_view (enum.eta y)
+  where
+    same : (kind : List ℕ → ErrorKind) (a b : String Global × Unit {0}) → string_eq a.0 b.0 ≡ true → kind (string_bytes a.0) ≡ kind (string_bytes b.0)
+    same kind a b h = ap kind ((bytes_decides (string_bytes a.0) (string_bytes b.0)).0 h)
+
+    expected : (a b : ℕ × Unit {0}) → (a.0 == b.0) ≡ true → Nameless (rust.ExpectedInput a.0) ≡ Nameless (rust.ExpectedInput b.0)
+    expected a b h = ap (λ c. Nameless (rust.ExpectedInput c)) (eqb-true a.0 b.0 h)
+
+pub kind_view_iff : (x y : YaccGrammarErrorKind) → IsTrue (kinds.eq x y) ↔ (kind_view x ≡ kind_view y)
+kind_view_iff x y =
+    (kind_view-eq x y, λ e. eq_kind_view x y ∙ subst (λ kind. same_kind (kind_view x) kind ≡ true) e (same_kind-equivalence.refl (kind_view x)))
+
+same_span-true : (a b : Span) → same_span a b ≡ true → a ≡ b
+same_span-true a b h =
+    let both = and_parts (a.start == b.start) (a.end == b.end) h in
+    let start = eqb-true a.start b.start both.0 in
+    let end = eqb-true a.end b.end both.1 in
+    λ i. record { start = start i; end = end i }
+
+same_span_iff : (a b : Span) → IsTrue (same_span a b) ↔ (a ≡ b)
+same_span_iff a b =
+    (same_span-true a b, λ e. and_from _ _ (eq-eqb _ _ (ap (λ s. s.start) e)) (eq-eqb _ _ (ap (λ s. s.end) e)))
+
+pub same_spans_iff : (a b : List Span) → IsTrue (same_spans a b) ↔ (a ≡ b)
+same_spans_iff = pointwise_decides same_span_iff
+
+module _ (x y : YaccGrammarErrorKind) (first second : List Span) where
+  abbrev left : GrammarError
+  left = record { kind = kind_view x; spans = first }
+
+  abbrev right : GrammarError
+  right = record { kind = kind_view y; spans = second }
+
+  same_error-true : same_error left right ≡ true → left ≡ right
+  same_error-true h =
+      let both = and_parts (same_kind left.kind right.kind) (same_spans first second) h in
+      let kind = kind_view-eq x y (eq_kind_view x y ∙ both.0) in
+      let spans = (same_spans_iff first second).0 both.1 in
+      λ i. record { kind = kind i; spans = spans i }
+
+  pub same_error_iff : IsTrue (same_error left right) ↔ (left ≡ right)
+  same_error_iff = (same_error-true, λ e. subst (λ (error : GrammarError). same_error left error ≡ true) e (same_error-equivalence.refl left))

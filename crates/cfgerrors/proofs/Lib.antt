@@ -1,0 +1,2 @@
+pub mod ErrorLemmas
+pub mod WarningLemmas

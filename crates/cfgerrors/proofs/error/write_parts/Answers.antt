@@ -1,0 +1,10 @@
+use Rattle.std.proofs.Common.{refl}
+use Rattle.std.proofs.Output.{has_written_styled_append}
+use Rattle.cfgerrors.proofs.error.write_parts.Goals as goal
+
+pub returns-clause-styled : goal.returns-clause-styled
+returns-clause-styled g c = λ flush ok.
+    let before = c.in_ok-write_str.ensures.styled flush refl in
+    let name = c.in_ok-write_str-2.ensures.styled before.flush refl in
+    let behind = c.write_str-3.ensures.styled name.flush ok in
+    has_written_styled_append _ _ _ _ _ _ before (has_written_styled_append _ _ _ _ _ _ name behind)
