@@ -7,7 +7,7 @@ use Rattle.cfgsyntax.specs.declared.yacc.parser.reader.Reader.{Reader}
 use Rattle.cfgsyntax.specs.declared.yacc.parser.reader.ReadFault.{ReadFault}
 use Rattle.cfgsyntax.specs.declared.yacc.parser.reader.ReadFault.TheVariants as errors
 use Rattle.cfgsyntax.specs.Builds.{IsPartHere, Fails, Builds, Grows}
-use Rattle.cfgsyntax.specs.Grammar.{blank_here}
+use Rattle.cfgsyntax.specs.Here.{blank_here}
 use Rattle.cfgsyntax.proofs.Steps.{adds_none}
 
 -- the blank that is left, now, ends as the whole one does

@@ -1,5 +1,5 @@
 -- Each error of a text has a span, and its spans begin and end at places of the text.
-use Rattle.std.proofs.Common.{◌≡◌, ℕ, ◌<◌, Bool, true, false, cond, ◌||◌, List, [], ◌∷◌, ◌++◌, map, filter, length, All, get_or, slice_get, option_map, Option, Some, None, Ok, Err, Result, sym, subst, arith, true≢false, if◌then◌else◌}
+use Rattle.std.proofs.Common.{◌≡◌, ℕ, ◌<◌, Bool, true, false, cond, not, ◌||◌, List, [], ◌∷◌, ◌++◌, map, filter, length, All, get_or, slice_get, option_map, Option, Some, None, Ok, Err, Result, sym, subst, arith, true≢false, if◌then◌else◌}
 use Rattle.std.specs.List.{list_any}
 use Rattle.std.specs.Prelude.{IfSome}
 use Rattle.std.specs.Option.{option_or, option_and_then, option_to_list}
@@ -17,18 +17,20 @@ use Rattle.cfgwords.specs.declared.fault.Fault.{Fault}
 use Rattle.cfgwords.specs.Words.{Word}
 use Rattle.cfgwords.proofs.Cuts.{cut_here}
 use Rattle.cfgast.specs.Items.{Item}
+use Rattle.cfgast.specs.Building.{has_entry}
 use Rattle.cfgast.specs.Occurrences.{Unique, Occurrence, is_same, each_once, repeats, places_of, duplicates}
 use Rattle.cfgast.proofs.Repeats.{is_same_equivalence}
 use Rattle.cfgast.specs.Syntax.{Symbol, RuleSymbol, TokenSymbol, EachProductionSpan, EachSpan, symbol_word, Production, Rule, Syntax, syntax_of}
-use Rattle.cfgsyntax.specs.declared.yacc.kind.YaccKind.{YaccKind}
-use Rattle.cfgsyntax.specs.declared.yacc.parser.error.YaccGrammarErrorKind.TheVariants.{NoStartRule}
-use Rattle.cfgsyntax.specs.Errors.{ErrorKind, GrammarError, InvalidStartRule, UnknownRuleRef, UnknownToken, Nameless, error_at}
-use Rattle.cfgsyntax.specs.Check.{is_rule, is_token, first_error, start_error, symbol_error, production_error, place_error, rule_error, check_of}
+use Rattle.cfgerrors.specs.declared.kind.YaccKind.{YaccKind}
+use Rattle.cfgerrors.specs.declared.error.YaccGrammarErrorKind.TheVariants.{NoStartRule}
+use Rattle.cfgerrors.specs.Errors.{ErrorKind, GrammarError, InvalidStartRule, UnknownRuleRef, UnknownToken, NoPrecForToken, UnknownEPP, Nameless, error_at}
+use Rattle.cfgsyntax.specs.Check.{is_rule, is_token, nowhere, first_error, start_error, symbol_error, precedence_error, production_error, printed_error, place_error, rule_error, check_of}
 use Rattle.cfgsyntax.specs.Faults.{kind_of, error_of, duplicate_error, errors_of}
-use Rattle.cfgwords.specs.Places.{IsPiece, IsWordAt}
+use Rattle.cfgwords.specs.Places.{IsPiece, IsWithin, IsWordAt}
 use Rattle.cfgsyntax.specs.Reads.{Reads}
 use Rattle.cfgsyntax.specs.Spans.{EachErrorSpan}
-use Rattle.cfgsyntax.proofs.Kept.{IsItemAt, file_kept}
+use Rattle.cfgsyntax.proofs.Kept.{IsItemAt}
+use Rattle.cfgsyntax.proofs.KeptRules.{file_kept}
 use Rattle.cfgwords.proofs.WordPlaces.{IsReached}
 use Rattle.cfgsyntax.proofs.SyntaxPlaces.{syntax_at, rules_are_names}
 use Rattle.cfgwords.proofs.NameStarts.{begins_as_name}
@@ -90,40 +92,60 @@ module _ (text : List ℕ) where
   unless_known true kind span piece = tt
   unless_known false kind span piece = one_span kind span piece
 
-  start_error_at : IsUtf8 text → (s : Syntax) (start : Option Word) → IfSome start (IsWordAt text) → IfSome (start_error s start) (IsErrorAt text)
-  start_error_at utf8 s None h =
+  nowhere_at : IsUtf8 text → IsPiece text nowhere
+  nowhere_at utf8 =
       let first : IsCharBoundary text 0 = IsCharBoundary-start text utf8 in
-      one_span (Nameless NoStartRule) (record { start = 0; end = 0 }) (record { ordered = omega arith; begins_at = first; ends_at = first })
+      record { ordered = omega arith; begins_at = first; ends_at = first }
+
+  start_error_at : IsUtf8 text → (s : Syntax) (start : Option Word) → IfSome start (IsWordAt text) → IfSome (start_error s start) (IsErrorAt text)
+  start_error_at utf8 s None h = one_span (Nameless NoStartRule) nowhere (nowhere_at utf8)
   start_error_at utf8 s (Some word) h = unless_known (is_rule s word.name) (InvalidStartRule word.name) word.span h
 
   symbol_error_at : (s : Syntax) (symbol : Symbol) → IsWordAt text (symbol_word symbol) → IfSome (symbol_error s symbol) (IsErrorAt text)
   symbol_error_at s (RuleSymbol word) h = unless_known (is_rule s word.name) (UnknownRuleRef word.name) word.span h
   symbol_error_at s (TokenSymbol word) h = unless_known (is_token s word.name) (UnknownToken word.name) word.span h
 
-  production_error_at : (s : Syntax) (production : Production) → EachProductionSpan (IsPiece text) production → IfSome (production_error s production) (IsErrorAt text)
-  production_error_at s production h =
-      first_of_all (IsErrorAt text) (symbol_error s) production.symbols (λ k d lt. symbol_error_at s (get_or production.symbols k d) (h.symbols k d lt))
+  precedence_error_at : IsUtf8 text → (s : Syntax) (token : Option (List ℕ)) → IfSome (precedence_error s token) (IsErrorAt text)
+  precedence_error_at utf8 s None = tt
+  precedence_error_at utf8 s (Some name) = go (is_token s name) (has_entry name s.tables.precedences)
+    where
+      go : (there ranked : Bool) → IfSome (if not there then Some (error_at (UnknownToken name) nowhere) else if ranked then None else Some (error_at (NoPrecForToken name) nowhere)) (IsErrorAt text)
+      go false ranked = one_span (UnknownToken name) nowhere (nowhere_at utf8)
+      go true ranked = unless_known ranked (NoPrecForToken name) nowhere (nowhere_at utf8)
 
-  place_error_at : (s : Syntax) → EachSpan (IsPiece text) s → (place : ℕ) → IfSome (place_error s place) (IsErrorAt text)
-  place_error_at s at place = first_there (IsErrorAt text) (production_error s) (slice_get s.productions place)
-      (All-slice_get (λ production. IfSome (production_error s production) (IsErrorAt text)) s.productions place (λ k d lt. production_error_at s (get_or s.productions k d) (at.productions k d lt)))
+module _ (text : List ℕ) (utf8 : IsUtf8 text) (Q : Span → Type 0) (s : Syntax) (at : EachSpan (IsPiece text) Q s) where
+  production_error_at : (production : Production) → EachProductionSpan (IsPiece text) Q production → IfSome (production_error s production) (IsErrorAt text)
+  production_error_at production h =
+      first_of_two (IsErrorAt text) (precedence_error s production.precedence) (first_error (symbol_error s) production.symbols) (precedence_error_at text utf8 s production.precedence)
+      (first_of_all (IsErrorAt text) (symbol_error s) production.symbols (λ k d lt. symbol_error_at text s (get_or production.symbols k d) (h.symbols k d lt)))
 
-  rule_error_at : (s : Syntax) → EachSpan (IsPiece text) s → (rule : List ℕ × Rule) → IfSome (rule_error s rule) (IsErrorAt text)
-  rule_error_at s at rule = first_of_all (IsErrorAt text) (place_error s) rule.1.productions (λ k d lt. place_error_at s at (get_or rule.1.productions k d))
+  place_error_at : (place : ℕ) → IfSome (place_error s place) (IsErrorAt text)
+  place_error_at place = first_there (IsErrorAt text) (production_error s) (slice_get s.productions place)
+      (All-slice_get (λ production. IfSome (production_error s production) (IsErrorAt text)) s.productions place (λ k d lt. production_error_at (get_or s.productions k d) (at.productions k d lt)))
 
-  check_at : IsUtf8 text → (s : Syntax) → EachSpan (IsPiece text) s → IfSome (check_of s) (IsErrorAt text)
+  rule_error_at : (rule : List ℕ × Rule) → IfSome (rule_error s rule) (IsErrorAt text)
+  rule_error_at rule = first_of_all (IsErrorAt text) (place_error s) rule.1.productions (λ k d lt. place_error_at (get_or rule.1.productions k d))
+
+  printed_error_at : (entry : List ℕ × (Span × (List ℕ × Span))) → IsPiece text entry.1.0 → IfSome (printed_error s entry) (IsErrorAt text)
+  printed_error_at entry h = unless_known text (is_token s entry.0) (UnknownEPP entry.0) entry.1.0 h
+
+  check_at : IfSome (check_of s) (IsErrorAt text)
   unfolding check_of
-  check_at utf8 s at =
+  check_at =
       let rules = first_error (rule_error s) s.rules in
+      let printed = first_error (printed_error s) s.tables.printed_forms in
       let unused = first_error (symbol_error s) s.expect_unused in
-      first_of_two (IsErrorAt text) (start_error s s.start) (option_or rules unused) (start_error_at utf8 s s.start at.start)
-      (first_of_two (IsErrorAt text) rules unused
-      (first_of_all (IsErrorAt text) (rule_error s) s.rules (λ k d lt. rule_error_at s at (get_or s.rules k d)))
-      (first_of_all (IsErrorAt text) (symbol_error s) s.expect_unused (λ k d lt. symbol_error_at s (get_or s.expect_unused k d) (at.expect_unused k d lt))))
+      first_of_two (IsErrorAt text) (start_error s s.start) (option_or rules (option_or printed unused)) (start_error_at text utf8 s s.start at.start)
+      (first_of_two (IsErrorAt text) rules (option_or printed unused)
+      (first_of_all (IsErrorAt text) (rule_error s) s.rules (λ k d lt. rule_error_at (get_or s.rules k d)))
+      (first_of_two (IsErrorAt text) printed unused
+      (first_of_all (IsErrorAt text) (printed_error s) s.tables.printed_forms (λ k d lt. printed_error_at (get_or s.tables.printed_forms k d) (at.tables.printed_keys k d lt)))
+      (first_of_all (IsErrorAt text) (symbol_error s) s.expect_unused (λ k d lt. symbol_error_at text s (get_or s.expect_unused k d) (at.expect_unused k d lt)))))
 
+module _ (text : List ℕ) where
   stop_error_at : (stop : Option Fault) → IfSome stop (λ fault. IsPiece text fault.span) → IfSome (option_map error_of stop) (IsErrorAt text)
   stop_error_at None h = tt
-  stop_error_at (Some fault) h = one_span (kind_of fault.kind) fault.span h
+  stop_error_at (Some fault) h = one_span text (kind_of fault.kind) fault.span h
 
   duplicates_at : (occurrences : List Occurrence) → All (λ o. IsPiece text o.span) occurrences → All (IsErrorAt text) (map duplicate_error (duplicates occurrences))
   unfolding duplicates
@@ -155,7 +177,7 @@ read_at kind text utf8 items stop reads =
 
 -- of the syntax of every reading
 pub read_syntax_at : (kind : YaccKind) (text : List ℕ) → IsUtf8 text → (items : List Item) (stop : Option Fault) → Reads kind text items stop
-    → EachSpan (IsPiece text) (syntax_of items)
+    → EachSpan (IsPiece text) (IsWithin text) (syntax_of items)
 read_syntax_at kind text utf8 items stop reads = syntax_at text items (read_at kind text utf8 items stop reads).items_at
 
 pub read_names : (kind : YaccKind) (text : List ℕ) → IsUtf8 text → (items : List Item) (stop : Option Fault) → Reads kind text items stop
@@ -174,4 +196,4 @@ read_errors_at kind text utf8 items stop reads =
     All-append (IsErrorAt text) duplicated (stopped ++ option_to_list unfit) (duplicates_at text (syntax_of items).occurrences at.occurrences)
     (All-append (IsErrorAt text) stopped (option_to_list unfit)
     (All-option_to_list (IsErrorAt text) (option_map error_of stop) (stop_error_at text stop read.stop_at))
-    (All-option_to_list (IsErrorAt text) unfit (check_at text utf8 (syntax_of items) at)))
+    (All-option_to_list (IsErrorAt text) unfit (check_at text utf8 (IsWithin text) (syntax_of items) at)))

@@ -1,11 +1,11 @@
 pub mod Blanks
-pub mod ErrorLemmas
 pub mod ErrorPlaces
 pub mod Kept
+pub mod KeptDeclarations
+pub mod KeptRules
 pub mod Loops
 pub mod OneReading
+mod Parts
 pub mod SoundLemmas
 pub mod Steps
-pub mod Symbols
 pub mod SyntaxPlaces
-pub mod WarningLemmas

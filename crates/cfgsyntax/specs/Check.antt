@@ -1,16 +1,18 @@
--- Validation of a syntax: the first check that fails, in this order. There is a start; the start is a rule; then
--- rule by rule, production by production and symbol by symbol, what the symbol names is there; then the same of each symbol
--- of the `%expect-unused` lists.
-use Rattle.std.specs.Prelude.{ℕ, List, [], ◌∷◌, Option, Some, None, Result, Ok, Err, slice_get, if◌then◌else◌, Bool}
+-- Validation of a syntax: the first check that fails, in this order. There is a start; the start is a rule; then, rule by
+-- rule and production by production, the token of its `%prec` is a token and has a precedence, and what each symbol names is
+-- there; then each key of `%epp` is a token; then what each symbol of the `%expect-unused` lists names is there.
+use Rattle.std.specs.Prelude.{ℕ, List, [], ◌∷◌, Option, Some, None, Result, Ok, Err, slice_get, if◌then◌else◌, Bool, not}
 use Rattle.std.specs.List.{list_any}
 use Rattle.std.specs.Option.{option_or, option_and_then}
 use Rattle.std.specs.Str.{bytes_eq}
 use Rattle.cfgwords.specs.Words.{Word}
+use Rattle.cfgbase.specs.declared.span.Span.{Span}
+use Rattle.cfgast.specs.Building.{has_entry}
 use Rattle.cfgast.specs.Syntax.{Syntax, Rule, Production, Symbol, RuleSymbol, TokenSymbol}
 use Rattle.cfgsyntax.specs.declared.yacc.ast.check.Unfit.{Unfit}
 use Rattle.cfgsyntax.specs.declared.yacc.ast.check.Unfit.TheVariants as unfit
-use Rattle.cfgsyntax.specs.declared.yacc.parser.error.YaccGrammarErrorKind.TheVariants.{NoStartRule}
-use Rattle.cfgsyntax.specs.Errors.{GrammarError, InvalidStartRule, UnknownRuleRef, UnknownToken, Nameless, error_at}
+use Rattle.cfgerrors.specs.declared.error.YaccGrammarErrorKind.TheVariants.{NoStartRule}
+use Rattle.cfgerrors.specs.Errors.{GrammarError, InvalidStartRule, UnknownRuleRef, UnknownToken, NoPrecForToken, UnknownEPP, Nameless, error_at}
 
 abbrev pub is_rule : Syntax → List ℕ → Bool
 is_rule syntax name = list_any (λ rule. bytes_eq name rule.0) syntax.rules
@@ -23,16 +25,27 @@ abbrev pub first_error : {A : Type 0} → (A → Option GrammarError) → List A
 first_error f [] = None
 first_error f (x ∷ xs) = option_or (f x) (first_error f xs)
 
+-- where no place is told
+abbrev pub nowhere : Span
+nowhere = record { start = 0; end = 0 }
+
 abbrev pub start_error : Syntax → Option Word → Option GrammarError
-start_error syntax None = Some (error_at (Nameless NoStartRule) (record { start = 0; end = 0 }))
+start_error syntax None = Some (error_at (Nameless NoStartRule) nowhere)
 start_error syntax (Some word) = if is_rule syntax word.name then None else Some (error_at (InvalidStartRule word.name) word.span)
 
 abbrev pub symbol_error : Syntax → Symbol → Option GrammarError
 symbol_error syntax (RuleSymbol word) = if is_rule syntax word.name then None else Some (error_at (UnknownRuleRef word.name) word.span)
 symbol_error syntax (TokenSymbol word) = if is_token syntax word.name then None else Some (error_at (UnknownToken word.name) word.span)
 
+-- of the token of a `%prec`
+abbrev pub precedence_error : Syntax → Option (List ℕ) → Option GrammarError
+precedence_error syntax None = None
+precedence_error syntax (Some name) =
+    if not (is_token syntax name) then Some (error_at (UnknownToken name) nowhere)
+    else if has_entry name syntax.tables.precedences then None else Some (error_at (NoPrecForToken name) nowhere)
+
 abbrev pub production_error : Syntax → Production → Option GrammarError
-production_error syntax production = first_error (symbol_error syntax) production.symbols
+production_error syntax production = option_or (precedence_error syntax production.precedence) (first_error (symbol_error syntax) production.symbols)
 
 -- of the production at a place of the list of all
 abbrev pub place_error : Syntax → ℕ → Option GrammarError
@@ -41,16 +54,25 @@ place_error syntax place = option_and_then (production_error syntax) (slice_get 
 abbrev pub rule_error : Syntax → List ℕ × Rule → Option GrammarError
 rule_error syntax rule = first_error (place_error syntax) rule.1.productions
 
+-- of a token that has a printed form
+abbrev pub printed_error : Syntax → List ℕ × (Span × (List ℕ × Span)) → Option GrammarError
+printed_error syntax entry = if is_token syntax entry.0 then None else Some (error_at (UnknownEPP entry.0) entry.1.0)
+
 unfoldable pub check_of : Syntax → Option GrammarError
 check_of syntax =
-    option_or (start_error syntax syntax.start) (option_or (first_error (rule_error syntax) syntax.rules) (first_error (symbol_error syntax) syntax.expect_unused))
+    option_or (start_error syntax syntax.start)
+    (option_or (first_error (rule_error syntax) syntax.rules)
+    (option_or (first_error (printed_error syntax) syntax.tables.printed_forms)
+    (first_error (symbol_error syntax) syntax.expect_unused)))
 
 -- what the code finds, as an error
 abbrev pub unfit_error : Unfit → GrammarError
-unfit_error unfit.NoStart = error_at (Nameless NoStartRule) (record { start = 0; end = 0 })
+unfit_error unfit.NoStart = error_at (Nameless NoStartRule) nowhere
 unfit_error (unfit.Start name span) = error_at (InvalidStartRule name.now) span
 unfit_error (unfit.Rule name span) = error_at (UnknownRuleRef name.now) span
 unfit_error (unfit.Token name span) = error_at (UnknownToken name.now) span
+unfit_error (unfit.Precedence name) = error_at (NoPrecForToken name.now) nowhere
+unfit_error (unfit.PrintedForm name span) = error_at (UnknownEPP name.now) span
 
 -- the error that a check of the code answers, if it fails
 abbrev pub found : Result (Unit {0}) Unfit → Option GrammarError

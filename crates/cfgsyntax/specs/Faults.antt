@@ -10,8 +10,8 @@ use Rattle.cfgast.specs.declared.occurrence.UniqueKind.TheVariants as unique
 use Rattle.cfgast.specs.Items.{Item}
 use Rattle.cfgast.specs.Occurrences.{Duplicate, duplicates}
 use Rattle.cfgast.specs.Syntax.{Syntax, syntax_of}
-use Rattle.cfgsyntax.specs.Errors.{ErrorKind, GrammarError, Nameless, error_at}
-use Rattle.cfgsyntax.specs.declared.yacc.parser.error.YaccGrammarErrorKind.TheVariants as kinds
+use Rattle.cfgerrors.specs.Errors.{ErrorKind, GrammarError, Nameless, error_at}
+use Rattle.cfgerrors.specs.declared.error.YaccGrammarErrorKind.TheVariants as kinds
 use Rattle.cfgsyntax.specs.Check.{check_of}
 
 abbrev pub kind_of : FaultKind → ErrorKind
@@ -20,8 +20,13 @@ kind_of faults.IllegalName = Nameless kinds.IllegalName
 kind_of faults.IllegalString = Nameless kinds.IllegalString
 kind_of faults.IncompleteRule = Nameless kinds.IncompleteRule
 kind_of faults.IncompleteComment = Nameless kinds.IncompleteComment
+kind_of faults.IncompleteAction = Nameless kinds.IncompleteAction
+kind_of faults.InvalidString = Nameless kinds.InvalidString
 kind_of faults.MissingColon = Nameless kinds.MissingColon
+kind_of faults.MissingRightArrow = Nameless kinds.MissingRightArrow
+kind_of faults.NonEmptyProduction = Nameless kinds.NonEmptyProduction
 kind_of faults.PrematureEnd = Nameless kinds.PrematureEnd
+kind_of faults.ProductionNotTerminated = Nameless kinds.ProductionNotTerminated
 kind_of faults.UnknownDeclaration = Nameless kinds.UnknownDeclaration
 kind_of faults.ReachedEOL = Nameless kinds.ReachedEOL
 kind_of faults.UnknownSymbol = Nameless kinds.UnknownSymbol
@@ -34,6 +39,11 @@ abbrev pub repeated_kind : UniqueKind → ErrorKind
 repeated_kind unique.Start = Nameless kinds.DuplicateStartDeclaration
 repeated_kind unique.Expect = Nameless kinds.DuplicateExpectDeclaration
 repeated_kind unique.ExpectReduceReduce = Nameless kinds.DuplicateExpectRRDeclaration
+repeated_kind unique.ActionType = Nameless kinds.DuplicateActiontypeDeclaration
+repeated_kind unique.PrintedForm = Nameless kinds.DuplicateEPP
+repeated_kind unique.Precedence = Nameless kinds.DuplicatePrecedence
+repeated_kind unique.AvoidInsert = Nameless kinds.DuplicateAvoidInsertDeclaration
+repeated_kind unique.ImplicitToken = Nameless kinds.DuplicateImplicitTokensDeclaration
 
 -- the error for what is declared more than once, at all its places
 abbrev pub duplicate_error : Duplicate → GrammarError

@@ -1,11 +1,12 @@
 pub mod Builds
 pub mod Check
-pub mod Errors
+pub mod Declarations
 pub mod Faults
 pub mod Grammar
+pub mod Here
+pub mod Lists
 pub mod Parsed
 pub mod Reads
+pub mod Rules
 pub mod Sound
 pub mod Spans
-pub mod Texts
-pub mod Warnings

@@ -1,8 +1,8 @@
 -- What callers see of an `ASTWithValidityInfo`.
 use Rattle.std.specs.Prelude.{List}
 use Rattle.cfgast.specs.Syntax.{Syntax}
-use Rattle.cfgsyntax.specs.Errors.{GrammarError}
-use Rattle.cfgsyntax.specs.declared.yacc.kind.YaccKind.{YaccKind}
+use Rattle.cfgerrors.specs.Errors.{GrammarError}
+use Rattle.cfgerrors.specs.declared.kind.YaccKind.{YaccKind}
 
 pub record Parsed : Type 0 where
   pub kind : YaccKind

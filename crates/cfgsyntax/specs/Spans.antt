@@ -2,7 +2,7 @@
 use Rattle.std.specs.Prelude.{◌<◌, All, length}
 use Rattle.cfgbase.specs.declared.span.Span.{Span}
 use Rattle.cfgast.specs.Syntax.{EachSpan}
-use Rattle.cfgsyntax.specs.Errors.{GrammarError}
+use Rattle.cfgerrors.specs.Errors.{GrammarError}
 use Rattle.cfgsyntax.specs.Parsed.{Parsed}
 
 -- an error has a span, and P holds of each that it has
@@ -10,6 +10,7 @@ pub record EachErrorSpan (P : Span → Type 0) (error : GrammarError) : Type 0 w
   pub some : 0 < length error.spans
   pub each : All P error.spans
 
-pub record EachParsedSpan (P : Span → Type 0) (parsed : Parsed) : Type 0 where
+-- Q is for the spans of actions
+pub record EachParsedSpan (P Q : Span → Type 0) (parsed : Parsed) : Type 0 where
   pub errors : All (EachErrorSpan P) parsed.errors
-  pub syntax : EachSpan P parsed.syntax
+  pub syntax : EachSpan P Q parsed.syntax

@@ -1,5 +1,6 @@
 //! Yacc grammars as written: the text of a Yacc file, its syntax, and what is wrong with it.
 #![tactic(auto)]
 
-pub mod laws;
 pub mod yacc;
+
+pub use cfgerrors::laws;

@@ -9,14 +9,14 @@ ghost use Rattle.cfgast.specs.Items.{Item};
 ghost use Rattle.cfgast.specs.Syntax.{syntax_of};
 ghost use Rattle.cfgast.specs.View.{syntax};
 ghost use Rattle.cfgsyntax.specs.Faults.{errors_of};
-ghost use Rattle.cfgwords.specs.Places.{IsPiece};
+ghost use Rattle.cfgwords.specs.Places.{IsPiece, IsWithin};
 ghost use Rattle.cfgsyntax.specs.Reads.{Reads, HasOneReading};
 ghost use Rattle.cfgsyntax.specs.Sound.{IsSound};
 ghost use Rattle.cfgsyntax.specs.Spans.{EachParsedSpan};
 
-use crate::yacc::kind::YaccKind;
-use crate::yacc::parser::{YaccGrammarError, read};
+use crate::yacc::parser::read;
 pub use cfgast::{GrammarAST, Production, Rule, Settings, Symbol};
+use cfgerrors::{YaccGrammarError, YaccKind};
 use errors::errors_found;
 use std::alloc::{AllocError, Global};
 use std::marker::Model;
@@ -49,7 +49,8 @@ impl ASTWithValidityInfo {
     /// one, and then the first check that the syntax fails, if it fails one.
     ///
     /// Each error has a span. Each span of the syntax and of an error begins and ends at a place of the text: where a
-    /// character begins, or where the text ends.
+    /// character begins, or where the text ends. But an action's span is as long as its trimmed text and begins behind its
+    /// brace, so it may end inside a character: it lies within the text.
     pub fn new(alloc: Global, kind: YaccKind, text: &str) -> Result<Self, AllocError>
         ensures one { HasOneReading kind text.now }
         ensures kind { IfOk result (λ parsed. parsed.kind ≡ kind) }
@@ -57,7 +58,7 @@ impl ASTWithValidityInfo {
             → parsed.syntax ≡ syntax_of items) }
         ensures errors { IfOk result (λ parsed. (items : List Item) (stop : Option Fault) → Reads kind text.now items stop
             → parsed.errors ≡ errors_of items stop) }
-        ensures places { IfOk result (EachParsedSpan (IsPiece text.now)) }
+        ensures places { IfOk result (EachParsedSpan (IsPiece text.now) (IsWithin text.now)) }
     {
         let (ast, stop) = read(alloc, kind, text)?;
         let errors = errors_found(alloc, &ast, stop)?;

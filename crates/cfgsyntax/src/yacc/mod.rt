@@ -1,9 +1,8 @@
 //! Yacc files.
 pub mod ast;
-pub mod kind;
 pub mod parser;
 
-pub use kind::{YaccKind, YaccOriginalActionKind};
+pub use cfgerrors::{YaccKind, YaccOriginalActionKind, kind};
 pub use parser::{
     YaccFault, YaccGrammarError, YaccGrammarErrorKind, YaccGrammarResult, YaccGrammarWarning,
     YaccGrammarWarningKind,

@@ -1,15 +1,16 @@
 //! Validation: whether what a syntax names is there.
 
-ghost use Rattle.std.specs.Prelude.{◌≡◌, IfOk};
+ghost use Rattle.std.specs.Prelude.{◌≡◌, IfOk, map, option_map, string_bytes};
+ghost use Rattle.cfgast.specs.Building.{has_entry};
 ghost use Rattle.cfgast.specs.View.{syntax, symbol_view, production_view};
-ghost use Rattle.cfgsyntax.specs.Check.{is_rule, is_token, found, unfit_error, start_error, symbol_error, production_error, place_error, rule_error, first_error, check_of};
+ghost use Rattle.cfgsyntax.specs.Check.{is_rule, is_token, found, unfit_error, start_error, symbol_error, precedence_error, production_error, printed_error, place_error, rule_error, first_error, check_of};
 
-use crate::yacc::parser::YaccGrammarError;
-use crate::yacc::parser::YaccGrammarErrorKind::{
-    InvalidStartRule, NoStartRule, UnknownRuleRef, UnknownToken,
-};
 use cfgast::{GrammarAST, Production, Rule, Symbol};
 use cfgbase::Span;
+use cfgerrors::YaccGrammarErrorKind::{
+    InvalidStartRule, NoPrecForToken, NoStartRule, UnknownEPP, UnknownRuleRef, UnknownToken,
+};
+use cfgerrors::{YaccGrammarError, error_at};
 use std::alloc::{AllocError, Global};
 
 /// What a check finds wrong. It borrows the name, so that to look for it takes no memory.
@@ -19,6 +20,8 @@ pub(super) enum Unfit<'a> {
     Start(&'a str, Span),
     Rule(&'a str, Span),
     Token(&'a str, Span),
+    Precedence(&'a str),
+    PrintedForm(&'a str, Span),
 }
 
 impl Unfit<'_> {
@@ -30,8 +33,13 @@ impl Unfit<'_> {
             Unfit::Start(name, span) => (InvalidStartRule(String::from_str(alloc, name)?), span),
             Unfit::Rule(name, span) => (UnknownRuleRef(String::from_str(alloc, name)?), span),
             Unfit::Token(name, span) => (UnknownToken(String::from_str(alloc, name)?), span),
+            Unfit::Precedence(name) => (
+                NoPrecForToken(String::from_str(alloc, name)?),
+                Span::new(0, 0),
+            ),
+            Unfit::PrintedForm(name, span) => (UnknownEPP(String::from_str(alloc, name)?), span),
         };
-        YaccGrammarError::at(alloc, kind, span)
+        error_at(alloc, kind, span)
     }
 }
 
@@ -68,13 +76,39 @@ fn check_symbol<'a>(ast: &GrammarAST, symbol: &'a Symbol) -> Result<(), Unfit<'a
     }
 }
 
-fn check_production<'a>(ast: &GrammarAST, production: &'a Production) -> Result<(), Unfit<'a>>
-    ensures { found result ≡ production_error (syntax ast.now) (production_view production.now) }
+fn has_precedence(ast: &GrammarAST, name: &str) -> bool
+    ensures { result ≡ has_entry name.now (syntax ast.now).tables.precedences }
 {
-    for symbol in &production.symbols {
+    ast.precs().contains_key(name)
+}
+
+fn check_precedence<'a>(ast: &GrammarAST, token: &'a Option<String>) -> Result<(), Unfit<'a>>
+    ensures { found result ≡ precedence_error (syntax ast.now) (option_map string_bytes token.now) }
+{
+    match token {
+        None => Ok(()),
+        Some(name) if !is_token(ast, name.as_str()) => {
+            Err(Unfit::Token(name.as_str(), Span::new(0, 0)))
+        }
+        Some(name) if has_precedence(ast, name.as_str()) => Ok(()),
+        Some(name) => Err(Unfit::Precedence(name.as_str())),
+    }
+}
+
+fn check_symbols<'a>(ast: &GrammarAST, symbols: &'a [Symbol]) -> Result<(), Unfit<'a>>
+    ensures { found result ≡ first_error (symbol_error (syntax ast.now)) (map symbol_view symbols.now) }
+{
+    for symbol in symbols {
         check_symbol(ast, symbol)?;
     }
     Ok(())
+}
+
+fn check_production<'a>(ast: &GrammarAST, production: &'a Production) -> Result<(), Unfit<'a>>
+    ensures { found result ≡ production_error (syntax ast.now) (production_view production.now) }
+{
+    check_precedence(ast, &production.precedence)?;
+    check_symbols(ast, &production.symbols)
 }
 
 fn check_place(ast: &GrammarAST, place: usize) -> Result<(), Unfit<'_>>
@@ -104,11 +138,13 @@ fn check_rules(ast: &GrammarAST) -> Result<(), Unfit<'_>>
     Ok(())
 }
 
-fn check_unused(ast: &GrammarAST) -> Result<(), Unfit<'_>>
-    ensures { found result ≡ first_error (symbol_error (syntax ast.now)) (syntax ast.now).expect_unused }
+fn check_printed_forms(ast: &GrammarAST) -> Result<(), Unfit<'_>>
+    ensures { found result ≡ first_error (printed_error (syntax ast.now)) (syntax ast.now).tables.printed_forms }
 {
-    for symbol in ast.expect_unused() {
-        check_symbol(ast, symbol)?;
+    for (name, (span, _)) in ast.epp() {
+        if !is_token(ast, name.as_str()) {
+            return Err(Unfit::PrintedForm(name.as_str(), *span));
+        }
     }
     Ok(())
 }
@@ -120,5 +156,6 @@ pub(super) fn check(ast: &GrammarAST) -> Result<(), Unfit<'_>>
 {
     check_start(ast)?;
     check_rules(ast)?;
-    check_unused(ast)
+    check_printed_forms(ast)?;
+    check_symbols(ast, ast.expect_unused())
 }

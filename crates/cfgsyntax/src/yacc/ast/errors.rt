@@ -3,28 +3,35 @@
 ghost use Rattle.std.specs.Prelude.{◌≡◌, map, IfOk};
 ghost use Rattle.cfgast.specs.Occurrences.{duplicates};
 ghost use Rattle.cfgast.specs.View.{syntax, occurrence_view};
-ghost use Rattle.cfgsyntax.specs.Errors.{kind_view};
+ghost use Rattle.cfgerrors.specs.Errors.{kind_view};
 ghost use Rattle.cfgsyntax.specs.Faults.{repeated_kind, duplicate_error, all_errors};
 
 use super::check::check;
-use crate::yacc::parser::YaccGrammarErrorKind::{
-    DuplicateExpectDeclaration, DuplicateExpectRRDeclaration, DuplicateStartDeclaration,
-};
-use crate::yacc::parser::{YaccGrammarError, YaccGrammarErrorKind, error_of};
+use crate::yacc::parser::error_of;
 use cfgast::duplicates::duplicates;
 use cfgast::{GrammarAST, Occurrence, UniqueKind};
+use cfgerrors::YaccGrammarErrorKind::{
+    DuplicateActiontypeDeclaration, DuplicateAvoidInsertDeclaration, DuplicateEPP,
+    DuplicateExpectDeclaration, DuplicateExpectRRDeclaration, DuplicateImplicitTokensDeclaration,
+    DuplicatePrecedence, DuplicateStartDeclaration,
+};
+use cfgerrors::{YaccGrammarError, YaccGrammarErrorKind};
 use cfgwords::fault::Fault;
 use std::alloc::{AllocError, Global};
 
-impl From<UniqueKind> for YaccGrammarErrorKind {
-    ghost from_gives = { λ kind error. kind_view error ≡ repeated_kind kind };
-
-    fn from(kind: UniqueKind) -> YaccGrammarErrorKind {
-        match kind {
-            UniqueKind::Start => DuplicateStartDeclaration,
-            UniqueKind::Expect => DuplicateExpectDeclaration,
-            UniqueKind::ExpectReduceReduce => DuplicateExpectRRDeclaration,
-        }
+/// The kind of error for what is declared more than once.
+fn repeated_kind(kind: UniqueKind) -> YaccGrammarErrorKind
+    ensures { kind_view result ≡ repeated_kind kind }
+{
+    match kind {
+        UniqueKind::Start => DuplicateStartDeclaration,
+        UniqueKind::Expect => DuplicateExpectDeclaration,
+        UniqueKind::ExpectReduceReduce => DuplicateExpectRRDeclaration,
+        UniqueKind::ActionType => DuplicateActiontypeDeclaration,
+        UniqueKind::PrintedForm => DuplicateEPP,
+        UniqueKind::Precedence => DuplicatePrecedence,
+        UniqueKind::AvoidInsert => DuplicateAvoidInsertDeclaration,
+        UniqueKind::ImplicitToken => DuplicateImplicitTokensDeclaration,
     }
 }
 
@@ -37,7 +44,7 @@ fn duplicate_errors(
 {
     let mut errors = Vec::new(alloc);
     for (what, places) in duplicates(alloc, occurrences)? {
-        errors.push(YaccGrammarError::new(what.kind.into(), places))?;
+        errors.push(YaccGrammarError::new(repeated_kind(what.kind), places))?;
     }
     Ok(errors)
 }

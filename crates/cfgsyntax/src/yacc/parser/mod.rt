@@ -1,16 +1,18 @@
 //! Reading a Yacc file.
+mod bodies;
 mod declarations;
-mod error;
 mod fault;
 mod laws;
+mod lists;
 mod read;
 mod reader;
 mod rules;
-mod warning;
 
 pub use cfgbase::SpansKind;
-pub use error::{YaccFault, YaccGrammarError, YaccGrammarErrorKind, YaccGrammarResult};
+pub use cfgerrors::{
+    YaccFault, YaccGrammarError, YaccGrammarErrorKind, YaccGrammarResult, YaccGrammarWarning,
+    YaccGrammarWarningKind,
+};
 pub(crate) use fault::error_of;
 pub use laws::file_is_graph;
 pub(crate) use read::read;
-pub use warning::{YaccGrammarWarning, YaccGrammarWarningKind};

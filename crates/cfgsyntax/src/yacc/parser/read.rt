@@ -8,8 +8,8 @@ ghost use Rattle.cfgast.specs.View.{syntax};
 ghost use Rattle.cfgsyntax.specs.Reads.{Reads, HasOneReading};
 
 use super::reader::{ReadFault, Reader};
-use crate::yacc::kind::YaccKind;
 use cfgast::GrammarAST;
+use cfgerrors::YaccKind;
 use cfgwords::fault::Fault;
 use std::alloc::{AllocError, Global};
 

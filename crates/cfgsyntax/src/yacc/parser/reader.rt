@@ -1,16 +1,20 @@
 //! The reader: a place in the text, and the tree of what was read so far.
 
-ghost use Rattle.std.specs.Prelude.{◌≡◌, ◌≤◌, length, [], Some, None, Ok, MatchBool, IfSome};
+ghost use Rattle.std.specs.Prelude.{◌≡◌, ◌≤◌, length, [], Some, None, Ok, MatchBool, IfOk, IfSome};
+ghost use Rattle.std.specs.String.{string_bytes};
+ghost use Rattle.reading.specs.Construct.{expect};
 ghost use Rattle.reading.specs.Pieces.{strip};
 ghost use Rattle.cfgwords.specs.Text.{place, fault_at};
-ghost use Rattle.cfgsyntax.specs.Grammar.{blank_here, name_here, token_here, integer_here, line_rest_here};
+ghost use Rattle.cfgsyntax.specs.Here.{is_open, stands, blank_here, line_blank, name_here, token_here, integer_here, line_rest_here, epp_string_here, colon_text_here};
 
 use cfgast::{AstBuilder, GrammarAST};
 use cfgbase::Span;
-use cfgwords::blank::Front;
+use cfgwords::blank::{Front, passes_line_end};
 use cfgwords::bytes::ByteClass;
+use cfgwords::colon_text::text_to_colon;
 use cfgwords::fault::{Fault, FaultKind};
 use cfgwords::run::run;
+use cfgwords::strings::{leading_string, unescaped};
 use cfgwords::words::{Token, Word, leading_integer, leading_name, leading_token};
 use reading::after_word;
 use std::alloc::{AllocError, AllocFailed, Global};
@@ -94,15 +98,39 @@ impl<'a> Reader<'a> {
         self.len - self.rest.len()
     }
 
-    /// A fault right here.
-    pub(super) fn fault(&self, kind: FaultKind) -> ReadFault
-        ensures { result ≡ ReadFault.Fault (fault_at self.now.len kind self.now.rest.now) }
+    /// A fault at the place where `text` is left.
+    pub(super) fn fault_at(&self, kind: FaultKind, text: &str) -> ReadFault
+        ensures { result ≡ ReadFault.Fault (fault_at self.now.len kind text.now) }
     {
-        let place = self.place();
+        let place = self.len.saturating_sub(text.len());
         ReadFault::Fault(Fault {
             kind,
             span: Span::new(place, place),
         })
+    }
+
+    /// A fault right here.
+    pub(super) fn fault(&self, kind: FaultKind) -> ReadFault
+        ensures { result ≡ ReadFault.Fault (fault_at self.now.len kind self.now.rest.now) }
+    {
+        self.fault_at(kind, self.rest)
+    }
+
+    /// Whether the text goes on here.
+    pub(super) fn is_open(&self) -> bool
+        ensures { result ≡ is_open self.now.rest.now }
+    {
+        match self.rest.as_bytes() {
+            [] => false,
+            [_, ..] => true,
+        }
+    }
+
+    /// Whether the word stands here.
+    pub(super) fn stands(&self, word: &str) -> bool
+        ensures { result ≡ stands word.now self.now.rest.now }
+    {
+        after_word(self.rest, word).is_some()
     }
 
     /// Passes the word, where it stands here.
@@ -120,8 +148,20 @@ impl<'a> Reader<'a> {
         }
     }
 
+    /// Passes the word that must stand here; where another thing does, there is a fault of the kind.
+    #[tactic(auto, unfolding(cfgast::specs::Building::adds))]
+    pub(super) fn expect(&mut self, word: &str, kind: FaultKind) -> Result<(), ReadFault>
+        ensures { Builds (λ x. x) self.old self.new result (expect word.now (fault_at self.old.len kind)) }
+    {
+        if self.accept(word) {
+            Ok(())
+        } else {
+            Err(self.fault(kind))
+        }
+    }
+
     /// The next part of a blank: what is left behind it, or None where the blank ends here.
-    fn part(&self, lines: bool) -> Result<Option<&'a str>, ReadFault>
+    fn blank_part(&self, lines: bool) -> Result<Option<&'a str>, ReadFault>
         ensures { IsPartHere lines self.now result }
     {
         match Front::of(self.rest).part(lines) {
@@ -134,10 +174,20 @@ impl<'a> Reader<'a> {
     pub(super) fn blank(&mut self, lines: bool) -> Result<(), ReadFault>
         ensures { Builds (λ x. x) self.old self.new result (blank_here self.old.len lines) }
     {
-        while let Some(rest) = self.part(lines)? {
+        while let Some(rest) = self.blank_part(lines)? {
             self.rest = rest;
         }
         Ok(())
+    }
+
+    /// Passes the blank that begins here, and tells whether it stays on its line.
+    #[tactic(auto, unfolding(crate::specs::Here::line_blank, cfgast::specs::Building::adds))]
+    pub(super) fn line_blank(&mut self) -> Result<bool, ReadFault>
+        ensures { Builds (λ x. x) self.old self.new result (line_blank self.old.len) }
+    {
+        let text = self.rest;
+        self.blank(true)?;
+        Ok(!passes_line_end(text, self.rest))
     }
 
     /// Passes the name that stands here, if one does.
@@ -191,6 +241,35 @@ impl<'a> Reader<'a> {
         line
     }
 
+    /// Passes the string of an `%epp`, which must stand here, and answers its value.
+    #[tactic(auto, unfolding(cfgwords::specs::Strings::epp_string, cfgast::specs::Building::adds))]
+    pub(super) fn epp_string(&mut self) -> Result<String, ReadFault>
+        ensures { Builds string_bytes self.old self.new result (epp_string_here self.old.len) }
+    {
+        match leading_string(self.rest) {
+            Ok((inside, rest)) => {
+                let value = unescaped(self.alloc, inside)?;
+                self.rest = rest;
+                Ok(value)
+            }
+            Err(left) => Err(self.fault_at(FaultKind::InvalidString, left)),
+        }
+    }
+
+    /// Passes the text up to a single colon, which must stand behind it, and answers it trimmed.
+    #[tactic(auto, unfolding(cfgwords::specs::ColonText::colon_text, cfgast::specs::Building::adds))]
+    pub(super) fn colon_text(&mut self) -> Result<&'a str, ReadFault>
+        ensures { Builds (λ x. x.now) self.old self.new result (colon_text_here self.old.len) }
+    {
+        match text_to_colon(self.rest) {
+            Some((text, rest)) => {
+                self.rest = rest;
+                Ok(text)
+            }
+            None => Err(self.fault_at(FaultKind::ReachedEOL, "")),
+        }
+    }
+
     /// Passes the token that stands here, if one does.
     pub(super) fn next_token(&mut self) -> Option<Token<'a>>
         ensures read { IsTokenHere self.old self.new result }
@@ -215,7 +294,8 @@ impl<'a> Reader<'a> {
     /// Passes the token that must stand here.
     #[tactic(auto, unfolding(cfgast::specs::Building::adds))]
     pub(super) fn token(&mut self) -> Result<Token<'a>, ReadFault>
-        ensures { Builds token_view self.old self.new result (token_here self.old.len) }
+        ensures read { Builds token_view self.old self.new result (token_here self.old.len) }
+        ensures after { IfOk result (λ token. place self.old.len self.old.rest.now ≤ token.end) }
     {
         match self.next_token() {
             Some(token) => Ok(token),

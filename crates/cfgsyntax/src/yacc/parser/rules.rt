@@ -1,128 +1,117 @@
 //! Rules: what stands behind the first `%%`.
 
-ghost use Rattle.std.specs.Prelude.{◌≡◌, ◌≤◌, All, IfOk, IfSome, OnOk, length, map, option_map, codes};
-ghost use Rattle.reading.specs.Construct.{expect, goes_on, many, repeat, while_test};
-ghost use Rattle.cfgwords.specs.Text.{place, fault_at};
-ghost use Rattle.cfgwords.specs.declared.fault.FaultKind.TheVariants.{MissingColon};
+ghost use Rattle.std.specs.Prelude.{◌≡◌, ◌≤◌, IfSome, Some, is_some};
+ghost use Rattle.reading.specs.Construct.{goes_on, repeat, while_test};
+ghost use Rattle.cfgwords.specs.Text.{place};
 ghost use Rattle.cfgast.specs.Items.{Alternative};
-ghost use Rattle.cfgsyntax.specs.Grammar.{end_of, is_open, body_fault, symbol, another, finish, production, rule, file};
+ghost use Rattle.cfgsyntax.specs.Builds.{IsActionHere, parts_view};
+ghost use Rattle.cfgsyntax.specs.Grammar.{file, programs};
+ghost use Rattle.cfgsyntax.specs.Rules.{another, end_fault, end_of, finish, is_grmtools, is_rule_next, production, production_end, rule, rule_body, rule_type};
 
+use super::bodies::Parts;
 use super::reader::{ReadFault, Reader};
-use crate::yacc::kind::YaccKind;
 use cfgast::{Body, RuleHead};
 use cfgbase::Span;
+use cfgerrors::YaccKind;
+use cfgwords::actions::leading_action;
 use cfgwords::fault::FaultKind;
-use cfgwords::words::Token;
 
 impl<'a> Reader<'a> {
-    ghost use Rattle.cfgsyntax.specs.Builds.{Builds, tokens_view};
-    ghost use Rattle.cfgast.specs.View.{token_view, head_view, body_view};
+    ghost use Rattle.cfgsyntax.specs.Builds.{Builds};
+    ghost use Rattle.cfgast.specs.View.{head_view, body_view};
 
-    /// The fault where a symbol, `|` or `;` must stand.
-    fn body_fault(&self) -> ReadFault
-        ensures { result ≡ ReadFault.Fault (body_fault self.now.len self.now.rest.now) }
+    /// The fault where `|` or `;` must stand: behind an action, or elsewhere in a body.
+    fn end_fault(&self, has_action: bool) -> ReadFault
+        ensures { result ≡ ReadFault.Fault (end_fault self.now.len has_action self.now.rest.now) }
     {
-        if self.rest.is_empty() {
-            self.fault(FaultKind::IncompleteRule)
-        } else {
-            self.fault(FaultKind::IllegalString)
+        match self.rest.as_bytes() {
+            _ if has_action => self.fault(FaultKind::ProductionNotTerminated),
+            [] => self.fault(FaultKind::IncompleteRule),
+            [b'{', ..] => self.fault(FaultKind::IncompleteAction),
+            _ => self.fault(FaultKind::IllegalString),
         }
-    }
-
-    /// Passes the colon behind a rule's name.
-    #[tactic(auto, unfolding(cfgast::specs::Building::adds))]
-    fn colon(&mut self) -> Result<(), ReadFault>
-        ensures { Builds (λ x. x) self.old self.new result (expect (codes ":") (fault_at self.old.len MissingColon)) }
-    {
-        if self.accept(":") {
-            Ok(())
-        } else {
-            Err(self.fault(FaultKind::MissingColon))
-        }
-    }
-
-    /// Passes the symbol that stands here, if one does, and the blank behind it; a quoted token is noted.
-    #[tactic(auto, unfolding(crate::specs::Grammar::symbol, cfgast::specs::Building::adds))]
-    fn symbol(&mut self) -> Result<Option<Token<'a>>, ReadFault>
-        ensures read { Builds (option_map token_view) self.old self.new result (symbol self.old.len) }
-        ensures after { IfOk result (λ symbol. IfSome symbol (λ token. place self.old.len self.old.rest.now ≤ token.end)) }
-    {
-        match self.next_token() {
-            Some(token) => {
-                self.blank(true)?;
-                if token.quoted {
-                    self.tree.quote_token(self.alloc, token.word())?;
-                }
-                Ok(Some(token))
-            }
-            None => Ok(None),
-        }
-    }
-
-    /// Passes the symbols of a production.
-    fn symbols(&mut self) -> Result<Vec<Token<'a>>, ReadFault>
-        ensures read { Builds tokens_view self.old self.new result (many (symbol self.old.len)) }
-        ensures ends { IfOk result (λ symbols. All (λ symbol. place self.old.len self.old.rest.now ≤ symbol.end) symbols.items) }
-        ensures shorter { OnOk result (length self.new.rest.now ≤ length self.old.rest.now) }
-    {
-        let mut symbols = Vec::new(self.alloc);
-        while let Some(symbol) = self.symbol()? {
-            symbols.push(symbol)?;
-        }
-        Ok(symbols)
     }
 
     /// Passes the `|` before another production, or the `;` that ends a rule, and tells whether it was `|`.
-    #[tactic(auto, unfolding(crate::specs::Grammar::another, cfgast::specs::Building::adds))]
-    fn another(&mut self) -> Result<bool, ReadFault>
-        ensures { Builds (λ x. x) self.old self.new result (another self.old.len) }
+    #[tactic(auto, unfolding(crate::specs::Rules::another, cfgast::specs::Building::adds))]
+    fn another(&mut self, has_action: bool) -> Result<bool, ReadFault>
+        ensures { Builds (λ x. x) self.old self.new result (another self.old.len has_action) }
     {
         if self.accept("|") {
             Ok(true)
         } else if self.accept(";") {
             Ok(false)
         } else {
-            Err(self.body_fault())
+            Err(self.end_fault(has_action))
         }
     }
 
     /// Notes the production that ends here, and tells whether another one follows.
-    #[tactic(auto, unfolding(crate::specs::Grammar::finish, cfgast::specs::Building::adds))]
+    #[tactic(auto, unfolding(crate::specs::Rules::finish, cfgast::specs::Building::adds))]
     fn finish(&mut self, head: RuleHead<'a>, body: Body<'_, 'a>) -> Result<bool, ReadFault>
         ensures { Builds goes_on self.old self.new result
-            (finish self.old.len (Alternative (head_view head.entry) (body_view body.entry))) }
+            (finish self.old.len (is_some (body_view body.entry).action) (Alternative (head_view head.entry) (body_view body.entry))) }
     {
-        let follows = self.another()?;
+        let follows = self.another(body.action.is_some())?;
         self.tree.add_production(self.alloc, head, body)?;
         self.blank(true)?;
         Ok(follows)
     }
 
-    /// What stands between `start` and the end of the symbols behind it.
-    fn span_of(&self, start: usize, symbols: &[Token<'a>]) -> Span
-        requires here { start ≤ place self.now.len self.now.rest.now }
-        requires ends { All (λ symbol. start ≤ symbol.end) symbols.now }
-        ensures { result ≡ record { start = start; end = end_of (map token_view symbols.now) (place self.now.len self.now.rest.now) } }
+    /// Passes the action that stands here, if one does, and answers its trimmed text.
+    fn next_action(&mut self) -> Option<(&'a str, Span)>
+        ensures { IsActionHere self.old self.new result }
     {
-        let here = self.place();
-        let end = symbols.last().map_or(here, |symbol| symbol.end);
-        Span::new(start, end)
+        match leading_action(self.rest) {
+            Some((action, rest)) => {
+                let start = self.place() + 1;
+                self.rest = rest;
+                Some((action, Span::new(start, start + action.len())))
+            }
+            None => None,
+        }
+    }
+
+    /// Passes the end of the production that begins at `start` and has these parts: its action, if it has one, and what
+    /// ends it. It tells whether another production follows.
+    #[tactic(auto, unfolding(crate::specs::Rules::production_end, cfgast::specs::Building::adds))]
+    fn production_end(
+        &mut self,
+        head: RuleHead<'a>,
+        start: usize,
+        parts: &Parts<'a>,
+    ) -> Result<bool, ReadFault>
+        requires here { start ≤ place self.old.len self.old.rest.now }
+        requires ends { IfSome parts.now.end (λ end. start ≤ end) }
+        ensures { Builds goes_on self.old self.new result (production_end self.old.len (head_view head.entry) start (parts_view parts.now)) }
+    {
+        let behind = self.place();
+        let action = self.next_action();
+        let end = match action {
+            Some(_) => behind,
+            None => parts.end.unwrap_or(behind),
+        };
+        if action.is_some() {
+            self.blank(true)?;
+        }
+        let body = Body {
+            symbols: &parts.symbols,
+            precedence: parts.precedence,
+            action,
+            span: Span::new(start, end),
+        };
+        self.finish(head, body)
     }
 
     /// Passes a production of the rule and what ends it, and tells whether another one follows.
-    #[tactic(auto, unfolding(crate::specs::Grammar::production, cfgast::specs::Building::adds))]
+    #[tactic(auto, unfolding(crate::specs::Rules::production, cfgast::specs::Building::adds))]
     fn production(&mut self, head: RuleHead<'a>) -> Result<bool, ReadFault>
         ensures { Builds goes_on self.old self.new result (production self.old.len (head_view head.entry)) }
     {
         let start = self.place();
-        let symbols = self.symbols()?;
-        let body = Body {
-            symbols: &symbols,
-            precedence: None,
-            action: None,
-            span: self.span_of(start, &symbols),
-        };
-        self.finish(head, body)
+        let front = self.front_parts()?;
+        let parts = self.more_parts(front)?;
+        self.production_end(head, start, &parts)
     }
 
     /// Passes the productions of a rule.
@@ -133,35 +122,69 @@ impl<'a> Reader<'a> {
         Ok(())
     }
 
-    /// Passes a rule and the blank behind it.
-    #[tactic(auto, unfolding(crate::specs::Grammar::rule, cfgast::specs::Building::adds))]
-    fn rule(&mut self) -> Result<(), ReadFault>
-        ensures { Builds (λ x. x) self.old self.new result (rule self.old.len) }
+    /// Passes what stands between a rule's name and its colon in a Grmtools file, and answers the type.
+    #[tactic(auto, unfolding(crate::specs::Rules::rule_type, cfgast::specs::Building::adds))]
+    fn rule_type(&mut self) -> Result<&'a str, ReadFault>
+        ensures { Builds (λ x. Some x.now) self.old self.new result (rule_type self.old.len) }
     {
-        let head = RuleHead {
-            name: self.name()?,
-            action_type: None,
-        };
-        self.tree.name_rule(self.alloc, head)?;
         self.blank(true)?;
-        self.colon()?;
+        self.expect("->", FaultKind::MissingRightArrow)?;
+        self.blank(true)?;
+        self.colon_text()
+    }
+
+    /// Passes what stands behind a rule's name, or behind its type.
+    #[tactic(auto, unfolding(crate::specs::Rules::rule_body, cfgast::specs::Building::adds))]
+    fn rule_body(&mut self, head: RuleHead<'a>) -> Result<(), ReadFault>
+        ensures { Builds (λ x. x) self.old self.new result (rule_body self.old.len (head_view head.entry)) }
+    {
+        self.blank(true)?;
+        self.expect(":", FaultKind::MissingColon)?;
         self.blank(true)?;
         self.productions(head)
     }
 
-    /// Whether the text goes on here.
-    fn is_open(&self) -> bool
-        ensures { result ≡ is_open self.now.rest.now }
+    /// Passes a rule and the blank behind it.
+    #[tactic(auto, unfolding(crate::specs::Rules::rule, cfgast::specs::Building::adds))]
+    fn rule(&mut self, kind: YaccKind) -> Result<(), ReadFault>
+        ensures { Builds (λ x. x) self.old self.new result (rule self.old.len kind) }
     {
-        !self.rest.is_empty()
+        let name = self.name()?;
+        self.tree.begin_rule(self.alloc, name)?;
+        let action_type = match kind {
+            YaccKind::Grmtools => Some(self.rule_type()?),
+            _ => None,
+        };
+        let head = RuleHead { name, action_type };
+        self.tree.name_rule(self.alloc, head)?;
+        self.rule_body(head)
     }
 
-    /// Passes rules up to the end.
-    fn rules(&mut self) -> Result<(), ReadFault>
-        ensures { Builds (λ x. x) self.old self.new result (repeat (while_test is_open (rule self.old.len))) }
+    /// Whether a rule must stand here: neither the text's end nor a second `%%` does.
+    fn is_rule_next(&self) -> bool
+        ensures { result ≡ is_rule_next self.now.rest.now }
     {
-        while self.is_open() {
-            self.rule()?;
+        !self.rest.is_empty() && !self.stands("%%")
+    }
+
+    /// Passes rules up to a second `%%` or the end.
+    fn rules(&mut self, kind: YaccKind) -> Result<(), ReadFault>
+        ensures { Builds (λ x. x) self.old self.new result (repeat (while_test is_rule_next (rule self.old.len kind))) }
+    {
+        while self.is_rule_next() {
+            self.rule(kind)?;
+        }
+        Ok(())
+    }
+
+    /// Passes the second `%%`, if it stands here, and notes the programs behind it.
+    #[tactic(auto, unfolding(crate::specs::Grammar::programs, cfgast::specs::Building::adds))]
+    fn programs(&mut self) -> Result<(), ReadFault>
+        ensures { Builds (λ x. x) self.old self.new result (programs self.old.len) }
+    {
+        if self.accept("%%") {
+            self.blank(true)?;
+            self.tree.give_programs(self.alloc, self.rest)?;
         }
         Ok(())
     }
@@ -172,9 +195,10 @@ impl<'a> Reader<'a> {
         ensures { Builds (λ x. x) self.old self.new result (file kind self.old.len) }
     {
         self.blank(true)?;
-        self.declarations()?;
+        self.declarations(kind)?;
         self.separator()?;
         self.blank(true)?;
-        self.rules()
+        self.rules(kind)?;
+        self.programs()
     }
 }

@@ -3,7 +3,7 @@ use Rattle.cfgsyntax.specs.Check.{check_of}
 use Rattle.cfgast.specs.WellFormed.{IsWellFormed}
 use Rattle.cfgast.proofs.WellFormedLemmas.{syntax_of-IsWellFormed}
 use Rattle.cfgwords.proofs.NameStarts.{begins_as_name}
-use Rattle.cfgwords.specs.Places.{IsPiece}
+use Rattle.cfgwords.specs.Places.{IsPiece, IsWithin}
 use Rattle.cfgast.specs.Syntax.{EachSpan}
 use Rattle.cfgsyntax.proofs.ErrorPlaces.{IsErrorAt, read_syntax_at, read_names, read_errors_at}
 use Rattle.cfgsyntax.proofs.SoundLemmas.{of_reading, checked, errors_read}
@@ -22,7 +22,7 @@ returns-clause-places c =
     let errors = errors_read c.in_ok-errors.errors.items _ c.in_ok-ast.stop one.items one.stop c.in_ok-errors.ensures (c.in_ok-ast.ensures.read one.items one.stop one.reads) in
     record {
       errors = subst (All (IsErrorAt c.args.text.now)) (sym errors) (read_errors_at c.args.kind c.args.text.now c.utf8.text one.items one.stop one.reads);
-      syntax = of_reading c.args.kind c.args.text.now _ (EachSpan (IsPiece c.args.text.now)) one
+      syntax = of_reading c.args.kind c.args.text.now _ (EachSpan (IsPiece c.args.text.now) (IsWithin c.args.text.now)) one
           (λ items stop reads. (c.in_ok-ast.ensures.read items stop reads).0) (read_syntax_at c.args.kind c.args.text.now c.utf8.text);
     }
 

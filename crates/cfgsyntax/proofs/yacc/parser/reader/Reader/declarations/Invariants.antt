@@ -1,10 +1,10 @@
 use Rattle.std.proofs.Common.{length}
-use Rattle.cfgsyntax.specs.Grammar.{declaration}
+use Rattle.cfgsyntax.specs.Declarations.{declaration}
 use Rattle.cfgsyntax.proofs.Loops.{Gathers}
 use Rattle.cfgsyntax.proofs.yacc.parser.reader.Reader.declarations.Given as goal
 
 abbrev pub invariant-loop : goal.invariant-loop
-invariant-loop l = Gathers declaration l.fn.self l.self
+invariant-loop l = Gathers (λ len. declaration len l.kind) l.fn.self l.self
 
 abbrev pub decreases-loop : goal.decreases-loop
 decreases-loop l = length l.self.rest.now

@@ -2,7 +2,7 @@ use Rattle.std.proofs.Common.{ap}
 use Rattle.std.proofs.lemmas.Result.{err_from_is_err_and}
 use Rattle.reading.specs.Construct.{goes_on}
 use Rattle.cfgast.specs.View.{head_view}
-use Rattle.cfgsyntax.specs.Grammar.{production}
+use Rattle.cfgsyntax.specs.Rules.{production}
 use Rattle.cfgsyntax.proofs.Loops.{gathers_start, gathers_on, repeat_fails, repeat_done, turn_shorter}
 use Rattle.cfgsyntax.proofs.yacc.parser.reader.Reader.productions.Goals as goal
 

@@ -1,6 +1,6 @@
 use Rattle.std.proofs.Common.{length}
 use Rattle.cfgast.specs.View.{head_view}
-use Rattle.cfgsyntax.specs.Grammar.{production}
+use Rattle.cfgsyntax.specs.Rules.{production}
 use Rattle.cfgsyntax.proofs.Loops.{Gathers}
 use Rattle.cfgsyntax.proofs.yacc.parser.reader.Reader.productions.Given as goal
 

@@ -1,11 +1,11 @@
 use Rattle.std.proofs.Common.{length}
 use Rattle.reading.specs.Construct.{while_test}
-use Rattle.cfgsyntax.specs.Grammar.{is_open, rule}
+use Rattle.cfgsyntax.specs.Rules.{is_rule_next, rule}
 use Rattle.cfgsyntax.proofs.Loops.{Gathers}
 use Rattle.cfgsyntax.proofs.yacc.parser.reader.Reader.rules.Given as goal
 
-abbrev pub invariant-loop-self : goal.invariant-loop-self
-invariant-loop-self l = Gathers (λ len. while_test is_open (rule len)) l.fn.self l.self
+abbrev pub invariant-loop-kind : goal.invariant-loop-kind
+invariant-loop-kind l = Gathers (λ len. while_test is_rule_next (rule len l.kind)) l.fn.self l.self
 
-abbrev pub decreases-loop-self : goal.decreases-loop-self
-decreases-loop-self l = length l.self.rest.now
+abbrev pub decreases-loop-kind : goal.decreases-loop-kind
+decreases-loop-kind l = length l.self.rest.now

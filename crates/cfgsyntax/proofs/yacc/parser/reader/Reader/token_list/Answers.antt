@@ -2,7 +2,7 @@ use Rattle.std.proofs.Common.{arith, sym, ◌∙◌, refl, Ok, Err, Some, None}
 use Rattle.std.proofs.lemmas.Result.{err_from_is_err_and}
 use Rattle.reading.specs.Construct.{while_test}
 use Rattle.reading.proofs.Agree.{leaves}
-use Rattle.cfgsyntax.specs.Grammar.{is_listed, listed_token}
+use Rattle.cfgsyntax.specs.Declarations.{is_listed, listed_token}
 use Rattle.cfgsyntax.proofs.Loops.{gathers_start, gathers_on, repeat_fails, repeat_done, while_builds, while_done}
 use Rattle.cfgsyntax.proofs.yacc.parser.reader.Reader.token_list.Goals as goal
 

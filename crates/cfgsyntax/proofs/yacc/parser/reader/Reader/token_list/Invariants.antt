@@ -1,6 +1,6 @@
 use Rattle.std.proofs.Common.{length}
 use Rattle.reading.specs.Construct.{while_test}
-use Rattle.cfgsyntax.specs.Grammar.{is_listed, listed_token}
+use Rattle.cfgsyntax.specs.Declarations.{is_listed, listed_token}
 use Rattle.cfgsyntax.proofs.Loops.{Gathers}
 use Rattle.cfgsyntax.proofs.yacc.parser.reader.Reader.token_list.Given as goal
 

@@ -1,6 +1,6 @@
 use Rattle.std.proofs.Common.{length}
 use Rattle.reading.specs.Construct.{while_test}
-use Rattle.cfgsyntax.specs.Grammar.{is_listed, unused_symbol}
+use Rattle.cfgsyntax.specs.Declarations.{is_listed, unused_symbol}
 use Rattle.cfgsyntax.proofs.Loops.{Gathers}
 use Rattle.cfgsyntax.proofs.yacc.parser.reader.Reader.unused_list.Given as goal
 

@@ -1,5 +1,0 @@
-use Rattle.cfgsyntax.proofs.ErrorLemmas.{kind_view_iff}
-use Rattle.cfgsyntax.proofs.laws.error_kinds_are_what_they_show.Goals as goal
-
-pub returns-clause-equal : goal.returns-clause-equal
-returns-clause-equal c = kind_view_iff

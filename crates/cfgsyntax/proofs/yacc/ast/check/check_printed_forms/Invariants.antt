@@ -1,0 +1,9 @@
+use Rattle.std.proofs.Common.{◌≡◌, map}
+use Rattle.cfgast.specs.View.{syntax, printed_entry}
+use Rattle.cfgsyntax.specs.Check.{first_error, printed_error}
+use Rattle.cfgsyntax.proofs.yacc.ast.check.check_printed_forms.Given as goal
+
+abbrev pub invariant-loop-name : goal.invariant-loop-name
+invariant-loop-name l =
+    first_error (printed_error (syntax l.ast)) (syntax l.ast).tables.printed_forms
+    ≡ first_error (printed_error (syntax l.ast)) (map printed_entry l.name-iterator)

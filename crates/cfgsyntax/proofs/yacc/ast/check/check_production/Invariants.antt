@@ -1,9 +1,0 @@
-use Rattle.std.proofs.Common.{◌≡◌, map, drop}
-use Rattle.cfgast.specs.View.{syntax, symbol_view}
-use Rattle.cfgsyntax.specs.Check.{first_error, symbol_error}
-use Rattle.cfgsyntax.proofs.yacc.ast.check.check_production.Given as goal
-
-abbrev pub invariant-loop-symbol : goal.invariant-loop-symbol
-invariant-loop-symbol l =
-    first_error (symbol_error (syntax l.ast)) (map symbol_view l.production.symbols.items)
-    ≡ first_error (symbol_error (syntax l.ast)) (map symbol_view (drop l.symbol-index l.production.symbols.items))
