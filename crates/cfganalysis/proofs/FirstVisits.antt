@@ -1,16 +1,19 @@
 -- A visit: what a production gives is added symbol by symbol.
-use Rattle.std.proofs.Common.{◌≡◌, ℕ, ◌+◌, ◌<◌, ◌≤◌, inl, inr, ◌||◌, Bool, true, false, List, [], ◌∷◌, ◌++◌, take, drop, get_or, slice_set, length, IsTrue, MatchBool, arith, refl, sym, ap, ◌∙◌, subst, true≢false}
-use Rattle.std.proofs.lemmas.Bool.{or_parts}
+use Rattle.std.proofs.Common.{◌≡◌, ℕ, ◌+◌, ◌<◌, ◌≤◌, ◌⊎◌, inl, inr, ◌||◌, Bool, true, false, List, [], ◌∷◌, ◌++◌, take, drop, get_or, slice_set, length, IsTrue, MatchBool, arith, refl, sym, ap, ◌∙◌, subst, true≢false, get_or-set_same}
+use Rattle.lemmas.proofs.Elements.{get_or-set}
+use Rattle.std.proofs.lemmas.Bool.{cases_eq, or_parts}
 use Rattle.std.proofs.lemmas.List.{take_more, take-append-drop, take_all, set-get_or}
-use Rattle.derivation.specs.Grammar.{Sym, Rule, Token, Grammar, IsGrammar, HasProduction}
+use Rattle.derivation.specs.Grammar.{Sym, Rule, Token, Grammar, Production, IsGrammar, HasProduction}
 use Rattle.derivation.specs.FirstSets.{Vanishes}
-use Rattle.derivation.proofs.Firsts.{vanishes_parts, vanishes_both, begins_parts}
+use Rattle.derivation.proofs.Firsts.{vanishes_parts, vanishes_both, begins_parts, begins_map}
 use Rattle.cfganalysis.specs.Table.{Joins, bits_on}
-use Rattle.cfganalysis.specs.Firsts.{FirstSets, SayFirsts, HaveFirstsOf, BeginsBy, VanishesBy, IsAmongFirsts, IsEpsilon, epsilon_bit, count_firsts, is_empty_symbol, with_epsilon}
-use Rattle.cfganalysis.specs.Rounds.{TakesIn}
+use Rattle.cfganalysis.specs.Firsts.{FirstSets, SayFirsts, HasNoMoreFirsts, HaveFirstsOf, HoldsRule, BeginsBy, VanishesBy, IsAmongFirsts, IsEpsilon, epsilon_bit, count_firsts, is_empty_symbol, with_epsilon}
+use Rattle.cfganalysis.specs.Growth.{TakesIn}
+use Rattle.cfganalysis.specs.Waiting.{Waits, NoneWaits}
+use Rattle.cfganalysis.proofs.Noting.{put_waits, put_there}
 use Rattle.cfganalysis.proofs.Settling.{grown}
-use Rattle.cfganalysis.proofs.OneBit.{bits_on-set}
-use Rattle.cfganalysis.proofs.Fronts.{begins_front, begins_past, vanishes_alone, stays_alone}
+use Rattle.cfganalysis.proofs.OneBit.{bits_on-set, bits_on-fewer, count_of-fewer}
+use Rattle.cfganalysis.proofs.Fronts.{begins_front, begins_past, vanishes_among, begins_among, vanishes_alone, stays_alone}
 use Rattle.cfganalysis.proofs.FirstBits.{owner, say_first, say_epsilon}
 
 -- what begins the symbol was put into the rule's set
@@ -25,7 +28,91 @@ pub record Visits (rule : ℕ) (symbols : List Sym) (n : ℕ) (old new : FirstSe
   pub sound : (g : Grammar) → IsGrammar g → HasProduction g rule symbols → SayFirsts g old → SayFirsts g new
   pub more : changed ≡ true → count_firsts old < count_firsts new
   pub same : changed ≡ false → new ≡ old
-  pub closed : changed ≡ false → (t : ℕ) → BeginsBy old (take n symbols) t → IsAmongFirsts old rule t
+  pub others : (r t : ℕ) → IsAmongFirsts new r t → IsAmongFirsts old r t ⊎ (r ≡ rule)
+  pub kept : (r t : ℕ) → IsAmongFirsts old r t → IsAmongFirsts new r t
+  pub given : (t : ℕ) → BeginsBy old (take n symbols) t → IsAmongFirsts new rule t
+
+-- the whole production was taken in
+record Taken (rule : ℕ) (symbols : List Sym) (old new : FirstSets) (changed : Bool) : Type 0 where
+  sound : (g : Grammar) → IsGrammar g → HasProduction g rule symbols → SayFirsts g old → SayFirsts g new
+  more : changed ≡ true → count_firsts old < count_firsts new
+  same : changed ≡ false → new ≡ old
+  others : (r t : ℕ) → IsAmongFirsts new r t → IsAmongFirsts old r t ⊎ (r ≡ rule)
+  kept : (r t : ℕ) → IsAmongFirsts old r t → IsAmongFirsts new r t
+  given : (t : ℕ) → BeginsBy old symbols t → IsAmongFirsts new rule t
+  others_empty : (r : ℕ) → IsEpsilon new r → IsEpsilon old r ⊎ (r ≡ rule)
+  kept_empty : (r : ℕ) → IsEpsilon old r → IsEpsilon new r
+  given_empty : VanishesBy old symbols → IsEpsilon new rule
+
+-- what gained is the rule's set, and only where something changed
+abbrev pub GainsRule : ℕ → Bool → ℕ → Type 0
+GainsRule rule changed r = (r ≡ rule) × (changed ≡ true)
+
+module _ (rule : ℕ) (symbols : List Sym) (old new : FirstSets) (changed : Bool) (w : Taken rule symbols old new changed) where
+  -- of a production that rests on nothing that gained, what the sets gave it before is all
+  covered : (q : Production) → ((r : ℕ) → HoldsRule q r → GainsRule rule changed r → ⊥) → ((t : ℕ) → BeginsBy old q.symbols t → IsAmongFirsts new q.rule t)
+      → (VanishesBy old q.symbols → IsEpsilon new q.rule) → HaveFirstsOf new q
+  covered q none first empty = record {
+    first = λ t h. first t (begins_among _ _ _ _ q.symbols t (λ r among on. back_empty r among on) (λ r among on. back r t among on) h);
+    empty = λ h. empty (vanishes_among _ _ q.symbols (λ r among on. back_empty r among on) h);
+  }
+    where
+      unless : (r : ℕ) → HoldsRule q r → r ≡ rule → new ≡ old
+      unless r among e = by changed refl
+        where
+          by : (b : Bool) → changed ≡ b → new ≡ old
+          by true is = absurd (none r among (e, is))
+          by false is = w.same is
+
+      back : (r t : ℕ) → HoldsRule q r → IsAmongFirsts new r t → IsAmongFirsts old r t
+      back r t among on = elim (w.others r t on) [ inl i ↦ i | inr e ↦ subst (λ x. IsAmongFirsts x r t) (unless r among e) on ]
+
+      back_empty : (r : ℕ) → HoldsRule q r → IsEpsilon new r → IsEpsilon old r
+      back_empty r among on = elim (w.others_empty r on) [ inl i ↦ i | inr e ↦ subst (λ x. IsEpsilon x r) (unless r among e) on ]
+
+  takes : TakesIn SayFirsts HaveFirstsOf count_firsts HoldsRule HasNoMoreFirsts (record { rule = rule; symbols = symbols }) old new (GainsRule rule changed)
+  takes = record {
+    sound = w.sound;
+    no_less = by changed refl;
+    more = λ r h. w.more h.1;
+    gains = λ r. (gained r, grew r);
+    closed = λ none. covered (record { rule = rule; symbols = symbols }) none w.given w.given_empty;
+    stays = λ q none had. covered q none (λ t h. w.kept q.rule t (had.first t h)) (λ h. w.kept_empty q.rule (had.empty h));
+  }
+    where
+      -- had the rule no more than before, there would be no more in all
+      gained : (r : ℕ) → GainsRule rule changed r → HasNoMoreFirsts r old new → ⊥
+      gained r h none =
+          let more = w.more h.1 in
+          let first = count_of-fewer new.firsts old.firsts (λ q t on. elim (w.others q t on) [
+            | inl i ↦ i
+            | inr e ↦ subst (λ k. IsAmongFirsts old k t) (h.0 ∙ sym e) (none.first t (subst (λ k. IsAmongFirsts new k t) (e ∙ sym h.0) on))
+          ]) in
+          let empty = bits_on-fewer new.epsilons old.epsilons (λ q on. elim (w.others_empty q on) [
+            | inl i ↦ i
+            | inr e ↦ subst (λ k. IsEpsilon old k) (h.0 ∙ sym e) (none.empty (subst (λ k. IsEpsilon new k) (e ∙ sym h.0) on))
+          ]) in
+          omega (arith, more, first, empty)
+
+      grew : (r : ℕ) → (HasNoMoreFirsts r old new → ⊥) → GainsRule rule changed r
+      grew r unless = elim (cases_eq r rule) [
+        | inl e ↦ changed_by changed refl e
+        | inr ne ↦ absurd (unless (record {
+          first = λ t on. elim (w.others r t on) [ inl i ↦ i | inr e ↦ absurd (ne e) ];
+          empty = λ on. elim (w.others_empty r on) [ inl i ↦ i | inr e ↦ absurd (ne e) ];
+        }))
+      ]
+        where
+          changed_by : (b : Bool) → changed ≡ b → r ≡ rule → GainsRule rule changed r
+          changed_by true is e = (e, is)
+          changed_by false is e = absurd (unless (record {
+            first = λ t on. subst (λ x. IsAmongFirsts x r t) (w.same is) on;
+            empty = λ on. subst (λ x. IsEpsilon x r) (w.same is) on;
+          }))
+
+      by : (b : Bool) → changed ≡ b → count_firsts old ≤ count_firsts new
+      by true e = let h = w.more e in omega (arith, h)
+      by false e = let h = ap count_firsts (w.same e) in omega (arith, h)
 
 same_sets : (old new : FirstSets) → new.epsilons ≡ old.epsilons → new.firsts ≡ old.firsts → new ≡ old
 same_sets old new e h = ap (λ l. record { firsts = new.firsts; epsilons = l }) e ∙ ap (λ x. record { firsts = x; epsilons = old.epsilons }) h
@@ -38,7 +125,9 @@ module _ (rule : ℕ) (symbols : List Sym) where
     sound = λ g is has say. say;
     more = λ e. absurd (true≢false (sym e));
     same = λ e. refl;
-    closed = λ e t h. absurd h;
+    others = λ r t h. inl h;
+    kept = λ r t h. h;
+    given = λ t h. absurd h;
   }
 
   -- one symbol more, but for what tells whether it vanishes
@@ -47,7 +136,9 @@ module _ (rule : ℕ) (symbols : List Sym) where
     sound : (g : Grammar) → IsGrammar g → HasProduction g rule symbols → SayFirsts g old → SayFirsts g new
     more : changed ≡ true → count_firsts old < count_firsts new
     same : changed ≡ false → new ≡ old
-    closed : changed ≡ false → (t : ℕ) → BeginsBy old (take n symbols) t → IsAmongFirsts old rule t
+    others : (r t : ℕ) → IsAmongFirsts new r t → IsAmongFirsts old r t ⊎ (r ≡ rule)
+    kept : (r t : ℕ) → IsAmongFirsts old r t → IsAmongFirsts new r t
+    given : (t : ℕ) → BeginsBy old (take n symbols) t → IsAmongFirsts new rule t
 
   module _ (n : ℕ) (s : Sym) (old mid new : FirstSets) (c d : Bool) (lt : n < length symbols) (is : s ≡ get_or symbols n s)
       (w : Visits rule symbols n old mid c) (one : Puts rule s mid new d) where
@@ -71,12 +162,12 @@ module _ (rule : ℕ) (symbols : List Sym) where
       more = grown count_firsts old mid new c d w.more w.same
           (λ e. let k = one.joins.more e in let b = ap bits_on one.epsilons in omega (arith, k, b)) unchanged;
       same = λ e. let b = or_parts c d e in unchanged b.1 ∙ w.same b.0;
-      closed = λ e t h. let b = or_parts c d e in
-          elim (begins_parts _ _ (take n symbols) (s ∷ []) t (subst (λ l. BeginsBy old l t) longer h)) [
-            | inl i ↦ w.closed b.0 t i
-            | inr i ↦ subst (λ x. IsAmongFirsts x rule t) (unchanged b.1 ∙ w.same b.0)
-                ((one.joins.bits rule t).1 (inr (refl, subst (λ x. BeginsBy x (s ∷ []) t) (sym (w.same b.0)) i.1)))
-          ];
+      others = λ r t h. elim ((one.joins.bits r t).0 h) [ inl i ↦ w.others r t i | inr i ↦ inr i.0 ];
+      kept = λ r t h. (one.joins.bits r t).1 (inl (w.kept r t h));
+      given = λ t h. (one.joins.bits rule t).1 (elim (begins_parts _ _ (take n symbols) (s ∷ []) t (subst (λ l. BeginsBy old l t) longer h)) [
+        | inl i ↦ inl (w.given t i)
+        | inr i ↦ inr (refl, begins_map _ _ _ _ (λ r on. subst (λ l. IsTrue (get_or l r false)) (sym w.epsilons) on) w.kept (s ∷ []) t i.1)
+      ]);
     }
 
     -- the symbol is an empty rule, or it isn't
@@ -95,26 +186,30 @@ module _ (rule : ℕ) (symbols : List Sym) where
       sound = walked.sound;
       more = walked.more;
       same = walked.same;
-      closed = walked.closed;
+      others = walked.others;
+      kept = walked.kept;
+      given = walked.given;
     }
 
     -- at a symbol that is no empty rule the visit ends
     pub visits_end : is_empty_symbol new s ≡ false
-        → TakesIn SayFirsts HaveFirstsOf count_firsts (record { rule = rule; symbols = symbols }) old new (c || d)
-    visits_end e = record {
+        → TakesIn SayFirsts HaveFirstsOf count_firsts HoldsRule HasNoMoreFirsts (record { rule = rule; symbols = symbols }) old new (GainsRule rule (c || d))
+    visits_end e = takes rule symbols old new (c || d) (record {
       sound = walked.sound;
       more = walked.more;
       same = walked.same;
-      closed = λ f. record {
-        empty = λ h. absurd (stays (vanishes_parts _ (take (n + 1) symbols) (drop (n + 1) symbols)
-            (subst (λ l. VanishesBy old l) (sym (take-append-drop (n + 1) symbols)) h)).0);
-        first = λ t h. elim (begins_parts _ _ (take (n + 1) symbols) (drop (n + 1) symbols) t
-            (subst (λ l. BeginsBy old l t) (sym (take-append-drop (n + 1) symbols)) h)) [
-              | inl i ↦ walked.closed f t i
-              | inr i ↦ absurd (stays i.0)
-            ];
-      };
-    }
+      others = walked.others;
+      kept = walked.kept;
+      given = λ t h. elim (begins_parts _ _ (take (n + 1) symbols) (drop (n + 1) symbols) t
+          (subst (λ l. BeginsBy old l t) (sym (take-append-drop (n + 1) symbols)) h)) [
+            | inl i ↦ walked.given t i
+            | inr i ↦ absurd (stays i.0)
+          ];
+      others_empty = λ r h. inl (subst (λ l. IsTrue (get_or l r false)) walked.epsilons h);
+      kept_empty = λ r h. subst (λ l. IsTrue (get_or l r false)) (sym walked.epsilons) h;
+      given_empty = λ h. absurd (stays (vanishes_parts _ (take (n + 1) symbols) (drop (n + 1) symbols)
+          (subst (λ l. VanishesBy old l) (sym (take-append-drop (n + 1) symbols)) h)).0);
+    })
       where
         stays : VanishesBy old (take (n + 1) symbols) → ⊥
         stays v = stays_alone old s (tested false e) (vanishes_parts _ (take n symbols) (s ∷ []) (subst (λ l. VanishesBy old l) longer v)).1
@@ -123,19 +218,27 @@ module _ (rule : ℕ) (symbols : List Sym) where
   pub visits_all : (g : Grammar) (n : ℕ) (old mid new : FirstSets) (c d : Bool) → IsGrammar g → HasProduction g rule symbols → SayFirsts g old
       → length symbols ≤ n → Visits rule symbols n old mid c → new ≡ with_epsilon mid rule
       → MatchBool d (epsilon_bit mid rule ≡ false) (epsilon_bit mid rule ≡ true)
-      → TakesIn SayFirsts HaveFirstsOf count_firsts (record { rule = rule; symbols = symbols }) old new (c || d)
-  visits_all g n old mid new c d is has say le w put was = record {
+      → TakesIn SayFirsts HaveFirstsOf count_firsts HoldsRule HasNoMoreFirsts (record { rule = rule; symbols = symbols }) old new (GainsRule rule (c || d))
+  visits_all g n old mid new c d is has say le w put was = takes rule symbols old new (c || d) (record {
     sound = λ g' is' has' say'. subst (λ x. SayFirsts g' x) (sym put) (say_epsilon g' rule symbols has' mid (w.sound g' is' has' say')
         (subst (λ l. Vanishes (λ r. IsTrue (get_or l r false)) symbols) (sym w.epsilons) vanished));
     more = grown count_firsts old mid new c d w.more w.same
         (λ e. subst (λ x. count_firsts mid < count_firsts x) (sym put)
         (let k = bits_on-set mid.epsilons rule within (at d e was) in omega (arith, k))) unchanged;
     same = λ e. let b = or_parts c d e in unchanged b.1 ∙ w.same b.0;
-    closed = λ e. let b = or_parts c d e in record {
-      empty = λ h. subst (λ x. IsEpsilon x rule) (w.same b.0) (on d b.1 was);
-      first = λ t h. w.closed b.0 t (subst (λ l. BeginsBy old l t) (sym all) h);
-    };
-  }
+    others = λ r t h. w.others r t (subst (λ x. IsAmongFirsts x r t) put h);
+    kept = λ r t h. subst (λ x. IsAmongFirsts x r t) (sym put) (w.kept r t h);
+    given = λ t h. subst (λ x. IsAmongFirsts x rule t) (sym put) (w.given t (subst (λ l. BeginsBy old l t) (sym all) h));
+    others_empty = λ r h. elim (get_or-set mid.epsilons rule r true false) [
+      | inl e ↦ inl (subst (λ l. IsTrue (get_or l r false)) w.epsilons (sym e ∙ subst (λ x. IsEpsilon x r) put h))
+      | inr e ↦ inr e.0
+    ];
+    kept_empty = λ r h. subst (λ x. IsEpsilon x r) (sym put) (elim (get_or-set mid.epsilons rule r true false) [
+      | inl e ↦ e ∙ subst (λ l. IsTrue (get_or l r false)) (sym w.epsilons) h
+      | inr e ↦ e.1
+    ]);
+    given_empty = λ h. subst (λ x. IsEpsilon x rule) (sym put) (get_or-set_same mid.epsilons rule true false within);
+  })
     where
       all : take n symbols ≡ symbols
       all = take_all n symbols le
@@ -157,3 +260,33 @@ module _ (rule : ℕ) (symbols : List Sym) where
       unchanged : d ≡ false → new ≡ mid
       unchanged e = put ∙ ap (λ l. record { firsts = mid.firsts; epsilons = l })
           (ap (λ b. slice_set mid.epsilons rule b) (sym (on d e was)) ∙ set-get_or mid.epsilons rule false)
+
+-- the rule waits where its set gained
+gains_rule : (rule : ℕ) (p : Production) (old new : FirstSets) (changed : Bool) (gained : ℕ → Type 0) → ((r : ℕ) → gained r → GainsRule rule changed r)
+    → ((r : ℕ) → GainsRule rule changed r → gained r) → TakesIn SayFirsts HaveFirstsOf count_firsts HoldsRule HasNoMoreFirsts p old new (GainsRule rule changed)
+    → TakesIn SayFirsts HaveFirstsOf count_firsts HoldsRule HasNoMoreFirsts p old new gained
+gains_rule rule p old new changed gained to from w = record {
+  sound = w.sound;
+  no_less = w.no_less;
+  more = λ r h. w.more r (to r h);
+  gains = λ r. ((λ h. (w.gains r).0 (to r h)), (λ unless. from r ((w.gains r).1 unless)));
+  closed = λ none. w.closed (λ r rests h. none r rests (from r h));
+  stays = λ q none. w.stays q (λ r rests h. none r rests (from r h));
+}
+
+pub gains_put : (rule place : ℕ) (p : Production) (old new : FirstSets) (changed : Bool) (waiting waiting' : List Bool) → NoneWaits waiting
+    → place < length waiting → place ≡ rule → waiting' ≡ slice_set waiting place true → changed ≡ true
+    → TakesIn SayFirsts HaveFirstsOf count_firsts HoldsRule HasNoMoreFirsts p old new (GainsRule rule changed)
+    → TakesIn SayFirsts HaveFirstsOf count_firsts HoldsRule HasNoMoreFirsts p old new (Waits waiting')
+gains_put rule place p old new changed waiting waiting' none lt at put on w = gains_rule rule p old new changed (Waits waiting')
+    (λ r h. elim (put_waits waiting place r lt (subst (λ l. Waits l r) put h)) [
+      | inl i ↦ absurd (true≢false (sym i ∙ none r))
+      | inr e ↦ (e ∙ at, on)
+    ])
+    (λ r h. subst (λ l. Waits l r) (sym put) (put_there waiting place r lt (h.0 ∙ sym at))) w
+
+pub gains_none : (rule : ℕ) (p : Production) (old new : FirstSets) (changed : Bool) (waiting : List Bool) → NoneWaits waiting → changed ≡ false
+    → TakesIn SayFirsts HaveFirstsOf count_firsts HoldsRule HasNoMoreFirsts p old new (GainsRule rule changed)
+    → TakesIn SayFirsts HaveFirstsOf count_firsts HoldsRule HasNoMoreFirsts p old new (Waits waiting)
+gains_none rule p old new changed waiting none off w = gains_rule rule p old new changed (Waits waiting)
+    (λ r h. absurd (true≢false (sym h ∙ none r))) (λ r h. absurd (true≢false (sym h.1 ∙ off))) w

@@ -1,19 +1,20 @@
 -- FOLLOW sets: what a production puts behind its rules, place by place.
-use Rattle.std.proofs.Common.{◌≡◌, ℕ, ◌+◌, ◌<◌, ◌≤◌, inl, inr, ◌||◌, Bool, true, false, List, [], ◌∷◌, ◌++◌, take, drop, get_or, length, refl, sym, ap, ◌∙◌, subst, true≢false, zero, suc}
-use Rattle.std.proofs.lemmas.Bool.{or_parts}
+use Rattle.std.proofs.Common.{◌≡◌, ◌↔◌, ℕ, ◌+◌, ◌<◌, ◌≤◌, ◌⊎◌, inl, inr, ◌||◌, Bool, true, false, List, [], ◌∷◌, ◌++◌, take, drop, get_or, slice_set, length, arith, refl, sym, ap, ◌∙◌, subst, true≢false, zero, suc, length-set}
 use Rattle.std.proofs.lemmas.List.{take_more, take-append-drop, take_all, drop_all}
 use Rattle.derivation.specs.Grammar.{Sym, Rule, Token, Grammar, IsGrammar, HasProduction}
 use Rattle.derivation.specs.First.{First, Empty}
 use Rattle.derivation.specs.Follow.{MayFollow}
-use Rattle.derivation.specs.FirstSets.{Begins}
+use Rattle.derivation.specs.FirstSets.{Vanishes, Begins}
 use Rattle.derivation.specs.FollowSets.{Flows}
 use Rattle.derivation.proofs.Firsts.{vanishes_parts, vanishes_both, vanishes_map, begins_parts, begins_map}
 use Rattle.derivation.proofs.Follows.{derived_flows}
-use Rattle.cfganalysis.specs.Table.{HasBit}
+use Rattle.cfganalysis.specs.Table.{HasBit, count_of}
 use Rattle.cfganalysis.specs.Firsts.{FitsGrammar, AreFirsts, IsAmongFirsts, IsEpsilon, is_empty_symbol}
-use Rattle.cfganalysis.specs.Follows.{FollowSets, FitFollows, SayFollows, HaveFollowsOf, FlowIn, BeginsList, VanishesList, Behind, Puts, count_follows}
-use Rattle.cfganalysis.specs.Rounds.{TakesIn}
-use Rattle.cfganalysis.proofs.Settling.{grown}
+use Rattle.cfganalysis.specs.Follows.{FollowSets, FitFollows, SayFollows, HasNoMoreFollows, HaveFollowsOf, IsOwner, FlowIn, BeginsList, VanishesList, Behind, Puts, PutsBehind, count_follows}
+use Rattle.cfganalysis.specs.Growth.{TakesIn}
+use Rattle.cfganalysis.specs.Waiting.{waits, Waits, NoneWaits}
+use Rattle.cfganalysis.proofs.Noting.{put_waits, put_keeps, put_there}
+use Rattle.cfganalysis.proofs.OneBit.{count_of-fewer}
 use Rattle.cfganalysis.proofs.Joins.{joins_none, joins_as, joins_then}
 use Rattle.cfganalysis.proofs.Fronts.{begins_front, begins_past, vanishes_alone, stays_alone}
 
@@ -122,25 +123,84 @@ module _ (before : ℕ) (a : List Sym) where
       all = take_all n a le
 
 -- a symbol that is no rule has nothing behind it
-pub nothing_behind : (u : ℕ) (gives : ℕ → Type 0) (x : FollowSets) → Puts (λ r t. (Rule r ≡ Token u) × gives t) x x false
-nothing_behind u gives x = record { firsts = refl; joins = joins_none _ x.follows (λ r k h. absurd (not_token h.0)) }
+pub nothing_behind : (u : ℕ) (gives : ℕ → Type 0) (x : FollowSets) (waiting : List Bool) → PutsBehind (λ r t. (Rule r ≡ Token u) × gives t) x x waiting waiting
+nothing_behind u gives x waiting = record {
+  firsts = refl;
+  shape = λ rows columns is. is;
+  bits = λ r t. ((λ h. inl h), (λ h. elim h [ inl i ↦ i | inr i ↦ absurd (not_token i.0) ]));
+  no_less = omega arith;
+  rules = refl;
+  kept = λ r h. h;
+  gained = λ r h. inl h;
+  more = λ r h. inl h;
+  told = λ r t h. inl h;
+}
   where
     not_token : {r : ℕ} → Rule r ≡ Token u → ⊥
     not_token e = cc
 
-pub rule_behind : (q : ℕ) (gives : ℕ → Type 0) (old new : FollowSets) (changed : Bool) → Puts (λ r t. (r ≡ q) × gives t) old new changed
-    → Puts (λ r t. (Rule r ≡ Rule q) × gives t) old new changed
-rule_behind q gives old new changed w = record {
-  firsts = w.firsts;
-  joins = joins_as _ _ _ _ _ (λ r t h. inr (ap Rule h.0, h.1)) (λ r t h. let e : r ≡ q = cc (h.0) in inr (e, h.1)) w.joins;
-}
+module _ (q : ℕ) (gives : ℕ → Type 0) (old new : FollowSets) (changed : Bool) (waiting : List Bool) (w : Puts (λ r t. (r ≡ q) × gives t) old new changed) where
+  bits_behind : (r t : ℕ) → HasBit new.follows r t ↔ (HasBit old.follows r t ⊎ ((Rule r ≡ Rule q) × gives t))
+  bits_behind r t = (
+    (λ h. elim ((w.joins.bits r t).0 h) [ inl i ↦ inl i | inr i ↦ inr (ap Rule i.0, i.1) ]),
+    (λ h. (w.joins.bits r t).1 (elim h [ inl i ↦ inl i | inr i ↦ let e : r ≡ q = cc (i.0) in inr (e, i.1) ])),
+  )
 
--- what the first n symbols have behind them was put there
-pub record Flowing (rule : ℕ) (symbols : List Sym) (n : ℕ) (old new : FollowSets) (changed : Bool) : Type 0 where
+  -- the rule's set gained, and it waits
+  pub rule_behind : (n : ℕ) (waiting' : List Bool) → changed ≡ true → n ≡ q → n < length waiting → waiting' ≡ slice_set waiting n true
+      → PutsBehind (λ r t. (Rule r ≡ Rule q) × gives t) old new waiting waiting'
+  rule_behind n waiting' on is lt put = record {
+    firsts = w.firsts;
+    shape = w.joins.shape;
+    bits = bits_behind;
+    no_less = let h = w.joins.more on in omega (arith, h);
+    rules = ap length put ∙ length-set waiting n true;
+    kept = λ r h. subst (λ l. Waits l r) (sym put) (put_keeps waiting n r h);
+    gained = λ r h. inr (w.joins.more on);
+    more = λ r h. elim (put_waits waiting n r lt (subst (λ l. Waits l r) put h)) [ inl i ↦ inl i | inr e ↦ inr (λ none. grew r (e ∙ is) none) ];
+    told = λ r t h. elim ((w.joins.bits r t).0 h) [
+      | inl i ↦ inl i
+      | inr i ↦ inr (subst (λ l. Waits l r) (sym put) (put_there waiting n r lt (i.0 ∙ sym is)))
+    ];
+  }
+    where
+      -- had the rule no more than before, there would be no more in all
+      grew : (r : ℕ) → r ≡ q → HasNoMoreFollows r old new → ⊥
+      grew r e none =
+          let more = w.joins.more on in
+          let all = count_of-fewer new.follows old.follows (λ k t set. elim ((w.joins.bits k t).0 set) [
+            | inl i ↦ i
+            | inr i ↦ subst (λ m. HasBit old.follows m t) (e ∙ sym i.0) (none t (subst (λ m. HasBit new.follows m t) (i.0 ∙ sym e) set))
+          ]) in
+          omega (arith, more, all)
+
+  -- it had all that already
+  pub same_behind : changed ≡ false → PutsBehind (λ r t. (Rule r ≡ Rule q) × gives t) old new waiting waiting
+  same_behind off = record {
+    firsts = w.firsts;
+    shape = w.joins.shape;
+    bits = bits_behind;
+    no_less = let h = ap count_of (w.joins.same off) in omega (arith, h);
+    rules = refl;
+    kept = λ r h. h;
+    gained = λ r h. inl h;
+    more = λ r h. inl h;
+    told = λ r t h. inl (subst (λ x. HasBit x r t) (w.joins.same off) h);
+  }
+
+-- What the first n symbols have behind them was put there. Where later on the rule's set is still as it was, they are
+-- covered then.
+pub record Flowing (rule : ℕ) (symbols : List Sym) (n : ℕ) (old new : FollowSets) (none waiting : List Bool) : Type 0 where
   pub sound : (g : Grammar) → IsGrammar g → HasProduction g rule symbols → SayFollows g old → SayFollows g new
-  pub more : changed ≡ true → count_follows old < count_follows new
-  pub same : changed ≡ false → new ≡ old
-  pub closed : changed ≡ false → FlowIn old rule (drop n symbols) → FlowIn old rule symbols
+  pub firsts : new.firsts ≡ old.firsts
+  pub no_less : count_follows old ≤ count_follows new
+  pub rules : length waiting ≡ length none
+  pub gained : (r : ℕ) → Waits waiting r → Waits none r ⊎ (count_follows old < count_follows new)
+  pub more : (r : ℕ) → Waits waiting r → Waits none r ⊎ (HasNoMoreFollows r old new → ⊥)
+  pub told : (r t : ℕ) → HasBit new.follows r t → HasBit old.follows r t ⊎ Waits waiting r
+  pub kept : (r t : ℕ) → HasBit old.follows r t → HasBit new.follows r t
+  pub closed : (x : FollowSets) → x.firsts ≡ old.firsts → ((r t : ℕ) → HasBit new.follows r t → HasBit x.follows r t)
+      → ((t : ℕ) → HasBit x.follows rule t → HasBit old.follows rule t) → FlowIn x rule (drop n symbols) → FlowIn x rule symbols
 
 -- the rest of a list flows as the list does
 flows_drop : (E : ℕ → Type 0) (F W : ℕ → ℕ → Type 0) (k : ℕ → Type 0) (n : ℕ) (a : List Sym) → Flows E F W a k → Flows E F W (drop n a) k
@@ -160,52 +220,109 @@ may_follow g rule rest x s r t say flows e h =
       | inr v ↦ f.1 (vanishes_map _ _ (λ q i. (say.firsts.empty q).0 i) rest v.0) t (say.follow rule t v.1)
     ]
 
-say_puts : (g : Grammar) (gives : ℕ → ℕ → Type 0) (old new : FollowSets) (changed : Bool) → SayFollows g old → Puts gives old new changed
-    → ((r t : ℕ) → gives r t → MayFollow g r t) → SayFollows g new
-say_puts g gives old new changed say w may = record {
+say_puts : (g : Grammar) (gives : ℕ → ℕ → Type 0) (old new : FollowSets) (waiting waiting' : List Bool) → SayFollows g old
+    → PutsBehind gives old new waiting waiting' → ((r t : ℕ) → gives r t → MayFollow g r t) → SayFollows g new
+say_puts g gives old new waiting waiting' say w may = record {
   firsts = subst (λ f. AreFirsts g f) (sym w.firsts) say.firsts;
-  fits = w.joins.shape g.rules g.tokens say.fits;
-  finish = λ t e. (w.joins.bits 0 t).1 (inl (say.finish t e));
-  follow = λ r t h. elim ((w.joins.bits r t).0 h) [ inl i ↦ say.follow r t i | inr i ↦ may r t i ];
+  fits = w.shape g.rules g.tokens say.fits;
+  finish = λ t e. (w.bits 0 t).1 (inl (say.finish t e));
+  follow = λ r t h. elim ((w.bits r t).0 h) [ inl i ↦ say.follow r t i | inr i ↦ may r t i ];
 }
-
-same_sets : (old new : FollowSets) → new.firsts ≡ old.firsts → new.follows ≡ old.follows → new ≡ old
-same_sets old new e h = ap (λ f. record { firsts = f; follows = new.follows }) e ∙ ap (λ w. record { firsts = old.firsts; follows = w }) h
 
 flow_at : (x : FollowSets) (rule : ℕ) (s : Sym) (rest : List Sym) → ((r t : ℕ) → Rule r ≡ s → Behind x rule rest t → HasBit x.follows r t)
     → FlowIn x rule rest → FlowIn x rule (s ∷ rest)
 flow_at x rule (Token u) rest had h = h
 flow_at x rule (Rule q) rest had h = ((λ t b. had q t refl (inl b)), (λ v t b. had q t refl (inr (v, b))), h)
 
-module _ (rule : ℕ) (symbols : List Sym) where
-  pub flowing_none : (x : FollowSets) → Flowing rule symbols 0 x x false
-  flowing_none x = record { sound = λ g is has say. say; more = λ e. absurd (true≢false (sym e)); same = λ e. refl; closed = λ e h. h }
+-- the equations hold of larger sets too, where no more flows from the rule
+flows_grow : (E : ℕ → Type 0) (F W W' : ℕ → ℕ → Type 0) (k k' : ℕ → Type 0) (a : List Sym) → ((r t : ℕ) → W r t → W' r t) → ((t : ℕ) → k' t → k t)
+    → Flows E F W a k → Flows E F W' a k'
+flows_grow E F W W' k k' [] f back h = h
+flows_grow E F W W' k k' (Token u ∷ a) f back h = flows_grow E F W W' k k' a f back h
+flows_grow E F W W' k k' (Rule q ∷ a) f back h = (
+  (λ t b. f q t (h.0 t b)),
+  (λ v t b. f q t (h.1 v t (back t b))),
+  flows_grow E F W W' k k' a f back h.2,
+)
 
-  pub flowing_one : (n : ℕ) (s : Sym) (rest : List Sym) (old mid new : FollowSets) (c d : Bool) → drop n symbols ≡ s ∷ rest → rest ≡ drop (n + 1) symbols
-      → Flowing rule symbols n old mid c → Puts (λ r t. (Rule r ≡ s) × Behind mid rule rest t) mid new d
-      → Flowing rule symbols (n + 1) old new (c || d)
-  flowing_one n s rest old mid new c d at behind w one = record {
+module _ (rule : ℕ) (symbols : List Sym) where
+  pub flowing_none : (x : FollowSets) (none : List Bool) → Flowing rule symbols 0 x x none none
+  flowing_none x none = record {
+    sound = λ g is has say. say;
+    firsts = refl;
+    no_less = omega arith;
+    rules = refl;
+    gained = λ r h. inl h;
+    more = λ r h. inl h;
+    told = λ r t h. inl h;
+    kept = λ r t h. h;
+    closed = λ y e f back h. h;
+  }
+
+  pub flowing_one : (n : ℕ) (s : Sym) (rest : List Sym) (old mid new : FollowSets) (none waiting waiting' : List Bool) → drop n symbols ≡ s ∷ rest
+      → rest ≡ drop (n + 1) symbols → Flowing rule symbols n old mid none waiting
+      → PutsBehind (λ r t. (Rule r ≡ s) × Behind mid rule rest t) mid new waiting waiting'
+      → Flowing rule symbols (n + 1) old new none waiting'
+  flowing_one n s rest old mid new none waiting waiting' at behind w one = record {
     sound = λ g is has say. let m = w.sound g is has say in
-        say_puts g _ mid new d m one (λ r t h. may_follow g rule rest mid s r t m
+        say_puts g _ mid new waiting waiting' m one (λ r t h. may_follow g rule rest mid s r t m
         (subst (λ l. Flows (Empty (HasProduction g)) (First (HasProduction g)) (MayFollow g) l (MayFollow g rule)) at
         (flows_drop _ _ _ _ n symbols (derived_flows g rule symbols has))) h.0 h.1);
-    more = grown count_follows old mid new c d w.more w.same one.joins.more unchanged;
-    same = λ e. let b = or_parts c d e in unchanged b.1 ∙ w.same b.0;
-    closed = λ e h. let b = or_parts c d e in w.closed b.0
-        (subst (λ l. FlowIn old rule l) (sym at) (flow_at old rule s rest
-        (λ r t i k. subst (λ x. HasBit x.follows r t) (unchanged b.1 ∙ w.same b.0)
-        ((one.joins.bits r t).1 (inr (i, subst (λ x. Behind x rule rest t) (sym (w.same b.0)) k))))
-        (subst (λ l. FlowIn old rule l) (sym behind) h)));
+    firsts = one.firsts ∙ w.firsts;
+    no_less = let a = w.no_less in let b = one.no_less in omega (arith, a, b);
+    rules = one.rules ∙ w.rules;
+    gained = λ r h. elim (one.gained r h) [
+      | inl i ↦ elim (w.gained r i) [
+        | inl j ↦ inl j
+        | inr j ↦ let b = one.no_less in inr (omega (arith, j, b))
+      ]
+      | inr i ↦ let a = w.no_less in inr (omega (arith, i, a))
+    ];
+    more = λ r h. elim (one.more r h) [
+      | inl i ↦ elim (w.more r i) [
+        | inl j ↦ inl j
+        | inr j ↦ inr (λ unless. j (λ t on. unless t ((one.bits r t).1 (inl on))))
+      ]
+      | inr i ↦ inr (λ unless. i (λ t on. w.kept r t (unless t on)))
+    ];
+    told = λ r t h. elim (one.told r t h) [
+      | inl i ↦ elim (w.told r t i) [ inl j ↦ inl j | inr j ↦ inr (one.kept r j) ]
+      | inr i ↦ inr i
+    ];
+    kept = λ r t h. (one.bits r t).1 (inl (w.kept r t h));
+    closed = λ x e f back h. w.closed x e (λ r t on. f r t ((one.bits r t).1 (inl on))) back
+        (subst (λ l. FlowIn x rule l) (sym at) (flow_at x rule s rest
+        (λ r t is b. f r t ((one.bits r t).1 (inr (is, was_behind x e back t b))))
+        (subst (λ l. FlowIn x rule l) (sym behind) h)));
   }
     where
-      unchanged : d ≡ false → new ≡ mid
-      unchanged e = same_sets mid new one.firsts (one.joins.same e)
+      -- what stands behind a symbol later stood there already
+      was_behind : (x : FollowSets) → x.firsts ≡ old.firsts → ((t : ℕ) → HasBit x.follows rule t → HasBit old.follows rule t)
+          → (t : ℕ) → Behind x rule rest t → Behind mid rule rest t
+      was_behind x e back t (inl b) = inl (subst (λ f. Begins (IsEpsilon f) (IsAmongFirsts f) rest t) (e ∙ sym w.firsts) b)
+      was_behind x e back t (inr b) = inr (subst (λ f. Vanishes (IsEpsilon f) rest) (e ∙ sym w.firsts) b.0, w.kept rule t (back t b.1))
 
-  pub flowing_all : (n : ℕ) (old new : FollowSets) (changed : Bool) → length symbols ≤ n → Flowing rule symbols n old new changed
-      → TakesIn SayFollows HaveFollowsOf count_follows (record { rule = rule; symbols = symbols }) old new changed
-  flowing_all n old new changed le w = record {
+  pub flowing_all : (n : ℕ) (old new : FollowSets) (none waiting : List Bool) → length symbols ≤ n → NoneWaits none
+      → Flowing rule symbols n old new none waiting
+      → TakesIn SayFollows HaveFollowsOf count_follows IsOwner HasNoMoreFollows (record { rule = rule; symbols = symbols }) old new (Waits waiting)
+  flowing_all n old new none waiting le idle w = record {
     sound = w.sound;
-    more = w.more;
-    same = w.same;
-    closed = λ e. w.closed e (subst (λ l. FlowIn old rule l) (sym (drop_all n symbols le)) tt);
+    no_less = w.no_less;
+    more = λ r h. elim (w.gained r h) [ inl i ↦ absurd (true≢false (sym i ∙ idle r)) | inr i ↦ i ];
+    gains = λ r. (
+      (λ h. elim (w.more r h) [ inl i ↦ absurd (true≢false (sym i ∙ idle r)) | inr i ↦ i ]),
+      (λ unless. waits_by r (waits waiting r) refl unless),
+    );
+    closed = λ unless. w.closed new w.firsts (λ r t h. h) (λ t h. back rule (unless rule refl) t h)
+        (subst (λ l. FlowIn new rule l) (sym (drop_all n symbols le)) tt);
+    stays = λ q unless had. flows_grow (IsEpsilon new.firsts) (IsAmongFirsts new.firsts) (HasBit old.follows) (HasBit new.follows)
+        (HasBit old.follows q.rule) (HasBit new.follows q.rule) q.symbols w.kept (λ t h. back q.rule (unless q.rule refl) t h)
+        (subst (λ f. Flows (IsEpsilon f) (IsAmongFirsts f) (HasBit old.follows) q.symbols (HasBit old.follows q.rule)) (sym w.firsts) had);
   }
+    where
+      back : (r : ℕ) → (Waits waiting r → ⊥) → (t : ℕ) → HasBit new.follows r t → HasBit old.follows r t
+      back r unless t h = elim (w.told r t h) [ inl i ↦ i | inr i ↦ absurd (unless i) ]
+
+      waits_by : (r : ℕ) (b : Bool) → waits waiting r ≡ b → (HasNoMoreFollows r old new → ⊥) → Waits waiting r
+      waits_by r true on unless = on
+      waits_by r false off unless = absurd (unless (back r (λ on. true≢false (sym on ∙ off))))

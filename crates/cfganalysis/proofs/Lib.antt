@@ -1,5 +1,9 @@
 pub mod Settling
 pub mod OneBit
+pub mod Queueing
+pub mod Noting
+pub mod RuleNotes
+pub mod Visiting
 pub mod Fronts
 pub mod FirstBits
 pub mod FirstVisits

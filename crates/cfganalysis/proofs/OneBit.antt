@@ -1,6 +1,6 @@
 -- Tables of bits: what one bit more changes.
-use Rattle.std.proofs.Common.{◌≡◌, ℕ, zero, suc, ◌+◌, ◌<◌, ◌⊎◌, inl, inr, Bool, true, false, cond, List, [], length, get_or, slice_set, arith, refl, sym, ap, ◌∙◌, subst, true≢false, length-set}
-use Rattle.std.proofs.lemmas.List.Sums.{sum_by-set}
+use Rattle.std.proofs.Common.{◌≡◌, ℕ, zero, suc, ◌+◌, ◌<◌, ◌≤◌, ◌⊎◌, inl, inr, Bool, true, false, cond, List, [], ◌∷◌, sum_by, length, get_or, slice_set, arith, refl, sym, ap, ◌∙◌, subst, true≢false, length-set}
+use Rattle.std.proofs.lemmas.List.Sums.{sum_by-set, sum_by-cons}
 use Rattle.std.proofs.lemmas.List.Elements.{All-get_or, All-set, All-replicate}
 use Rattle.std.proofs.lemmas.List.{length-replicate}
 use Rattle.lemmas.proofs.Elements.{within_from_get_or, get_or-replicate_default, get_or-set}
@@ -56,3 +56,36 @@ IsTable-no_bits rows columns = record {
   height = length-replicate rows _;
   all_wide = All-replicate (λ row. length row ≡ columns) rows _ (length-replicate columns false);
 }
+
+-- where each bit that is on is on in the other list too, no more are on
+pub bits_on-fewer : (a b : List Bool) → ((k : ℕ) → get_or a k false ≡ true → get_or b k false ≡ true) → bits_on a ≤ bits_on b
+bits_on-fewer [] b f = omega arith
+bits_on-fewer (true ∷ a) [] f = absurd (true≢false (sym (f 0 refl)))
+bits_on-fewer (false ∷ a) [] f =
+    let h = bits_on-fewer a [] (λ k on. f (suc k) on) in
+    omega (arith, h, sum_by-cons (λ (b : Bool). cond b 1 0) false a)
+bits_on-fewer (true ∷ a) (true ∷ b) f =
+    let h = bits_on-fewer a b (λ k on. f (suc k) on) in
+    omega (arith, h, sum_by-cons (λ (b : Bool). cond b 1 0) true a, sum_by-cons (λ (b : Bool). cond b 1 0) true b)
+bits_on-fewer (true ∷ a) (false ∷ b) f = absurd (true≢false (sym (f 0 refl)))
+bits_on-fewer (false ∷ a) (true ∷ b) f =
+    let h = bits_on-fewer a b (λ k on. f (suc k) on) in
+    omega (arith, h, sum_by-cons (λ (b : Bool). cond b 1 0) false a, sum_by-cons (λ (b : Bool). cond b 1 0) true b)
+bits_on-fewer (false ∷ a) (false ∷ b) f =
+    let h = bits_on-fewer a b (λ k on. f (suc k) on) in
+    omega (arith, h, sum_by-cons (λ (b : Bool). cond b 1 0) false a, sum_by-cons (λ (b : Bool). cond b 1 0) false b)
+
+rows-fewer : (xs ys : List (List Bool)) → ((r k : ℕ) → get_or (get_or xs r []) k false ≡ true → get_or (get_or ys r []) k false ≡ true)
+    → sum_by bits_on xs ≤ sum_by bits_on ys
+rows-fewer [] ys f = omega arith
+rows-fewer (x ∷ xs) [] f =
+    let h = rows-fewer xs [] (λ r k on. f (suc r) k on) in
+    let i = bits_on-fewer x [] (λ k on. f 0 k on) in
+    omega (arith, h, i, sum_by-cons bits_on x xs)
+rows-fewer (x ∷ xs) (y ∷ ys) f =
+    let h = rows-fewer xs ys (λ r k on. f (suc r) k on) in
+    let i = bits_on-fewer x y (λ k on. f 0 k on) in
+    omega (arith, h, i, sum_by-cons bits_on x xs, sum_by-cons bits_on y ys)
+
+pub count_of-fewer : (x y : Table) → ((r k : ℕ) → bit x r k ≡ true → bit y r k ≡ true) → count_of x ≤ count_of y
+count_of-fewer x y f = rows-fewer x.rows y.rows f

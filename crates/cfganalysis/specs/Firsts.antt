@@ -1,5 +1,5 @@
 -- FIRST sets: the tokens that rules begin with, and the rules that are empty.
-use Rattle.std.specs.Prelude.{◌≡◌, ◌↔◌, ℕ, ◌+◌, Bool, true, false, List, length, IsTrue, replicate, slice_index_or, slice_set}
+use Rattle.std.specs.Prelude.{◌≡◌, ◌↔◌, ℕ, ◌+◌, Bool, true, false, List, length, Contains, IsTrue, replicate, slice_index_or, slice_set}
 use Rattle.derivation.specs.Grammar.{Sym, Rule, Token, Grammar, Production, HasProduction}
 use Rattle.derivation.specs.First.{First, Empty}
 use Rattle.derivation.specs.FirstSets.{Vanishes, Begins, Covers}
@@ -39,6 +39,15 @@ pub record SayFirsts (g : Grammar) (x : FirstSets) : Type 0 where
 -- they have all that the production gives
 abbrev pub HaveFirstsOf : FirstSets → Production → Type 0
 HaveFirstsOf x p = Covers (IsEpsilon x) (IsAmongFirsts x) p.rule p.symbols
+
+-- what a production gives depends on the sets of the rules among its symbols
+abbrev pub HoldsRule : Production → ℕ → Type 0
+HoldsRule p r = Contains p.symbols (Rule r)
+
+-- the rule's set has no more than it had, and the rule is empty only if it was
+pub record HasNoMoreFirsts (r : ℕ) (old new : FirstSets) : Type 0 where
+  pub first : (t : ℕ) → IsAmongFirsts new r t → IsAmongFirsts old r t
+  pub empty : IsEpsilon new r → IsEpsilon old r
 
 -- how many bits are on
 abbrev pub count_firsts : FirstSets → ℕ

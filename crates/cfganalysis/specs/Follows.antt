@@ -1,10 +1,11 @@
 -- FOLLOW sets: the tokens that stand right after rules.
-use Rattle.std.specs.Prelude.{◌≡◌, ◌↔◌, ◌⊎◌, ℕ, ◌+◌, Bool, List}
+use Rattle.std.specs.Prelude.{◌≡◌, ◌↔◌, ◌⊎◌, ◌<◌, ◌≤◌, ℕ, ◌+◌, Bool, List, length}
 use Rattle.derivation.specs.Grammar.{Sym, Grammar, Production}
 use Rattle.derivation.specs.Follow.{MayFollow}
 use Rattle.derivation.specs.FirstSets.{Vanishes, Begins}
 use Rattle.derivation.specs.FollowSets.{Flows}
 use Rattle.cfganalysis.specs.Table.{Table, IsTable, HasBit, Joins, count_of}
+use Rattle.cfganalysis.specs.Waiting.{Waits}
 use Rattle.cfganalysis.specs.Firsts.{FirstSets, FitsGrammar, AreFirsts, IsAmongFirsts, IsEpsilon}
 
 -- exactly what derivations show
@@ -37,6 +38,14 @@ FlowIn x rule a = Flows (IsEpsilon x.firsts) (IsAmongFirsts x.firsts) (HasBit x.
 abbrev pub HaveFollowsOf : FollowSets → Production → Type 0
 HaveFollowsOf x p = FlowIn x p.rule p.symbols
 
+-- what a production gives depends on the set of its own rule
+abbrev pub IsOwner : Production → ℕ → Type 0
+IsOwner p r = r ≡ p.rule
+
+-- the rule's set has no more than it had
+abbrev pub HasNoMoreFollows : ℕ → FollowSets → FollowSets → Type 0
+HasNoMoreFollows r old new = (t : ℕ) → HasBit new.follows r t → HasBit old.follows r t
+
 -- how many bits are on
 abbrev pub count_follows : FollowSets → ℕ
 count_follows x = count_of x.follows
@@ -57,3 +66,15 @@ Behind x rule rest t = BeginsList x rest t ⊎ (VanishesList x rest × HasBit x.
 pub record Puts (gives : ℕ → ℕ → Type 0) (old new : FollowSets) (changed : Bool) : Type 0 where
   pub firsts : new.firsts ≡ old.firsts
   pub joins : Joins gives old.follows new.follows changed
+
+-- tokens were put behind rules, and each rule whose set gained waits
+pub record PutsBehind (gives : ℕ → ℕ → Type 0) (old new : FollowSets) (waiting waiting' : List Bool) : Type 0 where
+  pub firsts : new.firsts ≡ old.firsts
+  pub shape : (rows columns : ℕ) → IsTable rows columns old.follows → IsTable rows columns new.follows
+  pub bits : (r t : ℕ) → (HasBit new.follows r t ↔ (HasBit old.follows r t ⊎ gives r t))
+  pub no_less : count_follows old ≤ count_follows new
+  pub rules : length waiting' ≡ length waiting
+  pub kept : (r : ℕ) → Waits waiting r → Waits waiting' r
+  pub gained : (r : ℕ) → Waits waiting' r → Waits waiting r ⊎ (count_follows old < count_follows new)
+  pub more : (r : ℕ) → Waits waiting' r → Waits waiting r ⊎ (HasNoMoreFollows r old new → ⊥)
+  pub told : (r t : ℕ) → HasBit new.follows r t → HasBit old.follows r t ⊎ Waits waiting' r

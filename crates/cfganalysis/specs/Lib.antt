@@ -6,3 +6,6 @@ pub mod Firsts
 pub mod Follows
 pub mod Paths
 pub mod Bounds
+pub mod Waiting
+pub mod Work
+pub mod Growth

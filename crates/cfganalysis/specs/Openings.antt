@@ -1,5 +1,5 @@
 -- Productions by their places, and how often each was opened.
-use Rattle.std.specs.Prelude.{◌≡◌, ◌≢◌, ℕ, ◌+◌, List, [], slice_index_or}
+use Rattle.std.specs.Prelude.{◌≡◌, ◌≢◌, ℕ, ◌+◌, ◌*◌, List, [], length, slice_index_or}
 use Rattle.derivation.specs.Grammar.{Grammar, Production}
 
 abbrev pub nth_production : Grammar → ℕ → Production
@@ -17,3 +17,11 @@ pub record OpensOne (p : ℕ) (content content' : Grammar) (opened opened' : ℕ
   pub more : opened' p ≡ opened p + 1
   pub others : (q : ℕ) → q ≢ p → opened' q ≡ opened q
   pub together : all' ≡ all + 1
+
+-- a number of openings that is enough for each production
+abbrev pub most_openings : Grammar → ℕ
+most_openings g = g.rules * (g.tokens + 1) + 1
+
+-- and for all of them together
+abbrev pub most_openings_all : Grammar → ℕ
+most_openings_all g = length g.productions * most_openings g

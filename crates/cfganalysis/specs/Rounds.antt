@@ -1,5 +1,5 @@
 -- Sets that grow by what productions give, till none gives more.
-use Rattle.std.specs.Prelude.{◌≡◌, ℕ, ◌<◌, ◌≤◌, ◌+◌, ◌*◌, Bool, true, false, length, Contains}
+use Rattle.std.specs.Prelude.{◌≡◌, ℕ, ◌<◌, Bool, true, false, length, Contains}
 use Rattle.derivation.specs.Grammar.{Grammar, Production, IsGrammar}
 use Rattle.cfganalysis.specs.Openings.{nth_production}
 
@@ -22,18 +22,3 @@ module _ {X : Type 0} (holds : Grammar → X → Type 0) (covers : X → Product
 -- no production gives more
 abbrev pub IsSettled : {X : Type 0} → (X → Production → Type 0) → Grammar → X → Type 0
 IsSettled covers g x = (q : ℕ) → q < length g.productions → covers x (nth_production g q)
-
--- the first n productions were opened once more each
-pub record OpensEach (n : ℕ) (g g' : Grammar) (opened opened' : ℕ → ℕ) (all all' : ℕ) : Type 0 where
-  pub stays : g' ≡ g
-  pub below : (q : ℕ) → q < n → opened' q ≡ opened q + 1
-  pub above : (q : ℕ) → n ≤ q → opened' q ≡ opened q
-  pub together : all' ≡ all + n
-
--- a number of openings that is enough for each production
-abbrev pub most_openings : Grammar → ℕ
-most_openings g = g.rules * (g.tokens + 1) + 1
-
--- and for all of them together
-abbrev pub most_openings_all : Grammar → ℕ
-most_openings_all g = length g.productions * most_openings g

@@ -1,17 +1,23 @@
 //! FIRST: the tokens that rules begin with, and the rules that are empty (Aho, Lam, Sethi and Ullman, 4.4.2).
 
 ghost use Rattle.std.specs.Prelude.{◌≡◌, ◌<◌, ◌≤◌, ◌↔◌, ℕ, [], ◌∷◌, Contains, false, true, length, map, IfOk, IsTrue, MatchBool};
-ghost use Rattle.derivation.specs.Grammar.{Grammar, IsGrammar, IsSymbolOf};
-ghost use Rattle.cfganalysis.specs.Firsts.{AreFirsts, BeginsBy, FitsGrammar, HaveFirstsOf, IsAmongFirsts, IsEpsilon, SayFirsts, count_firsts, epsilon_bit, is_empty_symbol, no_firsts, with_epsilon, with_first};
-ghost use Rattle.cfganalysis.specs.Rounds.{TakesIn, most_openings, most_openings_all};
+ghost use Rattle.derivation.specs.Grammar.{Grammar, IsGrammar, IsSymbolOf, Rule};
+ghost use Rattle.cfganalysis.specs.Firsts.{AreFirsts, BeginsBy, FitsGrammar, HasNoMoreFirsts, HaveFirstsOf, HoldsRule, IsAmongFirsts, IsEpsilon, SayFirsts, count_firsts, epsilon_bit, is_empty_symbol, no_firsts, with_epsilon, with_first};
+ghost use Rattle.cfganalysis.specs.Openings.{most_openings, most_openings_all};
+ghost use Rattle.cfganalysis.specs.Growth.{TakesIn};
 ghost use Rattle.cfganalysis.specs.Symbols.{sym_of};
 ghost use Rattle.cfganalysis.specs.Table.{Joins, row_of};
 ghost use Rattle.cfganalysis.specs.Bounds.{firsts_bounded};
+ghost use Rattle.cfganalysis.specs.Waiting.{NoneWaits, Waits};
+ghost use Rattle.cfganalysis.specs.Work.{Notes};
 
 use crate::bits::BitTable;
 use crate::counted::{CountedTables, Tables};
+use crate::growth::Analysis;
 use crate::productions::Productions;
-use crate::rounds::{Analysis, settle};
+use crate::visits::settle;
+use crate::waiting::Waiting;
+use crate::work::Users;
 use cfgindex::{RIdx, Storage, Symbol, TIdx, Vob};
 use std::alloc::{AllocError, Global};
 use std::marker::{Model, PhantomData};
@@ -128,22 +134,14 @@ impl<S: Storage> YaccFirsts<S> {
     {
         self.epsilons.set(usize::from(rule), true)
     }
-}
 
-impl<S: Storage> Analysis<S> for YaccFirsts<S> {
-    ghost holds = { SayFirsts };
-
-    ghost covers = { HaveFirstsOf };
-
-    ghost bits = { count_firsts };
-
-    ghost bounded = { firsts_bounded };
-
-    fn visit(&mut self, rule: RIdx<S>, symbols: &[Symbol<S>]) -> bool
+    /// Adds what a production gives, and tells whether the rule's set gained.
+    fn take_in(&mut self, rule: RIdx<S>, symbols: &[Symbol<S>]) -> bool
         requires { (g : Grammar) × IsGrammar g × SayFirsts g self.old
             × Contains g.productions (record { rule = S.number rule.0; symbols = map (sym_of S.number) symbols.now }) }
-        ensures { TakesIn SayFirsts HaveFirstsOf count_firsts
-            (record { rule = S.number rule.0; symbols = map (sym_of S.number) symbols.now }) self.old self.new result }
+        ensures { TakesIn SayFirsts HaveFirstsOf count_firsts HoldsRule HasNoMoreFirsts
+            (record { rule = S.number rule.0; symbols = map (sym_of S.number) symbols.now })
+            self.old self.new (λ r. (r ≡ S.number rule.0) × IsTrue result) }
     {
         let mut changed = false;
         for symbol in symbols {
@@ -153,6 +151,66 @@ impl<S: Storage> Analysis<S> for YaccFirsts<S> {
             }
         }
         changed | self.put_epsilon(rule)
+    }
+}
+
+/// Notes a production with the symbol, if that is a rule.
+fn note_symbol<S: Storage>(
+    production: usize,
+    symbol: Symbol<S>,
+    users: &mut Users,
+) -> Result<(), AllocError>
+    requires { (g : Grammar) × (length users.old ≡ g.rules) × IsSymbolOf g (sym_of S.number symbol) }
+    ensures { IfOk result (λ _. Notes production (λ r. Rule r ≡ sym_of S.number symbol) users.old users.new) }
+{
+    match symbol {
+        Symbol::Rule(rule) => users.note(usize::from(rule), production),
+        Symbol::Token(_) => Ok(()),
+    }
+}
+
+impl<S: Storage> Analysis<S> for YaccFirsts<S> {
+    ghost holds = { SayFirsts };
+
+    ghost covers = { HaveFirstsOf };
+
+    ghost bits = { count_firsts };
+
+    ghost rests_on = { HoldsRule };
+
+    ghost no_more = { HasNoMoreFirsts };
+
+    ghost bounded = { firsts_bounded };
+
+    fn note(
+        &self,
+        production: usize,
+        _rule: RIdx<S>,
+        symbols: &[Symbol<S>],
+        users: &mut Users,
+    ) -> Result<(), AllocError>
+        requires { (g : Grammar) × IsGrammar g × (length users.old ≡ g.rules)
+            × Contains g.productions (record { rule = S.number _rule.0; symbols = map (sym_of S.number) symbols.now }) }
+        ensures { IfOk result (λ _. Notes production
+            (HoldsRule (record { rule = S.number _rule.0; symbols = map (sym_of S.number) symbols.now })) users.old users.new) }
+    {
+        for held in symbols {
+            note_symbol(production, *held, users)?;
+        }
+        Ok(())
+    }
+
+    fn visit(&mut self, rule: RIdx<S>, symbols: &[Symbol<S>], gained: &mut Waiting)
+        requires { (g : Grammar) × IsGrammar g × SayFirsts g self.old × NoneWaits gained.old × (length gained.old ≡ g.rules)
+            × Contains g.productions (record { rule = S.number rule.0; symbols = map (sym_of S.number) symbols.now }) }
+        ensures takes { TakesIn SayFirsts HaveFirstsOf count_firsts HoldsRule HasNoMoreFirsts
+            (record { rule = S.number rule.0; symbols = map (sym_of S.number) symbols.now })
+            self.old self.new (Waits gained.new) }
+        ensures rules { length gained.new ≡ length gained.old }
+    {
+        if self.take_in(rule, symbols) {
+            gained.put(usize::from(rule));
+        }
     }
 }
 
@@ -176,6 +234,6 @@ pub fn firsts_over<S: Storage, P: Productions<S>>(
     let rules = productions.rules_len().0.to_usize();
     let tokens = productions.tokens_len().0.to_usize();
     let mut firsts = YaccFirsts::empty(alloc, rules, tokens)?;
-    settle(productions, &mut firsts);
+    settle(alloc, productions, &mut firsts)?;
     Ok(firsts)
 }

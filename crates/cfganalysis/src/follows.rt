@@ -3,17 +3,23 @@
 ghost use Rattle.std.specs.Prelude.{◌≡◌, ◌<◌, ◌≤◌, ◌↔◌, ℕ, [], ◌∷◌, All, Contains, length, map, IfOk, IsTrue};
 ghost use Rattle.derivation.specs.Grammar.{Grammar, IsGrammar, IsSymbolOf, Rule};
 ghost use Rattle.cfganalysis.specs.Firsts.{AreFirsts};
-ghost use Rattle.cfganalysis.specs.Follows.{AreFollows, BeginsList, Behind, FitFollows, HaveFollowsOf, Puts, SayFollows, count_follows};
-ghost use Rattle.cfganalysis.specs.Rounds.{TakesIn, most_openings, most_openings_all};
+ghost use Rattle.cfganalysis.specs.Follows.{AreFollows, BeginsList, Behind, FitFollows, HasNoMoreFollows, HaveFollowsOf, IsOwner, Puts, PutsBehind, SayFollows, count_follows};
+ghost use Rattle.cfganalysis.specs.Openings.{most_openings, most_openings_all};
+ghost use Rattle.cfganalysis.specs.Growth.{TakesIn};
 ghost use Rattle.cfganalysis.specs.Symbols.{sym_of};
 ghost use Rattle.cfganalysis.specs.Table.{HasBit, row_of};
 ghost use Rattle.cfganalysis.specs.Bounds.{follows_bounded};
+ghost use Rattle.cfganalysis.specs.Waiting.{NoneWaits, Waits};
+ghost use Rattle.cfganalysis.specs.Work.{Notes};
 
 use crate::bits::BitTable;
 use crate::counted::{CountedTables, Tables};
 use crate::firsts::YaccFirsts;
+use crate::growth::Analysis;
 use crate::productions::Productions;
-use crate::rounds::{Analysis, settle};
+use crate::visits::settle;
+use crate::waiting::Waiting;
+use crate::work::Users;
 use cfgindex::{RIdx, Storage, Symbol, TIdx, Vob};
 use std::alloc::{AllocError, Global};
 use std::marker::{Model, PhantomData};
@@ -65,6 +71,7 @@ impl<S: Storage> YaccFollows<S> {
 }
 
 /// FOLLOW sets that grow, beside the FIRST sets.
+#[derive(Drop)]
 struct FollowAnalysis<'a, S: Storage> {
     firsts: &'a YaccFirsts<S>,
     follows: BitTable,
@@ -123,19 +130,29 @@ impl<'a, S: Storage> FollowAnalysis<'a, S> {
         changed | self.put_follows(before, rule)
     }
 
-    /// Puts what the rest of a production gives behind the symbol before it where that is a rule, and tells whether
-    /// that changed anything.
-    fn put_behind(&mut self, rule: RIdx<S>, symbol: Symbol<S>, rest: &[Symbol<S>]) -> bool
-        requires { (g : Grammar) × FitFollows g self.old × (S.number rule.0 < g.rules)
+    /// Puts what the rest of a production gives behind the symbol before it where that is a rule, which waits if its
+    /// set gained.
+    fn put_behind(
+        &mut self,
+        rule: RIdx<S>,
+        symbol: Symbol<S>,
+        rest: &[Symbol<S>],
+        gained: &mut Waiting,
+    )
+        requires { (g : Grammar) × FitFollows g self.old × (length gained.old ≡ g.rules) × (S.number rule.0 < g.rules)
             × IsSymbolOf g (sym_of S.number symbol)
             × All (IsSymbolOf g) (map (sym_of S.number) rest.now) }
-        ensures { Puts (λ r t. (Rule r ≡ sym_of S.number symbol)
+        ensures { PutsBehind (λ r t. (Rule r ≡ sym_of S.number symbol)
             × Behind self.old (S.number rule.0) (map (sym_of S.number) rest.now) t)
-            self.old self.new result }
+            self.old self.new gained.old gained.new }
     {
         match symbol {
-            Symbol::Rule(before) => self.put_rest(rule, before, rest),
-            Symbol::Token(_) => false,
+            Symbol::Rule(before) => {
+                if self.put_rest(rule, before, rest) {
+                    gained.put(usize::from(before));
+                }
+            }
+            Symbol::Token(_) => {}
         }
     }
 }
@@ -147,19 +164,38 @@ impl<'a, S: Storage> Analysis<S> for FollowAnalysis<'a, S> {
 
     ghost bits = { count_follows };
 
+    ghost rests_on = { IsOwner };
+
+    ghost no_more = { HasNoMoreFollows };
+
     ghost bounded = { follows_bounded };
 
-    fn visit(&mut self, rule: RIdx<S>, symbols: &[Symbol<S>]) -> bool
-        requires { (g : Grammar) × IsGrammar g × SayFollows g self.old
-            × Contains g.productions (record { rule = S.number rule.0; symbols = map (sym_of S.number) symbols.now }) }
-        ensures { TakesIn SayFollows HaveFollowsOf count_follows
-            (record { rule = S.number rule.0; symbols = map (sym_of S.number) symbols.now }) self.old self.new result }
+    fn note(
+        &self,
+        production: usize,
+        rule: RIdx<S>,
+        _symbols: &[Symbol<S>],
+        users: &mut Users,
+    ) -> Result<(), AllocError>
+        requires { (g : Grammar) × IsGrammar g × (length users.old ≡ g.rules)
+            × Contains g.productions (record { rule = S.number rule.0; symbols = map (sym_of S.number) _symbols.now }) }
+        ensures { IfOk result (λ _. Notes production
+            (IsOwner (record { rule = S.number rule.0; symbols = map (sym_of S.number) _symbols.now })) users.old users.new) }
     {
-        let mut changed = false;
+        users.note(usize::from(rule), production)
+    }
+
+    fn visit(&mut self, rule: RIdx<S>, symbols: &[Symbol<S>], gained: &mut Waiting)
+        requires { (g : Grammar) × IsGrammar g × SayFollows g self.old × NoneWaits gained.old × (length gained.old ≡ g.rules)
+            × Contains g.productions (record { rule = S.number rule.0; symbols = map (sym_of S.number) symbols.now }) }
+        ensures takes { TakesIn SayFollows HaveFollowsOf count_follows IsOwner HasNoMoreFollows
+            (record { rule = S.number rule.0; symbols = map (sym_of S.number) symbols.now })
+            self.old self.new (Waits gained.new) }
+        ensures rules { length gained.new ≡ length gained.old }
+    {
         for place in 0..symbols.len() {
-            changed |= self.put_behind(rule, symbols[place], &symbols[place + 1..]);
+            self.put_behind(rule, symbols[place], &symbols[place + 1..], gained);
         }
-        changed
     }
 }
 
@@ -187,7 +223,7 @@ pub fn follows_over<S: Storage, P: Productions<S>>(
     let mut follows = BitTable::new(alloc, rules, tokens)?;
     let _ = follows.set(0, tokens - 1);
     let mut analysis = FollowAnalysis { firsts, follows };
-    settle(productions, &mut analysis);
+    settle(alloc, productions, &mut analysis)?;
     let FollowAnalysis { firsts: _, follows } = analysis;
     Ok(YaccFollows {
         follows,

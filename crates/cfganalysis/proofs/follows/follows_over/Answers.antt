@@ -13,4 +13,4 @@ settle-requires-clause-holds g c =
 pub returns-clause-follows : goal.returns-clause-follows
 returns-clause-follows g c =
     subst (λ x. AreFollows (g.P.Productions.content c.args.productions.now) x.follows) (sym c.analysis.view_is)
-    (are_follows _ _ c.settle.ensures.holds c.settle.ensures.settled)
+    (are_follows _ _ c.in_ok-settle.ensures.holds c.in_ok-settle.ensures.settled)

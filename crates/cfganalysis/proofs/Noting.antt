@@ -1,0 +1,210 @@
+-- The productions that rest on rules: one noted more, and those let wait that rest on one.
+use Rattle.std.proofs.Common.{◌≡◌, ℕ, ◌+◌, ◌<◌, ◌≤◌, ◌⊎◌, inl, inr, Bool, true, false, List, [], ◌∷◌, ◌++◌, Contains, map, take, get_or, length, slice_set, arith, refl, sym, ap, ◌∙◌, subst, true≢false, length-set, get_or-set_same, get_or-set_other}
+use Rattle.std.proofs.lemmas.Bool.{cases_eq}
+use Rattle.std.proofs.lemmas.List.{get_or-map, map-set, length-map, take_more, take_all}
+use Rattle.std.proofs.lemmas.List.Elements.{Contains-append_left, Contains-push, Contains-push_cases}
+use Rattle.lemmas.proofs.Elements.{get_or-set}
+use Rattle.cfganalysis.specs.Waiting.{Waits, NoneWaits, Leaves, waits}
+use Rattle.cfganalysis.specs.Work.{users_of, Notes, RestsOn, Queues}
+
+pub nothing_among : (q : ℕ) → Contains [] q → ⊥
+nothing_among q h = omega (arith, h.1)
+
+-- a production was noted with one rule
+pub notes_one : (users : List (List ℕ)) (rule p : ℕ) → rule < length users
+    → Notes p (λ r. r ≡ rule) users (slice_set users rule (users_of users rule ++ p ∷ []))
+notes_one users rule p lt = record {
+  shape = length-set users rule _;
+  users = λ r q. (to r q, from r q);
+}
+  where
+    own : users_of (slice_set users rule (users_of users rule ++ p ∷ [])) rule ≡ users_of users rule ++ p ∷ []
+    own = get_or-set_same users rule _ [] lt
+
+    to : (r q : ℕ) → Contains (users_of (slice_set users rule (users_of users rule ++ p ∷ [])) r) q → Contains (users_of users r) q ⊎ ((q ≡ p) × (r ≡ rule))
+    to r q h = elim (get_or-set users rule r (users_of users rule ++ p ∷ []) []) [
+      | inl e ↦ inl (subst (λ l. Contains l q) e h)
+      | inr e ↦ elim (Contains-push_cases (users_of users rule) p q (subst (λ l. Contains l q) e.1 h)) [
+        | inl i ↦ inl (subst (λ n. Contains (users_of users n) q) (sym e.0) i)
+        | inr i ↦ inr (sym i, e.0)
+      ]
+    ]
+
+    at_rule : (q : ℕ) → Contains (users_of users rule ++ p ∷ []) q → Contains (users_of (slice_set users rule (users_of users rule ++ p ∷ [])) rule) q
+    at_rule q h = subst (λ l. Contains l q) (sym own) h
+
+    from : (r q : ℕ) → Contains (users_of users r) q ⊎ ((q ≡ p) × (r ≡ rule)) → Contains (users_of (slice_set users rule (users_of users rule ++ p ∷ [])) r) q
+    from r q (inl h) = elim (cases_eq r rule) [
+      | inl e ↦ subst (λ n. Contains (users_of (slice_set users rule (users_of users rule ++ p ∷ [])) n) q) (sym e)
+          (at_rule q (Contains-append_left (users_of users rule) (p ∷ []) q (subst (λ n. Contains (users_of users n) q) e h)))
+      | inr ne ↦ subst (λ l. Contains l q) (sym (get_or-set_other users rule r _ [] ne)) h
+    ]
+    from r q (inr h) = subst (λ n. Contains (users_of (slice_set users rule (users_of users rule ++ p ∷ [])) n) q) (sym h.1)
+        (at_rule q (subst (λ n. Contains (users_of users rule ++ p ∷ []) n) (sym h.0) (Contains-push (users_of users rule) p)))
+
+-- a list of the code is what is shown of it
+pub row_shown : {A : Type 0} (f : A → List ℕ) (lists : List A) (users : List (List ℕ)) (rule : ℕ) (x : A) → map f lists ≡ users → rule < length users
+    → x ≡ get_or lists rule x → f x ≡ users_of users rule
+row_shown f lists users rule x shown lt is = sym (ap (λ l. get_or l rule []) (sym shown)
+    ∙ get_or-map f lists rule x [] (subst (λ n. rule < n) (sym (ap length shown) ∙ length-map lists f) lt) ∙ ap f (sym is))
+
+-- the same of lists of the code
+pub notes_pushed : {A : Type 0} (f : A → List ℕ) (lists : List A) (users : List (List ℕ)) (rule p : ℕ) (was now : A) → map f lists ≡ users → rule < length users
+    → was ≡ get_or lists rule was → f now ≡ f was ++ p ∷ [] → Notes p (λ r. r ≡ rule) users (map f (slice_set lists rule now))
+notes_pushed f lists users rule p was now shown lt is push =
+    subst (λ l. Notes p (λ r. r ≡ rule) users l) (sym written) (notes_one users rule p lt)
+  where
+    written : map f (slice_set lists rule now) ≡ slice_set users rule (users_of users rule ++ p ∷ [])
+    written = map-set f lists rule now ∙ ap (λ l. slice_set l rule (f now)) shown ∙ ap (λ l. slice_set users rule l) (push ∙ ap (λ l. l ++ p ∷ []) (row_shown f lists users rule was shown lt is))
+
+pub notes_none : (p : ℕ) (rests : ℕ → Type 0) (x : List (List ℕ)) → ((r : ℕ) → rests r → ⊥) → Notes p rests x x
+notes_none p rests x never = record {
+  shape = refl;
+  users = λ r q. ((λ h. inl h), (λ h. elim h [ inl i ↦ i | inr i ↦ absurd (never r i.1) ]));
+}
+
+pub notes_as : (p : ℕ) (rests rests' : ℕ → Type 0) (old new : List (List ℕ)) → ((r : ℕ) → rests r → rests' r) → ((r : ℕ) → rests' r → rests r)
+    → Notes p rests old new → Notes p rests' old new
+notes_as p rests rests' old new to from w = record {
+  shape = w.shape;
+  users = λ r q. (
+    (λ h. elim ((w.users r q).0 h) [ inl i ↦ inl i | inr i ↦ inr (i.0, to r i.1) ]),
+    (λ h. (w.users r q).1 (elim h [ inl i ↦ inl i | inr i ↦ inr (i.0, from r i.1) ])),
+  );
+}
+
+pub notes_then : (p : ℕ) (rests rests' : ℕ → Type 0) (old mid new : List (List ℕ)) → Notes p rests old mid → Notes p rests' mid new
+    → Notes p (λ r. rests r ⊎ rests' r) old new
+notes_then p rests rests' old mid new w v = record {
+  shape = v.shape ∙ w.shape;
+  users = λ r q. (
+    (λ h. elim ((v.users r q).0 h) [
+      | inl i ↦ elim ((w.users r q).0 i) [ inl j ↦ inl j | inr j ↦ inr (j.0, inl j.1) ]
+      | inr i ↦ inr (i.0, inr i.1)
+    ]),
+    (λ h. (v.users r q).1 (elim h [
+      | inl i ↦ inl ((w.users r q).1 (inl i))
+      | inr i ↦ elim i.1 [ inl j ↦ inl ((w.users r q).1 (inr (i.0, j))) | inr j ↦ inr (i.0, j) ]
+    ])),
+  );
+}
+
+-- one bit was turned on
+pub put_waits : (x : List Bool) (n q : ℕ) → n < length x → Waits (slice_set x n true) q → Waits x q ⊎ (q ≡ n)
+put_waits x n q lt h = elim (get_or-set x n q true false) [ inl e ↦ inl (sym e ∙ h) | inr e ↦ inr e.0 ]
+
+pub put_keeps : (x : List Bool) (n q : ℕ) → Waits x q → Waits (slice_set x n true) q
+put_keeps x n q h = elim (get_or-set x n q true false) [ inl e ↦ e ∙ h | inr e ↦ e.1 ]
+
+pub put_there : (x : List Bool) (n q : ℕ) → n < length x → q ≡ n → Waits (slice_set x n true) q
+put_there x n q lt e = ap (waits (slice_set x n true)) e ∙ get_or-set_same x n true false lt
+
+-- the first n productions of a list were let wait
+pub record QueuesFront (list : List ℕ) (n : ℕ) (old new : List Bool) : Type 0 where
+  pub shape : length new ≡ length old
+  pub to : (q : ℕ) → Waits new q → Waits old q ⊎ Contains (take n list) q
+  pub from : (q : ℕ) → Waits old q ⊎ Contains (take n list) q → Waits new q
+
+module _ (list : List ℕ) where
+  pub queues_none : (x : List Bool) → QueuesFront list 0 x x
+  queues_none x = record {
+    shape = refl;
+    to = λ q h. inl h;
+    from = λ q h. elim h [ inl i ↦ i | inr i ↦ absurd (nothing_among q i) ];
+  }
+
+  pub queues_one : (n p : ℕ) (old mid new : List Bool) → n < length list → p ≡ get_or list n p → p < length mid → QueuesFront list n old mid
+      → new ≡ slice_set mid p true → QueuesFront list (n + 1) old new
+  queues_one n p old mid new lt is within w put = subst (λ l. QueuesFront list (n + 1) old l) (sym put) (record {
+    shape = length-set mid p true ∙ w.shape;
+    to = λ q h. elim (put_waits mid p q within h) [
+      | inl i ↦ elim (w.to q i) [ inl j ↦ inl j | inr j ↦ inr (among q (Contains-append_left (take n list) (p ∷ []) q j)) ]
+      | inr e ↦ inr (among q (subst (λ m. Contains (take n list ++ p ∷ []) m) (sym e) (Contains-push (take n list) p)))
+    ];
+    from = λ q h. elim h [
+      | inl i ↦ put_keeps mid p q (w.from q (inl i))
+      | inr i ↦ elim (Contains-push_cases (take n list) p q (subst (λ l. Contains l q) longer i)) [
+        | inl j ↦ put_keeps mid p q (w.from q (inr j))
+        | inr e ↦ put_there mid p q within (sym e)
+      ]
+    ];
+  })
+    where
+      longer : take (n + 1) list ≡ take n list ++ p ∷ []
+      longer = take_more list n p lt ∙ ap (λ y. take n list ++ (y ∷ [])) (sym is)
+
+      among : (q : ℕ) → Contains (take n list ++ p ∷ []) q → Contains (take (n + 1) list) q
+      among q h = subst (λ l. Contains l q) (sym longer) h
+
+  pub queues_all : (users : List (List ℕ)) (rule n : ℕ) (old new : List Bool) → length list ≤ n → list ≡ users_of users rule → QueuesFront list n old new
+      → Queues users (λ r. r ≡ rule) old new
+  queues_all users rule n old new le is w = record {
+    shape = w.shape;
+    waits = λ q. (
+      (λ h. elim (w.to q h) [
+        | inl i ↦ inl i
+        | inr i ↦ inr (record { rule = rule; gains = refl; noted = subst (λ l. Contains l q) (all ∙ is) i })
+      ]),
+      (λ h. w.from q (elim h [
+        | inl i ↦ inl i
+        | inr i ↦ inr (subst (λ l. Contains l q) (sym (all ∙ is)) (subst (λ r. Contains (users_of users r) q) i.gains i.noted))
+      ])),
+    );
+  }
+    where
+      all : take n list ≡ list
+      all = take_all n list le
+
+-- between two rules that gained: the productions that rest on those that are done wait
+pub record Queueing (users : List (List ℕ)) (gained left : List Bool) (old new : List Bool) : Type 0 where
+  pub shape : length new ≡ length old
+  pub fewer : (r : ℕ) → Waits left r → Waits gained r
+  pub same : length left ≡ length gained
+  pub only : (q : ℕ) → Waits new q → Waits old q ⊎ RestsOn users (Waits gained) q
+  pub kept : (q : ℕ) → Waits old q → Waits new q
+  pub done : (r q : ℕ) → Waits gained r → Contains (users_of users r) q → Waits left r ⊎ Waits new q
+
+module _ (users : List (List ℕ)) (gained : List Bool) where
+  pub queueing_none : (x : List Bool) → Queueing users gained gained x x
+  queueing_none x = record { shape = refl; fewer = λ r h. h; same = refl; only = λ q h. inl h; kept = λ q h. h; done = λ r q h k. inl h }
+
+  pub queueing_one : (rule : ℕ) (left left' old mid new : List Bool) → Queueing users gained left old mid → Leaves rule left left'
+      → Queues users (λ r. r ≡ rule) mid new → Queueing users gained left' old new
+  queueing_one rule left left' old mid new w leaves v = record {
+    shape = v.shape ∙ w.shape;
+    fewer = λ r h. w.fewer r (stayed r h);
+    same = ap length leaves.rest ∙ length-set left rule false ∙ w.same;
+    only = λ q h. elim ((v.waits q).0 h) [
+      | inl i ↦ w.only q i
+      | inr i ↦ inr (record { rule = i.rule; gains = subst (Waits gained) (sym i.gains) (w.fewer rule leaves.waited); noted = i.noted })
+    ];
+    kept = λ q h. (v.waits q).1 (inl (w.kept q h));
+    done = λ r q h k. elim (w.done r q h k) [
+      | inl i ↦ elim (cases_eq r rule) [
+        | inl e ↦ inr ((v.waits q).1 (inr (record { rule = r; gains = e; noted = k })))
+        | inr ne ↦ inl (ap (λ l. get_or l r false) leaves.rest ∙ get_or-set_other left rule r false false ne ∙ i)
+      ]
+      | inr i ↦ inr ((v.waits q).1 (inl i))
+    ];
+  }
+    where
+      stayed : (r : ℕ) → Waits left' r → Waits left r
+      stayed r h = elim (get_or-set left rule r false false) [
+        | inl e ↦ sym e ∙ sym (ap (λ l. get_or l r false) leaves.rest) ∙ h
+        | inr e ↦ absurd (true≢false (sym h ∙ ap (λ l. get_or l r false) leaves.rest ∙ e.1))
+      ]
+
+  pub queueing_all : (left old new : List Bool) → NoneWaits left → Queueing users gained left old new → Queues users (Waits gained) old new
+  queueing_all left old new none w = record {
+    shape = w.shape;
+    waits = λ q. (
+      w.only q,
+      (λ h. elim h [
+        | inl i ↦ w.kept q i
+        | inr i ↦ elim (w.done i.rule q i.gains i.noted) [
+          | inl j ↦ absurd (true≢false (sym j ∙ none i.rule))
+          | inr j ↦ j
+        ]
+      ]),
+    );
+  }

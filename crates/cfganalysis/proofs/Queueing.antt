@@ -1,0 +1,114 @@
+-- A queue in which each number stands at most once: one number more, and one less.
+use Rattle.std.proofs.Common.{◌≡◌, ℕ, ◌+◌, ◌<◌, Bool, true, false, cond, eqb, List, [], ◌∷◌, ◌++◌, length, get_or, slice_set, slice_get, Some, count_by, arith, refl, sym, ap, ◌∙◌, subst, true≢false, length-set, replicate, zero, suc, eq-eqb, get_or-set_same, get_or-set_other, inl, inr}
+use Rattle.std.proofs.lemmas.Bool.{cases_eq, ne_eqb}
+use Rattle.std.proofs.lemmas.List.{length_push}
+use Rattle.std.proofs.lemmas.List.Sums.{sum_by-cons, sum_by_push, sum_by-set, count_by-le-length}
+use Rattle.std.proofs.lemmas.Option.{get_or_from_slice_get}
+use Rattle.lemmas.proofs.Elements.{get_or-replicate_default, within_from_get_or, set-slice_get}
+use Rattle.cfganalysis.specs.Table.{bits_on}
+use Rattle.cfganalysis.specs.Waiting.{waits, Waits, NoneWaits, IsQueue}
+use Rattle.cfganalysis.proofs.OneBit.{bits_on-set}
+
+-- one bit fewer
+pub bits_on-clear : (l : List Bool) (n : ℕ) → n < length l → get_or l n false ≡ true → bits_on (slice_set l n false) + 1 ≡ bits_on l
+bits_on-clear l n h on =
+    let e = sum_by-set (λ (b : Bool). cond b 1 0) l n false false h in
+    let z : ◌≡◌ {A = ℕ} (cond (get_or l n false) 1 0) 1 = ap (λ b. cond b 1 0) on in
+    omega (arith, e, z)
+
+pub bits_on-none : (bound : ℕ) → bits_on (replicate bound false) ≡ 0
+bits_on-none zero = refl
+bits_on-none (suc n) = let e = sum_by-cons (λ (b : Bool). cond b 1 0) false (replicate n false) in omega (arith, e, bits_on-none n)
+
+pub queue_none : (bound : ℕ) → IsQueue (replicate bound false) []
+queue_none bound = record {
+  once = λ n. sym (ap (λ b. cond b 1 0) (get_or-replicate_default bound n false));
+  together = sym (bits_on-none bound);
+}
+
+module _ (x : List Bool) (queue : List ℕ) (is : IsQueue x queue) where
+  -- where a number doesn't wait there is room for it
+  pub queue_room : (n : ℕ) → n < length x → slice_get x n ≡ Some false → length queue < length x
+  queue_room n lt off =
+      let e = bits_on-set x n lt (get_or_from_slice_get x n false false off) in
+      let most = count_by-le-length (λ (b : Bool). b) (slice_set x n true) in
+      let k = is.together in
+      omega (arith, e, most, k, length-set x n true)
+
+  pub queue_put : (n : ℕ) → n < length x → slice_get x n ≡ Some false → IsQueue (slice_set x n true) (queue ++ n ∷ [])
+  queue_put n lt off = record {
+    once = λ m. sum_by_push (λ k. cond (eqb k m) 1 0) queue n ∙ one m;
+    together = let e = bits_on-set x n lt here in let l = length_push queue n in let k = is.together in omega (arith, e, l, k);
+  }
+    where
+      here : waits x n ≡ false
+      here = get_or_from_slice_get x n false false off
+
+      one : (m : ℕ) → count_by (λ k. eqb k m) queue + cond (eqb n m) 1 0 ≡ cond (waits (slice_set x n true) m) 1 0
+      one m = elim (cases_eq m n) [
+        | inl e ↦
+            let k = is.once m in
+            let off : ◌≡◌ {A = ℕ} (cond (waits x m) 1 0) 0 = ap (λ b. cond b 1 0) (ap (waits x) e ∙ here) in
+            let own : ◌≡◌ {A = ℕ} (cond (eqb n m) 1 0) 1 = ap (λ b. cond b 1 0) (eq-eqb n m (sym e)) in
+            let on : ◌≡◌ {A = ℕ} (cond (waits (slice_set x n true) m) 1 0) 1 =
+            ap (λ b. cond b 1 0) (ap (waits (slice_set x n true)) e ∙ get_or-set_same x n true false lt) in
+            omega (arith, k, off, own, on)
+        | inr ne ↦
+            let k = is.once m in
+            let other : ◌≡◌ {A = ℕ} (cond (eqb n m) 1 0) 0 = ap (λ b. cond b 1 0) (ne_eqb n m (λ i. ne (sym i))) in
+            let same : ◌≡◌ {A = ℕ} (cond (waits (slice_set x n true) m) 1 0) (cond (waits x m) 1 0) =
+            ap (λ b. cond b 1 0) (get_or-set_other x n m true false ne) in
+            omega (arith, k, other, same)
+      ]
+
+  -- a number that waits isn't put there again
+  pub queue_again : (n : ℕ) → slice_get x n ≡ Some true → IsQueue (slice_set x n true) queue
+  queue_again n on = subst (λ l. IsQueue l queue) (sym (set-slice_get x n true on)) is
+
+  -- where the queue is empty no number waits
+  pub queue_empty : queue ≡ [] → NoneWaits x
+  queue_empty e n = off (waits x n) (sym (is.once n) ∙ ap (λ l. count_by (λ m. eqb m n) l) e)
+    where
+      off : (b : Bool) → ◌≡◌ {A = ℕ} (cond b 1 0) 0 → b ≡ false
+      off true h = absurd (omega (arith, h))
+      off false h = refl
+
+  module _ (n : ℕ) (rest : List ℕ) (first : queue ≡ n ∷ rest) where
+    counted : (m : ℕ) → cond (eqb n m) 1 0 + count_by (λ k. eqb k m) rest ≡ cond (waits x m) 1 0
+    counted m = sym (sum_by-cons (λ k. cond (eqb k m) 1 0) n rest) ∙ ap (λ l. count_by (λ k. eqb k m) l) (sym first) ∙ is.once m
+
+    pub first_waits : Waits x n
+    first_waits = on (waits x n) (counted n)
+      where
+        on : (b : Bool) → cond (eqb n n) 1 0 + count_by (λ k. eqb k n) rest ≡ cond b 1 0 → b ≡ true
+        on true h = refl
+        on false h =
+            let own : ◌≡◌ {A = ℕ} (cond (eqb n n) 1 0) 1 = ap (λ b. cond b 1 0) (eq-eqb n n refl) in
+            absurd (omega (arith, h, own))
+
+    pub first_within : n < length x
+    first_within = within_from_get_or x n false (λ e. true≢false (sym first_waits ∙ e))
+
+    pub queue_next : IsQueue (slice_set x n false) rest
+    queue_next = record {
+      once = λ m. elim (cases_eq m n) [
+        | inl e ↦
+            let k = counted m in
+            let on : ◌≡◌ {A = ℕ} (cond (waits x m) 1 0) 1 = ap (λ b. cond b 1 0) (ap (waits x) e ∙ first_waits) in
+            let own : ◌≡◌ {A = ℕ} (cond (eqb n m) 1 0) 1 = ap (λ b. cond b 1 0) (eq-eqb n m (sym e)) in
+            let off : ◌≡◌ {A = ℕ} (cond (waits (slice_set x n false) m) 1 0) 0 =
+            ap (λ b. cond b 1 0) (ap (waits (slice_set x n false)) e ∙ get_or-set_same x n false false first_within) in
+            omega (arith, k, on, own, off)
+        | inr ne ↦
+            let k = counted m in
+            let other : ◌≡◌ {A = ℕ} (cond (eqb n m) 1 0) 0 = ap (λ b. cond b 1 0) (ne_eqb n m (λ i. ne (sym i))) in
+            let same : ◌≡◌ {A = ℕ} (cond (waits (slice_set x n false) m) 1 0) (cond (waits x m) 1 0) =
+            ap (λ b. cond b 1 0) (get_or-set_other x n m false false ne) in
+            omega (arith, k, other, same)
+      ];
+      together =
+          let e = bits_on-clear x n first_within first_waits in
+          let k = is.together in
+          let l : length queue ≡ suc (length rest) = ap length first in
+          omega (arith, e, k, l);
+    }

@@ -1,0 +1,373 @@
+-- Visits: a production is opened and taken in, and those that rest on what gained wait.
+use Rattle.std.proofs.Common.{◌≡◌, ℕ, ◌+◌, ◌-◌, ◌*◌, ◌^◌, ◌<◌, ◌≤◌, ◌≢◌, ◌⊎◌, inl, inr, Bool, true, false, cond, List, [], Contains, get_or, length, replicate, arith, refl, sym, ap, ◌∙◌, subst, below_more, true≢false, length-set, get_or-set_same, get_or-set_other}
+use Rattle.std.proofs.Math.Nat.{mul-le-mul_left, mul-add, mul-one, mul_comm}
+use Rattle.std.proofs.lemmas.Bool.{cases_eq, cases_lt, false_from_ne_true}
+use Rattle.std.proofs.lemmas.List.{ext_get_or, length-replicate}
+use Rattle.std.proofs.lemmas.List.Sums.{count_by-le-length}
+use Rattle.lemmas.proofs.Elements.{get_or-replicate_default, within_from_get_or}
+use Rattle.derivation.specs.Grammar.{Grammar, Production, IsGrammar}
+use Rattle.cfganalysis.specs.Openings.{nth_production, OpensOne}
+use Rattle.cfganalysis.specs.Rounds.{IsSettled}
+use Rattle.cfganalysis.specs.Table.{bits_on}
+use Rattle.cfganalysis.specs.Waiting.{waits, Waits, NoneWaits, Leaves}
+use Rattle.cfganalysis.specs.Work.{users_of, Notes, Queues}
+use Rattle.cfganalysis.specs.Growth.{TakesIn, TakesInto, Visited, left_to_do}
+use Rattle.cfganalysis.proofs.Settling.{same_production, at_place}
+use Rattle.cfganalysis.proofs.Noting.{nothing_among}
+use Rattle.cfganalysis.proofs.Queueing.{bits_on-clear, bits_on-none}
+
+-- a number doesn't wait and waits
+both : {b : Bool} → b ≡ true → b ≡ false → ⊥
+both on off = true≢false (sym on ∙ off)
+
+-- bits of which each that is on was on
+same_bits : (x y : List Bool) → length y ≡ length x → ((q : ℕ) → Waits x q → Waits y q) → ((q : ℕ) → Waits y q → Waits x q) → y ≡ x
+same_bits x y long to from = ext_get_or false y x long (λ q lt. alike (waits y q) (waits x q) (from q) (to q))
+  where
+    alike : (a b : Bool) → (a ≡ true → b ≡ true) → (b ≡ true → a ≡ true) → a ≡ b
+    alike true b f h = sym (f refl)
+    alike false true f h = h refl
+    alike false false f h = refl
+
+-- one opening more is in the bounds where the bits that are on became more
+few_after : (o m m' : ℕ) (b b' : Bool) → o + cond b 1 0 ≤ m + 1 → m ≤ m' → (b' ≡ true → (b ≡ true) ⊎ (m < m')) → o + cond b' 1 0 ≤ m' + 1
+few_after o m m' b false few le was = let z = few in omega (arith, z, le, at_least b)
+  where
+    at_least : (b : Bool) → 0 ≤ cond b 1 0
+    at_least b = omega arith
+few_after o m m' b true few le was = elim (was refl) [
+  | inl on ↦
+      let z : ◌≡◌ {A = ℕ} (cond b 1 0) 1 = ap (λ c. cond c 1 0) on in
+      omega (arith, few, le, z)
+  | inr lt ↦ omega (arith, few, lt)
+]
+
+-- as many productions wait as there are, at most, and only where bits were turned on more wait
+together_after : (all n m m' w w' places : ℕ) → all + w ≤ n + places * m → m ≤ m' → w' ≤ places → (m < m') ⊎ (w' ≡ w) → all + w' ≤ n + places * m'
+together_after all n m m' w w' places h le most (inl lt) =
+    let product : places * (m + 1) ≤ places * m' = mul-le-mul_left places (omega (arith, lt)) in
+    let sum : places * (m + 1) ≡ places * m + places = mul-add places m 1 ∙ ap (λ k. places * m + k) (mul-one places) in
+    omega (arith, h, most, product, sum)
+together_after all n m m' w w' places h le most (inr e) =
+    let product : places * m ≤ places * m' = mul-le-mul_left places le in
+    omega (arith, h, e, product)
+
+-- less is left to do where bits were turned on, or else fewer productions wait
+abbrev left : ℕ → ℕ → ℕ → ℕ → ℕ
+left most places bits waiting = (most - bits) * (places + 1) + waiting
+
+left_less : (most places m m' w w' : ℕ) → m' ≤ most → w' ≤ places → (m < m') ⊎ ((m ≡ m') × (w' < w)) → left most places m' w' < left most places m w
+left_less most places m m' w w' top le (inl lt) =
+    let sum : (places + 1) * ((most - m') + 1) ≡ (places + 1) * (most - m') + (places + 1) = mul-add (places + 1) (most - m') 1 ∙ ap (λ k. (places + 1) * (most - m') + k) (mul-one (places + 1)) in
+    let product : (places + 1) * ((most - m') + 1) ≤ (places + 1) * (most - m) = mul-le-mul_left (places + 1) (omega (arith, lt, top)) in
+    omega (arith, sum, product, le, mul_comm (places + 1) (most - m'), mul_comm (places + 1) (most - m))
+left_less most places m m' w w' top le (inr h) = subst (λ k. left most places k w' < left most places m w) h.0 (omega (arith, h.1))
+
+module _ {X : Type 0} (holds : Grammar → X → Type 0) (covers : X → Production → Type 0) (bits : X → ℕ) (rests_on : Production → ℕ → Type 0) where
+  pub takes_into : (no_more : ℕ → X → X → Type 0) (p : Production) (users : List (List ℕ)) (old new : X) (gained waiting waiting' : List Bool)
+      → TakesIn holds covers bits rests_on no_more p old new (Waits gained) → Queues users (Waits gained) waiting waiting'
+      → TakesInto holds covers bits rests_on no_more p users old new waiting waiting'
+  takes_into no_more p users old new gained waiting waiting' w v = record {
+    sound = w.sound;
+    no_less = w.no_less;
+    shape = v.shape;
+    more = λ r unless. w.more r ((w.gains r).1 unless);
+    again = λ q. (
+      (λ h. elim ((v.waits q).0 h) [
+        | inl i ↦ inl i
+        | inr i ↦ inr (record { rule = i.rule; gains = (w.gains i.rule).0 i.gains; noted = i.noted })
+      ]),
+      (λ h. (v.waits q).1 (elim h [
+        | inl i ↦ inl i
+        | inr i ↦ inr (record { rule = i.rule; gains = (w.gains i.rule).1 i.gains; noted = i.noted })
+      ])),
+    );
+    closed = λ n noted off. w.closed (λ r rests gains. none n off r (noted r rests) gains);
+    stays = λ q n noted off. w.stays q (λ r rests gains. none n off r (noted r rests) gains);
+  }
+    where
+      none : (n : ℕ) → waits waiting' n ≡ false → (r : ℕ) → Contains (users_of users r) n → Waits gained r → ⊥
+      none n off r h gains = both ((v.waits n).1 (inr (record { rule = r; gains = gains; noted = h }))) off
+
+  -- production p is open: the others are covered, or wait
+  record Open (g : Grammar) (n p : ℕ) (x : X) (users : List (List ℕ)) (waiting : List Bool) (opened : ℕ → ℕ) (all : ℕ) : Type 0 where
+    sound : holds g x
+    rules : length users ≡ g.rules
+    places : length waiting ≡ length g.productions
+    here : p < n
+    noted : (q r : ℕ) → q < n → rests_on (nth_production g q) r → Contains (users_of users r) q
+    within : (q r : ℕ) → Contains (users_of users r) q → q < n
+    known : (q : ℕ) → Waits waiting q → q < n
+    settled : (q : ℕ) → q < n → q ≢ p → waits waiting q ≡ false → covers x (nth_production g q)
+    few : (q : ℕ) → q < n → opened q + cond (waits waiting q) 1 0 ≤ bits x + 1
+    fresh : (q : ℕ) → n ≤ q → q < length g.productions → opened q ≡ 0
+    together : all + bits_on waiting ≤ n + length g.productions * bits x
+
+  opened_first : (g g' : Grammar) (n : ℕ) (x : X) (users users' : List (List ℕ)) (waiting gained : List Bool) (o o' : ℕ → ℕ) (a a' : ℕ)
+      → n < length g.productions → Visited holds covers bits rests_on g n x users waiting gained o a → OpensOne n g g' o o' a a'
+      → Notes n (rests_on (nth_production g n)) users users' → Open g (n + 1) n x users' waiting o' a'
+  opened_first g g' n x users users' waiting gained o o' a a' lt w one notes = record {
+    sound = w.sound;
+    rules = notes.shape ∙ w.rules;
+    places = w.places;
+    here = omega arith;
+    noted = λ q r h rests. below_more (λ k. rests_on (nth_production g k) r → Contains (users_of users' r) k) n
+        (λ k i j. (notes.users r k).1 (inl (w.noted k r i j))) (λ j. (notes.users r n).1 (inr (refl, j))) q h rests;
+    within = λ q r h. elim ((notes.users r q).0 h) [
+      | inl i ↦ let k = w.within q r i in omega (arith, k)
+      | inr i ↦ let e = i.0 in omega (arith, e)
+    ];
+    known = λ q h. let k = w.known q h in omega (arith, k);
+    settled = λ q h ne off. let k : q < n = omega (arith, h, ne) in w.settled q k off;
+    few = λ q h. below_more (λ k. o' k + cond (waits waiting k) 1 0 ≤ bits x + 1) n (λ k i. kept k i) new q h;
+    fresh = λ q h k. let ne : q ≢ n = omega (arith, h) in let i : n ≤ q = omega (arith, h) in one.others q ne ∙ w.fresh q i k;
+    together = let e = one.together in let h = w.together in omega (arith, e, h);
+  }
+    where
+      kept : (k : ℕ) → k < n → o' k + cond (waits waiting k) 1 0 ≤ bits x + 1
+      kept k i = let ne : k ≢ n = omega (arith, i) in let e = one.others k ne in let h = w.few k i in omega (arith, e, h)
+
+      new : o' n + cond (waits waiting n) 1 0 ≤ bits x + 1
+      new =
+          let off : waits waiting n ≡ false = false_from_ne_true (waits waiting n) (λ h. let k = w.known n h in omega (arith, k)) in
+          let z : ◌≡◌ {A = ℕ} (cond (waits waiting n) 1 0) 0 = ap (λ b. cond b 1 0) off in
+          let e = one.more in
+          let none = w.fresh n (omega arith) lt in
+          omega (arith, e, none, z)
+
+  opened_next : (g g' : Grammar) (n p : ℕ) (x : X) (users : List (List ℕ)) (waiting rest gained : List Bool) (o o' : ℕ → ℕ) (a a' : ℕ)
+      → Visited holds covers bits rests_on g n x users waiting gained o a → Leaves p waiting rest → OpensOne p g g' o o' a a'
+      → Open g n p x users rest o' a'
+  opened_next g g' n p x users waiting rest gained o o' a a' w leaves one = record {
+    sound = w.sound;
+    rules = w.rules;
+    places = ap length leaves.rest ∙ length-set waiting p false ∙ w.places;
+    here = w.known p leaves.waited;
+    noted = w.noted;
+    within = w.within;
+    known = λ q h. w.known q (waited q h);
+    settled = λ q h ne off. w.settled q h (sym (other q ne) ∙ off);
+    few = λ q h. elim (cases_eq q p) [
+      | inl e ↦ subst (λ k. o' k + cond (waits rest k) 1 0 ≤ bits x + 1) (sym e) here_few
+      | inr ne ↦
+          let k = w.few q h in
+          let e = one.others q ne in
+          let z : ◌≡◌ {A = ℕ} (cond (waits rest q) 1 0) (cond (waits waiting q) 1 0) = ap (λ b. cond b 1 0) (other q ne) in
+          omega (arith, k, e, z)
+    ];
+    fresh = λ q h k. let i = w.known p leaves.waited in let ne : q ≢ p = omega (arith, h, i) in one.others q ne ∙ w.fresh q h k;
+    together =
+        let e = one.together in
+        let h = w.together in
+        let less : bits_on rest + 1 ≡ bits_on waiting = ap (λ l. bits_on l + 1) leaves.rest ∙ bits_on-clear waiting p place leaves.waited in
+        omega (arith, e, h, less);
+  }
+    where
+      place : p < length waiting
+      place = within_from_get_or waiting p false (λ e. both leaves.waited e)
+
+      other : (q : ℕ) → q ≢ p → waits rest q ≡ waits waiting q
+      other q ne = ap (λ l. get_or l q false) leaves.rest ∙ get_or-set_other waiting p q false false ne
+
+      gone : waits rest p ≡ false
+      gone = ap (λ l. get_or l p false) leaves.rest ∙ get_or-set_same waiting p false false place
+
+      waited : (q : ℕ) → Waits rest q → Waits waiting q
+      waited q h = elim (cases_eq q p) [
+        | inl e ↦ ap (waits waiting) e ∙ leaves.waited
+        | inr ne ↦ sym (other q ne) ∙ h
+      ]
+
+      here_few : o' p + cond (waits rest p) 1 0 ≤ bits x + 1
+      here_few =
+          let k = w.few p (w.known p leaves.waited) in
+          let e = one.more in
+          let z : ◌≡◌ {A = ℕ} (cond (waits rest p) 1 0) 0 = ap (λ b. cond b 1 0) gone in
+          let y : ◌≡◌ {A = ℕ} (cond (waits waiting p) 1 0) 1 = ap (λ b. cond b 1 0) leaves.waited in
+          omega (arith, k, e, z, y)
+
+  module _ (no_more : ℕ → X → X → Type 0) (g : Grammar) (n p : ℕ) (old new : X) (users : List (List ℕ)) (waiting waiting' gained : List Bool) (o : ℕ → ℕ) (a : ℕ) (is : IsGrammar g)
+      (top : n ≤ length g.productions) (w : Open g n p old users waiting o a)
+      (takes : TakesInto holds covers bits rests_on no_more (nth_production g p) users old new waiting waiting')
+      (idle : NoneWaits gained) (gains : length gained ≡ g.rules) where
+    grew : (bits old < bits new) ⊎ (waiting' ≡ waiting)
+    grew = elim (cases_lt (bits old) (bits new)) [
+      | inl lt ↦ inl lt
+      | inr le ↦ inr (same_bits waiting waiting' takes.shape (λ q h. (takes.again q).1 (inl h)) (λ q h. elim ((takes.again q).0 h) [
+        | inl i ↦ i
+        | inr i ↦ let k = takes.more i.rule i.gains in absurd (omega (arith, le, k))
+      ]))
+    ]
+
+    place : p < length g.productions
+    place = let h = w.here in omega (arith, h, top)
+
+    opened_taken : Visited holds covers bits rests_on g n new users waiting' gained o a
+    opened_taken = record {
+      sound = takes.sound g is (at_place g p (nth_production g p) place refl refl) w.sound;
+      rules = w.rules;
+      gains = gains;
+      places = takes.shape ∙ w.places;
+      idle = idle;
+      noted = w.noted;
+      within = w.within;
+      known = λ q h. elim ((takes.again q).0 h) [ inl i ↦ w.known q i | inr i ↦ w.within q i.rule i.noted ];
+      settled = λ q h off. elim (cases_eq q p) [
+        | inl e ↦ subst (λ k. covers new (nth_production g k)) (sym e)
+            (takes.closed p (λ r rests. w.noted p r w.here rests) (ap (waits waiting') (sym e) ∙ off))
+        | inr ne ↦ takes.stays (nth_production g q) q (λ r rests. w.noted q r h rests) off
+            (w.settled q h ne (false_from_ne_true (waits waiting q) (λ on. both ((takes.again q).1 (inl on)) off)))
+      ];
+      few = λ q h. few_after (o q) (bits old) (bits new) (waits waiting q) (waits waiting' q) (w.few q h) takes.no_less
+          (λ on. elim ((takes.again q).0 on) [ inl i ↦ inl i | inr i ↦ inr (takes.more i.rule i.gains) ]);
+      fresh = w.fresh;
+      together = together_after a n (bits old) (bits new) (bits_on waiting) (bits_on waiting') (length g.productions) w.together takes.no_less
+          (let most = count_by-le-length (λ (b : Bool). b) waiting' in let e = takes.shape in let h = w.places in omega (arith, most, e, h))
+          (elim grew [ inl lt ↦ inl lt | inr e ↦ inr (ap bits_on e) ]);
+    }
+
+  module _ (g : Grammar) (n : ℕ) (x : X) (users : List (List ℕ)) (waiting gained : List Bool) (o : ℕ → ℕ) (a : ℕ)
+      (w : Visited holds covers bits rests_on g n x users waiting gained o a) where
+    -- one opening more can be counted
+    pub all_below : (most : ℕ) → n < length g.productions → bits x ≤ most → length g.productions * (most + 1) < 2 ^ 128 - 1 → a < 2 ^ 128 - 1
+    all_below most lt bound small =
+        let product : length g.productions * bits x ≤ length g.productions * most = mul-le-mul_left (length g.productions) bound in
+        let sum : length g.productions * (most + 1) ≡ length g.productions * most + length g.productions =
+        mul-add (length g.productions) most 1 ∙ ap (λ k. length g.productions * most + k) (mul-one (length g.productions)) in
+        let h = w.together in
+        omega (arith, h, product, sum, lt, small)
+
+    -- also where a production waits
+    pub all_again : (most m : ℕ) (rest : List Bool) → n ≡ length g.productions → Leaves m waiting rest → bits x ≤ most
+        → length g.productions * (most + 1) < 2 ^ 128 - 1 → a < 2 ^ 128 - 1
+    all_again most m rest top leaves bound small =
+        let product : length g.productions * bits x ≤ length g.productions * most = mul-le-mul_left (length g.productions) bound in
+        let sum : length g.productions * (most + 1) ≡ length g.productions * most + length g.productions =
+        mul-add (length g.productions) most 1 ∙ ap (λ k. length g.productions * most + k) (mul-one (length g.productions)) in
+        let h = w.together in
+        let less = bits_on-clear waiting m (within_from_get_or waiting m false (λ e. both leaves.waited e)) leaves.waited in
+        omega (arith, h, product, sum, top, less, small)
+
+    -- what is noted has a place among those that wait
+    pub noted_within : (rests : ℕ → Type 0) (users' : List (List ℕ)) → n < length g.productions → Notes n rests users users'
+        → (r q : ℕ) → Contains (users_of users' r) q → q < length waiting
+    noted_within rests users' lt notes r q h = let e = w.places in elim ((notes.users r q).0 h) [
+      | inl i ↦ let k = w.within q r i in omega (arith, k, lt, e)
+      | inr i ↦ let k = i.0 in omega (arith, k, lt, e)
+    ]
+
+    -- a production was opened for the first time
+    pub visited_first : (no_more : ℕ → X → X → Type 0) (g' : Grammar) (place : ℕ) (p : Production) (new : X) (users' users'' : List (List ℕ)) (waiting' gained' : List Bool) (o' : ℕ → ℕ) (a' : ℕ)
+        → IsGrammar g → n < length g.productions → place ≡ n → p.rule ≡ (nth_production g place).rule → p.symbols ≡ (nth_production g place).symbols
+        → OpensOne place g g' o o' a a' → Notes n (rests_on p) users users' → TakesInto holds covers bits rests_on no_more p users' x new waiting waiting'
+        → users'' ≡ users' → NoneWaits gained' → length gained' ≡ length gained
+        → Visited holds covers bits rests_on g (n + 1) new users'' waiting' gained' o' a'
+    visited_first no_more g' place p new users' users'' waiting' gained' o' a' is lt at rule symbols one notes takes same idle gains =
+        let e = same_production p (nth_production g place) rule symbols ∙ ap (nth_production g) at in
+        let state = opened_first g g' n x users users' waiting gained o o' a a' lt w (subst (λ k. OpensOne k g g' o o' a a') at one) (subst (λ q. Notes n (rests_on q) users users') e notes) in
+        subst (λ l. Visited holds covers bits rests_on g (n + 1) new l waiting' gained' o' a') (sym same)
+        (opened_taken no_more g (n + 1) n x new users' waiting waiting' gained' o' a' is (omega (arith, lt)) state
+        (subst (λ q. TakesInto holds covers bits rests_on no_more q users' x new waiting waiting') e takes) idle (gains ∙ w.gains))
+
+    -- a production that waited was opened again
+    pub visited_next : (no_more : ℕ → X → X → Type 0) (g' : Grammar) (place m : ℕ) (p : Production) (new : X) (users' : List (List ℕ)) (rest waiting' gained' : List Bool) (o' : ℕ → ℕ) (a' : ℕ)
+        → IsGrammar g → n ≡ length g.productions → place ≡ m → p.rule ≡ (nth_production g place).rule → p.symbols ≡ (nth_production g place).symbols
+        → Leaves m waiting rest → OpensOne place g g' o o' a a' → TakesInto holds covers bits rests_on no_more p users x new rest waiting'
+        → users' ≡ users → NoneWaits gained' → length gained' ≡ length gained
+        → Visited holds covers bits rests_on g n new users' waiting' gained' o' a'
+    visited_next no_more g' place m p new users' rest waiting' gained' o' a' is top at rule symbols leaves one takes same idle gains =
+        let e = same_production p (nth_production g place) rule symbols ∙ ap (nth_production g) at in
+        let state = opened_next g g' n m x users waiting rest gained o o' a a' w leaves (subst (λ k. OpensOne k g g' o o' a a') at one) in
+        subst (λ l. Visited holds covers bits rests_on g n new l waiting' gained' o' a') (sym same)
+        (opened_taken no_more g n m x new users rest waiting' gained' o' a' is (omega (arith, top)) state
+        (subst (λ q. TakesInto holds covers bits rests_on no_more q users x new rest waiting') e takes) idle (gains ∙ w.gains))
+
+    -- and less is left to do
+    pub visited_less : (no_more : ℕ → X → X → Type 0) (m : ℕ) (p : Production) (new : X) (rest waiting' : List Bool) → bits new ≤ g.rules * (g.tokens + 1) → Leaves m waiting rest
+        → TakesInto holds covers bits rests_on no_more p users x new rest waiting'
+        → left_to_do g (bits new) waiting' < left_to_do g (bits x) waiting
+    visited_less no_more m p new rest waiting' bound leaves takes =
+        subst (λ k. left (g.rules * (g.tokens + 1)) k (bits new) (bits_on waiting') < left_to_do g (bits x) waiting) (sym longer)
+        (left_less (g.rules * (g.tokens + 1)) (length waiting) (bits x) (bits new) (bits_on waiting) (bits_on waiting') bound
+        (let n = count_by-le-length (λ (b : Bool). b) waiting' in omega (arith, n, longer))
+        (elim (cases_lt (bits x) (bits new)) [
+          | inl lt ↦ inl lt
+          | inr le ↦ let k = takes.no_less in
+              let same : waiting' ≡ rest = same_bits rest waiting' takes.shape (λ q h. (takes.again q).1 (inl h)) (λ q h. elim ((takes.again q).0 h) [
+                | inl i ↦ i
+                | inr i ↦ let lt = takes.more i.rule i.gains in absurd (omega (arith, le, lt))
+              ]) in
+              let e : bits_on waiting' ≡ bits_on rest = ap bits_on same in
+              let equal : bits x ≡ bits new = omega (arith, le, k) in
+              inr (equal, omega (arith, e, less))
+        ]))
+      where
+        longer : length waiting' ≡ length waiting
+        longer = takes.shape ∙ ap length leaves.rest ∙ length-set waiting m false
+
+        less : bits_on rest + 1 ≡ bits_on waiting
+        less = ap (λ l. bits_on l + 1) leaves.rest
+            ∙ bits_on-clear waiting m (within_from_get_or waiting m false (λ e. both leaves.waited e)) leaves.waited
+
+    -- what there was of openings, where each production was visited or the visits ended at one
+    pub few_opened : (most q : ℕ) → bits x ≤ most → q < length g.productions → o q ≤ most + 1
+    few_opened most q bound lt = elim (cases_lt q n) [
+      | inl i ↦ let h = w.few q i in omega (arith, h, bound)
+      | inr i ↦ let e = w.fresh q i lt in omega (arith, e)
+    ]
+
+    pub few_opened_all : (most : ℕ) → bits x ≤ most → n ≤ length g.productions → a ≤ length g.productions * (most + 1)
+    few_opened_all most bound le =
+        let product : length g.productions * bits x ≤ length g.productions * most = mul-le-mul_left (length g.productions) bound in
+        let sum : length g.productions * (most + 1) ≡ length g.productions * most + length g.productions =
+        mul-add (length g.productions) most 1 ∙ ap (λ k. length g.productions * most + k) (mul-one (length g.productions)) in
+        let h = w.together in
+        omega (arith, h, product, sum, le)
+
+    -- the same where one was opened and then refused
+    pub few_refused : (g' : Grammar) (o' : ℕ → ℕ) (a' most q : ℕ) → bits x ≤ most → n < length g.productions → OpensOne n g g' o o' a a'
+        → q < length g.productions → o' q ≤ most + 1
+    few_refused g' o' a' most q bound here one lt = elim (cases_eq q n) [
+      | inl e ↦
+          let new : o' n ≡ o n + 1 = one.more in
+          let none = w.fresh n (omega arith) here in
+          subst (λ k. o' k ≤ most + 1) (sym e) (omega (arith, new, none))
+      | inr ne ↦ subst (λ k. k ≤ most + 1) (sym (one.others q ne)) (few_opened most q bound lt)
+    ]
+
+    pub few_refused_all : (g' : Grammar) (o' : ℕ → ℕ) (a' most : ℕ) → bits x ≤ most → n < length g.productions → OpensOne n g g' o o' a a'
+        → a' ≤ length g.productions * (most + 1)
+    few_refused_all g' o' a' most bound here one =
+        let product : length g.productions * bits x ≤ length g.productions * most = mul-le-mul_left (length g.productions) bound in
+        let sum : length g.productions * (most + 1) ≡ length g.productions * most + length g.productions =
+        mul-add (length g.productions) most 1 ∙ ap (λ k. length g.productions * most + k) (mul-one (length g.productions)) in
+        let h = w.together in
+        let e = one.together in
+        omega (arith, h, e, product, sum, here)
+
+    -- where no production waits, all are covered
+    pub visited_all : n ≡ length g.productions → NoneWaits waiting → IsSettled covers g x
+    visited_all e none q lt = w.settled q (omega (arith, e, lt)) (none q)
+
+  -- before the first visit
+  pub visited_none : (g : Grammar) (x : X) (o : ℕ → ℕ) (a rules places : ℕ) (users : List (List ℕ)) (waiting gained : List Bool) → holds g x
+      → rules ≡ g.rules → places ≡ length g.productions → users ≡ replicate rules [] → waiting ≡ replicate places false → gained ≡ replicate rules false
+      → ((q : ℕ) → q < length g.productions → o q ≡ 0) → a ≡ 0
+      → Visited holds covers bits rests_on g 0 x users waiting gained o a
+  visited_none g x o a rules places users waiting gained sound rs ps us ws gs fresh none = record {
+    sound = sound;
+    rules = ap length us ∙ length-replicate rules [] ∙ rs;
+    gains = ap length gs ∙ length-replicate rules false ∙ rs;
+    places = ap length ws ∙ length-replicate places false ∙ ps;
+    idle = λ r. ap (waits_at r) gs ∙ get_or-replicate_default rules r false;
+    noted = λ q r h. absurd (omega (arith, h));
+    within = λ q r h. absurd (nothing_among q (subst (λ l. Contains l q) (ap (λ l. get_or l r []) us ∙ get_or-replicate_default rules r []) h));
+    known = λ q h. absurd (both h (ap (waits_at q) ws ∙ get_or-replicate_default places q false));
+    settled = λ q h. absurd (omega (arith, h));
+    few = λ q h. absurd (omega (arith, h));
+    fresh = λ q h lt. fresh q lt;
+    together = let e : bits_on waiting ≡ 0 = ap bits_on ws ∙ bits_on-none places in omega (arith, e, none);
+  }
+    where
+      waits_at : ℕ → List Bool → Bool
+      waits_at q l = get_or l q false

@@ -1,0 +1,82 @@
+//! Sets that grow by what productions give.
+
+ghost use Rattle.std.specs.Prelude.{◌≡◌, ℕ, ◌+◌, ◌*◌, ◌<◌, ◌≤◌, length, map, Contains, IfOk};
+ghost use Rattle.derivation.specs.Grammar.{Grammar, Production, IsGrammar};
+ghost use Rattle.cfganalysis.specs.Growth.{TakesIn, TakesInto};
+ghost use Rattle.cfganalysis.specs.Symbols.{sym_of};
+ghost use Rattle.cfganalysis.specs.Waiting.{NoneWaits, Waits};
+ghost use Rattle.cfganalysis.specs.Work.{Notes, users_of};
+
+use crate::waiting::Waiting;
+use crate::work::{Users, Work};
+use cfgindex::{RIdx, Storage, Symbol};
+use std::alloc::AllocError;
+
+/// Sets of tokens, one for each rule, that grow by what productions give.
+pub trait Analysis<S: Storage> {
+    // They are sets of the grammar, and what they say is so.
+    ghost holds: { Grammar → Self → Type 0 };
+
+    // They have all that the production gives.
+    ghost covers: { Self → Production → Type 0 };
+
+    // How many bits are on.
+    ghost bits: { Self → ℕ };
+
+    // What the production gives depends on the set of the rule.
+    ghost rests_on: { Production → ℕ → Type 0 };
+
+    // The rule's set has no more in the second sets than in the first.
+    ghost no_more: { ℕ → Self → Self → Type 0 };
+
+    /// Notes the production of this number with the rules that it rests on.
+    ///
+    /// # Errors
+    ///
+    /// Want of memory.
+    fn note(
+        &self,
+        production: usize,
+        rule: RIdx<S>,
+        symbols: &[Symbol<S>],
+        users: &mut Users,
+    ) -> Result<(), AllocError>
+        requires { (g : Grammar) × IsGrammar g × (length users.old ≡ g.rules)
+            × Contains g.productions (record { rule = S.number rule.0; symbols = map (sym_of S.number) symbols.now }) }
+        ensures { IfOk result (λ _. Notes production
+            (rests_on (record { rule = S.number rule.0; symbols = map (sym_of S.number) symbols.now })) users.old users.new) };
+
+    /// Adds what a production gives, and lets the rules wait whose sets gained.
+    fn visit(&mut self, rule: RIdx<S>, symbols: &[Symbol<S>], gained: &mut Waiting)
+        requires { (g : Grammar) × IsGrammar g × holds g self.old × NoneWaits gained.old × (length gained.old ≡ g.rules)
+            × Contains g.productions (record { rule = S.number rule.0; symbols = map (sym_of S.number) symbols.now }) }
+        ensures takes { TakesIn holds covers bits rests_on no_more
+            (record { rule = S.number rule.0; symbols = map (sym_of S.number) symbols.now })
+            self.old self.new (Waits gained.new) }
+        ensures rules { length gained.new ≡ length gained.old };
+
+    // No more bits are on than there are.
+    ghost bounded: { (g : Grammar) (x : Self) → holds g x → bits x ≤ g.rules * (g.tokens + 1) };
+}
+
+/// Takes in a production: adds what it gives, and lets those wait that rest on a rule whose set gained.
+pub(crate) fn take_in<S: Storage, A: Analysis<S>>(
+    analysis: &mut A,
+    work: &mut Work,
+    rule: RIdx<S>,
+    symbols: &[Symbol<S>],
+)
+    requires grammar { (g : Grammar) × IsGrammar g × A.holds g analysis.old
+        × NoneWaits work.old.gained × (length work.old.gained ≡ g.rules) × (length work.old.users ≡ g.rules)
+        × Contains g.productions (record { rule = S.number rule.0; symbols = map (sym_of S.number) symbols.now }) }
+    requires within { (r p : ℕ) → Contains (users_of work.old.users r) p → p < length work.old.waiting }
+    ensures takes { TakesInto A.holds A.covers A.bits A.rests_on A.no_more
+        (record { rule = S.number rule.0; symbols = map (sym_of S.number) symbols.now })
+        work.old.users analysis.old analysis.new work.old.waiting work.new.waiting }
+    ensures users { work.new.users ≡ work.old.users }
+    ensures gained { NoneWaits work.new.gained }
+    ensures rules { length work.new.gained ≡ length work.old.gained }
+{
+    analysis.visit(rule, symbols, &mut work.gained);
+    work.queue_users();
+}

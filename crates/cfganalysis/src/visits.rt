@@ -1,0 +1,140 @@
+//! Visits of productions, till none gives more. A production is visited again only where the set of a rule that it
+//! rests on has gained (Nielson, Nielson and Hankin, Principles of Program Analysis, 6.1).
+
+ghost use Rattle.std.specs.Prelude.{◌≡◌, ℕ, ◌+◌, ◌-◌, ◌*◌, ◌^◌, ◌<◌, ◌≤◌, length, IfOk, MatchBool, OnErr, OnOk};
+ghost use Rattle.derivation.specs.Grammar.{Grammar, IsGrammar};
+ghost use Rattle.cfganalysis.specs.Growth.{Visited, left_to_do};
+ghost use Rattle.cfganalysis.specs.Openings.{OpensOne, most_openings, most_openings_all};
+ghost use Rattle.cfganalysis.specs.Rounds.{IsSettled};
+ghost use Rattle.cfganalysis.specs.Waiting.{NoneWaits};
+
+use crate::growth::{Analysis, take_in};
+use crate::productions::Productions;
+use crate::work::Work;
+use cfgindex::{PIdx, Storage, to_storage};
+use std::alloc::{AllocError, Global};
+
+/// Opens a production for the first time: notes it with the rules that it rests on, and takes it in.
+///
+/// # Errors
+///
+/// Want of memory, where the production was opened and nothing taken in.
+fn visit_first<S: Storage, P: Productions<S>, A: Analysis<S>>(
+    productions: &mut P,
+    analysis: &mut A,
+    work: &mut Work,
+    number: usize,
+) -> Result<(), AllocError>
+    requires grammar { IsGrammar (P.content productions.old) }
+    requires number { number < length (P.content productions.old).productions }
+    requires fits { number ≤ S.MAX }
+    requires small { most_openings (P.content productions.old) < 2 ^ 64 - 1 }
+    requires all_small { most_openings_all (P.content productions.old) < 2 ^ 128 - 1 }
+    requires visited { Visited A.holds A.covers A.bits A.rests_on (P.content productions.old) number analysis.old
+        work.old.users work.old.waiting work.old.gained (P.opened productions.old) (P.opened_all productions.old) }
+    ensures opens { OpensOne number (P.content productions.old) (P.content productions.new)
+        (P.opened productions.old) (P.opened productions.new) (P.opened_all productions.old) (P.opened_all productions.new) }
+    ensures visited { IfOk result (λ _. Visited A.holds A.covers A.bits A.rests_on (P.content productions.old) (number + 1) analysis.new
+        work.new.users work.new.waiting work.new.gained (P.opened productions.new) (P.opened_all productions.new)) }
+    ensures refused { OnErr result (analysis.new ≡ analysis.old) }
+{
+    let p = PIdx(to_storage(number));
+    let rule = productions.rule_of(p);
+    let symbols = productions.open(p);
+    analysis.note(number, rule, symbols, &mut work.users)?;
+    take_in(analysis, work, rule, symbols);
+    Ok(())
+}
+
+/// Opens each production for the first time.
+///
+/// # Errors
+///
+/// Want of memory.
+fn visit_each<S: Storage, P: Productions<S>, A: Analysis<S>>(
+    productions: &mut P,
+    analysis: &mut A,
+    work: &mut Work,
+    prods_len: usize,
+) -> Result<(), AllocError>
+    requires grammar { IsGrammar (P.content productions.old) }
+    requires all { prods_len ≡ length (P.content productions.old).productions }
+    requires fits { prods_len ≤ S.MAX }
+    requires small { most_openings (P.content productions.old) < 2 ^ 64 - 1 }
+    requires all_small { most_openings_all (P.content productions.old) < 2 ^ 128 - 1 }
+    requires visited { Visited A.holds A.covers A.bits A.rests_on (P.content productions.old) 0 analysis.old
+        work.old.users work.old.waiting work.old.gained (P.opened productions.old) (P.opened_all productions.old) }
+    ensures content { P.content productions.new ≡ P.content productions.old }
+    ensures visited { IfOk result (λ _. Visited A.holds A.covers A.bits A.rests_on (P.content productions.old) prods_len analysis.new
+        work.new.users work.new.waiting work.new.gained (P.opened productions.new) (P.opened_all productions.new)) }
+    ensures refused { OnErr result (A.holds (P.content productions.old) analysis.new) }
+    ensures counts { OnErr result ((q : ℕ) → q < length (P.content productions.old).productions
+        → P.opened productions.new q ≤ most_openings (P.content productions.old)) }
+    ensures all_counts { OnErr result (P.opened_all productions.new ≤ most_openings_all (P.content productions.old)) }
+{
+    for number in 0..prods_len {
+        visit_first(productions, analysis, work, number)?;
+    }
+    Ok(())
+}
+
+/// Opens a production that waits, and takes it in. It tells whether one waited.
+fn visit_next<S: Storage, P: Productions<S>, A: Analysis<S>>(
+    productions: &mut P,
+    analysis: &mut A,
+    work: &mut Work,
+) -> bool
+    requires grammar { IsGrammar (P.content productions.old) }
+    requires fits { length (P.content productions.old).productions ≤ S.MAX }
+    requires small { most_openings (P.content productions.old) < 2 ^ 64 - 1 }
+    requires all_small { most_openings_all (P.content productions.old) < 2 ^ 128 - 1 }
+    requires visited { Visited A.holds A.covers A.bits A.rests_on (P.content productions.old)
+        (length (P.content productions.old).productions) analysis.old
+        work.old.users work.old.waiting work.old.gained (P.opened productions.old) (P.opened_all productions.old) }
+    ensures content { P.content productions.new ≡ P.content productions.old }
+    ensures visited { Visited A.holds A.covers A.bits A.rests_on (P.content productions.old)
+        (length (P.content productions.old).productions) analysis.new
+        work.new.users work.new.waiting work.new.gained (P.opened productions.new) (P.opened_all productions.new) }
+    ensures less { MatchBool result
+        (left_to_do (P.content productions.old) (A.bits analysis.new) work.new.waiting
+        < left_to_do (P.content productions.old) (A.bits analysis.old) work.old.waiting)
+        (NoneWaits work.new.waiting) }
+{
+    let Some(number) = work.waiting.next() else {
+        return false;
+    };
+    let p = PIdx(to_storage(number));
+    let rule = productions.rule_of(p);
+    take_in(analysis, work, rule, productions.open(p));
+    true
+}
+
+/// Visits of productions, till none gives more.
+///
+/// # Errors
+///
+/// Want of memory.
+pub fn settle<S: Storage, P: Productions<S>, A: Analysis<S>>(
+    alloc: Global,
+    productions: &mut P,
+    analysis: &mut A,
+) -> Result<(), AllocError>
+    requires grammar { IsGrammar (P.content productions.old) }
+    requires small { most_openings (P.content productions.old) < 2 ^ 64 - 1 }
+    requires holds { A.holds (P.content productions.old) analysis.old }
+    requires fresh { (q : ℕ) → q < length (P.content productions.old).productions → P.opened productions.old q ≡ 0 }
+    requires all_fresh { P.opened_all productions.old ≡ 0 }
+    ensures content { P.content productions.new ≡ P.content productions.old }
+    ensures holds { A.holds (P.content productions.old) analysis.new }
+    ensures settled { OnOk result (IsSettled A.covers (P.content productions.old) analysis.new) }
+    ensures counts { (q : ℕ) → q < length (P.content productions.old).productions
+        → P.opened productions.new q ≤ most_openings (P.content productions.old) }
+    ensures all_counts { P.opened_all productions.new ≤ most_openings_all (P.content productions.old) }
+{
+    let rules = productions.rules_len().0.to_usize();
+    let prods_len = productions.prods_len().0.to_usize();
+    let mut work = Work::new(alloc, rules, prods_len)?;
+    visit_each(productions, analysis, &mut work, prods_len)?;
+    while visit_next(productions, analysis, &mut work) {}
+    Ok(())
+}

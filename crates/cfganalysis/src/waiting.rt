@@ -1,0 +1,63 @@
+//! A queue in which each number stands at most once.
+
+ghost use Rattle.std.specs.Prelude.{◌≡◌, ◌<◌, true, false, length, replicate, slice_set, IfOk, MatchOption};
+ghost use Rattle.cfganalysis.specs.Waiting.{Leaves, NoneWaits};
+
+use cfgindex::Vob;
+use std::alloc::{AllocError, Global};
+use std::collections::VecDeque;
+use std::marker::Model;
+
+/// Numbers below a bound that wait, first come, first served. A number that waits already isn't put there again.
+#[derive(Drop)]
+pub struct Waiting {
+    bits: Vob,
+    queue: VecDeque<usize>,
+}
+
+impl Model for Waiting {
+    ghost use Rattle.std.specs.Prelude.{◌≤◌, List, Bool, length};
+    ghost use Rattle.std.specs.VecDeque.{deque_capacity};
+    ghost use Rattle.cfganalysis.specs.Waiting.{IsQueue};
+
+    ghost Value = { List Bool };
+
+    ghost view = { λ x. x.bits };
+
+    ghost invariant = { λ x. IsQueue x.bits x.queue.items × (length x.bits ≤ deque_capacity x.queue) };
+}
+
+impl Waiting {
+    /// A queue for numbers below the bound, in which none waits. Nothing that is done with it later wants memory.
+    ///
+    /// # Errors
+    ///
+    /// Want of memory.
+    pub fn new(alloc: Global, bound: usize) -> Result<Self, AllocError>
+        ensures { IfOk result (λ x. x ≡ replicate bound false) }
+    {
+        Ok(Waiting {
+            bits: Vob::from_elem(alloc, false, bound)?,
+            queue: VecDeque::with_capacity(alloc, bound)?,
+        })
+    }
+
+    /// Lets the number wait, behind all that wait already.
+    pub fn put(&mut self, number: usize)
+        requires { number < length self.old }
+        ensures { self.new ≡ slice_set self.old number true }
+    {
+        if self.bits.set(number, true) {
+            self.queue.push_back_reserved(number);
+        }
+    }
+
+    /// The number that has waited longest, which then waits no longer.
+    pub fn next(&mut self) -> Option<usize>
+        ensures { MatchOption result (NoneWaits self.old × (self.new ≡ self.old)) (λ n. Leaves n self.old self.new) }
+    {
+        let number = self.queue.pop_front()?;
+        self.bits.set(number, false);
+        Some(number)
+    }
+}

@@ -1,0 +1,111 @@
+//! A work list: the productions that an analysis has to visit again.
+
+ghost use Rattle.std.specs.Prelude.{◌≡◌, ◌<◌, ℕ, [], false, length, replicate, Contains, IfOk};
+ghost use Rattle.cfganalysis.specs.Waiting.{NoneWaits, Waits};
+ghost use Rattle.cfganalysis.specs.Work.{Notes, Queues, users_of};
+
+use crate::waiting::Waiting;
+use std::alloc::{AllocError, Global};
+use std::marker::Model;
+
+/// For each rule the productions that rest on it, by their numbers: what they give depends on the rule's set.
+#[derive(Drop)]
+pub struct Users {
+    lists: Vec<Vec<usize>>,
+}
+
+impl Model for Users {
+    ghost use Rattle.std.specs.Prelude.{ℕ, List, map};
+    ghost use Rattle.cfganalysis.specs.Work.{items_of};
+
+    ghost Value = { List (List ℕ) };
+
+    ghost view = { λ x. map items_of x.lists.items };
+}
+
+impl Users {
+    /// Lists for so many rules, on which nothing rests.
+    ///
+    /// # Errors
+    ///
+    /// Want of memory.
+    pub fn new(alloc: Global, rules: usize) -> Result<Self, AllocError>
+        ensures { IfOk result (λ x. x ≡ replicate rules []) }
+    {
+        let mut lists = Vec::new(alloc);
+        for _rule in 0..rules {
+            lists.push(Vec::new(alloc))?;
+        }
+        Ok(Users { lists })
+    }
+
+    /// Notes that a production rests on the rule.
+    ///
+    /// # Errors
+    ///
+    /// Want of memory.
+    pub fn note(&mut self, rule: usize, production: usize) -> Result<(), AllocError>
+        requires { rule < length self.old }
+        ensures { IfOk result (λ _. Notes production (λ r. r ≡ rule) self.old self.new) }
+    {
+        self.lists[rule].push(production)?;
+        Ok(())
+    }
+
+    /// Lets the productions wait that rest on the rule.
+    fn queue(&self, rule: usize, waiting: &mut Waiting)
+        requires rule { rule < length self.now }
+        requires within { (p : ℕ) → Contains (users_of self.now rule) p → p < length waiting.old }
+        ensures { Queues self.now (λ r. r ≡ rule) waiting.old waiting.new }
+    {
+        for production in &self.lists[rule] {
+            waiting.put(*production);
+        }
+    }
+}
+
+/// The work that an analysis has left.
+#[derive(Drop)]
+pub(crate) struct Work {
+    /// The productions that rest on each rule.
+    pub(crate) users: Users,
+
+    /// The productions that wait.
+    pub(crate) waiting: Waiting,
+
+    /// The rules that gained by the last visit.
+    pub(crate) gained: Waiting,
+}
+
+impl Work {
+    /// Work on so many rules and productions, of which none is there yet.
+    ///
+    /// # Errors
+    ///
+    /// Want of memory.
+    pub(crate) fn new(alloc: Global, rules: usize, productions: usize) -> Result<Self, AllocError>
+        ensures users { IfOk result (λ x. x.users ≡ replicate rules []) }
+        ensures waiting { IfOk result (λ x. x.waiting ≡ replicate productions false) }
+        ensures gained { IfOk result (λ x. x.gained ≡ replicate rules false) }
+    {
+        Ok(Work {
+            users: Users::new(alloc, rules)?,
+            waiting: Waiting::new(alloc, productions)?,
+            gained: Waiting::new(alloc, rules)?,
+        })
+    }
+
+    /// Lets the productions wait that rest on rules that gained, and forgets these.
+    pub(crate) fn queue_users(&mut self)
+        requires gained { length self.old.gained ≡ length self.old.users }
+        requires within { (r p : ℕ) → Contains (users_of self.old.users r) p → p < length self.old.waiting }
+        ensures users { self.new.users ≡ self.old.users }
+        ensures waiting { Queues self.old.users (Waits self.old.gained) self.old.waiting self.new.waiting }
+        ensures gained { NoneWaits self.new.gained }
+        ensures rules { length self.new.gained ≡ length self.old.gained }
+    {
+        while let Some(rule) = self.gained.next() {
+            self.users.queue(rule, &mut self.waiting);
+        }
+    }
+}
