@@ -17,3 +17,13 @@ pub mod TokenCosts
 pub mod Steps
 pub mod Lengths
 pub mod Sentences
+pub mod Passes
+pub mod LeastSentences
+pub mod Contained
+pub mod Joins
+pub mod Tables
+pub mod Marks
+pub mod Popped
+pub mod Inserted
+pub mod Tight
+pub mod Products

@@ -117,7 +117,7 @@ module _ (x : CostTables) (n : ℕ) (is : IsGenerator x n) (grammar : IsGrammar 
       empty refl
 
   -- a rule that costs nothing has the empty sentence
-  vanishes : (q : ℕ) → rule_cost x.least q ≡ Some 0 → Yields P (Rule q ∷ []) []
+  pub vanishes : (q : ℕ) → rule_cost x.least q ≡ Some 0 → Yields P (Rule q ∷ []) []
   vanishes q e = let (p, m, o) = opens q 0 e (omega arith) in vanish_below (suc m) q p m (omega arith) o
 
   pub begins : (r : ℕ) (pending : List Sym) (word : List ℕ) → r < x.grammar.rules → (c : ℕ) × (cost_answer x r ≡ Some c) → pending ≡ Rule r ∷ [] → word ≡ []

@@ -1,14 +1,9 @@
 -- Words cut into what the symbols of a row stand for, and induction over parse trees by such cuts.
 use Rattle.std.proofs.Common.{◌≡◌, ℕ, List, [], ◌∷◌, ◌++◌, append-nil, refl, sym, ap, subst, ◌∙◌}
-use Rattle.derivation.specs.Grammar.{Sym, Rule, Token}
+use Rattle.derivation.specs.Grammar.{Sym, Rule}
 use Rattle.derivation.specs.Tree.{Yields, empty, token, opened}
 use Rattle.derivation.proofs.Trees.{trees_join}
-
--- each token stands for itself, each rule for a part of which F holds
-pub data Split (F : ℕ → List ℕ → Type 0) : List Sym → List ℕ → Type 0 where
-  done : Split F [] []
-  itself : {t : ℕ} {a : List Sym} {w : List ℕ} → Split F a w → Split F (Token t ∷ a) (t ∷ w)
-  part : {r : ℕ} {a : List Sym} {u w v : List ℕ} → F r u → Split F a w → v ≡ u ++ w → Split F (Rule r ∷ a) v
+use Rattle.cfgcosts.specs.Splits.{Split, done, itself, part}
 
 pub Split-map : (F G : ℕ → List ℕ → Type 0) → ((r : ℕ) (u : List ℕ) → F r u → G r u) → {a : List Sym} {w : List ℕ} → Split F a w → Split G a w
 Split-map F G f done = done

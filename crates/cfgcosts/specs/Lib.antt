@@ -6,3 +6,6 @@ pub mod Open
 pub mod Settled
 pub mod Generator
 pub mod Sentences
+pub mod Splits
+pub mod Passes
+pub mod Minimal

@@ -42,8 +42,8 @@ fn token_costs<S: Storage, F: Fn(TIdx<S>) -> u8>(
 #[derive(Drop)]
 pub struct SentenceGenerator<'a, S: Storage, T: Tables<S>> {
     pub(crate) tables: &'a T,
-    costs: Vec<u8>,
-    settled: Settled<S>,
+    pub(crate) costs: Vec<u8>,
+    pub(crate) settled: Settled<S>,
 }
 
 impl<'a, S: Storage, T: Tables<S>> Model for SentenceGenerator<'a, S, T> {
@@ -96,6 +96,15 @@ impl<'a, S: Storage, T: Tables<S>> SentenceGenerator<'a, S, T> {
             costs,
             settled,
         })
+    }
+
+    /// What each token costs, at least 1.
+    pub fn token_costs(&self) -> &[u8]
+        ensures costs { result.now ≡ self.now.costs }
+        ensures tokens { length result.now ≡ self.now.grammar.tokens }
+        ensures positive { All (λ c. 0 < c) result.now }
+    {
+        &self.costs
     }
 
     /// The least cost of the rule's sentences.

@@ -5,6 +5,7 @@ pub mod certificate;
 pub mod errors;
 pub mod generator;
 pub mod laws;
+mod minimal;
 mod partial;
 mod queue;
 mod sentence;

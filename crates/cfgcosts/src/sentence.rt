@@ -33,7 +33,7 @@ fn push_symbols<S: Storage>(
 
 impl<'a, S: Storage, T: Tables<S>> SentenceGenerator<'a, S, T> {
     /// Whether the rule's least cost is 0, so that its only minimal sentence is the empty one.
-    fn is_free(&self, rule: RIdx<S>) -> bool
+    pub(crate) fn is_free(&self, rule: RIdx<S>) -> bool
         requires { S.number rule.0 < self.now.grammar.rules }
         ensures { IsTrue result ↔ (cost_answer self.now (S.number rule.0) ≡ Some 0) }
     {

@@ -37,7 +37,7 @@ fn settled_cost<S: Storage>(
 
 /// What the symbols cost together, cut down to `TOO_LARGE`, or a rule among them that isn't settled, and the sum of
 /// those before it. `partial` has the sum of the first ones.
-fn walk<S: Storage>(
+pub(crate) fn walk<S: Storage>(
     costs: &[u8],
     least: &[Option<u32>],
     symbols: &[Symbol<S>],

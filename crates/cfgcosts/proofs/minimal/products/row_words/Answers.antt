@@ -1,0 +1,34 @@
+use Rattle.std.proofs.Common.{◌∷◌, ◌++◌, [], map, take, sym, ap, subst, ◌∙◌}
+use Rattle.std.proofs.lemmas.List.{map_more, take_all}
+use Rattle.derivation.specs.Grammar.{IsSymbolOf}
+use Rattle.cfganalysis.specs.Symbols.{sym_of}
+use Rattle.cfgcosts.specs.Minimal.{numbers_of}
+use Rattle.cfgcosts.proofs.Joins.{AreCut, cut_none, cut_more}
+use Rattle.cfgcosts.proofs.Rows.{shown_holds}
+use Rattle.cfgcosts.proofs.minimal.products.row_words.Goals as goal
+
+pub loop-symbol-init : goal.loop-symbol-init
+loop-symbol-init g c = let number = g.S.Storage.number in
+    cut_none c.args.table.now _ (ap (map (numbers_of number)) (c.in_ok-push.ensures.items ∙ ap (λ l. l ++ c.new.result ∷ []) c.new-words.ensures.items)
+    ∙ ap (λ l. map (λ t. number t.0) l ∷ []) c.new.ensures.items)
+
+pub push_symbol-requires : goal.push_symbol-requires
+push_symbol-requires g c =
+    let (grammar, rules, all) = c.requires in
+    (grammar, rules, shown_holds (sym_of g.S.Storage.number) c.args.symbols.now c.loop-symbol.symbol-index _ c.loop-symbol-test.true c.symbol-item.is (IsSymbolOf grammar) all)
+
+pub loop-symbol-preserved : goal.loop-symbol-preserved
+loop-symbol-preserved g c =
+    let number = g.S.Storage.number in
+    let symbols = c.args.symbols.now in
+    let i = c.loop-symbol.symbol-index in
+    let s = c.symbol-item.result in
+    let more = map_more (sym_of number) symbols i s c.loop-symbol-test.true ∙ ap (λ x. map (sym_of number) (take i symbols) ++ sym_of number x ∷ []) (sym c.symbol-item.is) in
+    subst (AreCut c.args.table.now (map (numbers_of number) c.in_ok-words.words.items)) (sym more)
+    (cut_more c.args.table.now _ _ (map (sym_of number) (take i symbols)) (sym_of number s) c.loop-symbol.invariant c.in_ok-words.ensures)
+
+pub returns : goal.returns
+returns g c =
+    let number = g.S.Storage.number in
+    subst (λ l. AreCut c.args.table.now (map (numbers_of number) c.loop-symbol.words.items) (map (sym_of number) l))
+    (take_all c.loop-symbol.symbol-index c.args.symbols.now c.loop-symbol-test.false) c.loop-symbol.invariant

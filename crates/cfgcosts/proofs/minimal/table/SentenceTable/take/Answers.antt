@@ -1,0 +1,22 @@
+use Rattle.std.proofs.Common.{◌≡◌, ◌++◌, inl, inr, [], length, map, append-nil, sym, ap, subst, ◌∙◌, true≢false}
+use Rattle.std.specs.List.Sorted.{IsStrictlySortedBy}
+use Rattle.std.proofs.lemmas.Bool.{cases_lt}
+use Rattle.cfgcosts.specs.Minimal.{dictionary, numbers_of, set_of}
+use Rattle.cfgcosts.proofs.Inserted.{order_shown, sorted_shown}
+use Rattle.cfgcosts.proofs.Popped.{none_left}
+use Rattle.cfgcosts.proofs.Rows.{item_shown}
+use Rattle.cfgcosts.proofs.minimal.table.SentenceTable.take.Goals as goal
+
+pub returns-clause-order : goal.returns-clause-order
+returns-clause-order g c =
+    let number = g.S.Storage.number in
+    let none : c.loop-sentence.set.keys ≡ [] = elim (cases_lt 0 (length c.loop-sentence.set.keys)) [
+      | inl some ↦ absurd (true≢false (sym (c.in_default.ensures.variant.1 some)))
+      | inr zero ↦ none_left c.loop-sentence.set.keys zero
+    ] in
+    let item = item_shown (set_of number) c.self.inside.sets.items c.args.self c.args.rule c.index_mut.result.now [] c.self.view_is c.requires c.index_mut.ensures.value in
+    let all = sym (append-nil (map (numbers_of number) c.loop-sentence.sentences.items))
+    ∙ ap (λ l. map (numbers_of number) c.loop-sentence.sentences.items ++ map (numbers_of number) l) (sym none) ∙ c.loop-sentence.invariant ∙ item
+    ∙ sym (ap (set_of number) c.replace-set.ensures.value) in
+    subst (IsStrictlySortedBy dictionary) (sym all)
+    (sorted_shown _ (numbers_of number) (λ v w. order_shown _ (λ t. number t.0) (λ x y. g.met.S.Storage.ordered x.0 y.0) v.items w.items) c.replace-set.result.keys c.len-len.ensures.ordered)
