@@ -1,12 +1,14 @@
 -- A production is taken in: it raises its rule's cost, or the cost is at least its sum.
-use Rattle.std.proofs.Common.{◌≡◌, ℕ, ◌<◌, Bool, false, List, Option, Contains, inl, inr, refl, sym, subst, ◌∙◌, true≢false}
+use Rattle.std.proofs.Common.{◌≡◌, ℕ, ◌<◌, ◌≤◌, ◌+◌, arith, Bool, false, List, Option, Contains, inl, inr, refl, sym, subst, ◌∙◌, true≢false}
 use Rattle.std.specs.List.{slice_index}
 use Rattle.std.proofs.lemmas.Bool.{cases_Bool}
 use Rattle.derivation.specs.Grammar.{Sym, Grammar, IsGrammar}
 use Rattle.cfganalysis.specs.Rounds.{TakesIn}
 use Rattle.cfggreatest.specs.Raise.{HasRaised, Raises}
 use Rattle.cfggreatest.specs.Rows.{in_set}
-use Rattle.cfggreatest.specs.Tops.{AreReached, IsTopped, sum_ranks}
+use Rattle.cfggreatest.specs.Tops.{AreReached, IsTopped, rank, sum_ranks}
+use Rattle.cfgcosts.specs.Certificate.{rule_cost}
+use Rattle.cfggreatest.proofs.Exists.{at_least_by_rank}
 use Rattle.cfggreatest.proofs.Tops.{Betters, raised_reached, raised_more}
 
 module _ (costs : List ℕ) (bits : List Bool) (limit rule : ℕ) (symbols : List Sym) where
@@ -40,3 +42,12 @@ module _ (costs : List ℕ) (bits : List Bool) (limit rule : ℕ) (symbols : Lis
     same = h.same;
     closed = λ e among n k. h.topped e n k;
   }
+
+-- a rule that costs as much as the limit is not raised
+pub raises_none : (costs : List ℕ) (limit rule : ℕ) (symbols : List Sym) (x : List (Option ℕ)) → limit + 1 ≤ rank (rule_cost x rule)
+    → Raises costs limit rule symbols x x false
+raises_none costs limit rule symbols x enough = record {
+  raised = λ e. absurd (true≢false (sym e));
+  same = λ _. refl;
+  topped = λ _ n k. at_least_by_rank limit (rule_cost x rule) n (omega (arith, enough));
+}

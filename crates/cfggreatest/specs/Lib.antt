@@ -7,3 +7,8 @@ pub mod Peel
 pub mod Merge
 pub mod Stages
 pub mod Words
+pub mod Uses
+pub mod Spread
+pub mod Walk
+pub mod Keep
+pub mod Removal

@@ -59,3 +59,9 @@ live_in table r = has_cost (rule_cost table r)
 
 abbrev pub positive_in : List (Option ℕ) → ℕ → Bool
 positive_in table r = has_more (rule_cost table r)
+
+-- the cost 0, of a rule whose sentences cost nothing
+abbrev pub free_of : Option ℕ → Option ℕ
+free_of None = None
+free_of (Some zero) = Some 0
+free_of (Some (suc c)) = None

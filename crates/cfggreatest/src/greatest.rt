@@ -6,13 +6,16 @@ ghost use Rattle.derivation.specs.Sentence.{Sentence};
 ghost use Rattle.derivation.specs.Costs.{Greatest, Unbounded};
 ghost use Rattle.cfgcosts.specs.Certificate.{rule_cost};
 ghost use Rattle.cfggreatest.specs.Rows.{in_set};
-ghost use Rattle.cfggreatest.specs.Tops.{live_in, positive_in};
+ghost use Rattle.cfggreatest.specs.Tops.{AreReached, live_in, positive_in};
 ghost use Rattle.cfggreatest.specs.Peel.{AreSigns};
-ghost use Rattle.cfggreatest.specs.Words.{IsReadOff, Means};
+ghost use Rattle.cfggreatest.specs.Words.{AreReadOff, AreTold, IsReadOff};
 ghost use Rattle.cfggreatest.specs.declared.greatest.GreatestCost.TheVariants as told;
 
-use crate::rounds::{rule_top, signs, tops};
+use crate::order::rule_groups;
+use crate::rounds::rule_top;
 use crate::stages::bounded_rules;
+use crate::tables::{signs, tops};
+use crate::uses::uses;
 use cfganalysis::Tables;
 use cfgindex::Storage;
 use std::alloc::{AllocError, Global};
@@ -67,9 +70,7 @@ fn greatest_each(
     table: &[Option<u32>],
 ) -> Result<Vec<GreatestCost>, AllocError>
     requires { length table.now ≡ length bounded.now }
-    ensures rules { IfOk result (λ x. length x.items ≡ length bounded.now) }
-    ensures each { IfOk result (λ x. (r : ℕ) → r < length bounded.now
-        → IsReadOff (in_set bounded.now r) (rule_cost table.now r) (slice_index_or x.items r told.NoSentence)) }
+    ensures { IfOk result (λ x. AreReadOff bounded.now table.now x.items) }
 {
     let mut answers = Vec::new(alloc);
     for rule in 0..bounded.len() {
@@ -91,17 +92,34 @@ fn greatest_by_signs<S: Storage, T: Tables<S>>(
 ) -> Result<Vec<GreatestCost>, AllocError>
     requires costs { length costs.now ≡ (T.grammar grm.now).tokens }
     requires positive { All (λ c. 1 ≤ c) costs.now }
-    requires rules { length signs.now ≡ (T.grammar grm.now).rules }
+    requires reached { AreReached (T.grammar grm.now) (slice_index costs.now) 1 signs.now }
     requires signs { AreSigns (HasProduction (T.grammar grm.now)) (slice_index costs.now)
         (live_in signs.now) (positive_in signs.now) }
-    ensures rules { IfOk result (λ x. length x.items ≡ (T.grammar grm.now).rules) }
-    ensures means { IfOk result (λ x. (r : ℕ) → r < (T.grammar grm.now).rules
-        → Means (HasProduction (T.grammar grm.now)) (slice_index costs.now) r
-        (slice_index_or x.items r told.NoSentence)) }
+    ensures { IfOk result (λ x. AreTold (T.grammar grm.now) (slice_index costs.now) x.items) }
 {
-    let bounded = bounded_rules(alloc, grm, signs)?;
-    let table = tops(alloc, grm, costs, &bounded, 65536)?;
+    let users = uses(alloc, grm, signs)?;
+    let groups = rule_groups(alloc, grm, signs, &users)?;
+    let bounded = bounded_rules(alloc, grm, signs, &users, &groups)?;
+    let table = tops(alloc, grm, costs, signs, &bounded, &users, &groups)?;
     greatest_each(alloc, &bounded, &table)
+}
+
+/// What is told of each rule.
+///
+/// # Errors
+///
+/// Want of memory.
+pub(crate) fn told_costs<S: Storage, T: Tables<S>>(
+    alloc: Global,
+    grm: &T,
+    costs: &[u8],
+) -> Result<Vec<GreatestCost>, AllocError>
+    requires costs { length costs.now ≡ (T.grammar grm.now).tokens }
+    requires positive { All (λ c. 1 ≤ c) costs.now }
+    ensures { IfOk result (λ x. AreTold (T.grammar grm.now) (slice_index costs.now) x.items) }
+{
+    let signs = signs(alloc, grm, costs)?;
+    greatest_by_signs(alloc, grm, costs, &signs)
 }
 
 /// For each rule the greatest cost of its sentences, where a sentence costs what its tokens cost together.
@@ -133,6 +151,5 @@ pub fn greatest_costs<S: Storage, T: Tables<S>>(
         → (slice_index_or x.items r told.NoSentence ≡ told.TooLarge)
         ↔ ((n : ℕ) × Greatest (HasProduction (T.grammar grm.now)) (slice_index costs.now) r n × (65535 < n))) }
 {
-    let signs = signs(alloc, grm, costs)?;
-    greatest_by_signs(alloc, grm, costs, &signs)
+    told_costs(alloc, grm, costs)
 }

@@ -52,7 +52,7 @@ fn is_live<S: Storage>(signs: &[Option<u32>], symbol: Symbol<S>) -> bool
 }
 
 /// Whether the rules among the symbols all have sentences.
-fn are_live<S: Storage>(signs: &[Option<u32>], symbols: &[Symbol<S>]) -> bool
+pub(crate) fn are_live<S: Storage>(signs: &[Option<u32>], symbols: &[Symbol<S>]) -> bool
     requires { (tokens : ℕ) × All (IsListed (length signs.now) tokens) (map (sym_of S.number) symbols.now) }
     ensures { result ≡ are_in (live_in signs.now) (map (sym_of S.number) symbols.now) }
 {
@@ -98,7 +98,7 @@ fn count_positive<S: Storage>(signs: &[Option<u32>], symbols: &[Symbol<S>]) -> u
 }
 
 /// Whether a production keeps its rule in the further set.
-fn is_kept<S: Storage>(
+pub(crate) fn is_kept<S: Storage>(
     signs: &[Option<u32>],
     bounded: &[bool],
     further: &[bool],
@@ -121,7 +121,7 @@ fn is_kept<S: Storage>(
 }
 
 /// Removes a rule from the further set where its production shows that it rises, and tells whether it removed it.
-fn peel_one<S: Storage>(
+pub(crate) fn peel_one<S: Storage>(
     signs: &[Option<u32>],
     bounded: &[bool],
     further: &mut [bool],

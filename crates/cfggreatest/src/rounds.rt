@@ -86,6 +86,9 @@ fn raise_top<S: Storage>(
     requires limit { limit < 4294967295 }
     ensures { Raises costs.now limit rule (map (sym_of S.number) symbols.now) table.old table.new result }
 {
+    if is_at_least(rule_top(table, rule), limit) {
+        return false;
+    }
     let Some(sum) = top_sum(costs, table, limit, symbols) else {
         return false;
     };
@@ -97,7 +100,7 @@ fn raise_top<S: Storage>(
 }
 
 /// Takes in a production: raises its rule's cost to what it costs, where the rule is in the set.
-fn take_in<S: Storage>(
+pub(crate) fn take_in<S: Storage>(
     costs: &[u8],
     set: &[bool],
     limit: u32,
@@ -144,7 +147,7 @@ fn sweep<S: Storage, T: Tables<S>>(
 }
 
 /// Rounds over all productions, till one changes nothing.
-fn settle<S: Storage, T: Tables<S>>(
+pub(crate) fn settle<S: Storage, T: Tables<S>>(
     grm: &T,
     costs: &[u8],
     set: &[bool],
@@ -163,62 +166,4 @@ fn settle<S: Storage, T: Tables<S>>(
     while changed {
         changed = sweep(grm, costs, set, limit, table);
     }
-}
-
-/// For each rule of the set the greatest cost that a sentence of it reaches, cut down to the limit.
-///
-/// # Errors
-///
-/// Want of memory.
-pub(crate) fn tops<S: Storage, T: Tables<S>>(
-    alloc: Global,
-    grm: &T,
-    costs: &[u8],
-    set: &[bool],
-    limit: u32,
-) -> Result<Vec<Option<u32>>, AllocError>
-    requires costs { length costs.now ≡ (T.grammar grm.now).tokens }
-    requires set { length set.now ≡ (T.grammar grm.now).rules }
-    requires limit { limit < 4294967295 }
-    ensures reached { IfOk result (λ x. AreReached (T.grammar grm.now) (slice_index costs.now) limit x.items) }
-    ensures topped { IfOk result (λ x.
-        AreTopped (T.grammar grm.now) (slice_index costs.now) limit (in_set set.now) x.items) }
-{
-    let rules_len = grm.rules_len().0.to_usize();
-    let mut table = vec![in alloc; None; rules_len]?;
-    settle(grm, costs, set, limit, &mut table);
-    Ok(table)
-}
-
-/// A set of all rules.
-///
-/// # Errors
-///
-/// Want of memory.
-pub(crate) fn all_rules(alloc: Global, rules: usize) -> Result<Vec<bool>, AllocError>
-    ensures { IfOk result (λ set. set.items ≡ replicate rules true) }
-{
-    Ok(vec![in alloc; true; rules]?)
-}
-
-/// For each rule that has a sentence 1 if some sentence of it costs something, and else 0.
-///
-/// # Errors
-///
-/// Want of memory.
-pub(crate) fn signs<S: Storage, T: Tables<S>>(
-    alloc: Global,
-    grm: &T,
-    costs: &[u8],
-) -> Result<Vec<Option<u32>>, AllocError>
-    requires costs { length costs.now ≡ (T.grammar grm.now).tokens }
-    requires positive { All (λ c. 1 ≤ c) costs.now }
-    ensures rules { IfOk result (λ x. length x.items ≡ (T.grammar grm.now).rules) }
-    ensures signs { IfOk result (λ x. AreSigns (HasProduction (T.grammar grm.now)) (slice_index costs.now)
-        (live_in x.items) (positive_in x.items)) }
-{
-    let rules_len = grm.rules_len().0.to_usize();
-    let everything = all_rules(alloc, rules_len)?;
-    let table = tops(alloc, grm, costs, &everything, 1)?;
-    Ok(table)
 }

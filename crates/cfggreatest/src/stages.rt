@@ -1,26 +1,29 @@
 //! Which rules have bounded costs, found in stages: those that peeling keeps beside the rules found so far.
 
-ghost use Rattle.std.specs.Prelude.{◌≡◌, ℕ, ◌≤◌, All, Bool, IfOk, List, Option, false, length, replicate};
+ghost use Rattle.std.specs.Prelude.{◌≡◌, ℕ, ◌<◌, ◌≤◌, All, Bool, IfOk, List, Option, false, length, replicate};
 ghost use Rattle.derivation.specs.Grammar.{Grammar, IsGrammar};
 ghost use Rattle.cfganalysis.specs.Rounds.{IsSettled};
 ghost use Rattle.cfggreatest.specs.Peel.{IsKept, IsPeeled};
+ghost use Rattle.cfggreatest.specs.Uses.{AreListsBelow};
 ghost use Rattle.cfggreatest.specs.Stages.{AreFoundBounded, AreOthersUnbounded, Widens};
 
+use crate::keep::keep_groups;
 use crate::peel::{merge, peel};
-use crate::rounds::all_rules;
+use crate::removal::remove_users;
+use crate::tables::numbers;
 use cfganalysis::Tables;
-use cfgindex::{Storage, to_storage};
+use cfgindex::{PIdx, Storage};
 use std::alloc::{AllocError, Global};
 
-/// A set of no rules.
+/// A set of all rules, or of none.
 ///
 /// # Errors
 ///
 /// Want of memory.
-fn no_rules(alloc: Global, rules: usize) -> Result<Vec<bool>, AllocError>
-    ensures { IfOk result (λ set. set.items ≡ replicate rules false) }
+pub(crate) fn rule_set(alloc: Global, all: bool, rules: usize) -> Result<Vec<bool>, AllocError>
+    ensures { IfOk result (λ set. set.items ≡ replicate rules all) }
 {
-    Ok(vec![in alloc; false; rules]?)
+    Ok(vec![in alloc; all; rules]?)
 }
 
 /// The rules that peeling keeps beside the bounded ones.
@@ -33,15 +36,20 @@ fn kept_rules<S: Storage, T: Tables<S>>(
     grm: &T,
     signs: &[Option<u32>],
     bounded: &[bool],
+    users: &[Vec<PIdx<S>>],
 ) -> Result<Vec<bool>, AllocError>
     requires signs { length signs.now ≡ (T.grammar grm.now).rules }
     requires bounded { length bounded.now ≡ (T.grammar grm.now).rules }
+    requires users { length users.now ≡ (T.grammar grm.now).rules }
+    requires places { AreListsBelow (λ p. S.number p.0) (length (T.grammar grm.now).productions) users.now }
     ensures peeled { IfOk result (λ x. IsPeeled (T.grammar grm.now) signs.now bounded.now x.items) }
     ensures kept { IfOk result (λ x.
         IsSettled (λ y p. IsKept signs.now bounded.now y p) (T.grammar grm.now) x.items) }
 {
     let rules_len = grm.rules_len().0.to_usize();
-    let mut further = all_rules(alloc, rules_len)?;
+    let mut further = rule_set(alloc, true, rules_len)?;
+    let mut waiting = numbers(alloc, bounded, false)?;
+    remove_users(grm, signs, bounded, users, &mut further, &mut waiting)?;
     peel(grm, signs, bounded, &mut further);
     Ok(further)
 }
@@ -56,14 +64,17 @@ fn widen<S: Storage, T: Tables<S>>(
     grm: &T,
     signs: &[Option<u32>],
     bounded: &mut [bool],
+    users: &[Vec<PIdx<S>>],
 ) -> Result<bool, AllocError>
     requires signs { length signs.now ≡ (T.grammar grm.now).rules }
+    requires users { length users.now ≡ (T.grammar grm.now).rules }
+    requires places { AreListsBelow (λ p. S.number p.0) (length (T.grammar grm.now).productions) users.now }
     requires found { AreFoundBounded (T.grammar grm.now) signs.now bounded.old }
     requires fits { All (λ p. length p.symbols ≤ S.MAX) (T.grammar grm.now).productions }
     requires content { IsGrammar (T.grammar grm.now) }
     ensures { IfOk result (λ changed. Widens (T.grammar grm.now) signs.now bounded.old bounded.new changed) }
 {
-    let further = kept_rules(alloc, grm, signs, bounded)?;
+    let further = kept_rules(alloc, grm, signs, bounded, users)?;
     Ok(merge(bounded, &further))
 }
 
@@ -76,17 +87,22 @@ pub(crate) fn bounded_rules<S: Storage, T: Tables<S>>(
     alloc: Global,
     grm: &T,
     signs: &[Option<u32>],
+    users: &[Vec<PIdx<S>>],
+    groups: &[Vec<usize>],
 ) -> Result<Vec<bool>, AllocError>
     requires signs { length signs.now ≡ (T.grammar grm.now).rules }
+    requires users { length users.now ≡ (T.grammar grm.now).rules }
+    requires places { AreListsBelow (λ p. S.number p.0) (length (T.grammar grm.now).productions) users.now }
+    requires groups { AreListsBelow (λ r. r) (T.grammar grm.now).rules groups.now }
     ensures found { IfOk result (λ x. AreFoundBounded (T.grammar grm.now) signs.now x.items) }
     ensures rest { IfOk result (λ x. AreOthersUnbounded (T.grammar grm.now) signs.now x.items) }
     ensures content { IfOk result (λ x. IsGrammar (T.grammar grm.now)) }
 {
-    let rules_len = grm.rules_len().0.to_usize();
-    let mut bounded = no_rules(alloc, rules_len)?;
+    let _rules_len = grm.rules_len();
+    let mut bounded = keep_groups(alloc, grm, signs, groups)?;
     let mut changed = true;
     while changed {
-        changed = widen(alloc, grm, signs, &mut bounded)?;
+        changed = widen(alloc, grm, signs, &mut bounded, users)?;
     }
     Ok(bounded)
 }

@@ -3,7 +3,7 @@ use Rattle.std.specs.List.{slice_index}
 use Rattle.lemmas.proofs.Elements.{get_or-replicate_default}
 use Rattle.cfggreatest.specs.Rows.{in_set}
 use Rattle.cfggreatest.proofs.Signs.{signs_from_table, tokens_cost}
-use Rattle.cfggreatest.proofs.rounds.signs.Goals as goal
+use Rattle.cfggreatest.proofs.tables.signs.Goals as goal
 
 pub returns-clause-signs : goal.returns-clause-signs
 returns-clause-signs g c =
