@@ -1,18 +1,19 @@
 -- The tables of a valid syntax, and what a constructor answers.
-use Rattle.std.proofs.Common.{◌≡◌, ℕ, List, [], ◌∷◌, ◌++◌, length, map, None, Err, String, Global, refl, sym, subst}
+use Rattle.std.proofs.Common.{◌≡◌, ℕ, List, [], ◌∷◌, ◌++◌, length, map, Option, option_map, Err, String, Global, refl, sym, subst}
 use Rattle.std.specs.List.{zip}
 use Rattle.cfgindex.specs.declared.idxnewtype.PIdx.{PIdx}
+use Rattle.cfgindex.specs.declared.idxnewtype.RIdx.{RIdx}
 use Rattle.cfgast.specs.declared.settings.Settings.{Settings}
 use Rattle.cfgast.specs.Syntax.{Syntax}
 use Rattle.cfgast.specs.View.{settings_view}
-use Rattle.cfgsyntax.specs.Errors.{GrammarError}
+use Rattle.cfgerrors.specs.Errors.{GrammarError}
 use Rattle.cfgsyntax.specs.Sound.{IsSound}
-use Rattle.cfgsyntax.specs.declared.yacc.kind.YaccKind.{YaccKind}
-use Rattle.cfgsyntax.specs.declared.yacc.parser.error.YaccFault.{YaccFault}
-use Rattle.cfgsyntax.specs.declared.yacc.parser.error.YaccFault.TheVariants as faults
+use Rattle.cfgerrors.specs.declared.kind.YaccKind.{YaccKind}
+use Rattle.cfgerrors.specs.declared.error.YaccFault.{YaccFault}
+use Rattle.cfgerrors.specs.declared.error.YaccFault.TheVariants as faults
 use Rattle.cfgrammar.specs.Answer.{IsAnswer, IsRefused, IsTooSmall}
 use Rattle.cfgrammar.specs.Fits.{Fits, LeavesRoom}
-use Rattle.cfgrammar.specs.Numbered.{Numbered, numbered, start_rule, file_rule, start_production, file_production, file_token, end_token}
+use Rattle.cfgrammar.specs.Numbered.{Numbered, numbered, numbered_by, implicit_of, added_rules, file_rule, added_productions, file_production, file_token, end_token}
 use Rattle.cfgrammar.specs.View.{tables, rule_view, production_view, token_view}
 use Rattle.cfgrammar.specs.WellNumbered.{IsWellNumbered}
 use Rattle.cfgrammar.specs.declared.yacc.grammar.rows.RuleRow.{RuleRow}
@@ -20,34 +21,45 @@ use Rattle.cfgrammar.specs.declared.yacc.grammar.rows.ProductionRow.{ProductionR
 use Rattle.cfgrammar.specs.declared.yacc.grammar.rows.TokenRow.{TokenRow}
 use Rattle.cfgrammar.proofs.Listed.{listed_once}
 use Rattle.cfgrammar.proofs.Names.{distinct_names}
+use Rattle.cfgrammar.proofs.Places.{implicit_there}
 use Rattle.cfgrammar.proofs.Room.{fits_from_room, room_from_fits}
 use Rattle.cfgrammar.proofs.Whole.{whole}
 
+-- what holds of a syntax and of its implicit tokens
+pub of_both : (P : Syntax → Option (List (List ℕ)) → Type 0) (s t : Syntax) (implicit other : Option (List (List ℕ))) → s ≡ t → implicit ≡ other → P t other → P s implicit
+of_both P s t implicit other same same_implicit holds = subst (P s) (sym same_implicit) (subst (λ x. P x other) (sym same) holds)
+
 module _ {S : Type 0} (number : S → ℕ) (kind : YaccKind) (s : Syntax)
-    (rules : List (String Global × RuleRow S)) (productions : List (ProductionRow S)) (tokens : List (String Global × TokenRow)) (start : PIdx S) (settings : Settings) where
+    (rules : List (String Global × RuleRow S)) (productions : List (ProductionRow S)) (tokens : List (String Global × TokenRow)) (start : PIdx S)
+    (implicit_rule : Option (RIdx S)) (settings : Settings) where
   -- tables of these rows are the syntax numbered
-  pub built : map (rule_view number) rules ≡ start_rule s ∷ map file_rule s.rules
-      → map (production_view number) productions ≡ map (file_production s) (zip s.production_rules s.productions) ++ start_production s ∷ []
-      → map token_view tokens ≡ map file_token (zip s.tokens s.spans) → number start.0 ≡ length s.productions → settings_view settings ≡ s.settings
-      → tables number rules productions tokens start settings ≡ numbered kind s
-  unfolding tables numbered
-  built rules_are productions_are tokens_are start_is settings_are = λ i. record {
+  pub built : map (rule_view number) rules ≡ added_rules (implicit_of kind s) (length s.productions) ++ map file_rule s.rules
+      → map (production_view number) productions
+      ≡ map (file_production (implicit_of kind s) s) (zip s.production_rules s.productions) ++ added_productions (implicit_of kind s) s
+      → map token_view tokens ≡ map (file_token s) (zip s.tokens s.spans) → number start.0 ≡ length s.productions
+      → option_map (λ rule. number rule.0) implicit_rule ≡ option_map (λ names. 1) (implicit_of kind s) → settings_view settings ≡ s.settings
+      → tables number rules productions tokens start implicit_rule settings ≡ numbered kind s
+  unfolding tables numbered numbered_by
+  built rules_are productions_are tokens_are start_is implicit_rule_is settings_are = λ i. record {
     rules = rules_are i;
     tokens = tokens_are i ++ end_token ∷ [];
     productions = productions_are i;
     start_production = start_is i;
-    implicit_rule = None;
+    implicit_rule = implicit_rule_is i;
     settings = settings_are i;
   }
 
 -- the numbers of a syntax that was read without errors
-pub well_numbered : (max : ℕ) (kind : YaccKind) (s : Syntax) → IsSound s [] → LeavesRoom max s → IsWellNumbered max (numbered kind s)
-well_numbered max kind s sound room = record {
-  whole = whole kind s sound;
-  counted = fits_from_room max s kind sound.well_formed room;
-  names = distinct_names kind s sound;
-  listed_once = listed_once s sound.well_formed kind;
-}
+pub well_numbered : (max : ℕ) (kind : YaccKind) (s : Syntax) → IsSound s [] → LeavesRoom max (implicit_of kind s) s → IsWellNumbered max (numbered kind s)
+unfolding numbered
+well_numbered max kind s sound room =
+    let implicit = implicit_of kind s in
+    record {
+      whole = whole implicit s sound (implicit_there kind s sound.well_formed);
+      counted = fits_from_room max implicit s sound.well_formed room;
+      names = distinct_names implicit s sound;
+      listed_once = listed_once implicit s sound.well_formed;
+    }
 
 -- the errors of a text that has some
 pub refused : (max : ℕ) (errors : List GrammarError) (g : Numbered) (told : List GrammarError) → (errors ≡ [] → ⊥) → told ≡ errors → IsRefused max errors g told
@@ -55,14 +67,16 @@ refused max [] g told some same = absurd (some refl)
 refused max (error ∷ errors) g told some same = same
 
 -- a grammar that is too large
-pub too_large : (max : ℕ) (kind : YaccKind) (s : Syntax) (errors : List GrammarError) (fault : YaccFault) → IsSound s errors → errors ≡ [] → (LeavesRoom max s → ⊥) → IsTooSmall fault
-    → IsAnswer max errors (numbered kind s) (Err fault)
+pub too_large : (max : ℕ) (kind : YaccKind) (s : Syntax) (errors : List GrammarError) (fault : YaccFault) → IsSound s errors → errors ≡ [] → (LeavesRoom max (implicit_of kind s) s → ⊥)
+    → IsTooSmall fault → IsAnswer max errors (numbered kind s) (Err fault)
+unfolding numbered
 too_large max kind s errors faults.OutOfMemory sound none no_room told = tt
 too_large max kind s errors (faults.Errors list) sound none no_room told =
     subst (λ e. IsRefused max e (numbered kind s) list.items) (sym none)
-    ((λ fits. no_room (room_from_fits max s kind sound.well_formed fits)), told)
+    ((λ fits. no_room (room_from_fits max (implicit_of kind s) s sound.well_formed fits)), told)
 
 -- a grammar
-pub answered : (max : ℕ) (kind : YaccKind) (s : Syntax) (errors : List GrammarError) (g : Numbered) → IsSound s errors → errors ≡ [] → LeavesRoom max s → g ≡ numbered kind s
+pub answered : (max : ℕ) (kind : YaccKind) (s : Syntax) (errors : List GrammarError) (g : Numbered) → IsSound s errors → errors ≡ [] → LeavesRoom max (implicit_of kind s) s → g ≡ numbered kind s
     → (errors ≡ []) × Fits max (numbered kind s) × (g ≡ numbered kind s)
-answered max kind s errors g sound none room same = (none, fits_from_room max s kind sound.well_formed room, same)
+unfolding numbered
+answered max kind s errors g sound none room same = (none, fits_from_room max (implicit_of kind s) s sound.well_formed room, same)

@@ -9,7 +9,7 @@ use Rattle.cfgast.specs.View.{rule_entry}
 use Rattle.cfgast.specs.declared.rule.Rule as source
 use Rattle.cfgrammar.specs.Numbered.{NumberedRule, end_token}
 use Rattle.cfgrammar.specs.Shown.{has_token_name}
-use Rattle.cfgrammar.specs.View.{rule_view, token_view}
+use Rattle.cfgrammar.specs.View.{names, rule_view, token_view}
 use Rattle.cfgrammar.specs.declared.yacc.grammar.rows.RuleRow.{RuleRow}
 use Rattle.cfgrammar.specs.declared.yacc.grammar.rows.TokenRow.{TokenRow}
 use Rattle.cfgsyntax.specs.Check.{is_rule, is_token}
@@ -44,3 +44,7 @@ pub token_position : (name : List ℕ) (es : List (String Global × TokenRow))
 token_position name es =
     position-keys name es ∙ sym (position-map (has_token_name name) token_view es)
     ∙ sym (position-push (has_token_name name) (map token_view es) end_token refl)
+
+-- the same of a token's name among the names of the rows
+pub token_named : (name : List ℕ) (es : List (String Global × TokenRow)) → position (bytes_eq name) (names es) ≡ position (has_token_name name) (map token_view es ++ end_token ∷ [])
+token_named name es = position-map (bytes_eq name) (λ (e : String Global × TokenRow). string_bytes e.0) es ∙ sym (position-keys name es) ∙ token_position name es

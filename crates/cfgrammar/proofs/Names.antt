@@ -4,6 +4,7 @@ use Rattle.std.specs.List.{cons_option, position_or_len, zip, AllByRecursion, Is
 use Rattle.std.specs.Option.{option_map_or}
 use Rattle.std.specs.Str.{bytes_eq}
 use Rattle.std.specs.Cmp.Lexicographic.{nat_list_eq_equiv}
+use Rattle.std.proofs.lemmas.List.{map-append}
 use Rattle.std.proofs.lemmas.List.Elements.{filter_map-append}
 use Rattle.std.proofs.lemmas.Map.Keys.{IsDistinct-head, IsDistinct-tail}
 use Rattle.std.proofs.lemmas.Option.{slice_get-map}
@@ -13,11 +14,11 @@ use Rattle.cfgbase.specs.declared.span.Span.{Span}
 use Rattle.cfgast.specs.Syntax.{Syntax}
 use Rattle.lemmas.proofs.Places.{position-distinct, position-map}
 use Rattle.cfgsyntax.specs.Sound.{IsSound}
-use Rattle.cfgsyntax.specs.declared.yacc.kind.YaccKind.{YaccKind}
-use Rattle.cfgrammar.specs.Numbered.{Numbered, NumberedRule, NumberedToken, numbered, start_rule, file_rule, file_token, end_token}
+use Rattle.cfgrammar.specs.Numbered.{Numbered, NumberedRule, NumberedToken, numbered_by, added_rules, file_rule, file_token, end_token}
 use Rattle.cfgrammar.specs.Shown.{rule_part, token_part, has_token_name}
 use Rattle.cfgrammar.specs.WellNumbered.{HasDistinctNames}
-use Rattle.cfgrammar.proofs.Rows.{rule_names-distinct, name_shown}
+use Rattle.cfgrammar.proofs.Added.{added_names_are}
+use Rattle.cfgrammar.proofs.Rows.{rule_names, rule_names-distinct, name_shown}
 use Rattle.cfgrammar.proofs.Within.{part_within}
 
 -- what holds of the names of all tokens holds of one's
@@ -71,17 +72,26 @@ module _ (g : Numbered) (names : HasDistinctNames g) where
       ap (λ i. cond (nat_lt i (length g.tokens)) (Some i) None) (token_place g.tokens t name names.tokens at)
       ∙ ap (λ b. cond b (Some t) None) (lt-ltb t (length g.tokens) (part_within name_shown g.tokens t (Some name) at))
 
-names_of_file : (rows : List (List ℕ × Span)) → filter_map name_shown (map file_token rows) ≡ map (λ row. row.0) rows
-names_of_file [] = refl
-names_of_file (row ∷ rows) = ap (λ ns. row.0 ∷ ns) (names_of_file rows)
+names_of_file : (s : Syntax) (rows : List (List ℕ × Span)) → filter_map name_shown (map (file_token s) rows) ≡ map (λ row. row.0) rows
+names_of_file s [] = refl
+names_of_file s (row ∷ rows) = ap (λ ns. row.0 ∷ ns) (names_of_file s rows)
 
-pub distinct_names : (kind : YaccKind) (s : Syntax) → IsSound s [] → HasDistinctNames (numbered kind s)
-unfolding numbered
-distinct_names kind s sound =
-    let rows = zip s.tokens s.spans in
-    let tokens : filter_map name_shown (map file_token rows ++ end_token ∷ []) ≡ s.tokens =
-    filter_map-append name_shown (map file_token rows) (end_token ∷ []) ∙ append-nil _ ∙ names_of_file rows ∙ firsts-zip s.tokens s.spans sound.well_formed.spans_as_long in
-    record {
-      rules = subst (λ ns. IsDistinct bytes_eq ((start_rule s).name ∷ ns)) (sym (map-map (λ (rule : NumberedRule). rule.name) file_rule s.rules)) (rule_names-distinct s sound);
-      tokens = subst (IsDistinct bytes_eq) (sym tokens) sound.well_formed.tokens_distinct;
-    }
+module _ (implicit : Option (List (List ℕ))) (s : Syntax) (sound : IsSound s []) where
+  rule_names_are : map (λ rule. rule.name) (numbered_by implicit s).rules ≡ rule_names implicit s
+  unfolding numbered_by
+  rule_names_are =
+      let name_of : NumberedRule → List ℕ = λ rule. rule.name in
+      map-append name_of (added_rules implicit (length s.productions)) (map file_rule s.rules)
+      ∙ (λ i. added_names_are implicit (length s.productions) i ++ map-map name_of file_rule s.rules i)
+
+  token_names_are : filter_map name_shown (numbered_by implicit s).tokens ≡ s.tokens
+  unfolding numbered_by
+  token_names_are =
+      let rows = zip s.tokens s.spans in
+      filter_map-append name_shown (map (file_token s) rows) (end_token ∷ []) ∙ append-nil _ ∙ names_of_file s rows ∙ firsts-zip s.tokens s.spans sound.well_formed.spans_as_long
+
+  pub distinct_names : HasDistinctNames (numbered_by implicit s)
+  distinct_names = record {
+    rules = subst (IsDistinct bytes_eq) (sym rule_names_are) (rule_names-distinct implicit s sound);
+    tokens = subst (IsDistinct bytes_eq) (sym token_names_are) sound.well_formed.tokens_distinct;
+  }

@@ -1,11 +1,19 @@
--- The productions that rules list are those that are there.
-use Rattle.std.proofs.Common.{ℕ, ◌<◌, ◌==◌, List, length, get_or, All, Contains, refl, sym, subst, arith, eq-eqb}
+-- The productions that rules list, and the implicit tokens, are those that are there.
+use Rattle.std.proofs.Common.{◌≡◌, ℕ, ◌<◌, ◌==◌, true, List, length, map, get_or, All, Contains, Option, Some, None, IfSome, option_map, refl, sym, subst, arith, eq-eqb}
+use Rattle.std.specs.List.{list_any}
+use Rattle.std.specs.Str.{bytes_eq}
+use Rattle.std.proofs.lemmas.List.Elements.{All-map}
 use Rattle.std.proofs.lemmas.Option.{get_or_from_slice_get, slice_get-get_or}
 use Rattle.lemmas.specs.Lists.{places_from}
 use Rattle.lemmas.proofs.Elements.{element_at}
 use Rattle.lemmas.proofs.Passing.{places_from-within, places_from-contains}
-use Rattle.cfgast.specs.Syntax.{Rule, Syntax}
+use Rattle.cfgbase.specs.declared.span.Span.{Span}
+use Rattle.cfgast.specs.Syntax.{Rule, Syntax, entry_name}
 use Rattle.cfgast.specs.WellFormed.{IsWellFormed}
+use Rattle.cfgerrors.specs.declared.kind.YaccKind.{YaccKind}
+use Rattle.cfgerrors.specs.declared.kind.YaccKind.TheVariants.{Original, Grmtools, Eco}
+use Rattle.cfgrammar.specs.Numbered.{implicit_of}
+use Rattle.cfgrammar.specs.Resolved.{AreTokens}
 
 pub listed_within : (s : Syntax) → IsWellFormed s → All (λ rule. All (λ i. i < length s.productions) rule.1.productions) s.rules
 listed_within s well r d within =
@@ -25,3 +33,13 @@ listed_somewhere s well i within =
       (r, rule_there, is),
       subst (λ listed. Contains listed i) (sym (well.productions_listed r rule.0 rule.1)) (subst (Contains (places_from 0 (λ other. r == other) s.production_rules)) (omega arith) own),
     )
+
+names_there : (s : Syntax) (table : Option (List (List ℕ × Span))) → IfSome table (λ entries. All (λ entry. list_any (bytes_eq entry.0) s.tokens ≡ true) entries)
+    → AreTokens s (option_map (map entry_name) table)
+names_there s None there = tt
+names_there s (Some entries) there = All-map (λ name. list_any (bytes_eq name) s.tokens ≡ true) entry_name entries there
+
+pub implicit_there : (kind : YaccKind) (s : Syntax) → IsWellFormed s → AreTokens s (implicit_of kind s)
+implicit_there (Original actions) s well = tt
+implicit_there Grmtools s well = tt
+implicit_there Eco s well = names_there s s.tables.implicit_tokens well.implicit_are_tokens

@@ -5,6 +5,7 @@ use Rattle.std.specs.Option.{option_map_or}
 use Rattle.std.proofs.lemmas.List.{get_or-map, length-map}
 use Rattle.std.proofs.lemmas.Option.{slice_get-get_or}
 use Rattle.cfgindex.specs.declared.idxnewtype.PIdx.{PIdx}
+use Rattle.cfgindex.specs.declared.idxnewtype.RIdx.{RIdx}
 use Rattle.cfgast.specs.declared.settings.Settings.{Settings}
 use Rattle.derivation.specs.Grammar.{Rule, Token}
 use Rattle.cfgrammar.specs.Numbered.{Numbered, NumberedRule, NumberedToken, NumberedProduction}
@@ -36,14 +37,14 @@ module _ {S A : Type 0} (number : S → ℕ) (part : NumberedRule → A) (row : 
   row_shown (e ∷ es) (suc i) at = row_shown es i at
 
   -- a part of a rule that its row shows
-  pub rule_shown : (rules : List (String Global × RuleRow S)) (productions : List (ProductionRow S)) (tokens : List (String Global × TokenRow)) (start : PIdx S) (settings : Settings) (g : Numbered)
-      → tables number rules productions tokens start settings ≡ g → (i r : ℕ) → i ≡ r → slice_get (values_of rules) i ≡ Some row → rule_part part g r ≡ Some x
+  pub rule_shown : (rules : List (String Global × RuleRow S)) (productions : List (ProductionRow S)) (tokens : List (String Global × TokenRow)) (start : PIdx S) (implicit : Option (RIdx S)) (settings : Settings) (g : Numbered)
+      → tables number rules productions tokens start implicit settings ≡ g → (i r : ℕ) → i ≡ r → slice_get (values_of rules) i ≡ Some row → rule_part part g r ≡ Some x
   unfolding tables
-  rule_shown rules productions tokens start settings g view_is i r same at =
+  rule_shown rules productions tokens start implicit settings g view_is i r same at =
       ap (λ (t : Numbered). rule_part part t r) (sym view_is) ∙ ap (λ k. option_map part (slice_get (map (rule_view number) rules) k)) (sym same) ∙ row_shown rules i at
 
-module _ {S : Type 0} (number : S → ℕ) (rules : List (String Global × RuleRow S)) (productions : List (ProductionRow S)) (tokens : List (String Global × TokenRow)) (start : PIdx S) (settings : Settings) (g : Numbered)
-    (view_is : tables number rules productions tokens start settings ≡ g) where
+module _ {S : Type 0} (number : S → ℕ) (rules : List (String Global × RuleRow S)) (productions : List (ProductionRow S)) (tokens : List (String Global × TokenRow)) (start : PIdx S) (implicit : Option (RIdx S)) (settings : Settings) (g : Numbered)
+    (view_is : tables number rules productions tokens start implicit settings ≡ g) where
   -- a place is that of a row
   pub row_within : (r : ℕ) → r < length g.productions → r < length productions
   unfolding tables
@@ -59,7 +60,7 @@ module _ {S : Type 0} (number : S → ℕ) (rules : List (String Global × RuleR
       ∙ ap (λ p. Some (part p)) (get_or-map (production_view number) productions r row (production_view number row) (row_within r within) ∙ ap (production_view number) (sym (is ∙ ap (λ k. get_or productions k row) same)))
 
   -- its symbols can be counted
-  pub symbols_counted : (max : ℕ) → Fits max (tables number rules productions tokens start settings) → (row : ProductionRow S) (i r : ℕ) → i ≡ r → r < length g.productions → row ≡ get_or productions i row → length row.symbols.items ≤ max
+  pub symbols_counted : (max : ℕ) → Fits max (tables number rules productions tokens start implicit settings) → (row : ProductionRow S) (i r : ℕ) → i ≡ r → r < length g.productions → row ≡ get_or productions i row → length row.symbols.items ≤ max
   unfolding tables
   symbols_counted max fits row i r same within is =
       let there = row_within r within in

@@ -5,8 +5,8 @@ use Rattle.std.proofs.lemmas.List.Elements.{All-nil, All-cons, All-contains}
 use Rattle.std.proofs.lemmas.Option.{slice_get-get_or}
 use Rattle.cfgwords.specs.Words.{Word}
 use Rattle.cfgast.specs.Syntax.{Syntax, Production}
-use Rattle.cfgsyntax.specs.Check.{is_rule, first_error, start_error, symbol_error, production_error, place_error, rule_error, check_of}
-use Rattle.cfgsyntax.specs.Errors.{GrammarError, InvalidStartRule, error_at}
+use Rattle.cfgsyntax.specs.Check.{is_rule, first_error, start_error, symbol_error, precedence_error, printed_error, production_error, place_error, rule_error, check_of}
+use Rattle.cfgerrors.specs.Errors.{GrammarError, InvalidStartRule, error_at}
 use Rattle.cfgsyntax.specs.Sound.{IsSound}
 use Rattle.cfgrammar.specs.Resolved.{IsResolved}
 use Rattle.cfgrammar.proofs.Places.{listed_somewhere}
@@ -39,20 +39,26 @@ resolved s sound = record {
   start = start.0;
   starts = start.1;
   start_is_rule = start.2;
-  symbols = λ i d within. no_errors (symbol_error s) _ (production_ok i d within);
+  symbols = λ i d within.
+      let production = get_or s.productions i d in
+      no_errors (symbol_error s) production.symbols
+      (none_second (precedence_error s production.precedence) (first_error (symbol_error s) production.symbols) (production_ok i d within));
 }
   where
     passes : check_of s ≡ None
     passes = sound.checked refl
 
+    behind_rules : Option GrammarError
+    behind_rules = option_or (first_error (printed_error s) s.tables.printed_forms) (first_error (symbol_error s) s.expect_unused)
+
     behind_start : Option GrammarError
-    behind_start = option_or (first_error (rule_error s) s.rules) (first_error (symbol_error s) s.expect_unused)
+    behind_start = option_or (first_error (rule_error s) s.rules) behind_rules
 
     start : (word : Word) × (s.start ≡ Some word) × (is_rule s word.name ≡ true)
     start = started s s.start (none_first (start_error s s.start) behind_start passes)
 
     rules_ok : All (λ rule. rule_error s rule ≡ None) s.rules
-    rules_ok = no_errors (rule_error s) s.rules (none_first (first_error (rule_error s) s.rules) (first_error (symbol_error s) s.expect_unused)
+    rules_ok = no_errors (rule_error s) s.rules (none_first (first_error (rule_error s) s.rules) behind_rules
         (none_second (start_error s s.start) behind_start passes))
 
     place_ok : (i : ℕ) → i < length s.productions → place_error s i ≡ None

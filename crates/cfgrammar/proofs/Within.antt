@@ -30,7 +30,7 @@ part_within {A} {B} part xs i y at = go (slice_get xs i) refl at
     go (Some x) is at = slice_get_within xs i x is
 
 -- what holds of each element that is shown
-unmapped : {A B : Type 0} (P : B → Type 0) (f : A → B) (xs : List A) → All P (map f xs) → All (λ x. P (f x)) xs
+pub unmapped : {A B : Type 0} (P : B → Type 0) (f : A → B) (xs : List A) → All P (map f xs) → All (λ x. P (f x)) xs
 unmapped P f xs all = λ k d within. subst P (get_or-map f xs k d (f d) within) (all k (f d) (omega (arith, within, length-map xs f)))
 
 pub record RefersWithin (g : Numbered) : Type 0 where

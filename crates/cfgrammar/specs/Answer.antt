@@ -1,9 +1,9 @@
 -- What a constructor of a grammar answers.
 use Rattle.std.specs.Prelude.{◌≡◌, ℕ, List, [], ◌∷◌, Result, Ok, Err}
-use Rattle.cfgsyntax.specs.Errors.{GrammarError, Nameless, error_at}
-use Rattle.cfgsyntax.specs.declared.yacc.parser.error.YaccGrammarErrorKind.TheVariants.{StorageTooSmall}
-use Rattle.cfgsyntax.specs.declared.yacc.parser.error.YaccFault.{YaccFault}
-use Rattle.cfgsyntax.specs.declared.yacc.parser.error.YaccFault.TheVariants as faults
+use Rattle.cfgerrors.specs.Errors.{GrammarError, Nameless, error_at}
+use Rattle.cfgerrors.specs.declared.error.YaccGrammarErrorKind.TheVariants.{StorageTooSmall}
+use Rattle.cfgerrors.specs.declared.error.YaccFault.{YaccFault}
+use Rattle.cfgerrors.specs.declared.error.YaccFault.TheVariants as faults
 use Rattle.cfgrammar.specs.Numbered.{Numbered, nowhere}
 use Rattle.cfgrammar.specs.Fits.{Fits}
 

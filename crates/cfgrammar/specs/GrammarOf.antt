@@ -3,11 +3,11 @@ use Rattle.std.specs.Prelude.{ℕ, List, Option, Result}
 use Rattle.cfgwords.specs.declared.fault.Fault.{Fault}
 use Rattle.cfgast.specs.Items.{Item}
 use Rattle.cfgast.specs.Syntax.{syntax_of}
-use Rattle.cfgsyntax.specs.Errors.{GrammarError}
+use Rattle.cfgerrors.specs.Errors.{GrammarError}
 use Rattle.cfgsyntax.specs.Faults.{errors_of}
 use Rattle.cfgsyntax.specs.Reads.{HasOneReading, Reads}
-use Rattle.cfgsyntax.specs.declared.yacc.kind.YaccKind.{YaccKind}
-use Rattle.cfgsyntax.specs.declared.yacc.parser.error.YaccFault.{YaccFault}
+use Rattle.cfgerrors.specs.declared.kind.YaccKind.{YaccKind}
+use Rattle.cfgerrors.specs.declared.error.YaccFault.{YaccFault}
 use Rattle.cfgrammar.specs.Answer.{IsAnswer}
 use Rattle.cfgrammar.specs.Numbered.{Numbered, numbered}
 

@@ -1,22 +1,17 @@
 -- A grammar in numbers, and the one that a syntax makes: its rules, productions and tokens by their indices.
-use Rattle.std.specs.Prelude.{ℕ, suc, Bool, false, List, [], ◌∷◌, ◌++◌, map, length, Option, Some, None, option_map, codes}
-use Rattle.std.specs.List.{zip, position_or_len}
-use Rattle.std.specs.Option.{option_to_list}
+use Rattle.std.specs.Prelude.{ℕ, ◌+◌, Bool, false, List, [], ◌∷◌, ◌++◌, map, length, Option, Some, None, option_map, codes}
+use Rattle.std.specs.List.{filter_map, flat_map, position_or_len, range_with_len, zip}
+use Rattle.std.specs.Map.{lookup}
+use Rattle.std.specs.Option.{option_and_then, option_map_or, option_or, option_to_list}
 use Rattle.std.specs.Str.{bytes_eq}
 use Rattle.derivation.specs.Grammar.{Sym, Rule, Token, Production, Grammar}
 use Rattle.cfgbase.specs.declared.span.Span.{Span}
 use Rattle.cfgast.specs.Syntax as file
-use Rattle.cfgast.specs.Syntax.{Settings, Syntax, RuleSymbol, TokenSymbol, index_of}
-use Rattle.cfgsyntax.specs.declared.yacc.kind.YaccKind.{YaccKind}
-
-pub data Associativity : Type 0 where
-  LeftToRight : Associativity
-  RightToLeft : Associativity
-  NotAssociative : Associativity
-
-pub record Precedence : Type 0 where
-  pub level : ℕ
-  pub associativity : Associativity
+use Rattle.cfgast.specs.declared.precedence.Precedence.{Precedence}
+use Rattle.cfgast.specs.Building.{has_entry}
+use Rattle.cfgast.specs.Syntax.{Settings, Syntax, RuleSymbol, TokenSymbol, entry_name, index_of, last_of}
+use Rattle.cfgerrors.specs.declared.kind.YaccKind.{YaccKind}
+use Rattle.cfgerrors.specs.declared.kind.YaccKind.TheVariants.{Eco}
 
 pub record NumberedRule : Type 0 where
   pub name : List ℕ
@@ -55,68 +50,140 @@ production_core p = record { rule = p.rule; symbols = p.symbols }
 abbrev pub core : Numbered → Grammar
 core g = record { rules = length g.rules; tokens = length g.tokens; productions = map production_core g.productions }
 
--- The name of rule 0, which is added. It is no name that a file can give.
-abbrev pub start_name : List ℕ
-start_name = codes "^"
-
 -- the span of what the file doesn't have
 abbrev pub nowhere : Span
 nowhere = record { start = 0; end = 0 }
 
--- A rule's index is its place in the file and one more, for rule 0. A token's is its place.
-abbrev pub rule_index : Syntax → List ℕ → ℕ
-rule_index s name = suc (position_or_len (λ rule. bytes_eq name rule.0) s.rules)
+-- The names of the rules that are added: of rule 0; in an Eco file with implicit tokens also of the rule for these, and of
+-- the rule that puts them before all else. They are no names that a file can give.
+abbrev pub start_name : List ℕ
+start_name = codes "^"
+
+abbrev pub implicit_name : List ℕ
+implicit_name = codes "~"
+
+abbrev pub implicit_start_name : List ℕ
+implicit_start_name = codes "^~"
+
+-- the names of the implicit tokens of a file, where it has lists of them; only an Eco file has
+abbrev pub implicit_of : YaccKind → Syntax → Option (List (List ℕ))
+implicit_of Eco s = option_map (map entry_name) s.tables.implicit_tokens
+implicit_of _ s = None
+
+-- how many rules stand before those of the file
+abbrev pub rules_before : Option (List (List ℕ)) → ℕ
+rules_before None = 1
+rules_before (Some names) = 3
+
+-- What a file says of a token: its precedence; its printed form, else its name; and whether it is marked.
+abbrev pub precedence_of_token : Syntax → List ℕ → Option Precedence
+precedence_of_token s name = option_map (λ said. said.0) (lookup (bytes_eq name) s.tables.precedences)
+
+abbrev pub printed_form : Syntax → List ℕ → List ℕ
+printed_form s name = option_map_or (λ said. said.1.0) (lookup (bytes_eq name) s.tables.printed_forms) name
+
+abbrev pub avoids_insert : Syntax → List ℕ → Bool
+avoids_insert s name = option_map_or (λ table. has_entry name table) s.tables.avoid_insert false
+
+-- A production has the precedence of the token behind its `%prec`, else of its last token (POSIX yacc).
+abbrev pub token_in : file.Symbol → Option (List ℕ)
+token_in (RuleSymbol word) = None
+token_in (TokenSymbol word) = Some word.name
+
+abbrev pub last_token : List file.Symbol → Option (List ℕ)
+last_token symbols = last_of (filter_map token_in symbols)
+
+abbrev pub precedence_of : Syntax → file.Production → Option Precedence
+precedence_of s production = option_and_then (precedence_of_token s) (option_or production.precedence (last_token production.symbols))
 
 abbrev pub token_index : Syntax → List ℕ → ℕ
 token_index s name = index_of name s.tokens
 
-abbrev pub file_symbol : Syntax → file.Symbol → Sym
-file_symbol s (RuleSymbol word) = Rule (rule_index s word.name)
-file_symbol s (TokenSymbol word) = Token (token_index s word.name)
+abbrev pub added_rule : List ℕ → List ℕ → NumberedRule
+added_rule name productions = record { name = name; span = nowhere; productions = productions; action_type = None }
 
--- the start rule, with one production: behind those of the file
-abbrev pub start_rule : Syntax → NumberedRule
-start_rule s = record { name = start_name; span = nowhere; productions = length s.productions ∷ []; action_type = None }
+abbrev pub added_production : ℕ → List Sym → NumberedProduction
+added_production rule symbols = record { rule = rule; symbols = symbols; span = nowhere; precedence = None; action = None; action_span = None }
 
 abbrev pub file_rule : List ℕ × file.Rule → NumberedRule
 file_rule rule = record { name = rule.0; span = rule.1.name.span; productions = rule.1.productions; action_type = rule.1.action_type }
 
--- a production of the file, with the place of its rule
-abbrev pub file_production : Syntax → ℕ × file.Production → NumberedProduction
-file_production s production = record {
-  rule = suc production.0;
-  symbols = map (file_symbol s) production.1.symbols;
-  span = production.1.span;
-  precedence = None;
-  action = option_map (λ action. action.0) production.1.action;
-  action_span = option_map (λ action. action.1) production.1.action;
-}
+-- implicit is the names of the implicit tokens, where there are some
+module _ (implicit : Option (List (List ℕ))) where
+  -- A rule's index is its place in the file, behind the rules before. A token's is its place.
+  abbrev pub rule_index : Syntax → List ℕ → ℕ
+  rule_index s name = rules_before implicit + position_or_len (λ rule. bytes_eq name rule.0) s.rules
 
--- the production of the start rule: the rule that the file starts from
-abbrev pub start_production : Syntax → NumberedProduction
-start_production s = record {
-  rule = 0;
-  symbols = option_to_list (option_map (λ word. Rule (rule_index s word.name)) s.start);
-  span = nowhere;
-  precedence = None;
-  action = None;
-  action_span = None;
-}
+  abbrev pub file_symbol : Syntax → file.Symbol → Sym
+  file_symbol s (RuleSymbol word) = Rule (rule_index s word.name)
+  file_symbol s (TokenSymbol word) = Token (token_index s word.name)
 
-abbrev pub file_token : List ℕ × Span → NumberedToken
-file_token token = record { name = Some token.0; span = Some token.1; precedence = None; printed = Some token.0; avoid_insert = false }
+  -- The symbols of a production of the file. Behind each token stands the rule for implicit tokens, where there are some.
+  abbrev pub spaced : Sym → List Sym
+  spaced (Rule r) = Rule r ∷ []
+  spaced (Token t) = Token t ∷ option_to_list (option_map (λ names. Rule 1) implicit)
+
+  abbrev pub file_symbols : Syntax → List file.Symbol → List Sym
+  file_symbols s symbols = flat_map (λ symbol. spaced (file_symbol s symbol)) symbols
+
+  -- a production of the file, with the place of its rule
+  abbrev pub file_production : Syntax → ℕ × file.Production → NumberedProduction
+  file_production s production = record {
+    rule = rules_before implicit + production.0;
+    symbols = file_symbols s production.1.symbols;
+    span = production.1.span;
+    precedence = precedence_of s production.1;
+    action = option_map (λ action. action.0) production.1.action;
+    action_span = option_map (λ action. action.1) production.1.action;
+  }
+
+  -- the rule that the file starts from
+  abbrev pub start_symbols : Syntax → List Sym
+  start_symbols s = option_to_list (option_map (λ word. Rule (rule_index s word.name)) s.start)
+
+-- The rules before those of the file. Their productions stand behind the n productions of the file.
+abbrev pub added_rules : Option (List (List ℕ)) → ℕ → List NumberedRule
+added_rules None n = added_rule start_name (n ∷ []) ∷ []
+added_rules (Some names) n =
+    added_rule start_name (n ∷ [])
+    ∷ added_rule implicit_name (range_with_len (n + 1) (length names + 1))
+    ∷ added_rule implicit_start_name ((n + length names + 2) ∷ [])
+    ∷ []
+
+-- The productions behind those of the file: that of rule 0, which goes to the rule that the file starts from. In a file with
+-- implicit tokens it goes there by rule 2, which puts rule 1 before; rule 1 derives each row of implicit tokens.
+abbrev pub added_productions : Option (List (List ℕ)) → Syntax → List NumberedProduction
+added_productions None s = added_production 0 (start_symbols None s) ∷ []
+added_productions (Some names) s =
+    added_production 0 (Rule 2 ∷ [])
+    ∷ (map (λ name. added_production 1 (Token (token_index s name) ∷ Rule 1 ∷ [])) names
+    ++ (added_production 1 []
+    ∷ added_production 2 (Rule 1 ∷ start_symbols (Some names) s)
+    ∷ []))
+
+abbrev pub file_token : Syntax → List ℕ × Span → NumberedToken
+file_token s token = record {
+  name = Some token.0;
+  span = Some token.1;
+  precedence = precedence_of_token s token.0;
+  printed = Some (printed_form s token.0);
+  avoid_insert = avoids_insert s token.0;
+}
 
 abbrev pub end_token : NumberedToken
 end_token = record { name = None; span = None; precedence = None; printed = None; avoid_insert = false }
 
--- The grammar of a file's syntax: the start rule and the file's rules; the file's productions and that of the start
--- rule; the file's tokens and the end token.
-unfoldable pub numbered : YaccKind → Syntax → Numbered
-numbered kind s = record {
-  rules = start_rule s ∷ map file_rule s.rules;
-  tokens = map file_token (zip s.tokens s.spans) ++ end_token ∷ [];
-  productions = map (file_production s) (zip s.production_rules s.productions) ++ start_production s ∷ [];
+-- The grammar of a file's syntax: the added rules and the file's; the file's productions and the added ones; the file's tokens
+-- and the end token.
+unfoldable pub numbered_by : Option (List (List ℕ)) → Syntax → Numbered
+numbered_by implicit s = record {
+  rules = added_rules implicit (length s.productions) ++ map file_rule s.rules;
+  tokens = map (file_token s) (zip s.tokens s.spans) ++ end_token ∷ [];
+  productions = map (file_production implicit s) (zip s.production_rules s.productions) ++ added_productions implicit s;
   start_production = length s.productions;
-  implicit_rule = None;
+  implicit_rule = option_map (λ names. 1) implicit;
   settings = s.settings;
 }
+
+unfoldable pub numbered : YaccKind → Syntax → Numbered
+numbered kind s = numbered_by (implicit_of kind s) s

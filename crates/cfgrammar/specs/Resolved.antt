@@ -1,8 +1,8 @@
 -- Syntaxes in which every name is that of something that is there.
-use Rattle.std.specs.Prelude.{◌≡◌, true, All, Some, None}
+use Rattle.std.specs.Prelude.{◌≡◌, ℕ, List, Option, true, All, IfSome, Some, None}
 use Rattle.cfgwords.specs.Words.{Word}
 use Rattle.cfgast.specs.Syntax.{Syntax, Production}
-use Rattle.cfgsyntax.specs.Check.{is_rule, symbol_error}
+use Rattle.cfgsyntax.specs.Check.{is_rule, is_token, symbol_error}
 
 -- the symbols name rules and tokens of the syntax
 abbrev pub Resolves : Syntax → Production → Type 0
@@ -13,3 +13,7 @@ pub record IsResolved (s : Syntax) : Type 0 where
   pub starts : s.start ≡ Some start
   pub start_is_rule : is_rule s start.name ≡ true
   pub symbols : All (Resolves s) s.productions
+
+-- the names are those of tokens of the syntax, where there are some
+abbrev pub AreTokens : Syntax → Option (List (List ℕ)) → Type 0
+AreTokens s implicit = IfSome implicit (All (λ name. is_token s name ≡ true))

@@ -1,5 +1,5 @@
 -- What holds of every grammar: the invariant of its type.
-use Rattle.std.specs.Prelude.{◌≡◌, ◌↔◌, ◌==◌, ℕ, ◌+◌, ◌<◌, if◌then◌else◌, List, [], ◌∷◌, filter, map, length, All, Some, None}
+use Rattle.std.specs.Prelude.{◌≡◌, ◌↔◌, ◌==◌, ℕ, ◌+◌, ◌<◌, if◌then◌else◌, List, [], ◌∷◌, filter, map, length, All, Some, None, IfSome}
 use Rattle.std.specs.List.{IsDistinct, filter_map}
 use Rattle.std.specs.Str.{bytes_eq}
 use Rattle.derivation.specs.Grammar.{IsGrammar}
@@ -15,6 +15,8 @@ pub record IsWhole (g : Numbered) : Type 0 where
   pub end_token : (t : ℕ) → (token_part (λ token. token.name) g t ≡ Some None) ↔ (t + 1 ≡ length g.tokens)
   -- all indices are those of something that is there, and no production holds the end token
   pub grammar : IsGrammar (core g)
+  -- the rule for implicit tokens is there, where the grammar has one
+  pub implicit_rule : IfSome g.implicit_rule (λ r. r < length g.rules)
   pub lists : All (λ rule. All (λ p. p < length g.productions) rule.productions) g.rules
 
 -- no two rules share a name, and no two tokens that have one

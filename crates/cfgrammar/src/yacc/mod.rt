@@ -8,4 +8,4 @@ pub use cfgsyntax::yacc::{
     YaccFault, YaccGrammarError, YaccGrammarErrorKind, YaccGrammarResult, YaccGrammarWarning,
     YaccGrammarWarningKind, YaccKind, YaccOriginalActionKind, ast, parser,
 };
-pub use grammar::YaccGrammar;
+pub use grammar::{AssocKind, Precedence, PrecedenceLevel, YaccGrammar};

@@ -11,7 +11,7 @@ ghost use Rattle.cfgrammar.specs.Numbered.{core};
 
 use super::tables::YaccGrammar;
 use cfganalysis::{CountedTables, Tables, YaccFirsts, YaccFollows, has_path};
-use cfgcosts::SentenceGenerator;
+use cfggreatest::SentenceGenerator;
 use cfgindex::{PIdx, RIdx, Storage, Symbol, TIdx};
 use std::alloc::{AllocError, Global};
 

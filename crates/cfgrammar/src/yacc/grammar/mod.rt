@@ -4,9 +4,14 @@ mod analysed;
 mod build;
 mod fault;
 mod iter;
+mod names;
 mod rows;
 mod tables;
 
 pub use cfganalysis::{CountedTables, Productions, Tables};
+pub use cfgast::{AssocKind, Precedence};
 pub use iter::{PIdxIter, RIdxIter, TIdxIter};
 pub use tables::YaccGrammar;
+
+/// The level of a precedence: the number of declarations of precedence before its own.
+pub type PrecedenceLevel = u64;

@@ -2,27 +2,29 @@
 
 ghost use Rattle.std.specs.Prelude.{◌≡◌, ◌↔◌, ◌==◌, ℕ, ◌+◌, ◌<◌, if◌then◌else◌, List, [], Some, map, length, position};
 ghost use Rattle.std.specs.Prelude.{option_map, All, IfOk, IfSome, IsSome};
+ghost use Rattle.std.specs.HashMap.{get_by};
 ghost use Rattle.std.specs.Str.{IsUtf8, bytes_eq};
 ghost use Rattle.std.specs.String.{string_bytes};
-ghost use Rattle.cfgwords.specs.Places.{IsPiece};
-ghost use Rattle.cfgast.specs.View.{syntax};
+ghost use Rattle.cfgwords.specs.Places.{IsPiece, IsWithin};
+ghost use Rattle.cfgast.specs.View.{pair_view, syntax};
 ghost use Rattle.cfgsyntax.specs.Sound.{IsSound};
 ghost use Rattle.cfgsyntax.specs.Spans.{EachParsedSpan};
-ghost use Rattle.cfgsyntax.specs.declared.yacc.kind.YaccKind.{YaccKind};
+ghost use Rattle.cfgerrors.specs.declared.kind.YaccKind.{YaccKind};
 ghost use Rattle.cfgrammar.specs.Answer.{IsAnswer};
 ghost use Rattle.cfgrammar.specs.Counting.{YieldsNumbersInOrder};
 ghost use Rattle.cfgrammar.specs.Fits.{LeavesRoom};
 ghost use Rattle.cfgrammar.specs.GrammarOf.{IsGrammarOf};
-ghost use Rattle.cfgrammar.specs.Numbered.{numbered};
+ghost use Rattle.cfgrammar.specs.Numbered.{implicit_of, numbered};
 ghost use Rattle.cfgrammar.specs.Shown.{IsSymbolWithin, has_token_name, production_part, production_text, rule_part, token_part};
 ghost use Rattle.cfgrammar.specs.Spans.{EachAnswerSpan};
 ghost use Rattle.cfgrammar.specs.WellNumbered.{IsWellNumbered, times};
 
-use super::build;
+use super::build::Numbering;
 use super::fault::storage_too_small;
 use super::iter::{PIdxIter, RIdxIter, TIdxIter};
+use super::names::tokens_by_name;
 use super::rows::{ProductionRow, RuleRow, TokenRow};
-use cfgast::Settings;
+use cfgast::{Precedence, Settings};
 use cfgbase::Span;
 use cfgindex::{PIdx, RIdx, SIdx, Storage, Symbol, TIdx, to_storage};
 use cfgsyntax::yacc::YaccKind;
@@ -30,18 +32,24 @@ use cfgsyntax::yacc::ast::{ASTWithValidityInfo, GrammarAST};
 use cfgsyntax::yacc::parser::{YaccFault, YaccGrammarResult};
 use indexmap::IndexMap;
 use std::alloc::{AllocError, Global};
+use std::collections::HashMap;
 use std::marker::Model;
 
 /// A grammar whose rules, productions and tokens have numbers, from 0 on, which `S` stores.
 ///
 /// Rule 0 is the start rule, of the name `^`, and has one production: the rule that the file starts from. The last
 /// token is the end token, which has no name and stands in no production.
+///
+/// In an Eco file with implicit tokens rule 1, `~`, derives each row of them, and stands behind each token of the file's
+/// productions. The production of rule 0 then is rule 2, `^~`, whose one production is `~` and the rule that the file
+/// starts from.
 #[derive(Drop)]
 pub struct YaccGrammar<S: Storage> {
     rules: IndexMap<String, RuleRow<S>>,
     prods: Vec<ProductionRow<S>>,
     tokens: IndexMap<String, TokenRow>,
     start_prod: PIdx<S>,
+    implicit_rule: Option<RIdx<S>>,
     settings: Settings,
 }
 
@@ -52,9 +60,9 @@ impl<S: Storage> Model for YaccGrammar<S> {
 
     ghost Value = { Numbered };
 
-    ghost view = { λ x. tables S.number x.rules.entries x.prods.items x.tokens.entries x.start_prod x.settings };
+    ghost view = { λ x. tables S.number x.rules.entries x.prods.items x.tokens.entries x.start_prod x.implicit_rule x.settings };
 
-    ghost invariant = { λ x. IsWellNumbered S.MAX (tables S.number x.rules.entries x.prods.items x.tokens.entries x.start_prod x.settings) };
+    ghost invariant = { λ x. IsWellNumbered S.MAX (tables S.number x.rules.entries x.prods.items x.tokens.entries x.start_prod x.implicit_rule x.settings) };
 }
 
 impl YaccGrammar<u32> {
@@ -65,7 +73,7 @@ impl YaccGrammar<u32> {
     /// As of [`new_with_storaget`](YaccGrammar::new_with_storaget).
     pub fn new(alloc: Global, kind: YaccKind, text: &str) -> YaccGrammarResult<Self>
         ensures answer { IsGrammarOf kind text.now 4294967295 result }
-        ensures places { EachAnswerSpan (IsPiece text.now) result }
+        ensures places { EachAnswerSpan (IsPiece text.now) (IsWithin text.now) result }
     {
         YaccGrammar::new_with_storaget(alloc, kind, text)
     }
@@ -78,7 +86,8 @@ impl<S: Storage> YaccGrammar<S> {
     /// grammar of what was read.
     ///
     /// Each error has a span. Each span of the grammar and of an error begins and ends at a place of the text: where a
-    /// character begins, or where the text ends. That of what is added is (0,0).
+    /// character begins, or where the text ends. That of an action, which has the length of the trimmed text, lies within
+    /// the text. That of what is added is (0,0).
     ///
     /// # Errors
     ///
@@ -86,14 +95,14 @@ impl<S: Storage> YaccGrammar<S> {
     /// tokens, productions or the symbols of a production, those that are added counted in; and want of memory.
     pub fn new_with_storaget(alloc: Global, kind: YaccKind, text: &str) -> YaccGrammarResult<Self>
         ensures answer { IsGrammarOf kind text.now S.MAX result }
-        ensures places { EachAnswerSpan (IsPiece text.now) result }
+        ensures places { EachAnswerSpan (IsPiece text.now) (IsWithin text.now) result }
     {
         let parsed = ASTWithValidityInfo::new(alloc, kind, text)?;
         YaccGrammar::new_from_ast_with_validity_info(alloc, &parsed)
     }
 
     /// The grammar of a syntax that was read. Its spans, and those of errors, are places of the text where those of the
-    /// syntax and of its errors are.
+    /// syntax and of its errors are, and those of actions lie within the text where the syntax's do.
     ///
     /// # Errors
     ///
@@ -104,30 +113,33 @@ impl<S: Storage> YaccGrammar<S> {
         parsed: &ASTWithValidityInfo,
     ) -> YaccGrammarResult<Self>
         ensures answer { IsAnswer S.MAX parsed.now.errors (numbered parsed.now.kind parsed.now.syntax) result }
-        ensures places { (text : List ℕ) → IsUtf8 text → EachParsedSpan (IsPiece text) parsed.now
-            → EachAnswerSpan (IsPiece text) result }
+        ensures places { (text : List ℕ) → IsUtf8 text → EachParsedSpan (IsPiece text) (IsWithin text) parsed.now
+            → EachAnswerSpan (IsPiece text) (IsWithin text) result }
     {
         if !parsed.is_valid() {
             return Err(YaccFault::Errors(parsed.errors().to_vec(alloc)?));
         }
+        let kind = parsed.yacc_kind();
         let ast = parsed.ast();
-        if !build::fits::<S>(ast) {
+        if !Numbering::new(kind, ast).fits::<S>() {
             return Err(storage_too_small(alloc)?);
         }
-        Ok(YaccGrammar::from_valid(alloc, ast)?)
+        Ok(YaccGrammar::from_valid(alloc, kind, ast)?)
     }
 
-    /// The grammar of a syntax that was read without errors. All kinds that are read so far number it alike.
-    fn from_valid(alloc: Global, ast: &GrammarAST) -> Result<Self, AllocError>
+    /// The grammar of a syntax that was read without errors from a file of this kind.
+    fn from_valid(alloc: Global, kind: YaccKind, ast: &GrammarAST) -> Result<Self, AllocError>
         requires sound { IsSound (syntax ast.now) [] }
-        requires room { LeavesRoom S.MAX (syntax ast.now) }
-        ensures { IfOk result (λ grammar. (kind : YaccKind) → grammar ≡ numbered kind (syntax ast.now)) }
+        requires room { LeavesRoom S.MAX (implicit_of kind (syntax ast.now)) (syntax ast.now) }
+        ensures { IfOk result (λ grammar. grammar ≡ numbered kind (syntax ast.now)) }
     {
+        let numbering = Numbering::new(kind, ast);
         Ok(YaccGrammar {
-            rules: build::rule_rows(alloc, ast)?,
-            prods: build::production_rows(alloc, ast)?,
-            tokens: build::token_rows(alloc, ast)?,
+            rules: numbering.rule_rows(alloc)?,
+            prods: numbering.production_rows(alloc)?,
+            tokens: numbering.token_rows(alloc)?,
             start_prod: PIdx(to_storage(ast.prods().len())),
+            implicit_rule: numbering.implicit_rule(),
             settings: ast.settings().clone()?,
         })
     }
@@ -185,6 +197,15 @@ impl<S: Storage> YaccGrammar<S> {
         ensures within { S.number result.0 < length self.now.rules }
     {
         self.prods[usize::from(pidx)].rule
+    }
+
+    /// The precedence of a production: that of the token behind its `%prec`, else of its last token (POSIX yacc). One that
+    /// the file does not have has none.
+    pub fn prod_precedence(&self, pidx: PIdx<S>) -> Option<Precedence>
+        requires { S.number pidx.0 < length self.now.productions }
+        ensures { production_part (λ x. x.precedence) self.now (S.number pidx.0) ≡ Some result }
+    {
+        self.prods[usize::from(pidx)].precedence
     }
 
     /// The place of a production in the file, (0,0) for one that the file does not have.
@@ -284,8 +305,7 @@ impl<S: Storage> YaccGrammar<S> {
         ensures value { option_map (λ x. S.number x.0) result ≡ self.now.implicit_rule }
         ensures within { IfSome result (λ ridx. S.number ridx.0 < length self.now.rules) }
     {
-        let _tables = &self.rules;
-        None
+        self.implicit_rule
     }
 
     /// The rule of a name: a rule is found by its own.
@@ -356,6 +376,42 @@ impl<S: Storage> YaccGrammar<S> {
         }
     }
 
+    /// The precedence of a token, where the file gives it one.
+    pub fn token_precedence(&self, tidx: TIdx<S>) -> Option<Precedence>
+        requires { S.number tidx.0 < length self.now.tokens }
+        ensures { token_part (λ x. x.precedence) self.now (S.number tidx.0) ≡ Some result }
+    {
+        match self.tokens.get_index(usize::from(tidx)) {
+            Some((_, row)) => row.precedence,
+            None => None,
+        }
+    }
+
+    /// How a token is printed: as its `%epp` says, else by its name. The end token, which is the last, has no such text.
+    pub fn token_epp(&self, tidx: TIdx<S>) -> Option<&str>
+        requires { S.number tidx.0 < length self.now.tokens }
+        ensures { token_part (λ x. x.printed) self.now (S.number tidx.0) ≡ Some (option_map (λ text. text.now) result) }
+    {
+        match self.tokens.get_index(usize::from(tidx)) {
+            Some((name, row)) => match &row.printed {
+                Some(text) => Some(text.as_str()),
+                None => Some(name.as_str()),
+            },
+            None => None,
+        }
+    }
+
+    /// Whether the file asks that a repair of errors avoids to insert the token.
+    pub fn avoid_insert(&self, tidx: TIdx<S>) -> bool
+        requires { S.number tidx.0 < length self.now.tokens }
+        ensures { token_part (λ x. x.avoid_insert) self.now (S.number tidx.0) ≡ Some result }
+    {
+        match self.tokens.get_index(usize::from(tidx)) {
+            Some((_, row)) => row.avoid_insert,
+            None => false,
+        }
+    }
+
     /// The token of a name: a token is found by its own.
     pub fn token_idx(&self, name: &str) -> Option<TIdx<S>>
         ensures value { option_map (λ x. S.number x.0) result ≡ position (has_token_name name.now) self.now.tokens }
@@ -367,6 +423,18 @@ impl<S: Storage> YaccGrammar<S> {
             Some(index) => Some(TIdx(to_storage(index))),
             None => None,
         }
+    }
+
+    /// The tokens that have a name, under their names.
+    ///
+    /// # Errors
+    ///
+    /// Want of memory.
+    pub fn tokens_map(&self, alloc: Global) -> Result<HashMap<&str, TIdx<S>>, AllocError>
+        ensures { IfOk result (λ map. (name : List ℕ)
+            → option_map (λ x. S.number x.0) (get_by (λ key. bytes_eq name key.now) map) ≡ position (has_token_name name) self.now.tokens) }
+    {
+        tokens_by_name(alloc, &self.tokens)
     }
 
     /// How many conflicts between shifting and reducing the file expects, where it says so (Bison's `%expect`).
@@ -397,6 +465,22 @@ impl<S: Storage> YaccGrammar<S> {
         ensures { option_map string_bytes result.now ≡ self.now.settings.parse_generics }
     {
         &self.settings.parse_generics
+    }
+
+    /// The name and the type of the parser's parameter, as the file gives them.
+    #[tactic(auto, unfolding(crate::specs::View::tables))]
+    pub fn parse_param(&self) -> &Option<(String, String)>
+        ensures { option_map pair_view result.now ≡ self.now.settings.parse_param }
+    {
+        &self.settings.parse_param
+    }
+
+    /// The text of the programs part.
+    #[tactic(auto, unfolding(crate::specs::View::tables))]
+    pub fn programs(&self) -> &Option<String>
+        ensures { option_map string_bytes result.now ≡ self.now.settings.programs }
+    {
+        &self.settings.programs
     }
 
     /// A production as text: the rule's name and a colon, and for each symbol a space and the name in double quotes.

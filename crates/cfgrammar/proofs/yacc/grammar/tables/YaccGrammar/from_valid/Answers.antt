@@ -1,32 +1,59 @@
-use Rattle.std.proofs.Common.{◌∙◌, sym, subst}
+use Rattle.std.proofs.Common.{◌++◌, [], length, map, option_map, sym, subst, ◌∙◌}
+use Rattle.std.specs.List.{zip}
 use Rattle.cfgast.specs.View.{syntax, production_view}
-use Rattle.cfgsyntax.specs.declared.yacc.kind.YaccKind.{YaccKind}
-use Rattle.cfgsyntax.specs.declared.yacc.kind.YaccKind.TheVariants.{Original}
-use Rattle.cfgsyntax.specs.declared.yacc.kind.YaccOriginalActionKind.TheVariants.{NoAction}
+use Rattle.cfgast.specs.WellFormed.{IsWellFormed}
+use Rattle.cfgsyntax.specs.Sound.{IsSound}
+use Rattle.cfgrammar.specs.Fits.{LeavesRoom}
+use Rattle.cfgrammar.specs.Numbered.{added_productions, added_rules, file_production, file_rule, file_token}
+use Rattle.cfgrammar.specs.Resolved.{AreTokens, IsResolved}
 use Rattle.cfgrammar.specs.WellNumbered.{IsWellNumbered}
-use Rattle.cfgrammar.proofs.Built.{built, well_numbered}
+use Rattle.cfgrammar.proofs.Built.{built, of_both, well_numbered}
+use Rattle.cfgrammar.proofs.Places.{implicit_there}
 use Rattle.cfgrammar.proofs.Turns.{as_long}
 use Rattle.cfgrammar.proofs.Valid.{resolved}
 use Rattle.cfgrammar.proofs.yacc.grammar.tables.YaccGrammar.from_valid.Goals as goal
 
-any_kind : YaccKind
-any_kind = Original NoAction
+pub rule_rows-requires : goal.rule_rows-requires
+rule_rows-requires g c =
+    let numbering = c.new-numbering.ensures in
+    record {
+      sound = subst (λ s. IsSound s []) (sym numbering.file) c.requires.sound;
+      room = of_both (λ s implicit. LeavesRoom g.S.Storage.MAX implicit s) _ _ _ _ numbering.file numbering.implicit c.requires.room;
+    }
 
-pub production_rows-requires-clause-resolved : goal.production_rows-requires-clause-resolved
-production_rows-requires-clause-resolved g c = resolved (syntax c.args.ast.now) c.requires.sound
+pub production_rows-requires : goal.production_rows-requires
+production_rows-requires g c =
+    let s = syntax c.args.ast.now in
+    let numbering = c.new-numbering.ensures in
+    record {
+      sound = subst (λ s. IsSound s []) (sym numbering.file) c.requires.sound;
+      resolved = subst IsResolved (sym numbering.file) (resolved s c.requires.sound);
+      implicit = of_both AreTokens _ _ _ _ numbering.file numbering.implicit (implicit_there c.args.kind s c.requires.sound.well_formed);
+      room = of_both (λ s implicit. LeavesRoom g.S.Storage.MAX implicit s) _ _ _ _ numbering.file numbering.implicit c.requires.room;
+    }
+
+pub token_rows-requires : goal.token_rows-requires
+token_rows-requires g c = record { well_formed = subst IsWellFormed (sym c.new-numbering.ensures.file) c.requires.sound.well_formed }
+
+pub implicit_rule-requires : goal.implicit_rule-requires
+implicit_rule-requires g c =
+    of_both (λ s implicit. LeavesRoom g.S.Storage.MAX implicit s) _ _ _ _ c.new-numbering.ensures.file c.new-numbering.ensures.implicit c.requires.room
+
+pub returns : goal.returns
+returns g c =
+    let s = syntax c.args.ast.now in
+    let numbering = c.new-numbering.ensures in
+    built g.S.Storage.number c.args.kind s c.in_ok-rule_rows.field-0.entries c.in_ok-production_rows.field-0.items c.in_ok-token_rows.field-0.entries
+    (record { 0 = c.to_storage.result }) c.implicit_rule.result c.in_ok-clone.field-0
+    (c.in_ok-rule_rows.ensures ∙ (λ i. added_rules (numbering.implicit i) (length (numbering.file i).productions) ++ map file_rule (numbering.file i).rules))
+    (c.in_ok-production_rows.ensures ∙ (λ i.
+    map (file_production (numbering.implicit i) (numbering.file i)) (zip (numbering.file i).production_rules (numbering.file i).productions)
+    ++ added_productions (numbering.implicit i) (numbering.file i)))
+    (c.in_ok-token_rows.ensures ∙ (λ i. map (file_token (numbering.file i)) (zip (numbering.file i).tokens (numbering.file i).spans)))
+    (c.to_storage.ensures ∙ sym (as_long production_view c.prods.result.now s.productions c.prods.ensures))
+    (c.implicit_rule.ensures ∙ (λ i. option_map (λ names. 1) (numbering.implicit i)))
+    (c.in_ok-clone.ensures.cases ∙ c.settings.ensures)
 
 pub invariant_of-result : goal.invariant_of-result
 invariant_of-result g c =
-    let s = syntax c.args.ast.now in
-    subst (IsWellNumbered g.S.Storage.MAX)
-    (sym (built g.S.Storage.number any_kind s c.in_ok-rule_rows.field-0.entries c.in_ok-production_rows.field-0.items c.in_ok-token_rows.field-0.entries (record { 0 = c.to_storage.result }) c.in_ok-clone.field-0
-    c.in_ok-rule_rows.ensures c.in_ok-production_rows.ensures c.in_ok-token_rows.ensures
-    (c.to_storage.ensures ∙ sym (as_long production_view c.prods.result.now s.productions c.prods.ensures)) (c.in_ok-clone.ensures.cases ∙ c.settings.ensures)))
-    (well_numbered g.S.Storage.MAX any_kind s c.requires.sound c.requires.room)
-
-pub returns : goal.returns
-returns g c = λ kind.
-    let s = syntax c.args.ast.now in
-    built g.S.Storage.number kind s c.in_ok-rule_rows.field-0.entries c.in_ok-production_rows.field-0.items c.in_ok-token_rows.field-0.entries (record { 0 = c.to_storage.result }) c.in_ok-clone.field-0
-    c.in_ok-rule_rows.ensures c.in_ok-production_rows.ensures c.in_ok-token_rows.ensures
-    (c.to_storage.ensures ∙ sym (as_long production_view c.prods.result.now s.productions c.prods.ensures)) (c.in_ok-clone.ensures.cases ∙ c.settings.ensures)
+    subst (IsWellNumbered g.S.Storage.MAX) (sym (returns g c)) (well_numbered g.S.Storage.MAX c.args.kind (syntax c.args.ast.now) c.requires.sound c.requires.room)

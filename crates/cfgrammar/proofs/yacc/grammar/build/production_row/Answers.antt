@@ -1,8 +1,0 @@
-use Rattle.std.proofs.Common.{◌≡◌, None, All, map, sym, subst}
-use Rattle.cfgast.specs.View.{syntax, symbol_view}
-use Rattle.cfgsyntax.specs.Check.{symbol_error}
-use Rattle.cfgrammar.proofs.yacc.grammar.build.production_row.Goals as goal
-
-pub numbered_symbols-requires-clause-known : goal.numbered_symbols-requires-clause-known
-numbered_symbols-requires-clause-known g c =
-    subst (λ symbols. All (λ symbol. symbol_error (syntax c.args.ast.now) symbol ≡ None) (map symbol_view symbols)) (sym c.deref.ensures.value) c.requires.resolved

@@ -1,0 +1,13 @@
+use Rattle.std.proofs.Common.{position, ap, ◌∙◌}
+use Rattle.std.proofs.lemmas.Result.{IfOk-weaker}
+use Rattle.cfgrammar.specs.Numbered.{Numbered}
+use Rattle.cfgrammar.specs.Shown.{has_token_name}
+use Rattle.cfgrammar.specs.View.{tables}
+use Rattle.cfgrammar.proofs.Lookups.{token_named}
+use Rattle.cfgrammar.proofs.yacc.grammar.tables.YaccGrammar.tokens_map.Goals as goal
+
+pub returns : goal.returns
+unfolding tables
+returns g c = IfOk-weaker c.tokens_by_name.result _ _
+    (λ m found name. found name ∙ token_named name c.self.inside.tokens.entries ∙ ap (λ (g : Numbered). position (has_token_name name) g.tokens) c.self.view_is)
+    c.tokens_by_name.ensures
