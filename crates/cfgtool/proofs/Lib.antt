@@ -1,3 +1,6 @@
 pub mod Beginnings
 pub mod Handled
+pub mod SentenceTexts
+pub mod SentenceTokens
+pub mod SentencesListed
 pub mod Told

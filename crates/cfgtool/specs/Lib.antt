@@ -1,6 +1,7 @@
 pub mod TokenSets
 pub mod FirstLines
 pub mod FollowLines
+pub mod SentenceLines
 pub mod Report
 pub mod Run
 pub mod Sinks

@@ -5,9 +5,9 @@ use Rattle.std.specs.Option.{option_map_or}
 use Rattle.std.specs.Fmt.{decimal}
 use Rattle.std.specs.Io.KnownBytes.{Appends, Keeps}
 use Rattle.cfglines.specs.Lines.{line_number, column}
-use Rattle.cfgsyntax.specs.Errors.{GrammarError}
-use Rattle.cfgsyntax.specs.Texts.{error_text}
-use Rattle.cfgsyntax.specs.declared.yacc.kind.YaccKind.{YaccKind}
+use Rattle.cfgerrors.specs.Errors.{GrammarError}
+use Rattle.cfgerrors.specs.Texts.{error_text}
+use Rattle.cfgerrors.specs.declared.kind.YaccKind.{YaccKind}
 use Rattle.cfgrammar.specs.Answer.{IsRefused}
 use Rattle.cfgrammar.specs.Fits.{Fits}
 use Rattle.cfgrammar.specs.GrammarOf.{HoldsOfReading}
@@ -18,11 +18,12 @@ use Rattle.cfgtool.specs.declared.engine.Outcome.TheVariants.{Done, Refused}
 use Rattle.cfgtool.specs.declared.engine.ReportFault.{ReportFault}
 use Rattle.cfgtool.specs.declared.engine.ReportFault.TheVariants as faults
 use Rattle.cfgtool.specs.declared.words.Command.{Command}
-use Rattle.cfgtool.specs.declared.words.Command.TheVariants.{Grammar, Firsts, Follows}
+use Rattle.cfgtool.specs.declared.words.Command.TheVariants.{Grammar, Firsts, Follows, Sentences}
 use Rattle.cfgtool.specs.declared.words.KindArg.{KindArg}
 use Rattle.cfgtool.specs.declared.words.KindArg.TheVariants.{Named}
 use Rattle.cfgtool.specs.FirstLines.{AreFirstLines}
 use Rattle.cfgtool.specs.FollowLines.{AreFollowLines}
+use Rattle.cfgtool.specs.SentenceLines.{AreSentenceLines}
 use Rattle.cfgtool.specs.Sinks.{AppendsBeginning}
 
 -- the kind that a text is read as
@@ -60,6 +61,7 @@ abbrev pub AreLinesOf : Command → Numbered → List ℕ → Type 0
 AreLinesOf Grammar g lines = lines ≡ production_lines g
 AreLinesOf Firsts g lines = AreFirstLines g lines
 AreLinesOf Follows g lines = AreFollowLines g lines
+AreLinesOf Sentences g lines = AreSentenceLines g lines
 
 -- How a report of a text with these errors and this numbering ends, and its lines: the text is a grammar, and the
 -- command's lines are told, or it is refused, and its errors are.

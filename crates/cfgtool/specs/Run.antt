@@ -2,8 +2,8 @@
 use Rattle.std.specs.Prelude.{◌≡◌, ℕ, List, [], ◌∷◌, ◌++◌, Option, Some, None, Result, Ok, Err, if◌then◌else◌, codes}
 use Rattle.std.specs.Str.{IsUtf8, bytes_eq}
 use Rattle.std.specs.Io.KnownBytes.{Keeps}
-use Rattle.cfgsyntax.specs.declared.yacc.kind.YaccKind.TheVariants.{Original}
-use Rattle.cfgsyntax.specs.declared.yacc.kind.YaccOriginalActionKind.TheVariants.{NoAction, UserAction, GenericParseTree}
+use Rattle.cfgerrors.specs.declared.kind.YaccKind.TheVariants.{Original, Grmtools, Eco}
+use Rattle.cfgerrors.specs.declared.kind.YaccOriginalActionKind.TheVariants.{NoAction, UserAction, GenericParseTree}
 use Rattle.cfgtool.specs.declared.engine.Outcome.{Outcome}
 use Rattle.cfgtool.specs.declared.engine.Outcome.TheVariants.{Done, Refused}
 use Rattle.cfgtool.specs.declared.engine.ReportFault.{ReportFault}
@@ -15,7 +15,7 @@ use Rattle.cfgtool.specs.declared.program.WordsFault.TheVariants as words
 use Rattle.cfgtool.specs.declared.source.Input.{Input}
 use Rattle.cfgtool.specs.declared.source.Input.TheVariants as input
 use Rattle.cfgtool.specs.declared.words.Command.{Command}
-use Rattle.cfgtool.specs.declared.words.Command.TheVariants.{Grammar, Firsts, Follows}
+use Rattle.cfgtool.specs.declared.words.Command.TheVariants.{Grammar, Firsts, Follows, Sentences}
 use Rattle.cfgtool.specs.declared.words.KindArg.{KindArg}
 use Rattle.cfgtool.specs.declared.words.KindArg.TheVariants.{Named}
 use Rattle.cfgtool.specs.Report.{TellsText}
@@ -26,14 +26,17 @@ kind_named word =
     if bytes_eq word (codes "original-noaction") then Some (Named (Original NoAction))
     else if bytes_eq word (codes "original-useraction") then Some (Named (Original UserAction))
     else if bytes_eq word (codes "original-genericparsetree") then Some (Named (Original GenericParseTree))
+    else if bytes_eq word (codes "grmtools") then Some (Named Grmtools)
+    else if bytes_eq word (codes "eco") then Some (Named Eco)
     else None
 
 -- the command that a word names
-abbrev pub command_named : List ℕ → Option Command
+unfoldable pub command_named : List ℕ → Option Command
 command_named word =
     if bytes_eq word (codes "grammar") then Some Grammar
     else if bytes_eq word (codes "firsts") then Some Firsts
     else if bytes_eq word (codes "follows") then Some Follows
+    else if bytes_eq word (codes "sentences") then Some Sentences
     else None
 
 -- how a run ends: with a report, or why there is none

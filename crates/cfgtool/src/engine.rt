@@ -8,6 +8,7 @@ ghost use Rattle.cfgtool.specs.declared.engine.ReportFault.TheVariants as varian
 use crate::first_lines::first_lines;
 use crate::follow_lines::follow_lines;
 use crate::lines::{error_lines, production_lines};
+use crate::sentence_lines::sentence_lines;
 use crate::sink::{Sink, SinkFault, write_whole};
 use crate::words::{Command, KindArg};
 use cfgrammar::yacc::parser::YaccFault;
@@ -117,5 +118,6 @@ fn command_lines(
         Command::Grammar => production_lines(alloc, grammar),
         Command::Firsts => first_lines(alloc, grammar, &grammar.firsts(alloc)?),
         Command::Follows => follow_lines(alloc, grammar, &grammar.follows(alloc)?),
+        Command::Sentences => sentence_lines(alloc, grammar),
     }
 }

@@ -7,6 +7,7 @@ pub mod follow_lines;
 pub mod laws;
 pub mod lines;
 pub mod program;
+pub mod sentence_lines;
 pub mod sink;
 pub mod source;
 pub mod system;

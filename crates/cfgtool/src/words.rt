@@ -32,22 +32,27 @@ pub enum Command {
     Firsts,
     /// Its FOLLOW sets.
     Follows,
+    /// What the sentences of its rules cost, and those of least cost.
+    Sentences,
 }
 
 /// The kind that a word names, byte for byte.
 pub fn kind_of(word: &str) -> Option<KindArg>
     ensures { result ≡ kind_named word.now }
 {
-    let actions = match word {
-        "original-noaction" => YaccOriginalActionKind::NoAction,
-        "original-useraction" => YaccOriginalActionKind::UserAction,
-        "original-genericparsetree" => YaccOriginalActionKind::GenericParseTree,
+    let kind = match word {
+        "original-noaction" => YaccKind::Original(YaccOriginalActionKind::NoAction),
+        "original-useraction" => YaccKind::Original(YaccOriginalActionKind::UserAction),
+        "original-genericparsetree" => YaccKind::Original(YaccOriginalActionKind::GenericParseTree),
+        "grmtools" => YaccKind::Grmtools,
+        "eco" => YaccKind::Eco,
         _ => return None,
     };
-    Some(KindArg::Named(YaccKind::Original(actions)))
+    Some(KindArg::Named(kind))
 }
 
 /// The command that a word names, byte for byte.
+#[tactic(auto, unfolding(crate::specs::Run::command_named))]
 pub fn command_of(word: &str) -> Option<Command>
     ensures { result ≡ command_named word.now }
 {
@@ -55,6 +60,7 @@ pub fn command_of(word: &str) -> Option<Command>
         "grammar" => Some(Command::Grammar),
         "firsts" => Some(Command::Firsts),
         "follows" => Some(Command::Follows),
+        "sentences" => Some(Command::Sentences),
         _ => None,
     }
 }
