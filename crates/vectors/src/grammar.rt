@@ -9,11 +9,13 @@ use std::alloc::{AllocError, Global};
 
 /// The kind that a row names; that of the rows that name none is `Original(GenericParseTree)`.
 fn kind_of(row: &Row<'_>) -> YaccKind {
-    YaccKind::Original(match row.first("kind") {
-        Some("original-noaction") => YaccOriginalActionKind::NoAction,
-        Some("original-useraction") => YaccOriginalActionKind::UserAction,
-        _ => YaccOriginalActionKind::GenericParseTree,
-    })
+    match row.first("kind") {
+        Some("grmtools") => YaccKind::Grmtools,
+        Some("eco") => YaccKind::Eco,
+        Some("original-noaction") => YaccKind::Original(YaccOriginalActionKind::NoAction),
+        Some("original-useraction") => YaccKind::Original(YaccOriginalActionKind::UserAction),
+        _ => YaccKind::Original(YaccOriginalActionKind::GenericParseTree),
+    }
 }
 
 /// Writes all that is answered of a row's text, or as much as the row asks for.
@@ -83,8 +85,18 @@ fn tell_analyses(
         return Ok(());
     };
     openings::write_openings(out, alloc, &grammar)?;
+    tell_all_asked(out, alloc, row, &grammar)
+}
+
+/// Writes what the row asks of the analyses.
+fn tell_all_asked(
+    out: &mut String,
+    alloc: Global,
+    row: &Row<'_>,
+    grammar: &YaccGrammar<u32>,
+) -> Result<(), AllocError> {
     for (word, rest) in &row.lines {
-        tell_asked(out, alloc, &grammar, *word, *rest)?;
+        tell_asked(out, alloc, grammar, *word, *rest)?;
     }
     Ok(())
 }

@@ -11,6 +11,7 @@ mod follows;
 mod grammar;
 mod openings;
 mod paths;
+mod said;
 mod syntax;
 mod tables;
 

@@ -6,10 +6,11 @@ use crate::errors::{write_error_lines, write_span};
 use crate::firsts::{self, write_firsts};
 use crate::follows::{self, write_follows};
 use crate::pen;
+use crate::said::{write_precedence, write_settings};
 use crate::text::push_pictures;
 use cfgrammar::yacc::YaccGrammar;
 use cfgrammar::yacc::ast::ASTWithValidityInfo;
-use cfgrammar::yacc::parser::YaccFault;
+use cfgrammar::yacc::parser::{YaccFault, YaccGrammarResult};
 use cfgrammar::{PIdx, RIdx, Storage, Symbol, TIdx};
 use std::alloc::{AllocError, Global};
 
@@ -43,18 +44,27 @@ fn tables_text<S: Storage>(
     text: &str,
     parsed: &ASTWithValidityInfo,
 ) -> Result<String, AllocError> {
-    let mut tables = match YaccGrammar::<S>::new_with_storaget(alloc, parsed.yacc_kind(), text) {
-        Ok(grammar) => grammar_text(alloc, &grammar)?,
-        Err(fault) => fault_text(alloc, text, parsed, fault)?,
-    };
-    let of_syntax = match YaccGrammar::<S>::new_from_ast_with_validity_info(alloc, parsed) {
-        Ok(grammar) => grammar_text(alloc, &grammar)?,
-        Err(fault) => fault_text(alloc, text, parsed, fault)?,
-    };
+    let of_text = YaccGrammar::<S>::new_with_storaget(alloc, parsed.yacc_kind(), text);
+    let mut tables = answer_text(alloc, text, parsed, of_text)?;
+    let of_tree = YaccGrammar::<S>::new_from_ast_with_validity_info(alloc, parsed);
+    let of_syntax = answer_text(alloc, text, parsed, of_tree)?;
     if of_syntax != tables {
         write!(tables, "and of its syntax{of_syntax}")?;
     }
     Ok(tables)
+}
+
+/// What a call that makes tables answers.
+fn answer_text<S: Storage>(
+    alloc: Global,
+    text: &str,
+    parsed: &ASTWithValidityInfo,
+    answer: YaccGrammarResult<YaccGrammar<S>>,
+) -> Result<String, AllocError> {
+    match answer {
+        Ok(grammar) => grammar_text(alloc, &grammar),
+        Err(fault) => fault_text(alloc, text, parsed, fault),
+    }
 }
 
 /// Why there are no tables: the text's errors, or others, each in a line.
@@ -88,7 +98,8 @@ fn grammar_text<S: Storage>(alloc: Global, grammar: &YaccGrammar<S>) -> Result<S
     Ok(out)
 }
 
-/// Writes how many rules, productions and tokens there are, and which of them are the start's and the end's.
+/// Writes how many rules, productions and tokens there are, which of them are the start's and the end's, and what is said
+/// of the grammar as a whole.
 fn write_lengths<S: Storage>(out: &mut String, grammar: &YaccGrammar<S>) -> Result<(), AllocError> {
     let rules = usize::from(grammar.rules_len());
     let start_rule = usize::from(grammar.start_rule_idx());
@@ -109,11 +120,12 @@ fn write_lengths<S: Storage>(out: &mut String, grammar: &YaccGrammar<S>) -> Resu
     out.push('\n')?;
     write_expected(out, "    expect ", grammar.expect())?;
     write_expected(out, "    expect-rr ", grammar.expectrr())?;
-    if let Some(generics) = grammar.parse_generics() {
-        pen::name(out, "    parse-generics ", generics.as_str())?;
-        out.push('\n')?;
-    }
-    Ok(())
+    write_settings(
+        out,
+        grammar.parse_param(),
+        grammar.parse_generics(),
+        grammar.programs(),
+    )
 }
 
 /// Writes how many conflicts are expected.
@@ -195,7 +207,7 @@ fn write_place<S: Storage>(
     out.push_str(" symbols:")
 }
 
-/// Writes a production's action, where it has one, and ends the line.
+/// Writes a production's precedence and its action, where it has them, and ends the line.
 fn write_action<S: Storage>(
     out: &mut String,
     grammar: &YaccGrammar<S>,
@@ -203,6 +215,9 @@ fn write_action<S: Storage>(
 ) -> Result<(), AllocError>
     requires { S.number pidx.0 < length grammar.now.productions }
 {
+    if let Some(precedence) = grammar.prod_precedence(pidx) {
+        write_precedence(out, ", precedence ", precedence)?;
+    }
     if let Some(action) = grammar.action(pidx) {
         pen::name(out, ", action ", action.as_str())?;
     }
@@ -230,7 +245,7 @@ fn write_tokens<S: Storage>(out: &mut String, grammar: &YaccGrammar<S>) -> Resul
     Ok(())
 }
 
-/// Writes a token: its index, its name, and the name's place.
+/// Writes a token: its index, its name, the name's place, and what is said of it.
 fn write_token<S: Storage>(
     out: &mut String,
     grammar: &YaccGrammar<S>,
@@ -245,7 +260,28 @@ fn write_token<S: Storage>(
     if let Some(span) = grammar.token_span(tidx) {
         write_span(out, span)?;
     }
+    write_said(out, grammar, tidx)?;
     out.push('\n')
+}
+
+/// Writes a token's precedence, its printed form where that isn't its name, and whether it is not to be inserted.
+fn write_said<S: Storage>(
+    out: &mut String,
+    grammar: &YaccGrammar<S>,
+    tidx: TIdx<S>,
+) -> Result<(), AllocError>
+    requires { S.number tidx.0 < length grammar.now.tokens }
+{
+    if let Some(precedence) = grammar.token_precedence(tidx) {
+        write_precedence(out, ", precedence ", precedence)?;
+    }
+    if grammar.token_epp(tidx) != grammar.token_name(tidx) {
+        pen::name(out, ", epp ", grammar.token_epp(tidx).unwrap_or("none"))?;
+    }
+    if grammar.avoid_insert(tidx) {
+        out.push_str(", avoid_insert")?;
+    }
+    Ok(())
 }
 
 /// Writes what each rule's name stands for.

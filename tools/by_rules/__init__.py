@@ -1,0 +1,4 @@
+"""What the rules of docs/BEHAVIOUR.md make of the text of a Yacc file: a tree, errors, and a numbered grammar.
+
+A plain reading of that page, which shares nothing with the crates. The comments name its sections.
+"""

@@ -1,0 +1,61 @@
+"""Errors, as "Printed texts" has them, and where they stand: "Lines and columns"."""
+
+
+class Fault(Exception):
+    """An error: its kind, the name that it holds or None, its span, and the spans of repeats."""
+
+    def __init__(self, kind, span, name=None, repeats=()):
+        Exception.__init__(self, kind)
+        self.kind, self.span, self.name = kind, span, name
+        self.spans = [span, *repeats]
+
+    def display(self):                             # "Printed texts"
+        return {
+            'IllegalInteger': 'Illegal integer',
+            'IllegalName': 'Illegal name',
+            'IllegalString': 'Illegal string',
+            'IncompleteRule': 'Incomplete rule',
+            'IncompleteComment': 'Incomplete comment',
+            'IncompleteAction': 'Incomplete action',
+            'MissingColon': "Missing ':'",
+            'MissingRightArrow': "Missing '->'",
+            'NonEmptyProduction': '%empty used in non-empty production',
+            'PrematureEnd': 'File ends prematurely',
+            'ProductionNotTerminated': 'Production not terminated correctly',
+            'UnknownDeclaration': 'Unknown declaration',
+            'DuplicatePrecedence': 'Token has multiple precedences specified',
+            'DuplicateAvoidInsertDeclaration': 'Duplicated %avoid_insert declaration',
+            'DuplicateImplicitTokensDeclaration': 'Duplicated %implicit_tokens declaration',
+            'DuplicateExpectDeclaration': 'Duplicated %expect declaration',
+            'DuplicateExpectRRDeclaration': 'Duplicate %expect-rr declaration',
+            'DuplicateStartDeclaration': 'Duplicated %start declaration',
+            'DuplicateActiontypeDeclaration': 'Duplicate %actiontype declaration',
+            'DuplicateEPP': 'Duplicate %epp declaration for this token',
+            'ReachedEOL': 'Reached end of line without finding expected content',
+            'InvalidString': 'Invalid string',
+            'NoStartRule': 'No start rule specified',
+            'UnknownSymbol': 'Unknown symbol, expected a rule or token',
+            'InvalidStartRule': "Start rule '%s' does not appear in grammar" % self.name,
+            'UnknownRuleRef': "Unknown reference to rule '%s'" % self.name,
+            'UnknownToken': "Unknown token '%s'" % self.name,
+            'NoPrecForToken': "Token '%s' used in %%prec has no precedence attached" % self.name,
+            'UnknownEPP': "Token '%s' in %%epp declaration is not referenced in the grammar" % self.name,
+            'StorageTooSmall': 'Index type too small for this grammar',
+        }[self.kind]
+
+    def spans_kind(self):
+        return 'DuplicationError' if self.kind.startswith('Duplicate') else 'Error'
+
+
+def at(kind, p):
+    return Fault(kind, (p, p))
+
+
+def place(t, p):
+    before = t[:p]
+    line = before.count(b'\n') + 1
+    begin = before.rfind(b'\n') + 1
+    column = len(t[begin:p].decode('utf-8')) + 1
+    if t[p:p + 1] == b'\n' and p > begin and t[p - 1] == 0x0D:
+        column -= 1
+    return line, column
