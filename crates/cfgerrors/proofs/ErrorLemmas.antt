@@ -1,15 +1,40 @@
 -- Two errors are told apart by `==` exactly where callers see two.
-use Rattle.std.proofs.Common.{◌≡◌, ◌↔◌, ◌∙◌, refl, ap, sym, subst, IsTrue, true, ℕ, List, String, Global, string_bytes, string_eq, ◌==◌}
-use Rattle.std.proofs.lemmas.Bool.{and_from, and_parts, eq-eqb, eqb-true}
-use Rattle.std.proofs.Math.Bool.{and-true}
+use Rattle.std.proofs.Common.{◌≡◌, ◌↔◌, ◌∙◌, refl, ap, sym, subst, IsTrue, true, ℕ, List, String, Global, string_bytes, string_eq, ◌==◌, ◌&&◌, rules}
+use Rattle.std.proofs.lemmas.Bool.{and_from, and_parts, eq-eqb, eqb-true, false≢true}
+use Rattle.std.proofs.Math.Bool.{and-true, and-false}
 use lib.Pointwise.{bytes_decides, pointwise_decides}
 use Rattle.lemmas.proofs.Variants.{shows_same}
 use Rattle.cfgbase.specs.declared.span.Span.{Span}
+use Rattle.cfgbase.specs.declared.span.SpansKind.{SpansKind}
+use Rattle.cfgbase.specs.declared.span.SpansKind.TheVariants.{DuplicationError, Error}
+use Rattle.cfgbase.specs.contracts.span.SpansKindPartialEq.TheImpl.{ghosts as spanskinds}
+use Rattle.cfgheader.specs.declared.error.HeaderErrorKind.{HeaderErrorKind}
+use Rattle.cfgheader.specs.contracts.error.HeaderErrorKindPartialEq.TheImpl.{ghosts as header_kinds}
+use Rattle.cfgheader.specs.Errors.{error_kind_view, same_error_kind}
+use Rattle.cfgheader.proofs.ErrorLemmas.{eq_error_kind, error_kind_view-eq}
 use Rattle.cfgerrors.specs.declared.error.YaccGrammarErrorKind.{YaccGrammarErrorKind}
 use Rattle.cfgerrors.specs.declared.error.YaccGrammarErrorKind.TheVariants as rust
 use Rattle.cfgerrors.specs.contracts.error.YaccGrammarErrorKindPartialEq.TheImpl.{ghosts as kinds}
+use Rattle.cfgerrors.specs.contracts.error.YaccGrammarErrorKindClone.TheImpl.{ghosts as clones}
 use Rattle.cfgerrors.specs.contracts.error.YaccGrammarErrorKind.{enum}
-use Rattle.cfgerrors.specs.Errors.{ErrorKind, InvalidStartRule, UnknownRuleRef, UnknownToken, NoPrecForToken, UnknownEPP, Nameless, GrammarError, kind_view, same_error, same_error-equivalence, same_kind, same_kind-equivalence, same_span, same_spans}
+use Rattle.cfgerrors.specs.Errors.{ErrorKind, InvalidStartRule, UnknownRuleRef, UnknownToken, NoPrecForToken, UnknownEPP, Header, Nameless, GrammarError, kind_view, same_error, same_error-equivalence, same_kind, same_kind-equivalence, same_span, same_spans}
+
+same_spanskind : (a b : SpansKind) → spanskinds.eq a b ≡ true → a ≡ b
+same_spanskind DuplicationError DuplicationError h = refl
+same_spanskind Error Error h = refl
+same_spanskind a b h = absurd (false≢true h)
+
+alike : (kind other : HeaderErrorKind) → (header_kinds.eq kind other && true) ≡ (same_error_kind (error_kind_view kind) (error_kind_view other) && true && true)
+alike kind other =
+    let same = same_error_kind (error_kind_view kind) (error_kind_view other) in
+    and-true (header_kinds.eq kind other) ∙ eq_error_kind kind other ∙ sym (and-true (same && true) ∙ and-true same)
+
+in_sections : (kind other : HeaderErrorKind) (spanskind stands : SpansKind)
+    → kinds.eq (rust.Header kind spanskind) (rust.Header other stands) ≡ same_kind (Header (error_kind_view kind) spanskind) (Header (error_kind_view other) stands)
+in_sections kind other DuplicationError DuplicationError = alike kind other
+in_sections kind other Error Error = alike kind other
+in_sections kind other DuplicationError Error = and-false (header_kinds.eq kind other)
+in_sections kind other Error DuplicationError = and-false (header_kinds.eq kind other)
 
 -- the derived `==` of kinds compares what callers see of them
 pub eq_kind_view : (x y : YaccGrammarErrorKind) → kinds.eq x y ≡ same_kind (kind_view x) (kind_view y)
@@ -18,11 +43,13 @@ eq_kind_view (rust.UnknownRuleRef x) (rust.UnknownRuleRef y) = sym (and-true _)
 eq_kind_view (rust.UnknownToken x) (rust.UnknownToken y) = sym (and-true _)
 eq_kind_view (rust.NoPrecForToken x) (rust.NoPrecForToken y) = sym (and-true _)
 eq_kind_view (rust.UnknownEPP x) (rust.UnknownEPP y) = sym (and-true _)
+eq_kind_view (rust.Header kind spanskind) (rust.Header other stands) = in_sections kind other spanskind stands
 eq_kind_view (rust.InvalidStartRule x) y = refl
 eq_kind_view (rust.UnknownRuleRef x) y = refl
 eq_kind_view (rust.UnknownToken x) y = refl
 eq_kind_view (rust.NoPrecForToken x) y = refl
 eq_kind_view (rust.UnknownEPP x) y = refl
+eq_kind_view (rust.Header kind spanskind) y = refl
 eq_kind_view x y = elim y as (λ z. kinds.eq x z ≡ same_kind (kind_view x) (kind_view z)) [ rust.IllegalInteger ↦ refl | _ ↦ refl ]
 
 -- and where it finds two the same, so do callers
@@ -30,7 +57,7 @@ kind_view-eq : (x y : YaccGrammarErrorKind) → kinds.eq x y ≡ true → kind_v
 kind_view-eq x y h =
     sym (ap kind_view (enum.eta x))
     ∙ shows_same enum.parts _ (λ c. kind_view (enum.make c))
-    (same InvalidStartRule, (same UnknownRuleRef, (same UnknownToken, (same NoPrecForToken, (same UnknownEPP, (expected, tt))))))
+    (same InvalidStartRule, (same UnknownRuleRef, (same UnknownToken, (same NoPrecForToken, (same UnknownEPP, (expected, (in_section, tt)))))))
     (enum.as_values x) (enum.as_values y) h
     ∙ ap kind_view (enum.eta y)
   where
@@ -40,9 +67,19 @@ kind_view-eq x y h =
     expected : (a b : ℕ × Unit {0}) → (a.0 == b.0) ≡ true → Nameless (rust.ExpectedInput a.0) ≡ Nameless (rust.ExpectedInput b.0)
     expected a b h = ap (λ c. Nameless (rust.ExpectedInput c)) (eqb-true a.0 b.0 h)
 
+    in_section : (a b : HeaderErrorKind × (SpansKind × Unit {0})) → (header_kinds.eq a.0 b.0 && spanskinds.eq a.1.0 b.1.0) ≡ true
+        → Header (error_kind_view a.0) a.1.0 ≡ Header (error_kind_view b.0) b.1.0
+    in_section a b h =
+        let both = and_parts (header_kinds.eq a.0 b.0) (spanskinds.eq a.1.0 b.1.0) h in
+        λ i. Header (error_kind_view-eq a.0 b.0 both.0 i) (same_spanskind a.1.0 b.1.0 both.1 i)
+
 pub kind_view_iff : (x y : YaccGrammarErrorKind) → IsTrue (kinds.eq x y) ↔ (kind_view x ≡ kind_view y)
 kind_view_iff x y =
     (kind_view-eq x y, λ e. eq_kind_view x y ∙ subst (λ kind. same_kind (kind_view x) kind ≡ true) e (same_kind-equivalence.refl (kind_view x)))
+
+-- a clone shows what its source does
+pub clone_kind_view : (x y : YaccGrammarErrorKind) → clones.is_clone x y → kind_view y ≡ kind_view x
+clone_kind_view x y h = search rules
 
 same_span-true : (a b : Span) → same_span a b ≡ true → a ≡ b
 same_span-true a b h =

@@ -1,7 +1,8 @@
 -- What `{}` prints of an error, of a fault and of a warning, in bytes.
 use Rattle.std.specs.Prelude.{ℕ, List, [], ◌++◌, codes, encode_utf8}
 use Rattle.std.specs.List.{join_by}
-use Rattle.cfgerrors.specs.Errors.{ErrorKind, InvalidStartRule, UnknownRuleRef, UnknownToken, NoPrecForToken, UnknownEPP, Nameless}
+use Rattle.cfgheader.specs.Texts.{kind_text}
+use Rattle.cfgerrors.specs.Errors.{ErrorKind, InvalidStartRule, UnknownRuleRef, UnknownToken, NoPrecForToken, UnknownEPP, Header, Nameless}
 use Rattle.cfgerrors.specs.declared.error.YaccFault.{YaccFault}
 use Rattle.cfgerrors.specs.declared.error.YaccFault.TheVariants.{Errors, OutOfMemory}
 use Rattle.cfgerrors.specs.declared.error.YaccGrammarErrorKind.{YaccGrammarErrorKind}
@@ -9,7 +10,7 @@ use Rattle.cfgerrors.specs.declared.error.YaccGrammarErrorKind.TheVariants as ki
 use Rattle.cfgerrors.specs.declared.warning.YaccGrammarWarningKind.{YaccGrammarWarningKind}
 use Rattle.cfgerrors.specs.declared.warning.YaccGrammarWarningKind.TheVariants.{UnusedRule, UnusedToken}
 
--- of a kind that holds no name: those that do stand below
+-- of a kind that holds no name and stands in no section: those that do stand below
 abbrev pub nameless_text : YaccGrammarErrorKind → List ℕ
 nameless_text kinds.IllegalInteger = codes "Illegal integer"
 nameless_text kinds.IllegalName = codes "Illegal name"
@@ -49,6 +50,7 @@ error_text (UnknownRuleRef name) = codes "Unknown reference to rule '" ++ (name 
 error_text (UnknownToken name) = codes "Unknown token '" ++ (name ++ codes "'")
 error_text (NoPrecForToken name) = codes "Token '" ++ (name ++ codes "' used in %prec has no precedence attached")
 error_text (UnknownEPP name) = codes "Token '" ++ (name ++ codes "' in %epp declaration is not referenced in the grammar")
+error_text (Header kind spanskind) = codes "Error in '%grmtools' " ++ kind_text kind
 error_text (Nameless kind) = nameless_text kind
 
 -- of errors the text of each, in their order, with a line end between two of them

@@ -3,11 +3,13 @@
 ghost use Rattle.std.specs.Prelude.{◌≡◌, ◌↔◌, ◌++◌, IsTrue, IfOk, Some};
 ghost use Rattle.std.specs.Fmt.{WritesOnOk, WritesStyledOnOk};
 ghost use Rattle.std.specs.Cmp.{partial_equiv_from_equiv};
-ghost use Rattle.cfgerrors.specs.Errors.{error_at, kind_view, same_error, same_error-equivalence, spanskind_of};
+ghost use Rattle.cfgheader.specs.Errors.{error_view};
+ghost use Rattle.cfgerrors.specs.Errors.{error_at, header_error, kind_view, same_error, same_error-equivalence, spanskind_of};
 ghost use Rattle.cfgerrors.specs.Texts.{error_text, fault_text};
 ghost use Rattle.cfgerrors.specs.declared.error.YaccFault.TheVariants.{OutOfMemory};
 
 use cfgbase::{Span, Spanned, SpansKind};
+use cfgheader::{HeaderError, HeaderErrorKind};
 use std::alloc::{AllocError, AllocFailed, Global};
 use std::error::Error;
 use std::fmt;
@@ -87,6 +89,9 @@ pub enum YaccGrammarErrorKind {
     ExpectedInput(char),
     /// There is no such kind of Yacc. The reader never answers this.
     InvalidYaccKind,
+    /// This is wrong with the `%grmtools` section, and what the spans stand for. The reader of files does not answer
+    /// this yet.
+    Header(HeaderErrorKind, SpansKind),
     /// The index type cannot count the rules, tokens, productions or symbols.
     StorageTooSmall,
 }
@@ -159,6 +164,10 @@ impl fmt::Display for YaccGrammarErrorKind {
                 );
             }
             Self::InvalidYaccKind => "Invalid yacc kind",
+            Self::Header(kind, _) => {
+                f.write_str("Error in '%grmtools' ")?;
+                return kind.fmt(f);
+            }
             Self::StorageTooSmall => "Index type too small for this grammar",
         };
         f.write_str(text)
@@ -228,6 +237,17 @@ pub fn error_at(
     Ok(YaccGrammarError::new(kind, spans))
 }
 
+/// The error of a whole file that is one in its section, at the same spans. It takes no memory.
+impl From<HeaderError<Span>> for YaccGrammarError {
+    ghost from_gives = { λ error whole. whole ≡ header_error (error_view error) };
+
+    fn from(error: HeaderError<Span>) -> YaccGrammarError {
+        let spanskind = error.spanskind();
+        let kind = YaccGrammarErrorKind::Header(error.kind, spanskind);
+        YaccGrammarError::new(kind, error.locations)
+    }
+}
+
 impl PartialEq for YaccGrammarError {
     ghost eq = { same_error };
 
@@ -287,6 +307,7 @@ impl Spanned for YaccGrammarError {
             | YaccGrammarErrorKind::DuplicateStartDeclaration
             | YaccGrammarErrorKind::DuplicateActiontypeDeclaration
             | YaccGrammarErrorKind::DuplicateEPP => SpansKind::DuplicationError,
+            YaccGrammarErrorKind::Header(_, spanskind) => spanskind,
             _ => SpansKind::Error,
         }
     }

@@ -1,30 +1,13 @@
-//! What `==` and `clone` of kinds of Yacc, of errors and of warnings compare and copy. They are derived, so each law names
-//! the impl, as in `⟦<YaccKind as PartialEq>⟧`, and holds of every value.
+//! What `==` and `clone` of errors and of warnings compare and copy. They are derived, so each law names the impl, as in
+//! `⟦<YaccGrammarErrorKind as PartialEq>⟧`, and holds of every value.
 
 ghost use Rattle.std.specs.Prelude.{◌≡◌, ◌↔◌, IsTrue};
 ghost use Rattle.cfgerrors.specs.Errors.{kind_view};
-ghost use Rattle.cfgerrors.specs.declared.kind.YaccKind.{YaccKind};
-ghost use Rattle.cfgerrors.specs.declared.kind.YaccOriginalActionKind.{YaccOriginalActionKind};
 ghost use Rattle.cfgerrors.specs.declared.error.YaccGrammarErrorKind.{YaccGrammarErrorKind};
 ghost use Rattle.cfgerrors.specs.declared.warning.YaccGrammarWarningKind.{YaccGrammarWarningKind};
 
 use crate::error::YaccGrammarErrorKind;
-use crate::kind::{YaccKind, YaccOriginalActionKind};
 use crate::warning::YaccGrammarWarningKind;
-
-/// Kinds of Yacc are equal exactly where they are the same. A clone is its source, and takes no memory.
-pub fn yacc_kinds_are_told_apart()
-    ensures equal { (a b : YaccKind) → IsTrue (⟦<YaccKind as PartialEq>⟧.eq a b) ↔ (a ≡ b) }
-    ensures clone { (a b : YaccKind) → ⟦<YaccKind as Clone>⟧.is_clone a b → b ≡ a }
-    ensures cloned { (a : YaccKind) → ⟦<YaccKind as Clone>⟧.is_infallible a }
-{}
-
-/// Kinds of actions are equal exactly where they are the same. A clone is its source, and takes no memory.
-pub fn action_kinds_are_told_apart()
-    ensures equal { (a b : YaccOriginalActionKind) → IsTrue (⟦<YaccOriginalActionKind as PartialEq>⟧.eq a b) ↔ (a ≡ b) }
-    ensures clone { (a b : YaccOriginalActionKind) → ⟦<YaccOriginalActionKind as Clone>⟧.is_clone a b → b ≡ a }
-    ensures cloned { (a : YaccOriginalActionKind) → ⟦<YaccOriginalActionKind as Clone>⟧.is_infallible a }
-{}
 
 /// Kinds of errors are equal exactly where they show the same: the same kind, with the same name or character where it
 /// holds one. A clone shows what its source does.

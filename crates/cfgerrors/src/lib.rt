@@ -1,11 +1,9 @@
-//! Kinds of Yacc, and what is wrong or odd with a Yacc file: its errors and warnings, as readers make them.
+//! What is wrong or odd with a Yacc file: its errors and warnings, as readers make them.
 #![tactic(auto)]
 
 pub mod error;
-pub mod kind;
 pub mod laws;
 pub mod warning;
 
 pub use error::{YaccFault, YaccGrammarError, YaccGrammarErrorKind, YaccGrammarResult, error_at};
-pub use kind::{YaccKind, YaccOriginalActionKind};
 pub use warning::{YaccGrammarWarning, YaccGrammarWarningKind, warning_at};

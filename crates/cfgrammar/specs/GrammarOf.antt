@@ -6,7 +6,7 @@ use Rattle.cfgast.specs.Syntax.{syntax_of}
 use Rattle.cfgerrors.specs.Errors.{GrammarError}
 use Rattle.cfgsyntax.specs.Faults.{errors_of}
 use Rattle.cfgsyntax.specs.Reads.{HasOneReading, Reads}
-use Rattle.cfgerrors.specs.declared.kind.YaccKind.{YaccKind}
+use Rattle.cfgheader.specs.declared.kind.YaccKind.{YaccKind}
 use Rattle.cfgerrors.specs.declared.error.YaccFault.{YaccFault}
 use Rattle.cfgrammar.specs.Answer.{IsAnswer}
 use Rattle.cfgrammar.specs.Numbered.{Numbered, numbered}

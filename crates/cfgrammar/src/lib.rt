@@ -15,6 +15,7 @@
 //! which it lists `cfgindex` too, and loops over a `&MarkMap`, for which it lists `cfgmarks`.
 #![tactic(auto)]
 
+pub mod header;
 pub mod yacc;
 
 pub use cfgbase::{Location, Span, Spanned, SpansKind, span};

@@ -21,7 +21,7 @@ use Rattle.cfgast.specs.Building.{has_entry}
 use Rattle.cfgast.specs.Occurrences.{Unique, Occurrence, is_same, each_once, repeats, places_of, duplicates}
 use Rattle.cfgast.proofs.Repeats.{is_same_equivalence}
 use Rattle.cfgast.specs.Syntax.{Symbol, RuleSymbol, TokenSymbol, EachProductionSpan, EachSpan, symbol_word, Production, Rule, Syntax, syntax_of}
-use Rattle.cfgerrors.specs.declared.kind.YaccKind.{YaccKind}
+use Rattle.cfgheader.specs.declared.kind.YaccKind.{YaccKind}
 use Rattle.cfgerrors.specs.declared.error.YaccGrammarErrorKind.TheVariants.{NoStartRule}
 use Rattle.cfgerrors.specs.Errors.{ErrorKind, GrammarError, InvalidStartRule, UnknownRuleRef, UnknownToken, NoPrecForToken, UnknownEPP, Nameless, error_at}
 use Rattle.cfgsyntax.specs.Check.{is_rule, is_token, nowhere, first_error, start_error, symbol_error, precedence_error, production_error, printed_error, place_error, rule_error, check_of}

@@ -9,7 +9,7 @@ use Rattle.cfgast.specs.Syntax.{Syntax, syntax_of}
 use Rattle.cfgast.proofs.Law.{adds_syntax_of}
 use Rattle.cfgast.specs.Building.{adds}
 use Rattle.cfgast.specs.View.{syntax_built}
-use Rattle.cfgerrors.specs.declared.kind.YaccKind.{YaccKind}
+use Rattle.cfgheader.specs.declared.kind.YaccKind.{YaccKind}
 use Rattle.cfgsyntax.specs.declared.yacc.parser.reader.Reader.{Reader}
 use Rattle.cfgsyntax.specs.Builds.{Grows}
 use Rattle.cfgsyntax.specs.Grammar.{file}

@@ -10,3 +10,4 @@ pub mod Reads
 pub mod Rules
 pub mod Sound
 pub mod Spans
+pub mod Starts

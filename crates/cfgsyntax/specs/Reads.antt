@@ -4,7 +4,7 @@ use Rattle.reading.specs.Construct.{Says}
 use Rattle.reading.specs.Read.{Read, stop_of}
 use Rattle.cfgwords.specs.declared.fault.Fault.{Fault}
 use Rattle.cfgast.specs.Items.{Item}
-use Rattle.cfgerrors.specs.declared.kind.YaccKind.{YaccKind}
+use Rattle.cfgheader.specs.declared.kind.YaccKind.{YaccKind}
 use Rattle.cfgsyntax.specs.Grammar.{file}
 
 -- The text is a file of this kind up to stop, and these are the items read on the way.

@@ -1,24 +1,31 @@
 -- What the program writes of a text.
-use Rattle.std.specs.Prelude.{◌≡◌, ℕ, List, [], ◌++◌, Option, Result, Ok, Err, slice_get, codes}
+use Rattle.std.specs.Prelude.{◌≡◌, ℕ, ◌<◌, List, [], ◌++◌, All, length, Option, Result, Ok, Err, slice_get, codes}
 use Rattle.std.specs.List.{flat_map, enumerate_from}
 use Rattle.std.specs.Option.{option_map_or}
 use Rattle.std.specs.Fmt.{decimal}
 use Rattle.std.specs.Io.KnownBytes.{Appends, Keeps}
+use Rattle.cfgbase.specs.declared.span.Span.{Span}
 use Rattle.cfglines.specs.Lines.{line_number, column}
+use Rattle.cfgwords.specs.declared.fault.Fault.{Fault}
+use Rattle.cfgast.specs.Items.{Item}
+use Rattle.cfgast.specs.Syntax.{Syntax, syntax_of}
+use Rattle.cfgast.specs.Unused.{AreWarnings}
 use Rattle.cfgerrors.specs.Errors.{GrammarError}
-use Rattle.cfgerrors.specs.Texts.{error_text}
-use Rattle.cfgerrors.specs.declared.kind.YaccKind.{YaccKind}
+use Rattle.cfgerrors.specs.Texts.{error_text, warning_text}
+use Rattle.cfgerrors.specs.Warnings.{GrammarWarning}
+use Rattle.cfgheader.specs.declared.kind.YaccKind.{YaccKind}
+use Rattle.cfgsyntax.specs.Faults.{errors_of}
+use Rattle.cfgsyntax.specs.Reads.{HasOneReading, Reads}
 use Rattle.cfgrammar.specs.Answer.{IsRefused}
 use Rattle.cfgrammar.specs.Fits.{Fits}
-use Rattle.cfgrammar.specs.GrammarOf.{HoldsOfReading}
-use Rattle.cfgrammar.specs.Numbered.{Numbered, NumberedProduction}
+use Rattle.cfgrammar.specs.Numbered.{Numbered, NumberedProduction, numbered}
 use Rattle.cfgrammar.specs.Shown.{production_text}
 use Rattle.cfgtool.specs.declared.engine.Outcome.{Outcome}
 use Rattle.cfgtool.specs.declared.engine.Outcome.TheVariants.{Done, Refused}
 use Rattle.cfgtool.specs.declared.engine.ReportFault.{ReportFault}
 use Rattle.cfgtool.specs.declared.engine.ReportFault.TheVariants as faults
 use Rattle.cfgtool.specs.declared.words.Command.{Command}
-use Rattle.cfgtool.specs.declared.words.Command.TheVariants.{Grammar, Firsts, Follows, Sentences}
+use Rattle.cfgtool.specs.declared.words.Command.TheVariants.{Grammar, Firsts, Follows, Sentences, Warnings}
 use Rattle.cfgtool.specs.declared.words.KindArg.{KindArg}
 use Rattle.cfgtool.specs.declared.words.KindArg.TheVariants.{Named}
 use Rattle.cfgtool.specs.FirstLines.{AreFirstLines}
@@ -30,6 +37,12 @@ use Rattle.cfgtool.specs.Sinks.{AppendsBeginning}
 abbrev pub kind_read : KindArg → YaccKind
 kind_read (Named kind) = kind
 
+-- The text has exactly one reading, and this holds of its errors, of its syntax, and of that in numbers.
+abbrev pub HoldsOfText : YaccKind → List ℕ → (List GrammarError → Syntax → Numbered → Type 0) → Type 0
+HoldsOfText kind text Holds = HasOneReading kind text
+    × ((items : List Item) (stop : Option Fault) → Reads kind text items stop
+    → Holds (errors_of items stop) (syntax_of items) (numbered kind (syntax_of items)))
+
 -- the greatest index of the program's grammars
 abbrev pub greatest : ℕ
 greatest = 4294967295
@@ -38,16 +51,32 @@ greatest = 4294967295
 abbrev pub place_text : List ℕ → ℕ → List ℕ
 place_text text b = decimal (line_number text b) ++ (codes ":" ++ (decimal (column text b) ++ codes ": "))
 
--- the place where an error's first span starts, and nothing where it has no span
-abbrev pub error_place : List ℕ → GrammarError → List ℕ
-error_place text error = option_map_or (λ span. place_text text span.start) (slice_get error.spans 0) []
+-- the place where the first of these spans starts, and nothing where there is none
+abbrev pub first_place : List ℕ → List Span → List ℕ
+first_place text spans = option_map_or (λ span. place_text text span.start) (slice_get spans 0) []
 
 -- an error's line: its place and its text
 abbrev pub error_line : List ℕ → GrammarError → List ℕ
-error_line text error = error_place text error ++ (error_text error.kind ++ codes "\n")
+error_line text error = first_place text error.spans ++ (error_text error.kind ++ codes "\n")
 
 abbrev pub error_lines : List ℕ → List GrammarError → List ℕ
 error_lines text errors = flat_map (error_line text) errors
+
+-- a warning's line, likewise
+abbrev pub warning_line : List ℕ → GrammarWarning → List ℕ
+warning_line text warning = first_place text warning.spans ++ (warning_text warning.kind ++ codes "\n")
+
+abbrev pub warning_lines : List ℕ → List GrammarWarning → List ℕ
+warning_lines text warnings = flat_map (warning_line text) warnings
+
+-- a warning has a span, and P holds of each that it has
+pub record EachWarningSpan (P : Span → Type 0) (warning : GrammarWarning) : Type 0 where
+  pub some : 0 < length warning.spans
+  pub each : All P warning.spans
+
+-- the lines of a syntax's warnings
+abbrev pub AreWarningLines : List ℕ → Syntax → List ℕ → Type 0
+AreWarningLines text s lines = (warnings : List GrammarWarning) × AreWarnings s warnings × (lines ≡ warning_lines text warnings)
 
 -- a production's line: its index, a space and its text
 abbrev pub production_line : Numbered → ℕ × NumberedProduction → List ℕ
@@ -56,32 +85,33 @@ production_line g production = decimal production.0 ++ (codes " " ++ (production
 abbrev pub production_lines : Numbered → List ℕ
 production_lines g = flat_map (production_line g) (enumerate_from 0 g.productions)
 
--- the lines that a command tells of a grammar
-abbrev pub AreLinesOf : Command → Numbered → List ℕ → Type 0
-AreLinesOf Grammar g lines = lines ≡ production_lines g
-AreLinesOf Firsts g lines = AreFirstLines g lines
-AreLinesOf Follows g lines = AreFollowLines g lines
-AreLinesOf Sentences g lines = AreSentenceLines g lines
+-- the lines that a command tells of a text with this syntax, which is this grammar in numbers
+abbrev pub AreLinesOf : Command → List ℕ → Syntax → Numbered → List ℕ → Type 0
+AreLinesOf Grammar text s g lines = lines ≡ production_lines g
+AreLinesOf Firsts text s g lines = AreFirstLines g lines
+AreLinesOf Follows text s g lines = AreFollowLines g lines
+AreLinesOf Sentences text s g lines = AreSentenceLines g lines
+AreLinesOf Warnings text s g lines = AreWarningLines text s lines
 
--- How a report of a text with these errors and this numbering ends, and its lines: the text is a grammar, and the
--- command's lines are told, or it is refused, and its errors are.
-abbrev pub IsReport : Command → List ℕ → List GrammarError → Numbered → Outcome → List ℕ → Type 0
-IsReport command text errors g Done lines = (errors ≡ []) × Fits greatest g × AreLinesOf command g lines
-IsReport command text errors g Refused lines = (told : List GrammarError) × IsRefused greatest errors g told × (lines ≡ error_lines text told)
+-- How a report of a text with these errors, this syntax and this numbering ends, and its lines: the text is a grammar,
+-- and the command's lines are told, or it is refused, and its errors are.
+abbrev pub IsReport : Command → List ℕ → List GrammarError → Syntax → Numbered → Outcome → List ℕ → Type 0
+IsReport command text errors s g Done lines = (errors ≡ []) × Fits greatest g × AreLinesOf command text s g lines
+IsReport command text errors s g Refused lines = (told : List GrammarError) × IsRefused greatest errors g told × (lines ≡ error_lines text told)
 
 -- What a report adds to the known bytes of its sink: the lines of how it ended; nothing where memory ended; where the
 -- sink counted a fault, a beginning of the lines of how it would have ended.
-abbrev pub Tells : Command → List ℕ → List GrammarError → Numbered → Option (List ℕ) → Option (List ℕ) → Result Outcome ReportFault → Type 0
-Tells command text errors g old new (Ok outcome) = (lines : List ℕ) × IsReport command text errors g outcome lines × Appends old new lines
-Tells command text errors g old new (Err faults.Write) = (outcome : Outcome) × (lines : List ℕ)
-    × IsReport command text errors g outcome lines × AppendsBeginning old new lines
-Tells command text errors g old new (Err faults.OutOfMemory) = Keeps old new
+abbrev pub Tells : Command → List ℕ → List GrammarError → Syntax → Numbered → Option (List ℕ) → Option (List ℕ) → Result Outcome ReportFault → Type 0
+Tells command text errors s g old new (Ok outcome) = (lines : List ℕ) × IsReport command text errors s g outcome lines × Appends old new lines
+Tells command text errors s g old new (Err faults.Write) = (outcome : Outcome) × (lines : List ℕ)
+    × IsReport command text errors s g outcome lines × AppendsBeginning old new lines
+Tells command text errors s g old new (Err faults.OutOfMemory) = Keeps old new
 
--- A report of a text tells so of the text's one reading: of its errors, and of its syntax in numbers.
+-- A report of a text tells so of the text's one reading: of its errors, of its syntax, and of that in numbers.
 abbrev pub TellsText : KindArg → Command → List ℕ → Option (List ℕ) → Option (List ℕ) → Result Outcome ReportFault
     → Type 0
 TellsText kind command text old new answer =
-    HoldsOfReading (kind_read kind) text (λ errors g. Tells command text errors g old new answer)
+    HoldsOfText (kind_read kind) text (λ errors s g. Tells command text errors s g old new answer)
 
 -- how many faults of its sink a report meets
 abbrev pub faults_met : Result Outcome ReportFault → ℕ

@@ -2,8 +2,8 @@
 use Rattle.std.specs.Prelude.{◌≡◌, ℕ, List, [], ◌∷◌, ◌++◌, Option, Some, None, Result, Ok, Err, if◌then◌else◌, codes}
 use Rattle.std.specs.Str.{IsUtf8, bytes_eq}
 use Rattle.std.specs.Io.KnownBytes.{Keeps}
-use Rattle.cfgerrors.specs.declared.kind.YaccKind.TheVariants.{Original, Grmtools, Eco}
-use Rattle.cfgerrors.specs.declared.kind.YaccOriginalActionKind.TheVariants.{NoAction, UserAction, GenericParseTree}
+use Rattle.cfgheader.specs.declared.kind.YaccKind.TheVariants.{Original, Grmtools, Eco}
+use Rattle.cfgheader.specs.declared.kind.YaccOriginalActionKind.TheVariants.{NoAction, UserAction, GenericParseTree}
 use Rattle.cfgtool.specs.declared.engine.Outcome.{Outcome}
 use Rattle.cfgtool.specs.declared.engine.Outcome.TheVariants.{Done, Refused}
 use Rattle.cfgtool.specs.declared.engine.ReportFault.{ReportFault}
@@ -15,7 +15,7 @@ use Rattle.cfgtool.specs.declared.program.WordsFault.TheVariants as words
 use Rattle.cfgtool.specs.declared.source.Input.{Input}
 use Rattle.cfgtool.specs.declared.source.Input.TheVariants as input
 use Rattle.cfgtool.specs.declared.words.Command.{Command}
-use Rattle.cfgtool.specs.declared.words.Command.TheVariants.{Grammar, Firsts, Follows, Sentences}
+use Rattle.cfgtool.specs.declared.words.Command.TheVariants.{Grammar, Firsts, Follows, Sentences, Warnings}
 use Rattle.cfgtool.specs.declared.words.KindArg.{KindArg}
 use Rattle.cfgtool.specs.declared.words.KindArg.TheVariants.{Named}
 use Rattle.cfgtool.specs.Report.{TellsText}
@@ -37,6 +37,7 @@ command_named word =
     else if bytes_eq word (codes "firsts") then Some Firsts
     else if bytes_eq word (codes "follows") then Some Follows
     else if bytes_eq word (codes "sentences") then Some Sentences
+    else if bytes_eq word (codes "warnings") then Some Warnings
     else None
 
 -- how a run ends: with a report, or why there is none

@@ -9,7 +9,7 @@ use Rattle.std.proofs.lemmas.Str.{IsCharBoundary-start, IsCharBoundary-end, IsCh
 use Rattle.reading.specs.Pieces.{starts}
 use Rattle.reading.proofs.PiecesLemmas.{IsRun-run}
 use Rattle.cfgwords.specs.declared.bytes.ByteClass.{ByteClass}
-use Rattle.cfgwords.specs.declared.bytes.ByteClass.TheVariants.{Blank, LineEnd, Line, Quote, NameStart, NameByte, IdentifierStart, IdentifierByte, Digit}
+use Rattle.cfgwords.specs.declared.bytes.ByteClass.TheVariants.{Blank, LineEnd, Line, Quote, Letter, NameStart, NameByte, IdentifierStart, IdentifierByte, Digit}
 use Rattle.cfgwords.specs.Bytes.{holds}
 
 -- behind the last byte that passes, where only ASCII passes
@@ -47,6 +47,7 @@ run_boundary Blank text utf8 = boundary_run (holds Blank) text utf8 (λ b h. gri
 run_boundary LineEnd text utf8 = boundary_run (holds LineEnd) text utf8 (λ b h. grind (arith, nat_tests))
 run_boundary Line text utf8 = boundary_until (holds Line) text (λ b h. grind (arith, nat_tests))
 run_boundary Quote text utf8 = boundary_run (holds Quote) text utf8 (λ b h. grind (arith, nat_tests))
+run_boundary Letter text utf8 = boundary_run (holds Letter) text utf8 (λ b h. grind (arith, nat_tests))
 run_boundary NameStart text utf8 = boundary_run (holds NameStart) text utf8 (λ b h. grind (arith, nat_tests))
 run_boundary NameByte text utf8 = boundary_run (holds NameByte) text utf8 (λ b h. grind (arith, nat_tests))
 run_boundary IdentifierStart text utf8 = boundary_run (holds IdentifierStart) text utf8 (λ b h. grind (arith, nat_tests))

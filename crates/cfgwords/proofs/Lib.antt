@@ -15,6 +15,7 @@ pub mod NameStarts
 pub mod PassedLemmas
 pub mod Quoted
 pub mod QuotedFinder
+pub mod SectionFinders
 pub mod TokenFinder
 pub mod Trimming
 pub mod Unescaping

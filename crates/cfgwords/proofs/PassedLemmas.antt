@@ -6,13 +6,14 @@ use Rattle.std.proofs.lemmas.Bool.Decides.{nat_tests}
 use Rattle.std.proofs.lemmas.List.{drop-drop, take_rest}
 use Rattle.std.proofs.lemmas.Str.{IsCharBoundary-before_ascii, IsCharBoundary-end}
 use Rattle.cfgwords.specs.declared.passed.Passed.{Passed as Kind}
-use Rattle.cfgwords.specs.declared.passed.Passed.TheVariants.{InString, BeforeColon}
+use Rattle.cfgwords.specs.declared.passed.Passed.TheVariants.{InString, BeforeColon, InQuotes}
 use Rattle.cfgwords.specs.Passed.{passes_one, passes_two, IsPassed, nothing, one, two, step_len, stops, EndsInAscii, passed_len, passed}
 
 -- what is passed two at a time isn't passed alone
 two_apart : (kind : Kind) (b c : ℕ) → passes_two kind b c ≡ true → passes_one kind b ≡ false
 two_apart (InString quote) b c h = grind (arith, nat_tests)
 two_apart BeforeColon b c h = grind (arith, nat_tests)
+two_apart InQuotes b c h = grind (arith, nat_tests)
 
 -- where it stops, one byte isn't passed, nor are two
 pub stop_one : (kind : Kind) (b : ℕ) (rest : List ℕ) → stops kind (b ∷ rest) ≡ true → passes_one kind b ≡ false
@@ -193,6 +194,7 @@ passed_only kind inside left (two b c rest h more) ends =
 pub stop_ascii : (kind : Kind) (b : ℕ) (rest : List ℕ) → EndsInAscii kind → stops kind (b ∷ rest) ≡ true → b < 128
 stop_ascii (InString quote) b rest ascii h = let refused = stop_one (InString quote) b rest h in grind (arith, nat_tests, refused)
 stop_ascii BeforeColon b rest ascii h = let refused = stop_one BeforeColon b rest h in grind (arith, nat_tests, refused)
+stop_ascii InQuotes b rest ascii h = let refused = stop_one InQuotes b rest h in grind (arith, nat_tests, refused)
 
 -- so the text may be cut there
 pub passed_boundary : (kind : Kind) (text : List ℕ) → EndsInAscii kind → (n : ℕ) → n ≡ passed_len kind text → IsCharBoundary text n

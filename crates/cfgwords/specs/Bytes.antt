@@ -2,7 +2,7 @@
 -- cut wherever a class begins or ends.
 use Rattle.std.specs.Prelude.{ℕ, Bool, ◌==◌, ◌||◌, ◌&&◌, not, nat_le}
 use Rattle.cfgwords.specs.declared.bytes.ByteClass.{ByteClass}
-use Rattle.cfgwords.specs.declared.bytes.ByteClass.TheVariants.{Blank, LineEnd, Line, Quote, NameStart, NameByte, IdentifierStart, IdentifierByte, Digit}
+use Rattle.cfgwords.specs.declared.bytes.ByteClass.TheVariants.{Blank, LineEnd, Line, Quote, Letter, NameStart, NameByte, IdentifierStart, IdentifierByte, Digit}
 
 abbrev pub is_line_end : ℕ → Bool
 is_line_end b = b == 10 || b == 13
@@ -22,13 +22,14 @@ is_identifier_start b = is_letter b || b == 95
 abbrev pub is_name_start : ℕ → Bool
 is_name_start b = is_identifier_start b || b == 46
 
--- a space, a tab, a CR or an LF; an LF or a CR; any other byte; `"` or `'`; what a name and an identifier begin
+-- a space, a tab, a CR or an LF; an LF or a CR; any other byte; `"` or `'`; a letter; what a name and an identifier begin
 -- with and go on with; a decimal digit
 abbrev pub holds : ByteClass → ℕ → Bool
 holds Blank b = is_blank b
 holds LineEnd b = is_line_end b
 holds Line b = not (is_line_end b)
 holds Quote b = b == 34 || b == 39
+holds Letter b = is_letter b
 holds NameStart b = is_name_start b
 holds NameByte b = is_name_start b || is_digit b
 holds IdentifierStart b = is_identifier_start b

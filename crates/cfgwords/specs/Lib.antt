@@ -4,6 +4,7 @@ pub mod Bytes
 pub mod ColonText
 pub mod Passed
 pub mod Places
+pub mod SectionWords
 pub mod Strings
 pub mod Text
 pub mod Words

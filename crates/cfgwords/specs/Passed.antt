@@ -1,19 +1,23 @@
 -- What is passed on the way to the byte that ends a word: single bytes, and bytes two at a time.
 use Rattle.std.specs.Prelude.{ℕ, suc, ◌<◌, Bool, true, List, [], ◌∷◌, take, drop, ◌≡◌, ◌==◌, ◌&&◌, not, if◌then◌else◌}
 use Rattle.cfgwords.specs.declared.passed.Passed.{Passed as Kind}
-use Rattle.cfgwords.specs.declared.passed.Passed.TheVariants.{InString, BeforeColon}
+use Rattle.cfgwords.specs.declared.passed.Passed.TheVariants.{InString, BeforeColon, InQuotes}
 use Rattle.cfgwords.specs.declared.bytes.ByteClass.TheVariants as bytes
 use Rattle.cfgwords.specs.Bytes.{holds, is_line_end}
 
--- single bytes: in a string all but its quote, a backslash, a CR and an LF; before a single colon all but a colon
+-- single bytes: in a string all but its quote, a backslash, a CR and an LF; before a single colon all but a colon;
+-- between double quotes all but these and a backslash
 abbrev pub passes_one : Kind → ℕ → Bool
 passes_one (InString quote) b = not (b == quote) && not (b == 92) && not (is_line_end b)
 passes_one BeforeColon b = not (b == 58)
+passes_one InQuotes b = not (b == 34) && not (b == 92)
 
--- two at a time: in a string a backslash and a quote, either; before a single colon two colons
+-- two at a time: in a string a backslash and a quote, either; before a single colon two colons; between double quotes
+-- a backslash and anything but an LF
 abbrev pub passes_two : Kind → ℕ → ℕ → Bool
 passes_two (InString quote) b c = b == 92 && holds bytes.Quote c
 passes_two BeforeColon b c = b == 58 && c == 58
+passes_two InQuotes b c = b == 92 && not (c == 10)
 
 pub data IsPassed (kind : Kind) : List ℕ → Type 0 where
   nothing : IsPassed kind []
@@ -33,6 +37,7 @@ stops kind text = step_len kind text == 0
 abbrev pub EndsInAscii : Kind → Type 0
 EndsInAscii (InString quote) = quote < 128
 EndsInAscii BeforeColon = Unit {0}
+EndsInAscii InQuotes = Unit {0}
 
 -- The same by functions: how much is passed, and that with what is left.
 

@@ -11,6 +11,8 @@ pub enum ByteClass {
     Line,
     /// A double or a single quote.
     Quote,
+    /// A letter.
+    Letter,
     /// What a name begins with: a letter, `_` or `.`.
     NameStart,
     /// What a name goes on with: also a digit.
@@ -35,6 +37,7 @@ impl ByteClass {
             ByteClass::LineEnd => matches!(b, b'\n' | b'\r'),
             ByteClass::Line => !matches!(b, b'\n' | b'\r'),
             ByteClass::Quote => matches!(b, b'"' | b'\''),
+            ByteClass::Letter => b.is_ascii_alphabetic(),
             ByteClass::NameStart => b.is_ascii_alphabetic() || b == b'_' || b == b'.',
             ByteClass::NameByte => b.is_ascii_alphanumeric() || b == b'_' || b == b'.',
             ByteClass::IdentifierStart => b.is_ascii_alphabetic() || b == b'_',

@@ -6,6 +6,7 @@ ghost use Rattle.cfgwords.specs.Blank.{IsFront, front_of, Blank, blank};
 ghost use Rattle.cfgwords.specs.Strings.{EppString, epp_string};
 ghost use Rattle.cfgwords.specs.ColonText.{ColonText, colon_text};
 ghost use Rattle.cfgwords.specs.Actions.{IsAction, action_of};
+ghost use Rattle.cfgwords.specs.SectionWords.{IsName as IsSectionName, name_of as section_name_of, IsText, text_of};
 ghost use Rattle.cfgwords.specs.Words.{IsName, name_of, IsIdentifier, identifier_of, IsQuoted, quoted_of, TokenText, IsToken, token_of, IsInteger, integer_of, LineRest, line_rest};
 
 /// What stands at the front of a text is one thing, the one that `Front::of` tells.
@@ -78,4 +79,16 @@ pub fn colon_text_is_graph()
 pub fn actions_found()
     ensures sound { (text word rest : List ℕ) → action_of text ≡ Some (word, rest) → IsAction text word rest }
     ensures only { (text word rest : List ℕ) → IsAction text word rest → action_of text ≡ Some (word, rest) }
+{}
+
+/// Every name of a section is found, and only these names are.
+pub fn section_names_found()
+    ensures sound { (text word rest : List ℕ) → section_name_of text ≡ Some (word, rest) → IsSectionName text word rest }
+    ensures only { (text word rest : List ℕ) → IsSectionName text word rest → section_name_of text ≡ Some (word, rest) }
+{}
+
+/// Every text between double quotes is found, and only these are.
+pub fn texts_found()
+    ensures sound { (text word rest : List ℕ) → text_of text ≡ Some (word, rest) → IsText text word rest }
+    ensures only { (text word rest : List ℕ) → IsText text word rest → text_of text ≡ Some (word, rest) }
 {}

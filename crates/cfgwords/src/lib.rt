@@ -9,5 +9,6 @@ pub mod fault;
 pub mod laws;
 pub mod passed;
 pub mod run;
+pub mod section;
 pub mod strings;
 pub mod words;

@@ -13,6 +13,9 @@ pub enum Passed {
     InString(u8),
     /// Before a single colon: two colons, and any other byte.
     BeforeColon,
+    /// Between double quotes: a backslash with any byte but an LF behind it, and any other byte but a double quote and a
+    /// backslash.
+    InQuotes,
 }
 
 impl Passed {
@@ -22,6 +25,7 @@ impl Passed {
         match self {
             Passed::InString(quote) => b != quote && b != b'\\' && !ByteClass::LineEnd.holds(b),
             Passed::BeforeColon => b != b':',
+            Passed::InQuotes => b != b'"' && b != b'\\',
         }
     }
 
@@ -31,6 +35,7 @@ impl Passed {
         match self {
             Passed::InString(_) => b == b'\\' && ByteClass::Quote.holds(c),
             Passed::BeforeColon => b == b':' && c == b':',
+            Passed::InQuotes => b == b'\\' && c != b'\n',
         }
     }
 
@@ -60,7 +65,7 @@ fn passed_len(bytes: &[u8], kind: Passed) -> usize
 }
 
 /// The front that is passed, as long as possible, and what is left behind it. The quote of a string is ASCII.
-pub(crate) fn pass(text: &str, kind: Passed) -> (&str, &str)
+pub fn pass(text: &str, kind: Passed) -> (&str, &str)
     requires { EndsInAscii kind }
     ensures parts { (result.0.now, result.1.now) ≡ passed kind text.now }
     ensures lengths { length result.0.now + length result.1.now ≡ length text.now }

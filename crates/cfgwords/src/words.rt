@@ -37,8 +37,9 @@ impl<'a> Token<'a> {
     }
 }
 
+/// The longest front of bytes of the second class, where the text begins with a byte of the first, and what is left behind it.
 #[tactic(auto, unfolding(crate::specs::Words::run_from))]
-fn run_from(text: &str, first: ByteClass, others: ByteClass) -> Option<(&str, &str)>
+pub fn run_from(text: &str, first: ByteClass, others: ByteClass) -> Option<(&str, &str)>
     ensures exact { option_map (λ x. (x.0.now, x.1.now)) result ≡ run_from first others text.now }
     ensures lengths { IfSome result (λ x. length x.0.now + length x.1.now ≡ length text.now) }
 {

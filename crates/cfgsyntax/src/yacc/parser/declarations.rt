@@ -10,7 +10,7 @@ use super::lists::Marking;
 use super::reader::{ReadFault, Reader};
 use cfgast::AssocKind;
 use cfgbase::Span;
-use cfgerrors::YaccKind;
+use cfgheader::YaccKind;
 use cfgwords::fault::FaultKind;
 use cfgwords::words::Word;
 

@@ -9,7 +9,7 @@ ghost use Rattle.cfgsyntax.specs.Reads.{Reads, HasOneReading};
 
 use super::reader::{ReadFault, Reader};
 use cfgast::GrammarAST;
-use cfgerrors::YaccKind;
+use cfgheader::YaccKind;
 use cfgwords::fault::Fault;
 use std::alloc::{AllocError, Global};
 

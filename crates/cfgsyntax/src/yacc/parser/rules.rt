@@ -12,7 +12,7 @@ use super::bodies::Parts;
 use super::reader::{ReadFault, Reader};
 use cfgast::{Body, RuleHead};
 use cfgbase::Span;
-use cfgerrors::YaccKind;
+use cfgheader::YaccKind;
 use cfgwords::actions::leading_action;
 use cfgwords::fault::FaultKind;
 

@@ -1,7 +1,7 @@
 use Rattle.std.proofs.Common.{map, option_map, inl, inr, sym, ap, ◌∙◌}
 use Rattle.cfgast.specs.Syntax.{entry_name}
 use Rattle.cfgast.specs.View.{syntax, span_entry}
-use Rattle.cfgerrors.specs.declared.kind.YaccKind.{YaccKind}
+use Rattle.cfgheader.specs.declared.kind.YaccKind.{YaccKind}
 use Rattle.cfgrammar.specs.Numbered.{implicit_of}
 use Rattle.cfgrammar.specs.View.{names}
 use Rattle.cfgrammar.proofs.Rows.{names_shown}

@@ -1,0 +1,13 @@
+pub mod ErrorLemmas
+pub mod KindLemmas
+pub mod SectionElements
+pub mod SectionHeader
+pub mod SectionKept
+pub mod SectionLoops
+pub mod SectionOne
+pub mod SectionPlaces
+pub mod SectionRepeats
+pub mod SectionSteps
+pub mod SameLemmas
+pub mod ValueKinds
+pub mod ValueLemmas

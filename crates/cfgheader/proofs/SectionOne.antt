@@ -1,0 +1,85 @@
+-- A text's section has exactly one reading: the one that the functions on lists compute.
+use Rattle.std.proofs.Common.{◌≡◌, ℕ, Bool, List, [], ◌∷◌, length, map, Result, Ok, Err, Bor, Vec, Global, String, subst, refl, sym, ◌∙◌, ap, ap₂}
+use Rattle.cfgbase.specs.declared.span.Span.{Span}
+use Rattle.cfgmarks.specs.declared.markmap.MarkMap.{MarkMap}
+use Rattle.cfgwords.specs.Text.{place}
+use Rattle.reading.specs.Construct.{computes}
+use Rattle.reading.specs.Read.{Read}
+use Rattle.reading.proofs.Agree.{agree}
+use Rattle.cfgheader.specs.SectionGrammar.{Entry, Fault, section}
+use Rattle.cfgheader.specs.SectionReads.{IsSection, HasOneSection, end_of, unless_errors, section_answer, section_of, IsHeaderOf, IsSectionAnswer, errors_view}
+use Rattle.cfgheader.specs.SectionErrors.{section_errors}
+use Rattle.cfgheader.specs.declared.error.HeaderError.{HeaderError}
+use Rattle.cfgheader.specs.declared.section.fault.Fault.{Fault as CodeFault}
+use Rattle.cfgheader.specs.declared.section.header_fault.HeaderFault.TheVariants as faults
+use Rattle.cfgheader.specs.declared.value.HeaderValue.{HeaderValue}
+use Rattle.cfgheader.specs.declared.section.entry.Entry.{Entry as CodeEntry}
+use Rattle.cfgheader.specs.declared.section.reader.Reader.{Reader}
+use Rattle.cfgheader.specs.SectionSteps.{Grows, noted, entry_view, entries_of, end_view}
+use Rattle.cfgheader.proofs.SectionSteps.{noted_behind}
+
+pub section_is : (required : Bool) (text : List ℕ) (entries : List Entry) (end : Result (List ℕ) Fault) → IsSection required text entries end
+    → ((computes (section (length text) required) text).items ≡ entries) × (end_of (computes (section (length text) required) text).outcome ≡ end)
+section_is required text entries end is =
+    let same = (agree (section (length text) required)).only text is.read is.says in (
+      ap (λ (r : Read Entry Fault (List ℕ)). r.items) same ∙ is.entries_are,
+      ap (λ (r : Read Entry Fault (List ℕ)). end_of r.outcome) same ∙ is.end_is,
+    )
+
+pub one_section : (required : Bool) (text : List ℕ) → HasOneSection required text
+one_section required text = record {
+  entries = (computes (section (length text) required) text).items;
+  end = end_of (computes (section (length text) required) text).outcome;
+  is = record {
+    read = computes (section (length text) required) text;
+    says = (agree (section (length text) required)).sound text;
+    entries_are = refl;
+    end_is = refl;
+  };
+  only = λ xs e is. let same = section_is required text xs e is in (sym same.0, sym same.1);
+}
+
+pub section_answered : (required : Bool) (text : List ℕ) (entries : List Entry) (end : Result (List ℕ) Fault) → IsSection required text entries end
+    → section_of required text ≡ section_answer entries end
+unfolding section_of
+section_answered required text entries end is = let same = section_is required text entries end is in ap₂ section_answer same.0 same.1
+
+-- what a reader that had noted nothing has noted
+pub noted_from_none : (before items : List Entry) → before ≡ [] → noted before items ≡ items
+noted_from_none before items none = ap (λ b. noted b items) none ∙ noted_behind [] items
+
+-- what a reader of the whole text has noted
+pub entries_read : (required : Bool) (text : List ℕ) (old new : Reader) (entries : List CodeEntry) → old.rest.now ≡ text → old.len ≡ length text → entries_of old ≡ []
+    → Grows old new (computes (section old.len required) old.rest.now).items → entries ≡ new.entries.items
+    → map entry_view entries ≡ (computes (section (length text) required) text).items
+entries_read required text old new entries whole len none grown e =
+    ap (map entry_view) e ∙ grown ∙ noted_from_none (entries_of old) _ none ∙ (λ i. (computes (section (len i) required) (whole i)).items)
+
+-- What is answered, from what was read and the errors that were found.
+module _ (required : Bool) (text : List ℕ) (entries : List CodeEntry) (end : Result (Bor (List ℕ)) CodeFault) (errors : Vec (HeaderError Span) Global)
+    (items_are : map entry_view entries ≡ (computes (section (length text) required) text).items)
+    (end_is : end_view end ≡ end_of (computes (section (length text) required) text).outcome)
+    (errors_are : errors_view errors.items ≡ section_errors (map entry_view entries) (end_view end)) where
+  answered : section_of required text ≡ unless_errors (errors_view errors.items) (map entry_view entries) (end_view end)
+  unfolding section_of
+  answered = (λ i. section_answer (sym items_are i) (sym end_is i)) ∙ ap (λ es. unless_errors es (map entry_view entries) (end_view end)) (sym errors_are)
+
+  pub answer_is : (rest : Bor (List ℕ)) → end ≡ Ok rest → errors.items ≡ [] → (header : MarkMap (String Global) (HeaderValue Span)) (offset : ℕ)
+      → IsHeaderOf (map entry_view entries) header → offset ≡ place (length text) rest.now → IsSectionAnswer (length text) (Ok (header, offset)) (section_of required text)
+  answer_is rest whole none header offset holds at =
+      let answer : section_of required text ≡ Ok (map entry_view entries, rest.now) =
+      answered ∙ (λ i. unless_errors (errors_view (none i)) (map entry_view entries) (end_view (whole i))) in
+      subst (IsSectionAnswer (length text) (Ok (header, offset))) (sym answer) (holds, at)
+
+  refused : section_of required text ≡ Err (errors_view errors.items) → IsSectionAnswer (length text) (Err (faults.Errors errors)) (section_of required text)
+  refused answer = subst (IsSectionAnswer (length text) (Err (faults.Errors errors))) (sym answer) refl
+
+  pub stopped_answer : (fault : CodeFault) → end ≡ Err fault → IsSectionAnswer (length text) (Err (faults.Errors errors)) (section_of required text)
+  stopped_answer fault stopped = refused (answered ∙ ap (λ e. unless_errors (errors_view errors.items) (map entry_view entries) (end_view e)) stopped)
+
+  pub repeated_answer : (rest : Bor (List ℕ)) → end ≡ Ok rest → (errors.items ≡ [] → ⊥) → IsSectionAnswer (length text) (Err (faults.Errors errors)) (section_of required text)
+  repeated_answer rest whole some = refused (answered ∙ ap (λ e. unless_errors (errors_view errors.items) (map entry_view entries) (end_view e)) whole ∙ go errors.items some)
+    where
+      go : (es : List (HeaderError Span)) → (es ≡ [] → ⊥) → unless_errors (errors_view es) (map entry_view entries) (Ok rest.now) ≡ Err (errors_view es)
+      go [] some = absurd (some refl)
+      go (e ∷ es) some = refl

@@ -1,0 +1,94 @@
+-- Each error of a text's section has a place, and each of its places is a piece of the text.
+use Rattle.std.proofs.Common.{◌≡◌, ℕ, suc, ◌<◌, Bool, true, false, cond, List, [], ◌∷◌, ◌++◌, filter, length, Result, Ok, Err, eqb, eqb-true, refl, ap, subst, length-append, ◌∙◌, append_assoc, arith, All}
+use Rattle.std.specs.Str.{IsUtf8, bytes_eq}
+use Rattle.std.proofs.lemmas.List.{length-map}
+use Rattle.std.proofs.lemmas.List.Elements.{All-nil, All-cons, All-head, All-tail, All-append, All-map, All-filter}
+use Rattle.lemmas.specs.Lists.{with_fronts, with_fronts_from}
+use Rattle.reading.specs.Construct.{computes}
+use Rattle.reading.proofs.Agree.{agree}
+use Rattle.reading.proofs.Keeps.{keeps}
+use Rattle.reading.proofs.Yields.{EndsIn}
+use Rattle.cfgwords.specs.Places.{IsPiece}
+use Rattle.cfgwords.proofs.Cuts.{cut_here}
+use Rattle.cfgwords.proofs.WordPlaces.{IsReached, reached_here, reached_on}
+use Rattle.cfgheader.specs.SectionErrors.{places_of, is_first_repeat, repeated, duplicate_error, duplicate_errors, section_errors, stopped_by}
+use Rattle.cfgheader.specs.SectionGrammar.{Entry, Fault, section}
+use Rattle.cfgheader.specs.SectionPlaces.{IsErrorAt}
+use Rattle.cfgheader.specs.SectionReads.{end_of, unless_errors, section_of}
+use Rattle.cfgheader.proofs.SectionKept.{IsEntryAt, section_kept}
+
+-- the places of a repeated key are more than none
+front_places : (front rest : List Entry) (key : List ℕ) → 0 < length (places_of front key) → 0 < length (places_of (front ++ rest) key)
+front_places front rest key some = omega (
+  arith,
+  length-map (filter (λ (e : Entry). bytes_eq e.key key) front) (λ (e : Entry). e.key_span),
+  length-map (filter (λ (e : Entry). bytes_eq e.key key) (front ++ rest)) (λ (e : Entry). e.key_span),
+  longer front,
+)
+  where
+    longer : (front : List Entry) → length (filter (λ (e : Entry). bytes_eq e.key key) front) < suc (length (filter (λ (e : Entry). bytes_eq e.key key) (front ++ rest)))
+    longer [] = omega arith
+    longer (e ∷ front) = go (bytes_eq e.key key) (longer front)
+      where
+        go : (b : Bool) → length (filter (λ (e : Entry). bytes_eq e.key key) front) < suc (length (filter (λ (e : Entry). bytes_eq e.key key) (front ++ rest)))
+            → length (cond b (e ∷ filter (λ (e : Entry). bytes_eq e.key key) front) (filter (λ (e : Entry). bytes_eq e.key key) front))
+            < suc (length (cond b (e ∷ filter (λ (e : Entry). bytes_eq e.key key) (front ++ rest)) (filter (λ (e : Entry). bytes_eq e.key key) (front ++ rest))))
+        go true less = omega arith
+        go false less = less
+
+module _ (whole : List ℕ) where
+  places_at : (entries : List Entry) (key : List ℕ) → All (IsEntryAt whole) entries → All (IsPiece whole) (places_of entries key)
+  places_at entries key all = All-map (IsPiece whole) (λ (e : Entry). e.key_span) _ (All-filter _ (IsEntryAt whole) entries all)
+
+  module _ (entries : List Entry) (all : All (IsEntryAt whole) entries) where
+    abbrev IsPlaced : List Entry × Entry → Type 0
+    IsPlaced x = 0 < length (places_of entries x.1.key)
+
+    repeats_placed : (front rest : List Entry) → front ++ rest ≡ entries → All IsPlaced (filter is_first_repeat (with_fronts_from front rest))
+    repeats_placed front [] e = All-nil IsPlaced
+    repeats_placed front (x ∷ rest) e = go (eqb (length (places_of front x.key)) 1) refl (repeats_placed (front ++ x ∷ []) rest (append_assoc front (x ∷ []) rest ∙ e))
+      where
+        go : (b : Bool) → eqb (length (places_of front x.key)) 1 ≡ b → All IsPlaced (filter is_first_repeat (with_fronts_from (front ++ x ∷ []) rest))
+            → All IsPlaced (cond b ((front, x) ∷ filter is_first_repeat (with_fronts_from (front ++ x ∷ []) rest)) (filter is_first_repeat (with_fronts_from (front ++ x ∷ []) rest)))
+        go true is more =
+            let one : length (places_of front x.key) ≡ 1 = eqb-true _ _ is in
+            let here : IsPlaced (front, x) = subst (λ es. 0 < length (places_of es x.key)) e (front_places front (x ∷ rest) x.key (omega arith)) in
+            All-cons IsPlaced (front, x) _ here more
+        go false is more = more
+
+    duplicates_at : All (IsErrorAt whole) (duplicate_errors entries)
+    unfolding duplicate_errors repeated
+    duplicates_at = All-map (IsErrorAt whole) (duplicate_error entries) _ (All-map (λ key. IsErrorAt whole (duplicate_error entries key)) (λ (x : List Entry × Entry). x.1.key) _ (at (filter is_first_repeat (with_fronts entries)) (repeats_placed [] entries refl)))
+      where
+        at : (xs : List (List Entry × Entry)) → All IsPlaced xs → All (λ (x : List Entry × Entry). IsErrorAt whole (duplicate_error entries x.1.key)) xs
+        at [] placed = All-nil (λ (x : List Entry × Entry). IsErrorAt whole (duplicate_error entries x.1.key))
+        at (x ∷ xs) placed = All-cons (λ (x : List Entry × Entry). IsErrorAt whole (duplicate_error entries x.1.key)) x xs (record { some = All-head IsPlaced x xs placed; each = places_at entries x.1.key all }) (at xs (All-tail IsPlaced x xs placed))
+
+    errors_at : (end : Result (List ℕ × List ℕ) Fault) → EndsIn (IsReached whole whole) (IsErrorAt whole) (λ rest. Unit {0}) end → All (IsErrorAt whole) (section_errors entries (end_of end))
+    errors_at (Ok (rest, left)) t = All-append (IsErrorAt whole) (duplicate_errors entries) [] duplicates_at (All-nil (IsErrorAt whole))
+    errors_at (Err fault) at = All-append (IsErrorAt whole) (duplicate_errors entries) (fault ∷ []) duplicates_at (All-cons (IsErrorAt whole) fault [] at (All-nil (IsErrorAt whole)))
+
+-- the errors that are answered are those that there are
+answered : (errors : List Fault) (entries : List Entry) (end : Result (List ℕ) Fault) (shown : List Fault) → unless_errors errors entries end ≡ Err shown → errors ≡ shown
+answered errors entries (Err fault) shown e = cc
+answered (error ∷ errors) entries (Ok rest) shown e = cc
+answered [] entries (Ok rest) shown e = cc
+
+-- and there is one at least
+some_errors : (repeats : List Fault) (entries : List Entry) (end : Result (List ℕ) Fault) (shown : List Fault) → unless_errors (repeats ++ stopped_by end) entries end ≡ Err shown
+    → 0 < length shown
+some_errors repeats entries (Err fault) shown e = let same : repeats ++ fault ∷ [] ≡ shown = cc in omega (arith, ap length same, length-append repeats (fault ∷ []))
+some_errors [] entries (Ok rest) shown e = cc
+some_errors (error ∷ repeats) entries (Ok rest) shown e = let same : error ∷ (repeats ++ []) ≡ shown = cc in omega (arith, ap length same)
+
+pub errors_are_some : (required : Bool) (text : List ℕ) (errors : List Fault) → section_of required text ≡ Err errors → 0 < length errors
+unfolding section_of
+errors_are_some required text errors e = some_errors _ _ (end_of (computes (section (length text) required) text).outcome) errors e
+
+pub errors_at_places : (required : Bool) (text : List ℕ) (errors : List Fault) → IsUtf8 text → section_of required text ≡ Err errors → All (IsErrorAt text) errors
+unfolding section_of
+errors_at_places required text errors utf8 e =
+    let start : IsReached text text text = record { origin = cut_here text; further = cut_here text } in
+    let kept = (keeps (IsReached text) (IsEntryAt text) (IsErrorAt text) (reached_here text utf8) (reached_on text utf8) (section (length text) required) text (λ _. Unit {0})
+    (section_kept text utf8 required text (λ _. Unit {0}) (λ rest. tt))).passes text (computes (section (length text) required) text) start ((agree (section (length text) required)).sound text) in
+    subst (All (IsErrorAt text)) (answered _ _ _ errors e) (errors_at text (computes (section (length text) required) text).items kept.items (computes (section (length text) required) text).outcome kept.outcome)

@@ -1,0 +1,11 @@
+pub mod Errors
+pub mod Kinds
+pub mod SectionErrors
+pub mod SectionGrammar
+pub mod SectionPlaces
+pub mod SectionReads
+pub mod SectionSteps
+pub mod SectionTexts
+pub mod Same
+pub mod Texts
+pub mod Values

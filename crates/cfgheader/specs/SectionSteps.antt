@@ -1,0 +1,64 @@
+-- What a step of the section's reader does, told by what reading gives there.
+use Rattle.std.specs.Prelude.{◌≡◌, ℕ, List, [], ◌∷◌, ◌++◌, map, fold, Result, Ok, Err, string_bytes, Vec}
+use Rattle.std.specs.BTreeMap.{BTreeMap, get_by}
+use Rattle.std.specs.Cmp.Lexicographic.{slice_cmp}
+use Rattle.std.specs.Option.{option_map_or}
+use Rattle.std.specs.Ordering.{nat_cmp}
+use Rattle.std.specs.declared.alloc.Global.{Global}
+use denote.Ref.{Bor}
+use Rattle.cfgbase.specs.declared.span.Span.{Span}
+use Rattle.reading.specs.Leaves.{Gives, ValueOf, Leaves}
+use Rattle.reading.specs.Construct.{Construct, computes}
+use Rattle.cfgheader.specs.declared.section.entry.Entry.{Entry as CodeEntry}
+use Rattle.cfgheader.specs.declared.section.reader.Reader.{Reader}
+use Rattle.cfgheader.specs.declared.section.fault.Fault.{Fault as CodeFault}
+use Rattle.cfgheader.specs.declared.section.fault.ReadFault.{ReadFault}
+use Rattle.cfgheader.specs.declared.section.fault.ReadFault.TheVariants as faults
+use Rattle.cfgheader.specs.Errors.{DuplicateEntry, error_kind_view}
+use Rattle.cfgheader.specs.Values.{ShownSetting, value_view, setting_view}
+use Rattle.cfgheader.specs.declared.value.Setting.{Setting}
+use Rattle.cfgheader.specs.SectionGrammar.{Entry, Fault}
+
+abbrev pub entry_view : CodeEntry → Entry
+entry_view entry = record { key = string_bytes entry.key; key_span = entry.key_span; value = value_view entry.value }
+
+abbrev pub fault_view : CodeFault → Fault
+fault_view fault = record { kind = error_kind_view fault.kind; locations = fault.span ∷ [] }
+
+abbrev pub settings_list : List (Setting Span) → List (ShownSetting Span)
+settings_list settings = map setting_view settings
+
+-- entries with others behind them
+unfoldable pub noted : List Entry → List Entry → List Entry
+noted before items = fold (λ entries entry. entries ++ entry ∷ []) before items
+
+abbrev pub entries_of : Reader → List Entry
+entries_of reader = map entry_view reader.entries.items
+
+-- the reader has noted these entries
+abbrev pub Grows : Reader → Reader → List Entry → Type 0
+Grows old new items = entries_of new ≡ noted (entries_of old) items
+
+abbrev pub Fails : {l : Leaves} {G : Gives} → Reader → Reader → ReadFault → Construct Entry Fault l G → Type 0
+Fails old new faults.OutOfMemory c = Unit {0}
+Fails old new (faults.Fault fault) c = ((computes c old.rest.now).outcome ≡ Err (fault_view fault)) × Grows old new (computes c old.rest.now).items
+
+-- What a step returned, seen by view, is what reading the construct gives, and the reader has noted the entries that were
+-- read, unless memory ran out.
+abbrev pub Builds : {l : Leaves} {G : Gives} {X : Type 0} → (X → ValueOf G) → Reader → Reader → Result X ReadFault → Construct Entry Fault l G → Type 0
+Builds view old new (Ok x) c =
+    ((computes c old.rest.now).outcome ≡ Ok (view x, new.rest.now)) × (new.len ≡ old.len) × Grows old new (computes c old.rest.now).items
+Builds view old new (Err e) c = Fails old new e c
+
+-- the places that are noted of a key
+abbrev pub spans_at : BTreeMap (Bor (List ℕ)) (Vec Span Global) → List ℕ → List Span
+spans_at places key = option_map_or (λ spans. spans.items) (get_by (λ k. slice_cmp nat_cmp key k.now) places) []
+
+-- the error for a key that is given more than once, at the places that are noted of it
+abbrev pub duplicate_at : BTreeMap (Bor (List ℕ)) (Vec Span Global) → List ℕ → Fault
+duplicate_at places key = record { kind = DuplicateEntry; locations = spans_at places key }
+
+-- the fault that a reading ended with, if one did, or what was left
+abbrev pub end_view : Result (Bor (List ℕ)) CodeFault → Result (List ℕ) Fault
+end_view (Ok rest) = Ok rest.now
+end_view (Err fault) = Err (fault_view fault)

@@ -1,0 +1,11 @@
+-- What `{}` prints of a refused section, in bytes: of errors the text of each, in their order, with a line end between two of them.
+use Rattle.std.specs.Prelude.{ℕ, List, codes}
+use Rattle.std.specs.List.{join_by}
+use Rattle.cfgheader.specs.declared.section.header_fault.HeaderFault.{HeaderFault}
+use Rattle.cfgheader.specs.declared.section.header_fault.HeaderFault.TheVariants.{Errors, OutOfMemory}
+use Rattle.cfgheader.specs.Errors.{error_kind_view}
+use Rattle.cfgheader.specs.Texts.{kind_text}
+
+abbrev pub fault_text : HeaderFault → List ℕ
+fault_text (Errors errors) = join_by (λ error. kind_text (error_kind_view error.kind)) (codes "\n") errors.items
+fault_text OutOfMemory = codes "out of memory"

@@ -1,0 +1,114 @@
+//! What is wrong with a section, and where.
+
+ghost use Rattle.std.specs.Prelude.{◌≡◌, Some};
+ghost use Rattle.cfgheader.specs.Errors.{error_kind_view, spanskind_of};
+ghost use Rattle.cfgheader.specs.Texts.{kind_text};
+
+use cfgbase::{Span, Spanned, SpansKind};
+use std::error::Error;
+use std::fmt;
+
+/// What is wrong with a section.
+#[derive(Clone, Copy, Debug, PartialEq, Eq)]
+pub enum HeaderErrorKind {
+    /// There is no section where one must be.
+    MissingGrmtoolsSection,
+    /// A name is missing, or a text between quotes does not close.
+    IllegalName,
+    /// This character is missing.
+    ExpectedToken(char),
+    /// This character can't stand here. The text says what may be meant.
+    UnexpectedToken(char, &'static str),
+    /// A key is given more than once.
+    DuplicateEntry,
+    /// What is given for this can't be.
+    InvalidEntry(&'static str),
+    /// A value isn't of the type that the first text names. The second says why.
+    ConversionError(&'static str, &'static str),
+}
+
+impl fmt::Display for HeaderErrorKind {
+    ghost output = { λ kind. Some (kind_text (error_kind_view kind)) };
+
+    ghost styled_output = { λ kind _. Some (kind_text (error_kind_view kind)) };
+
+    #[tactic(auto, unfolding(crate::specs::Texts::kind_text))]
+    fn fmt<W: fmt::Write>(&self, f: &mut fmt::Formatter<W>) -> fmt::Result {
+        let mut bytes = [0; 4];
+        match self {
+            HeaderErrorKind::MissingGrmtoolsSection => f.write_str("Missing %grmtools section"),
+            HeaderErrorKind::IllegalName => f.write_str("Illegal name"),
+            HeaderErrorKind::ExpectedToken(character) => {
+                f.write_str("Expected token: '")?;
+                f.write_str(character.encode_utf8(&mut bytes))?;
+                f.write_str("'")
+            }
+            HeaderErrorKind::UnexpectedToken(character, hint) => {
+                f.write_str("Unxpected token: '")?;
+                f.write_str(character.encode_utf8(&mut bytes))?;
+                f.write_str("', ")?;
+                f.write_str(hint)?;
+                f.write_str(" ")
+            }
+            HeaderErrorKind::DuplicateEntry => f.write_str("Duplicate Entry"),
+            HeaderErrorKind::InvalidEntry(what) => {
+                f.write_str("Invalid entry: '")?;
+                f.write_str(what)?;
+                f.write_str("'")
+            }
+            HeaderErrorKind::ConversionError(wanted, cause) => {
+                f.write_str("Converting header value to type '")?;
+                f.write_str(wanted)?;
+                f.write_str("': ")?;
+                f.write_str(cause)
+            }
+        }
+    }
+}
+
+/// An error in a section: what is wrong, and where.
+#[derive(Clone, Debug, Drop)]
+pub struct HeaderError<T> {
+    /// What is wrong.
+    pub kind: HeaderErrorKind,
+    /// The places. Of a duplicate the first is the original's, and the others its repeats'.
+    pub locations: Vec<T>,
+}
+
+impl<T> HeaderError<T> {
+    /// What the locations stand for.
+    pub fn spanskind(&self) -> SpansKind
+        ensures { result ≡ spanskind_of (error_kind_view self.now.kind) }
+    {
+        match self.kind {
+            HeaderErrorKind::DuplicateEntry => SpansKind::DuplicationError,
+            _ => SpansKind::Error,
+        }
+    }
+}
+
+impl<T> fmt::Display for HeaderError<T> {
+    ghost output = { λ error. Some (kind_text (error_kind_view error.kind)) };
+
+    ghost styled_output = { λ error _. Some (kind_text (error_kind_view error.kind)) };
+
+    fn fmt<W: fmt::Write>(&self, f: &mut fmt::Formatter<W>) -> fmt::Result {
+        self.kind.fmt(f)
+    }
+}
+
+impl<T: fmt::Debug + Drop> Error for HeaderError<T> {}
+
+impl Spanned for HeaderError<Span> {
+    ghost spans = { λ error. error.locations.items };
+
+    ghost spanskind = { λ error. spanskind_of (error_kind_view error.kind) };
+
+    fn spans(&self) -> &[Span] {
+        self.locations.as_slice()
+    }
+
+    fn spanskind(&self) -> SpansKind {
+        HeaderError::spanskind(self)
+    }
+}

@@ -1,0 +1,18 @@
+//! The `%grmtools` section of a file: its values, what is wrong with it, and the kinds of Yacc that it may name.
+#![tactic(auto)]
+
+pub mod error;
+pub mod fault;
+pub mod kind;
+mod kinds;
+pub mod laws;
+mod locations;
+mod same;
+pub mod section;
+pub mod value;
+
+pub use error::{HeaderError, HeaderErrorKind};
+pub use fault::KindFault;
+pub use kind::{YaccKind, YaccOriginalActionKind};
+pub use section::{GrmtoolsSectionParser, HeaderFault};
+pub use value::{Header, HeaderValue, Namespaced, Setting, Value};

@@ -1,0 +1,35 @@
+//! The header of a section's entries.
+
+ghost use Rattle.std.specs.Prelude.{◌≡◌, map, IfOk, OnOk};
+ghost use Rattle.std.specs.String.{string_cmp};
+ghost use Rattle.cfgmarks.specs.Marks.{marks, changed, set_value};
+ghost use Rattle.cfgheader.specs.SectionReads.{IsHeaderOf};
+ghost use Rattle.cfgheader.specs.SectionSteps.{entry_view};
+
+use crate::section::entry::Entry;
+use crate::value::{Header, HeaderValue};
+use cfgbase::Span;
+use cfgmarks::markmap::MarkMap;
+use std::alloc::{AllocError, Global};
+
+/// Gives an entry's key its value, with no mark.
+fn put(header: &mut Header<Span>, entry: Entry) -> Result<(), AllocError>
+    ensures { OnOk result (marks header.new ≡ changed string_cmp (marks header.old) entry.key (set_value (record { 0 = entry.key_span; 1 = entry.value }))) }
+{
+    let value = HeaderValue(entry.key_span, entry.value);
+    match header.insert(entry.key, value) {
+        Ok(_) => Ok(()),
+        Err(_) => Err(AllocError),
+    }
+}
+
+/// The entries as a header, in which no key has a mark.
+pub(super) fn header_of(alloc: Global, entries: Vec<Entry>) -> Result<Header<Span>, AllocError>
+    ensures { IfOk result (λ header. IsHeaderOf (map entry_view entries.items) header) }
+{
+    let mut header = MarkMap::new(alloc);
+    for entry in entries {
+        put(&mut header, entry)?;
+    }
+    Ok(header)
+}

@@ -1,0 +1,16 @@
+use Rattle.std.proofs.Common.{◌≡◌, true, sym, ap, subst, ◌∙◌}
+use Rattle.cfgast.specs.View.{syntax, named_view}
+use Rattle.cfgast.specs.Writing.{started_at}
+use Rattle.cfgsyntax.specs.Check.{is_rule}
+use Rattle.cfgsyntax.specs.Sound.{IsSound}
+use Rattle.cfgsyntax.proofs.SoundLemmas.{IsSound-restarted}
+use Rattle.cfgsyntax.proofs.yacc.ast.ASTWithValidityInfo.clone_and_change_start_rule.Goals as goal
+
+pub invariant_of-result : goal.invariant_of-result
+invariant_of-result c =
+    let old = syntax c.self.inside.ast in
+    let word = named_view c.args.rule.name in
+    let there : is_rule old word.name ≡ true = ap (is_rule old) (sym c.deref.ensures) ∙ sym c.is_rule.ensures ∙ c.if-not-is_rule.false in
+    let errors : c.in_ok-errors.errors.items ≡ c.self.inside.errors.items = c.in_ok-errors.ensures.items_if_clones_equal (λ x y same. same) ∙ c.deref-2.ensures.value in
+    subst (λ s. IsSound s c.in_ok-errors.errors.items) (sym c.in_ok-ast.ensures)
+    (subst (IsSound (started_at old word)) (sym errors) (IsSound-restarted old c.self.inside.errors.items word c.self.invariant there))
