@@ -19,7 +19,7 @@ use Rattle.indexmap.specs.IndexSet.{insert_key}
 use Rattle.indexmap.proofs.CallerLemmas.{insert_entry-new}
 use Rattle.cfgbase.specs.declared.span.Span.{Span}
 use Rattle.cfgast.specs.Syntax.{index_of, entry_name, Rule}
-use Rattle.cfgast.specs.Building.{listed, has_name, has_entry, with_entry}
+use Rattle.cfgast.specs.Building.{has_name, has_entry, with_entry}
 use Rattle.cfgast.specs.View.{text_view, rule_entry, rule_view, span_entry}
 use Rattle.cfgast.specs.declared.rule.Rule as source
 use Rattle.cfgast.proofs.Names.{entries-put}
@@ -115,36 +115,40 @@ rule_index-new name rules rule is =
 abbrev pub longer : ℕ → Rule → Rule
 longer i rule = record rule { productions = rule.productions ++ i ∷ [] }
 
-module _ (name : List ℕ) (i : ℕ) where
-  listed-others : (es : List (String Global × source.Rule)) → AllByRecursion (λ k. is_key name k ≡ false) (keys_of es) → map (listed name i) (map rule_entry es) ≡ map rule_entry es
-  listed-others [] h = refl
-  listed-others (e ∷ es) h = λ j. (if h.0 j then (string_bytes e.0, longer i (rule_view e.1)) else rule_entry e) ∷ listed-others es h.1 j
+-- The rule of a name, changed.
+module _ (name : List ℕ) (change : Rule → Rule) where
+  abbrev pub changed : List ℕ × Rule → List ℕ × Rule
+  changed rule = if bytes_eq name rule.0 then (rule.0, change rule.1) else rule
+
+  changed-others : (es : List (String Global × source.Rule)) → AllByRecursion (λ k. is_key name k ≡ false) (keys_of es) → map changed (map rule_entry es) ≡ map rule_entry es
+  changed-others [] h = refl
+  changed-others (e ∷ es) h = λ j. (if h.0 j then (string_bytes e.0, change (rule_view e.1)) else rule_entry e) ∷ changed-others es h.1 j
 
   -- no rule has the name
-  pub listed-absent : (es : List (String Global × source.Rule)) → lookup (is_key name) es ≡ None → map (listed name i) (map rule_entry es) ≡ map rule_entry es
-  listed-absent [] none = refl
-  listed-absent (e ∷ es) none = go (is_key name e.0) none (listed-absent es)
+  pub changed-absent : (es : List (String Global × source.Rule)) → lookup (is_key name) es ≡ None → map changed (map rule_entry es) ≡ map rule_entry es
+  changed-absent [] none = refl
+  changed-absent (e ∷ es) none = go (is_key name e.0) none (changed-absent es)
     where
-      go : (b : Bool) → cond b (Some e.1) (lookup (is_key name) es) ≡ None → (lookup (is_key name) es ≡ None → map (listed name i) (map rule_entry es) ≡ map rule_entry es)
-          → (if b then (string_bytes e.0, longer i (rule_view e.1)) else rule_entry e) ∷ map (listed name i) (map rule_entry es) ≡ rule_entry e ∷ map rule_entry es
+      go : (b : Bool) → cond b (Some e.1) (lookup (is_key name) es) ≡ None → (lookup (is_key name) es ≡ None → map changed (map rule_entry es) ≡ map rule_entry es)
+          → (if b then (string_bytes e.0, change (rule_view e.1)) else rule_entry e) ∷ map changed (map rule_entry es) ≡ rule_entry e ∷ map rule_entry es
       go true same rest = cc
       go false same rest = ap (λ t. rule_entry e ∷ t) (rest same)
 
-  -- keys differ, so the production goes to the one rule that is written
-  pub listed-set_value : (es : List (String Global × source.Rule)) (old new : source.Rule) → IsDistinct string_eq (keys_of es) → lookup (is_key name) es ≡ Some old
-      → rule_view new ≡ longer i (rule_view old) → map rule_entry (set_value (is_key name) es new) ≡ map (listed name i) (map rule_entry es)
-  listed-set_value [] old new distinct found grown = refl
-  listed-set_value (e ∷ es) old new distinct found grown =
-      go (is_key name e.0) refl found (λ f. listed-set_value es old new (IsDistinct-tail string_eq e.0 (keys_of es) distinct) f grown)
+  -- keys differ, so the change is that of the one rule that is written
+  pub changed-set_value : (es : List (String Global × source.Rule)) (old new : source.Rule) → IsDistinct string_eq (keys_of es) → lookup (is_key name) es ≡ Some old
+      → rule_view new ≡ change (rule_view old) → map rule_entry (set_value (is_key name) es new) ≡ map changed (map rule_entry es)
+  changed-set_value [] old new distinct found grown = refl
+  changed-set_value (e ∷ es) old new distinct found grown =
+      go (is_key name e.0) refl found (λ f. changed-set_value es old new (IsDistinct-tail string_eq e.0 (keys_of es) distinct) f grown)
     where
       others : is_key name e.0 ≡ true → AllByRecursion (λ k. is_key name k ≡ false) (keys_of es)
       others here = subst (λ n. AllByRecursion (λ k. is_key n k ≡ false) (keys_of es)) (sym ((bytes_decides name (string_bytes e.0)).0 here)) (IsDistinct-head string_eq e.0 (keys_of es) distinct)
 
       go : (b : Bool) → is_key name e.0 ≡ b → cond b (Some e.1) (lookup (is_key name) es) ≡ Some old
-          → (lookup (is_key name) es ≡ Some old → map rule_entry (set_value (is_key name) es new) ≡ map (listed name i) (map rule_entry es))
+          → (lookup (is_key name) es ≡ Some old → map rule_entry (set_value (is_key name) es new) ≡ map changed (map rule_entry es))
           → map rule_entry (cond b ((e.0, new) ∷ es) (e ∷ set_value (is_key name) es new))
-          ≡ cond b (string_bytes e.0, longer i (rule_view e.1)) (rule_entry e) ∷ map (listed name i) (map rule_entry es)
+          ≡ cond b (string_bytes e.0, change (rule_view e.1)) (rule_entry e) ∷ map changed (map rule_entry es)
       go true here same rest =
           let is : old ≡ e.1 = cc in
-          λ j. (string_bytes e.0, (grown ∙ ap (λ r. longer i (rule_view r)) is) j) ∷ sym (listed-others es (others here)) j
+          λ j. (string_bytes e.0, (grown ∙ ap (λ (r : source.Rule). change (rule_view r)) is) j) ∷ sym (changed-others es (others here)) j
       go false here same rest = ap (λ t. rule_entry e ∷ t) (rest same)

@@ -4,3 +4,6 @@ pub mod Syntax
 pub mod Building
 pub mod View
 pub mod WellFormed
+pub mod Unused
+pub mod Marks
+pub mod Writing

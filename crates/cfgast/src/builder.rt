@@ -2,7 +2,7 @@ ghost use Rattle.std.specs.Prelude.{◌≡◌, List, [], ◌∷◌, ◌++◌, ma
 ghost use Rattle.cfgast.specs.Items.{Item, TokenDeclared, StartDeclared, ActionTypeDeclared, PrintedFormDeclared, ExpectDeclared, ExpectReduceReduceDeclared, ExpectedUnused, ParseParamDeclared, GenericsDeclared, AvoidInsertBegun, AvoidInsertDeclared, ImplicitTokensBegun, ImplicitTokenDeclared, PrecedenceDeclared, LevelEnded, RuleSymbol, TokenSymbol, RuleBegun, RuleNamed, TokenQuoted, PrecedenceUsed, Alternative, ProgramsGiven};
 ghost use Rattle.cfgast.specs.Syntax.{syntax_of, symbol_of, production_of, head_name, index_of, typed};
 ghost use Rattle.cfgast.specs.Occurrences.{of_grammar, of_token};
-ghost use Rattle.cfgast.specs.Building.{add, adds, with_first, with_rule, new_rule, listed, is_declared};
+ghost use Rattle.cfgast.specs.Building.{add, adds, with_first, with_rule, new_rule, is_declared};
 ghost use Rattle.cfgast.specs.WellFormed.{IsWellFormed};
 
 use crate::ast::GrammarAST;
@@ -14,6 +14,7 @@ use crate::rule::Rule;
 use crate::settings::Settings;
 use crate::symbol::Symbol;
 use crate::tables::{Tables, begin_marked, put_entry, put_marked};
+use crate::writing::list_production;
 use cfgbase::Span;
 use cfgwords::words::{Token, Word};
 use indexmap::{IndexMap, IndexSet};
@@ -298,7 +299,7 @@ impl AstBuilder {
         let production = self.production_of(alloc, body)?;
         let rule = self.put_rule(alloc, head)?;
         let index = self.ast.prods.len();
-        self.list_production(head.name.name, index)?;
+        list_production(&mut self.ast.rules, head.name.name, index)?;
         self.ast.prods.push(production)?;
         self.ast.prods_rules.push(rule)?;
         Ok(())
@@ -399,18 +400,6 @@ impl AstBuilder {
             pidxs: Vec::new(alloc),
             actiont,
         })
-    }
-
-    // Lists the production of this index with the rule of this name.
-    fn list_production(&mut self, rule: &str, index: usize) -> Result<(), AllocError>
-        ensures { OnOk result (syntax_built self.new ≡ record (syntax_built self.old) {
-          rules = map (listed rule.now index) (syntax_built self.old).rules;
-        }) }
-    {
-        if let Some(rule) = self.ast.rules.get_mut(rule) {
-            rule.pidxs.push(index)?;
-        }
-        Ok(())
     }
 
     fn production_of(&self, alloc: Global, body: Body<'_, '_>) -> Result<Production, AllocError>

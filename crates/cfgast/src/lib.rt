@@ -12,6 +12,8 @@ pub mod rule;
 pub mod settings;
 pub mod symbol;
 pub mod tables;
+pub mod unused;
+pub mod writing;
 
 pub use ast::GrammarAST;
 pub use builder::{AstBuilder, built_is_syntax, syntax_is_well_formed};
@@ -23,3 +25,4 @@ pub use rule::Rule;
 pub use settings::Settings;
 pub use symbol::Symbol;
 pub use tables::Tables;
+pub use writing::clone_with_start;

@@ -2,22 +2,29 @@
 
 mod check;
 mod errors;
+mod start;
 
-ghost use Rattle.std.specs.Prelude.{◌≡◌, ◌↔◌, [], List, Option, IsTrue, IfOk};
+ghost use Rattle.std.specs.Prelude.{◌≡◌, ◌↔◌, [], true, List, Option, string_bytes, IsTrue, IfOk, IfErr, OnOk};
 ghost use Rattle.cfgwords.specs.declared.fault.Fault.{Fault};
 ghost use Rattle.cfgast.specs.Items.{Item};
 ghost use Rattle.cfgast.specs.Syntax.{syntax_of};
-ghost use Rattle.cfgast.specs.View.{syntax};
+ghost use Rattle.cfgast.specs.View.{syntax, named_view};
+ghost use Rattle.cfgsyntax.specs.Check.{is_rule};
 ghost use Rattle.cfgsyntax.specs.Faults.{errors_of};
 ghost use Rattle.cfgwords.specs.Places.{IsPiece, IsWithin};
 ghost use Rattle.cfgsyntax.specs.Reads.{Reads, HasOneReading};
 ghost use Rattle.cfgsyntax.specs.Sound.{IsSound};
 ghost use Rattle.cfgsyntax.specs.Spans.{EachParsedSpan};
+ghost use Rattle.cfgsyntax.specs.Starts.{restarted, IsStartFault};
 
 use crate::yacc::parser::read;
+use cfgast::clone_with_start;
 pub use cfgast::{GrammarAST, Production, Rule, Settings, Symbol};
-use cfgerrors::{YaccGrammarError, YaccKind};
+use cfgerrors::{YaccGrammarError, YaccGrammarErrorKind};
+use cfgheader::YaccKind;
+use check::is_rule;
 use errors::errors_found;
+pub use start::{ASTModificationError, StartFault};
 use std::alloc::{AllocError, Global};
 use std::marker::Model;
 
@@ -45,8 +52,9 @@ impl ASTWithValidityInfo {
     /// Reads the text as a Yacc file of the kind, and validates what was read.
     ///
     /// The text has exactly one reading: the items that count as read, and what stopped the reading, if anything
-    /// did. The syntax is what these items say. The errors are the fault that stopped the reading, if there is
-    /// one, and then the first check that the syntax fails, if it fails one.
+    /// did. The syntax is what these items say. The errors are one for each that is declared more than once, at all its
+    /// places, then the fault that stopped the reading, if there is one, and then the first check that the syntax fails,
+    /// if it fails one.
     ///
     /// Each error has a span. Each span of the syntax and of an error begins and ends at a place of the text: where a
     /// character begins, or where the text ends. But an action's span is as long as its trimmed text and begins behind its
@@ -92,5 +100,44 @@ impl ASTWithValidityInfo {
         ensures { result.now ≡ self.now.errors }
     {
         self.errors.as_slice()
+    }
+
+    /// A copy with another start: the name and the span of the handed rule. The kind and the errors stay as they are, and so
+    /// does the rest of the syntax.
+    ///
+    /// # Errors
+    ///
+    /// `Modification`, of kind `InvalidStartRule`, exactly where no rule has the name; and want of memory.
+    pub fn clone_and_change_start_rule(&self, alloc: Global, rule: Rule) -> Result<Self, StartFault>
+        ensures changed { IfOk result (λ parsed. parsed ≡ restarted self.now (named_view rule.name)) }
+        ensures known { OnOk result (is_rule self.now.syntax (string_bytes rule.name.0) ≡ true) }
+        ensures fault { IfErr result (IsStartFault self.now.syntax (string_bytes rule.name.0)) }
+    {
+        let name = rule.name;
+        if !is_rule(&self.ast, &name.0) {
+            let kind = YaccGrammarErrorKind::InvalidStartRule(name.0);
+            return Err(StartFault::Modification(ASTModificationError { kind }));
+        }
+        let errors = self.errors.to_vec(alloc)?;
+        let ast = clone_with_start(&self.ast, name)?;
+        Ok(ASTWithValidityInfo {
+            kind: self.kind,
+            ast,
+            errors,
+        })
+    }
+}
+
+impl Clone for ASTWithValidityInfo {
+    ghost is_clone = { λ parsed copy. copy ≡ parsed };
+
+    fn clone(&self) -> Result<Self, AllocError> {
+        let errors = self.errors.clone()?;
+        let ast = self.ast.clone()?;
+        Ok(ASTWithValidityInfo {
+            kind: self.kind,
+            ast,
+            errors,
+        })
     }
 }

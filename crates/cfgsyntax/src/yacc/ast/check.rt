@@ -43,7 +43,7 @@ impl Unfit<'_> {
     }
 }
 
-fn is_rule(ast: &GrammarAST, name: &str) -> bool
+pub(super) fn is_rule(ast: &GrammarAST, name: &str) -> bool
     ensures { result ≡ is_rule (syntax ast.now) name.now }
 {
     ast.get_rule(name).is_some()

@@ -1,0 +1,148 @@
+//! Writing a tree that is there.
+
+ghost use Rattle.std.specs.Prelude.{◌≡◌, ℕ, List, false, map, option_map, string_bytes, IsSome, IfOk, OnOk, OnErr};
+ghost use Rattle.std.specs.Map.{lookup};
+ghost use Rattle.std.specs.Str.{bytes_eq};
+ghost use Rattle.cfgast.specs.Items.{RuleHead};
+ghost use Rattle.cfgast.specs.Syntax.{Syntax};
+ghost use Rattle.cfgast.specs.Building.{has_rule, listed};
+ghost use Rattle.cfgast.specs.WellFormed.{IsWellFormed};
+ghost use Rattle.cfgast.specs.View.{syntax, named_view, rule_entry, symbol_view, text_view};
+ghost use Rattle.cfgast.specs.Writing.{rule_added, production_added, programs_set, started_at, IsTree, ProductionsKeepTrees};
+
+use crate::ast::GrammarAST;
+use crate::production::Production;
+use crate::rule::Rule;
+use crate::symbol::Symbol;
+use cfgbase::Span;
+use indexmap::IndexMap;
+use std::alloc::AllocError;
+
+#[tactic(auto, unfolding(crate::specs::View::syntax))]
+impl GrammarAST {
+    /// Adds a rule that has no productions yet, with its name's place and the type that its actions answer.
+    ///
+    /// A rule that has the name keeps its place among the rules. It gets the span and the type, and its list of
+    /// productions is emptied; they stay among the productions of all rules.
+    ///
+    /// # Errors
+    ///
+    /// The name is new, and there is no memory for the rule. The tree is as it was.
+    pub fn add_rule(
+        &mut self,
+        name: (String, Span),
+        actiont: Option<String>,
+    ) -> Result<(), AllocError>
+        ensures added { OnOk result (syntax self.new ≡ rule_added (syntax self.old) (record {
+          name = named_view name;
+          action_type = option_map string_bytes actiont;
+        })) }
+        ensures there { OnOk result (IsSome (lookup (bytes_eq (string_bytes name.0)) (syntax self.new).rules)) }
+        ensures unchanged { OnErr result (syntax self.new ≡ syntax self.old) }
+        ensures memory { OnErr result (has_rule (string_bytes name.0) (syntax self.old).rules ≡ false) }
+    {
+        let pidxs = Vec::new(*name.0.allocator());
+        let rule = Rule {
+            name,
+            pidxs,
+            actiont,
+        };
+        if let Some(known) = self.rules.get_mut(rule.name.0.as_str()) {
+            *known = rule;
+            return Ok(());
+        }
+        let key = rule.name.0.clone()?;
+        self.rules.insert(key, rule)?;
+        Ok(())
+    }
+
+    /// Adds a production, as the last one of all and of the rule of this name, which is there.
+    ///
+    /// # Errors
+    ///
+    /// There is no memory for it. The tree is as it was.
+    pub fn add_prod(
+        &mut self,
+        rule: String,
+        symbols: Vec<Symbol>,
+        precedence: Option<String>,
+        action: Option<(String, Span)>,
+        prod_span: Span,
+    ) -> Result<(), AllocError>
+        requires { IsSome (lookup (bytes_eq (string_bytes rule)) (syntax self.old).rules) }
+        ensures added { OnOk result (syntax self.new ≡ production_added (syntax self.old) (string_bytes rule) (record {
+          symbols = map symbol_view symbols.items;
+          precedence = option_map string_bytes precedence;
+          action = option_map text_view action;
+          span = prod_span;
+        })) }
+        ensures unchanged { OnErr result (syntax self.new ≡ syntax self.old) }
+    {
+        let name = rule.as_str();
+        let place = self.prods.len();
+        let Some(index) = self.rules.get_index_of(name) else {
+            return Ok(());
+        };
+        self.prods.reserve(1)?;
+        self.prods_rules.reserve(1)?;
+        list_production(&mut self.rules, name, place)?;
+        self.prods_rules.push(index)?;
+        self.prods.push(Production {
+            symbols,
+            precedence,
+            action,
+            prod_span,
+        })?;
+        Ok(())
+    }
+
+    /// Sets the text of the programs part, in place of the one that was there.
+    pub fn set_programs(&mut self, programs: String)
+        ensures { syntax self.new ≡ programs_set (syntax self.old) (string_bytes programs) }
+    {
+        self.settings.programs = Some(programs);
+    }
+
+    /// The older name of [`set_programs`](GrammarAST::set_programs).
+    pub fn add_programs(&mut self, programs: String)
+        ensures { syntax self.new ≡ programs_set (syntax self.old) (string_bytes programs) }
+    {
+        self.set_programs(programs);
+    }
+}
+
+// Lists the production of this index with the rule of this name.
+pub(crate) fn list_production(
+    rules: &mut IndexMap<String, Rule>,
+    name: &str,
+    index: usize,
+) -> Result<(), AllocError>
+    ensures listed { OnOk result (map rule_entry rules.new.entries ≡ map (listed name.now index) (map rule_entry rules.old.entries)) }
+    ensures unchanged { OnErr result (map rule_entry rules.new.entries ≡ map rule_entry rules.old.entries) }
+{
+    if let Some(rule) = rules.get_mut(name) {
+        rule.pidxs.push(index)?;
+    }
+    Ok(())
+}
+
+/// A copy of the tree with another start. No public path of `cfgrammar` leads to it.
+///
+/// # Errors
+///
+/// There is no memory for the copy.
+pub fn clone_with_start(ast: &GrammarAST, start: (String, Span)) -> Result<GrammarAST, AllocError>
+    ensures { IfOk result (λ copy. syntax copy ≡ started_at (syntax ast.now) (named_view start)) }
+{
+    let mut copy = ast.clone()?;
+    copy.start = Some(start);
+    Ok(copy)
+}
+
+/// The law behind written trees: what is well formed is a tree, and it stays one when it is written.
+pub fn written_is_tree()
+    ensures read { (s : Syntax) → IsWellFormed s → IsTree s }
+    ensures rule { (s : Syntax) (head : RuleHead) → IsTree s → IsTree (rule_added s head) }
+    ensures production { ProductionsKeepTrees }
+    ensures programs { (s : Syntax) (text : List ℕ) → IsTree s → IsTree (programs_set s text) }
+{}
