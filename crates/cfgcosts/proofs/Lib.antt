@@ -17,6 +17,8 @@ pub mod TokenCosts
 pub mod Steps
 pub mod Lengths
 pub mod Sentences
+pub mod Tokens
+pub mod Counted
 pub mod Passes
 pub mod LeastSentences
 pub mod Contained

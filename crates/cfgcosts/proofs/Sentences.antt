@@ -1,6 +1,6 @@
 -- The symbols that are pending and the tokens behind them are on the way from a rule to a minimal sentence of it.
 use Rattle.std.proofs.Common.{◌≡◌, ℕ, zero, suc, ◌+◌, ◌<◌, ◌≤◌, List, [], ◌∷◌, ◌++◌, length, map, reverse, Option, Some, None, All, arith, refl, sym, ap, subst, ◌∙◌, append-nil, append_assoc}
-use Rattle.std.specs.Prelude.{IsSomeAnd, sum_by}
+use Rattle.std.specs.Prelude.{IfSome, IsSomeAnd, sum_by}
 use Rattle.std.proofs.lemmas.List.{reverse-append, map-append, length-map}
 use Rattle.std.proofs.lemmas.List.Sums.{sum_by-append}
 use Rattle.std.proofs.lemmas.List.Elements.{All-nil, All-cons, All-head, All-tail, All-append, All-pop, All-get_or}
@@ -10,24 +10,31 @@ use Rattle.derivation.specs.Costs.{Minimal}
 use Rattle.derivation.specs.Tree.{Yields, empty, token, opened}
 use Rattle.derivation.proofs.Trees.{trees_split, trees_join, derivation_from_trees}
 use Rattle.derivation.proofs.Costs.{minimal_if_least}
+use Rattle.cfgindex.specs.declared.idxnewtype.PIdx.{PIdx}
 use Rattle.cfganalysis.specs.Openings.{nth_production}
 use Rattle.cfganalysis.proofs.Settling.{at_place}
 use Rattle.cfgcosts.specs.Sums.{sum_of, symbol_cost}
 use Rattle.cfgcosts.specs.Certificate.{IsChosenBelow, rule_cost, rule_choice}
 use Rattle.cfgcosts.specs.Generator.{CostTables, IsGenerator, cost_answer, choice_answer, token_cost, where_some}
-use Rattle.cfgcosts.specs.Sentences as sentences
+use Rattle.cfgcosts.specs.Sentences.{Takes, number_of, symbols_at}
+use Rattle.cfgcosts.specs.Sentences as taken
 use Rattle.cfgcosts.proofs.Sums.{plus_parts, plus_both, plus_zero, sum_of-append}
 use Rattle.cfgcosts.proofs.Generated.{answered_some, some_answered, reads_cost}
 use Rattle.cfgcosts.proofs.Lengths.{sentence_length}
 use Rattle.cfgcosts.proofs.Steps.{steps, steps_positive, steps_opened, sum_by-cons}
 
-abbrev cost_by : CostTables → Sym → Option ℕ
+abbrev pub cost_by : CostTables → Sym → Option ℕ
 cost_by x = symbol_cost (token_cost x) (rule_cost x.least)
 
-map-reverse : {A B : Type 0} (f : A → B) (xs : List A) → map f (reverse xs) ≡ reverse (map f xs)
+pub map-reverse : {A B : Type 0} (f : A → B) (xs : List A) → map f (reverse xs) ≡ reverse (map f xs)
 map-reverse f [] = refl
 map-reverse f (y ∷ xs) = ap (map f) (reverse-append (y ∷ []) xs) ∙ map-append f (reverse xs) (y ∷ [])
     ∙ ap (λ l. l ++ f y ∷ []) (map-reverse f xs) ∙ sym (reverse-append (f y ∷ []) (map f xs))
+
+-- what holds of the number of a production
+pub place_is : {S : Type 0} (number : S → ℕ) (place : Option (PIdx S)) (Q : ℕ → Type 0) → IfSome (number_of number place) Q → IfSome place (λ p. Q (number p.0))
+place_is number None Q h = tt
+place_is number (Some p) Q h = h
 
 -- what the pending symbols yield, before the word in reverse, the rule yields; and together they cost the least
 pub record IsOnTheWay (x : CostTables) (r : ℕ) (pending : List Sym) (word : List ℕ) : Type 0 where
@@ -41,22 +48,24 @@ pub record IsOnTheWay (x : CostTables) (r : ℕ) (pending : List Sym) (word : Li
 
 -- how many symbols will still be taken from the pending ones
 abbrev pub left_to_take : CostTables → List Sym → ℕ
-left_to_take x pending = sum_by (steps x.grammar x.choices x.grammar.rules) pending
+left_to_take x pending = sum_by (steps x.grammar x.choices 1 x.grammar.rules) pending
 
 -- what a choice shows of a rule that costs d
-record Opens (x : CostTables) (q d p m : ℕ) : Type 0 where
-  choice : rule_choice x.choices q ≡ Some (p, m)
-  has : HasProduction x.grammar q (nth_production x.grammar p).symbols
-  symbols : All (IsSymbolOf x.grammar) (nth_production x.grammar p).symbols
-  sum : sum_of (cost_by x) (nth_production x.grammar p).symbols ≡ Some d
-  below : All (IsChosenBelow x.choices m) (nth_production x.grammar p).symbols
-  deep : m < x.grammar.rules
+pub record Opens (x : CostTables) (q d p m : ℕ) : Type 0 where
+  pub choice : rule_choice x.choices q ≡ Some (p, m)
+  pub place : p < length x.grammar.productions
+  pub owner : (nth_production x.grammar p).rule ≡ q
+  pub has : HasProduction x.grammar q (nth_production x.grammar p).symbols
+  pub symbols : All (IsSymbolOf x.grammar) (nth_production x.grammar p).symbols
+  pub sum : sum_of (cost_by x) (nth_production x.grammar p).symbols ≡ Some d
+  pub below : All (IsChosenBelow x.choices m) (nth_production x.grammar p).symbols
+  pub deep : m < x.grammar.rules
 
 module _ (x : CostTables) (n : ℕ) (is : IsGenerator x n) (grammar : IsGrammar x.grammar) where
   abbrev P : ℕ → List Sym → Type 0
   P = HasProduction x.grammar
 
-  choice_below : (r p m : ℕ) → rule_choice x.choices r ≡ Some (p, m) → All (IsChosenBelow x.choices m) (nth_production x.grammar p).symbols
+  pub choice_below : (r p m : ℕ) → rule_choice x.choices r ≡ Some (p, m) → All (IsChosenBelow x.choices m) (nth_production x.grammar p).symbols
   choice_below r p m e = go (rule_cost x.least r) refl
     where
       go : (o : Option ℕ) → rule_cost x.least r ≡ o → All (IsChosenBelow x.choices m) (nth_production x.grammar p).symbols
@@ -67,7 +76,7 @@ module _ (x : CostTables) (n : ℕ) (is : IsGenerator x n) (grammar : IsGrammar 
           let pairs : ◌≡◌ {A = ℕ × ℕ} (p', m') (p, m) = cc in
           subst (λ (c : ℕ × ℕ). All (IsChosenBelow x.choices c.1) (nth_production x.grammar c.0).symbols) pairs by.below
 
-  opens : (q d : ℕ) → rule_cost x.least q ≡ Some d → d ≤ 65535 → (p : ℕ) × (m : ℕ) × Opens x q d p m
+  pub opens : (q d : ℕ) → rule_cost x.least q ≡ Some d → d ≤ 65535 → (p : ℕ) × (m : ℕ) × Opens x q d p m
   opens q d e small =
       let (p, m, by, lt) = is.settled.chosen.chosen q d e in
       let cut = by.sum.cut in
@@ -77,6 +86,8 @@ module _ (x : CostTables) (n : ℕ) (is : IsGenerator x n) (grammar : IsGrammar 
         m,
         record {
           choice = by.choice;
+          place = by.place;
+          owner = by.owner;
           has = at_place x.grammar p _ by.place (sym by.owner) refl;
           symbols = grammar.symbols p (record { rule = 0; symbols = [] }) by.place;
           sum = by.sum.is ∙ ap Some total;
@@ -85,7 +96,7 @@ module _ (x : CostTables) (n : ℕ) (is : IsGenerator x n) (grammar : IsGrammar 
         },
       )
 
-  token_paid : (t : ℕ) → IsSymbolOf x.grammar (Token t) → 0 < token_cost x t
+  pub token_paid : (t : ℕ) → IsSymbolOf x.grammar (Token t) → 0 < token_cost x t
   token_paid t h = let tokens = is.tokens in All-get_or (λ c. 0 < c) x.costs t 0 (omega (arith, h, tokens)) is.positive
 
   -- symbols that cost nothing are rules that cost nothing
@@ -135,17 +146,17 @@ module _ (x : CostTables) (n : ℕ) (is : IsGenerator x n) (grammar : IsGrammar 
   -- the last pending symbol
   module _ (r : ℕ) (rest : List Sym) (s : Sym) (word : List ℕ) (way : IsOnTheWay x r (rest ++ s ∷ []) word) where
     -- its cost is part of what is left
-    record Last : Type 0 where
-      front : ℕ
-      here : ℕ
-      front_is : sum_of (cost_by x) rest ≡ Some front
-      here_is : cost_by x s ≡ Some here
-      both : way.left ≡ front + here
-      small : here ≤ 65535
-      symbols : All (IsSymbolOf x.grammar) rest
-      is_symbol : IsSymbolOf x.grammar s
+    pub record Last : Type 0 where
+      pub front : ℕ
+      pub here : ℕ
+      pub front_is : sum_of (cost_by x) rest ≡ Some front
+      pub here_is : cost_by x s ≡ Some here
+      pub both : way.left ≡ front + here
+      pub small : here ≤ 65535
+      pub symbols : All (IsSymbolOf x.grammar) rest
+      pub is_symbol : IsSymbolOf x.grammar s
 
-    last : Last
+    pub last : Last
     last =
         let p = plus_parts (sum_of (cost_by x) rest) (sum_of (cost_by x) (s ∷ [])) way.left (sym (sum_of-append (cost_by x) rest (s ∷ [])) ∙ way.left_is) in
         let parts = All-pop (IsSymbolOf x.grammar) (rest ++ s ∷ []) rest (Some s) refl way.symbols in
@@ -212,73 +223,99 @@ module _ (x : CostTables) (n : ℕ) (is : IsGenerator x n) (grammar : IsGrammar 
       let (p, m, o) = opens q l.here l.here_is l.small in
       (p, m, o, ap (λ c. where_some c (rule_choice x.choices q)) (some_answered (rule_cost x.least q) l.here l.here_is l.small) ∙ o.choice)
 
-  after_opened : (r q p m : ℕ) (rest : List Sym) (word : List ℕ) → IsOnTheWay x r (rest ++ Rule q ∷ []) word → choice_answer x q ≡ Some (p, m)
-      → IsOnTheWay x r (rest ++ (nth_production x.grammar p).symbols) word
-  after_opened r q p m rest word way e =
+  -- the choice that is read of a rule that is pending
+  pub read_last : (r q p m : ℕ) (rest : List Sym) (word : List ℕ) (way : IsOnTheWay x r (rest ++ Rule q ∷ []) word) → choice_answer x q ≡ Some (p, m)
+      → Opens x q (last r rest (Rule q) word way).here p m
+  read_last r q p m rest word way e =
       let l = last r rest (Rule q) word way in
       let (p', m', o, answer) = chosen_last r q rest word way in
       let both : ◌≡◌ {A = Option (ℕ × ℕ)} (Some (p', m')) (Some (p, m)) = sym answer ∙ e in
       let pairs : ◌≡◌ {A = ℕ × ℕ} (p', m') (p, m) = cc in
-      let same : p' ≡ p = ap (λ (c : ℕ × ℕ). c.0) pairs in
-      subst (λ i. IsOnTheWay x r (rest ++ (nth_production x.grammar i).symbols) word) same (record {
-        symbols = All-append (IsSymbolOf x.grammar) rest (nth_production x.grammar p').symbols l.symbols o.symbols;
+      subst (λ (c : ℕ × ℕ). Opens x q l.here c.0 c.1) pairs o
+
+  after_opened : (r q p m : ℕ) (rest : List Sym) (word : List ℕ) → IsOnTheWay x r (rest ++ Rule q ∷ []) word → choice_answer x q ≡ Some (p, m)
+      → IsOnTheWay x r (rest ++ (nth_production x.grammar p).symbols) word
+  after_opened r q p m rest word way e =
+      let l = last r rest (Rule q) word way in
+      let o = read_last r q p m rest word way e in
+      record {
+        symbols = All-append (IsSymbolOf x.grammar) rest (nth_production x.grammar p).symbols l.symbols o.symbols;
         cost = way.cost;
         answer = way.answer;
         left = l.front + l.here;
-        left_is = sum_of-append (cost_by x) rest (nth_production x.grammar p').symbols ∙ plus_both _ _ l.front l.here l.front_is o.sum;
+        left_is = sum_of-append (cost_by x) rest (nth_production x.grammar p).symbols ∙ plus_both _ _ l.front l.here l.front_is o.sum;
         whole = way.whole ∙ ap (λ k. k + cost_of (token_cost x) (reverse word)) l.both;
-        derived = λ v y. let parts = trees_split P rest (nth_production x.grammar p').symbols v y in
+        derived = λ v y. let parts = trees_split P rest (nth_production x.grammar p).symbols v y in
             way.derived v (subst (Yields P (rest ++ Rule q ∷ [])) (sym parts.whole)
             (trees_join P parts.first (opened o.has parts.second empty (sym (append-nil parts.back)))));
-      })
+      }
 
-  pub goes_on : (r : ℕ) (rest : List Sym) (s : Sym) (pending : List Sym) (word word' : List ℕ) → IsOnTheWay x r (rest ++ s ∷ []) word
-      → sentences.Advances x s rest pending word word' → IsOnTheWay x r pending word'
-  goes_on r rest s pending word word' way (sentences.token t e f h) =
-      subst (λ a. IsOnTheWay x r a word') (sym f) (subst (IsOnTheWay x r rest) (sym h)
+  -- where no production is opened, what is pending is the rest
+  pub none_opened : (rest pending : List Sym) (place : Option ℕ) → place ≡ None → pending ≡ rest ++ symbols_at x.grammar place → rest ≡ pending
+  none_opened rest pending place e f = sym (f ∙ ap (λ p. rest ++ symbols_at x.grammar p) e ∙ append-nil rest)
+
+  pub one_opened : (rest pending : List Sym) (place : Option ℕ) (p : ℕ) → place ≡ Some p → pending ≡ rest ++ symbols_at x.grammar place
+      → rest ++ (nth_production x.grammar p).symbols ≡ pending
+  one_opened rest pending place p e f = sym (f ∙ ap (λ p. rest ++ symbols_at x.grammar p) e)
+
+  -- a rule that is pending has a choice
+  pub has_choice : (r q : ℕ) (rest : List Sym) (word : List ℕ) → IsOnTheWay x r (rest ++ Rule q ∷ []) word → choice_answer x q ≡ None → ⊥
+  has_choice r q rest word way none =
+      let (p, m, o, answer) = chosen_last r q rest word way in
+      let no : ◌≡◌ {A = Option (ℕ × ℕ)} None (Some (p, m)) = sym none ∙ answer in cc
+
+  pub goes_on : (r : ℕ) (rest : List Sym) (s : Sym) (place : Option ℕ) (pending : List Sym) (word word' : List ℕ) → IsOnTheWay x r (rest ++ s ∷ []) word
+      → Takes x s place word word' → pending ≡ rest ++ symbols_at x.grammar place → IsOnTheWay x r pending word'
+  goes_on r rest s place pending word word' way (taken.token t e f h) k =
+      subst (λ a. IsOnTheWay x r a word') (none_opened rest pending place f k) (subst (IsOnTheWay x r rest) (sym h)
       (after_token r t rest word (subst (λ s. IsOnTheWay x r (rest ++ s ∷ []) word) e way)))
-  goes_on r rest s pending word word' way (sentences.rule q e (sentences.free zero_cost f) h) =
-      subst (λ a. IsOnTheWay x r a word') (sym f) (subst (IsOnTheWay x r rest) (sym h)
-      (after_free r q rest word (subst (λ s. IsOnTheWay x r (rest ++ s ∷ []) word) e way) zero_cost))
-  goes_on r rest s pending word word' way (sentences.rule q e (sentences.unchosen none f) h) =
-      let (p, m, o, answer) = chosen_last r q rest word (subst (λ s. IsOnTheWay x r (rest ++ s ∷ []) word) e way) in
-      let no : ◌≡◌ {A = Option (ℕ × ℕ)} None (Some (p, m)) = sym none ∙ answer in absurd (cc)
-  goes_on r rest s pending word word' way (sentences.rule q e (sentences.opened p m costly choice f) h) =
-      subst (λ a. IsOnTheWay x r a word') (sym f) (subst (IsOnTheWay x r (rest ++ (nth_production x.grammar p).symbols)) (sym h)
+  goes_on r rest s place pending word word' way (taken.free q e nothing f h) k =
+      subst (λ a. IsOnTheWay x r a word') (none_opened rest pending place f k) (subst (IsOnTheWay x r rest) (sym h)
+      (after_free r q rest word (subst (λ s. IsOnTheWay x r (rest ++ s ∷ []) word) e way) nothing))
+  goes_on r rest s place pending word word' way (taken.unchosen q e none f h) k =
+      absurd (has_choice r q rest word (subst (λ s. IsOnTheWay x r (rest ++ s ∷ []) word) e way) none)
+  goes_on r rest s place pending word word' way (taken.chosen q p m e costly choice f h) k =
+      subst (λ a. IsOnTheWay x r a word') (one_opened rest pending place p f k) (subst (IsOnTheWay x r (rest ++ (nth_production x.grammar p).symbols)) (sym h)
       (after_opened r q p m rest word (subst (λ s. IsOnTheWay x r (rest ++ s ∷ []) word) e way) choice))
+
+  -- the production that is answered is there
+  pub place_taken : (r : ℕ) (rest : List Sym) (s : Sym) (place : Option ℕ) (word word' : List ℕ) → IsOnTheWay x r (rest ++ s ∷ []) word → Takes x s place word word'
+      → IfSome place (λ p. p < length x.grammar.productions)
+  place_taken r rest s place word word' way (taken.token t e f h) = subst (λ o. IfSome o (λ p. p < length x.grammar.productions)) (sym f) tt
+  place_taken r rest s place word word' way (taken.free q e nothing f h) = subst (λ o. IfSome o (λ p. p < length x.grammar.productions)) (sym f) tt
+  place_taken r rest s place word word' way (taken.unchosen q e none f h) = subst (λ o. IfSome o (λ p. p < length x.grammar.productions)) (sym f) tt
+  place_taken r rest s place word word' way (taken.chosen q p m e costly choice f h) = subst (λ o. IfSome o (λ p. p < length x.grammar.productions)) (sym f)
+      (read_last r q p m rest word (subst (λ s. IsOnTheWay x r (rest ++ s ∷ []) word) e way) choice).place
 
   -- the symbol itself is taken
   one_less : (rest : List Sym) (s : Sym) → left_to_take x rest < left_to_take x (rest ++ s ∷ [])
   one_less rest s =
-      let whole = sum_by-append (steps x.grammar x.choices x.grammar.rules) rest (s ∷ []) in
-      let one = sum_by-cons (steps x.grammar x.choices x.grammar.rules) s [] in
-      let more = steps_positive x.grammar x.choices x.grammar.rules s in
+      let whole = sum_by-append (steps x.grammar x.choices 1 x.grammar.rules) rest (s ∷ []) in
+      let one = sum_by-cons (steps x.grammar x.choices 1 x.grammar.rules) s [] in
+      let more = steps_positive x.grammar x.choices 1 (omega arith) x.grammar.rules s in
       omega (arith, whole, one, more)
 
   less_opened : (r q p m : ℕ) (rest : List Sym) (word : List ℕ) → IsOnTheWay x r (rest ++ Rule q ∷ []) word → choice_answer x q ≡ Some (p, m)
       → left_to_take x (rest ++ (nth_production x.grammar p).symbols) < left_to_take x (rest ++ Rule q ∷ [])
   less_opened r q p m rest word way e =
-      let (p', m', o, answer) = chosen_last r q rest word way in
-      let both : ◌≡◌ {A = Option (ℕ × ℕ)} (Some (p', m')) (Some (p, m)) = sym answer ∙ e in
-      let pairs : ◌≡◌ {A = ℕ × ℕ} (p', m') (p, m) = cc in
-      let same : p' ≡ p = ap (λ (c : ℕ × ℕ). c.0) pairs in
-      let f = steps x.grammar x.choices x.grammar.rules in
+      let o = read_last r q p m rest word way e in
+      let f = steps x.grammar x.choices 1 x.grammar.rules in
       let whole = sum_by-append f rest (Rule q ∷ []) in
       let one = sum_by-cons f (Rule q) [] in
-      let opened = steps_opened x.grammar x.choices choice_below x.grammar.rules q p' m' o.choice o.deep in
-      let other = sum_by-append f rest (nth_production x.grammar p').symbols in
-      subst (λ i. left_to_take x (rest ++ (nth_production x.grammar i).symbols) < left_to_take x (rest ++ Rule q ∷ [])) same
-      (omega (arith, whole, one, opened, other))
+      let opened = steps_opened x.grammar x.choices 1 choice_below x.grammar.rules q p m o.choice o.deep in
+      let other = sum_by-append f rest (nth_production x.grammar p).symbols in
+      omega (arith, whole, one, opened, other)
 
-  pub takes_less : (r : ℕ) (rest : List Sym) (s : Sym) (pending : List Sym) (word word' : List ℕ) → IsOnTheWay x r (rest ++ s ∷ []) word
-      → sentences.Advances x s rest pending word word' → left_to_take x pending < left_to_take x (rest ++ s ∷ [])
-  takes_less r rest s pending word word' way (sentences.token t e f h) = subst (λ a. left_to_take x a < left_to_take x (rest ++ s ∷ [])) (sym f) (one_less rest s)
-  takes_less r rest s pending word word' way (sentences.rule q e (sentences.free zero_cost f) h) =
-      subst (λ a. left_to_take x a < left_to_take x (rest ++ s ∷ [])) (sym f) (one_less rest s)
-  takes_less r rest s pending word word' way (sentences.rule q e (sentences.unchosen none f) h) =
-      subst (λ a. left_to_take x a < left_to_take x (rest ++ s ∷ [])) (sym f) (one_less rest s)
-  takes_less r rest s pending word word' way (sentences.rule q e (sentences.opened p m costly choice f) h) =
-      subst (λ a. left_to_take x a < left_to_take x (rest ++ s ∷ [])) (sym f)
+  pub takes_less : (r : ℕ) (rest : List Sym) (s : Sym) (place : Option ℕ) (pending : List Sym) (word word' : List ℕ) → IsOnTheWay x r (rest ++ s ∷ []) word
+      → Takes x s place word word' → pending ≡ rest ++ symbols_at x.grammar place → left_to_take x pending < left_to_take x (rest ++ s ∷ [])
+  takes_less r rest s place pending word word' way (taken.token t e f h) k =
+      subst (λ a. left_to_take x a < left_to_take x (rest ++ s ∷ [])) (none_opened rest pending place f k) (one_less rest s)
+  takes_less r rest s place pending word word' way (taken.free q e nothing f h) k =
+      subst (λ a. left_to_take x a < left_to_take x (rest ++ s ∷ [])) (none_opened rest pending place f k) (one_less rest s)
+  takes_less r rest s place pending word word' way (taken.unchosen q e none f h) k =
+      subst (λ a. left_to_take x a < left_to_take x (rest ++ s ∷ [])) (none_opened rest pending place f k) (one_less rest s)
+  takes_less r rest s place pending word word' way (taken.chosen q p m e costly choice f h) k =
+      subst (λ a. left_to_take x a < left_to_take x (rest ++ s ∷ [])) (one_opened rest pending place p f k)
       (subst (λ s. left_to_take x (rest ++ (nth_production x.grammar p).symbols) < left_to_take x (rest ++ s ∷ [])) (sym e)
       (less_opened r q p m rest word (subst (λ s. IsOnTheWay x r (rest ++ s ∷ []) word) e way) choice))
 

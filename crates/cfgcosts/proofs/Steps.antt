@@ -1,4 +1,4 @@
--- How often symbols are taken from the stack, till a sentence is made by the choices: a measure of what is left to do.
+-- What the choices make of symbols, in numbers: how many tokens, and how many rules are replaced on the way.
 use Rattle.std.proofs.Common.{◌≡◌, ℕ, zero, suc, ◌+◌, ◌<◌, List, [], ◌∷◌, Option, Some, None, All, arith, refl, ap, ◌∙◌}
 use Rattle.std.specs.Prelude.{IsSomeAnd, sum_by}
 use Rattle.std.proofs.lemmas.List.Sums.{sum_by-append}
@@ -20,26 +20,32 @@ sum_by-same Q f g same (x ∷ xs) all =
     let other = sum_by-cons g x xs in
     omega (arith, here, rest, whole, other)
 
-module _ (g : Grammar) (choices : List (Option (ℕ × ℕ))) where
+module _ (g : Grammar) (choices : List (Option (ℕ × ℕ))) (each : ℕ) where
   abbrev steps_of : (Sym → ℕ) → Option (ℕ × ℕ) → ℕ
-  steps_of f None = 1
-  steps_of f (Some choice) = sum_by f (nth_production g choice.0).symbols + 1
+  steps_of f None = each
+  steps_of f (Some choice) = sum_by f (nth_production g choice.0).symbols + each
 
-  -- one for the symbol, and those of the symbols that replace it, by choices that go n deep
+  -- one for a token, and for a rule `each` and those of the symbols that replace it, by choices that go n deep
   pub steps : ℕ → Sym → ℕ
-  steps zero s = 1
+  steps zero (Token t) = 1
+  steps zero (Rule r) = each
   steps (suc n) (Token t) = 1
   steps (suc n) (Rule r) = steps_of (steps n) (rule_choice choices r)
 
-  pub steps_positive : (n : ℕ) (s : Sym) → 0 < steps n s
+  pub steps_token : (n t : ℕ) → steps n (Token t) ≡ 1
   unfolding steps
-  steps_positive zero s = omega arith
-  steps_positive (suc n) (Token t) = omega arith
-  steps_positive (suc n) (Rule r) = go (rule_choice choices r)
+  steps_token zero t = refl
+  steps_token (suc n) t = refl
+
+  pub steps_positive : 0 < each → (n : ℕ) (s : Sym) → 0 < steps n s
+  unfolding steps
+  steps_positive some n (Token t) = let one = steps_token n t in omega (arith, one)
+  steps_positive some zero (Rule r) = some
+  steps_positive some (suc n) (Rule r) = go (rule_choice choices r)
     where
       go : (o : Option (ℕ × ℕ)) → 0 < steps_of (steps n) o
-      go None = omega arith
-      go (Some choice) = omega arith
+      go None = some
+      go (Some choice) = omega (arith, some)
 
   module _ (below : (r p m : ℕ) → rule_choice choices r ≡ Some (p, m) → All (IsChosenBelow choices m) (nth_production g p).symbols) where
     lower : (n m : ℕ) (s : Sym) → m < n + 1 → IsChosenBelow choices m s → IsChosenBelow choices n s
@@ -53,18 +59,19 @@ module _ (g : Grammar) (choices : List (Option (ℕ × ℕ))) where
     -- it is enough to go as deep as the numbers of the choices
     steps_same : (n m : ℕ) (s : Sym) → IsChosenBelow choices n s → IsChosenBelow choices m s → steps n s ≡ steps m s
     unfolding steps
-    steps_same zero zero s h k = refl
+    steps_same zero zero (Token t) h k = refl
+    steps_same zero zero (Rule r) h k = refl
     steps_same zero (suc m) (Token t) h k = refl
     steps_same (suc n) zero (Token t) h k = refl
     steps_same (suc n) (suc m) (Token t) h k = refl
     steps_same zero (suc m) (Rule r) h k = go (rule_choice choices r) h
       where
-        go : (o : Option (ℕ × ℕ)) → IsSomeAnd o (λ choice. choice.1 < 0) → 1 ≡ steps_of (steps m) o
+        go : (o : Option (ℕ × ℕ)) → IsSomeAnd o (λ choice. choice.1 < 0) → each ≡ steps_of (steps m) o
         go None h = absurd h
         go (Some choice) h = absurd (omega (arith, h))
     steps_same (suc n) zero (Rule r) h k = go (rule_choice choices r) k
       where
-        go : (o : Option (ℕ × ℕ)) → IsSomeAnd o (λ choice. choice.1 < 0) → steps_of (steps n) o ≡ 1
+        go : (o : Option (ℕ × ℕ)) → IsSomeAnd o (λ choice. choice.1 < 0) → steps_of (steps n) o ≡ each
         go None h = absurd h
         go (Some choice) h = absurd (omega (arith, h))
     steps_same (suc n) (suc m) (Rule r) h k = go (λ s. steps_same n m s) (rule_choice choices r) refl h k
@@ -72,15 +79,15 @@ module _ (g : Grammar) (choices : List (Option (ℕ × ℕ))) where
         go : ((s : Sym) → IsChosenBelow choices n s → IsChosenBelow choices m s → steps n s ≡ steps m s) → (o : Option (ℕ × ℕ)) → rule_choice choices r ≡ o
             → IsSomeAnd o (λ choice. choice.1 < suc n) → IsSomeAnd o (λ choice. choice.1 < suc m) → steps_of (steps n) o ≡ steps_of (steps m) o
         go same None e h k = refl
-        go same (Some choice) e h k = ap (λ c. c + 1) (sum_by-same (IsChosenBelow choices choice.1) (steps n) (steps m)
+        go same (Some choice) e h k = ap (λ c. c + each) (sum_by-same (IsChosenBelow choices choice.1) (steps n) (steps m)
             (λ s lt. same s (lower n choice.1 s (omega (arith, h)) lt) (lower m choice.1 s (omega (arith, k)) lt))
             (nth_production g choice.0).symbols (below r choice.0 choice.1 e))
 
-    -- opening a rule is one step of those that it takes
+    -- a rule takes what its symbols take, and `each`
     pub steps_opened : (n r p m : ℕ) → rule_choice choices r ≡ Some (p, m) → m < n
-        → steps n (Rule r) ≡ sum_by (steps n) (nth_production g p).symbols + 1
+        → steps n (Rule r) ≡ sum_by (steps n) (nth_production g p).symbols + each
     unfolding steps
     steps_opened zero r p m e lt = absurd (omega (arith, lt))
-    steps_opened (suc n) r p m e lt = ap (steps_of (steps n)) e ∙ ap (λ c. c + 1) (sum_by-same (IsChosenBelow choices m) (steps n) (steps (suc n))
+    steps_opened (suc n) r p m e lt = ap (steps_of (steps n)) e ∙ ap (λ c. c + each) (sum_by-same (IsChosenBelow choices m) (steps n) (steps (suc n))
         (λ s h. steps_same n (suc n) s (lower n m s (omega (arith, lt)) h) (lower (suc n) m s (omega (arith, lt)) h))
         (nth_production g p).symbols (below r p m e))

@@ -9,3 +9,4 @@ pub mod Sentences
 pub mod Splits
 pub mod Passes
 pub mod Minimal
+pub mod DerivedBy

@@ -1,6 +1,7 @@
 -- One minimal sentence of a rule, which is made from its last token to its first.
-use Rattle.std.specs.Prelude.{◌≡◌, ℕ, List, [], ◌∷◌, ◌++◌, Some, None, codes}
-use Rattle.derivation.specs.Grammar.{Sym, Rule, Token}
+use Rattle.std.specs.Prelude.{◌≡◌, ℕ, List, [], ◌∷◌, ◌++◌, Option, Some, None, codes}
+use Rattle.cfgindex.specs.declared.idxnewtype.PIdx.{PIdx}
+use Rattle.derivation.specs.Grammar.{Sym, Rule, Token, Grammar}
 use Rattle.cfganalysis.specs.Openings.{nth_production}
 use Rattle.cfgcosts.specs.Generator.{CostTables, cost_answer, choice_answer}
 use Rattle.cfgcosts.specs.declared.errors.CostError.{CostError}
@@ -19,14 +20,21 @@ sentence_error_text NoSentence = codes "the rule has no sentence"
 sentence_error_text CostTooLarge = codes "each sentence of the rule costs more than 65535"
 sentence_error_text OutOfMemory = codes "out of memory"
 
--- a rule behind the pending symbols was dropped, as it costs nothing or has no choice, or replaced by the symbols of its
--- choice; one that costs nothing isn't opened
-pub data Replaces (x : CostTables) (r : ℕ) (pending pending' : List Sym) : Type 0 where
-  free : cost_answer x r ≡ Some 0 → pending' ≡ pending → Replaces x r pending pending'
-  unchosen : choice_answer x r ≡ None → pending' ≡ pending → Replaces x r pending pending'
-  opened : (p m : ℕ) → (cost_answer x r ≡ Some 0 → ⊥) → choice_answer x r ≡ Some (p, m) → pending' ≡ pending ++ (nth_production x.grammar p).symbols → Replaces x r pending pending'
+-- What becomes of a symbol: a token goes to the word, which is made from its end. Of a rule the chosen production is
+-- answered, and none where it costs nothing or has no choice.
+pub data Takes (x : CostTables) (s : Sym) (place : Option ℕ) (word word' : List ℕ) : Type 0 where
+  token : (t : ℕ) → s ≡ Token t → place ≡ None → word' ≡ word ++ (t ∷ []) → Takes x s place word word'
+  free : (r : ℕ) → s ≡ Rule r → cost_answer x r ≡ Some 0 → place ≡ None → word' ≡ word → Takes x s place word word'
+  unchosen : (r : ℕ) → s ≡ Rule r → choice_answer x r ≡ None → place ≡ None → word' ≡ word → Takes x s place word word'
+  chosen : (r p m : ℕ) → s ≡ Rule r → (cost_answer x r ≡ Some 0 → ⊥) → choice_answer x r ≡ Some (p, m) → place ≡ Some p → word' ≡ word
+      → Takes x s place word word'
 
--- a symbol behind the pending ones was replaced, or went to the word, which is made from its end
-pub data Advances (x : CostTables) (s : Sym) (pending pending' : List Sym) (word word' : List ℕ) : Type 0 where
-  rule : (r : ℕ) → s ≡ Rule r → Replaces x r pending pending' → word' ≡ word → Advances x s pending pending' word word'
-  token : (t : ℕ) → s ≡ Token t → pending' ≡ pending → word' ≡ word ++ (t ∷ []) → Advances x s pending pending' word word'
+-- the number of a production, where there is one
+abbrev pub number_of : {S : Type 0} → (S → ℕ) → Option (PIdx S) → Option ℕ
+number_of number None = None
+number_of number (Some p) = Some (number p.0)
+
+-- the symbols of a production, where there is one
+abbrev pub symbols_at : Grammar → Option ℕ → List Sym
+symbols_at g None = []
+symbols_at g (Some p) = (nth_production g p).symbols

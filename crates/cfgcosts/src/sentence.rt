@@ -1,17 +1,17 @@
 //! One minimal sentence of a rule, by the productions that were chosen.
 
-ghost use Rattle.std.specs.Prelude.{◌≡◌, ◌↔◌, ℕ, ◌<◌, ◌≤◌, ◌++◌, Err, IfOk, IsTrue, OnOk, Some, length, map};
+ghost use Rattle.std.specs.Prelude.{◌≡◌, ◌↔◌, ℕ, ◌<◌, ◌≤◌, ◌++◌, Err, IfOk, IfSome, IsTrue, OnOk, Some, length, map};
 ghost use Rattle.derivation.specs.Grammar.{HasProduction, IsSymbolOf};
 ghost use Rattle.derivation.specs.Sentence.{cost_of};
 ghost use Rattle.derivation.specs.Costs.{Minimal};
 ghost use Rattle.cfganalysis.specs.Symbols.{sym_of};
 ghost use Rattle.cfgcosts.specs.Generator.{HasNone, IsTooDear, cost_answer, token_cost};
-ghost use Rattle.cfgcosts.specs.Sentences.{Advances, Replaces};
+ghost use Rattle.cfgcosts.specs.Sentences.{Takes, number_of, symbols_at};
 
 use crate::errors::SentenceError;
 use crate::generator::SentenceGenerator;
 use cfganalysis::Tables;
-use cfgindex::{RIdx, Storage, Symbol, TIdx};
+use cfgindex::{PIdx, RIdx, Storage, Symbol, TIdx};
 use std::alloc::{AllocError, Global};
 
 /// Adds the symbols behind those that are pending.
@@ -19,7 +19,7 @@ use std::alloc::{AllocError, Global};
 /// # Errors
 ///
 /// Want of memory.
-fn push_symbols<S: Storage>(
+pub(crate) fn push_symbols<S: Storage>(
     pending: &mut Vec<Symbol<S>>,
     symbols: &[Symbol<S>],
 ) -> Result<(), AllocError>
@@ -29,6 +29,26 @@ fn push_symbols<S: Storage>(
         pending.push(*symbol)?;
     }
     Ok(())
+}
+
+/// Adds the symbols of a production behind those that are pending, where there is one.
+///
+/// # Errors
+///
+/// Want of memory.
+fn push_production<S: Storage, T: Tables<S>>(
+    tables: &T,
+    chosen: Option<PIdx<S>>,
+    pending: &mut Vec<Symbol<S>>,
+) -> Result<(), AllocError>
+    requires { IfSome chosen (λ p. S.number p.0 < length (T.grammar tables.now).productions) }
+    ensures { OnOk result (map (sym_of S.number) pending.new.items
+        ≡ map (sym_of S.number) pending.old.items ++ symbols_at (T.grammar tables.now) (number_of S.number chosen)) }
+{
+    match chosen {
+        Some(p) => push_symbols(pending, tables.prod(p)),
+        None => Ok(()),
+    }
 }
 
 impl<'a, S: Storage, T: Tables<S>> SentenceGenerator<'a, S, T> {
@@ -43,46 +63,29 @@ impl<'a, S: Storage, T: Tables<S>> SentenceGenerator<'a, S, T> {
         }
     }
 
-    /// Replaces a rule by the symbols of the production that was chosen for it. A rule of cost 0 isn't opened.
+    /// Moves a token to the sentence, or answers the production that was chosen for a rule, if the rule costs something.
     ///
     /// # Errors
     ///
     /// Want of memory.
-    fn open_rule(&self, rule: RIdx<S>, pending: &mut Vec<Symbol<S>>) -> Result<(), AllocError>
-        requires { S.number rule.0 < self.now.grammar.rules }
-        ensures { OnOk result (Replaces self.now (S.number rule.0)
-            (map (sym_of S.number) pending.old.items) (map (sym_of S.number) pending.new.items)) }
-    {
-        if self.is_free(rule) {
-            return Ok(());
-        }
-        match self.choice(rule) {
-            Some((p, _)) => push_symbols(pending, self.tables.prod(p)),
-            None => Ok(()),
-        }
-    }
-
-    /// Replaces a rule, or moves a token to the sentence.
-    ///
-    /// # Errors
-    ///
-    /// Want of memory.
-    fn advance(
+    pub(crate) fn take(
         &self,
         symbol: Symbol<S>,
-        pending: &mut Vec<Symbol<S>>,
         sentence: &mut Vec<TIdx<S>>,
-    ) -> Result<(), AllocError>
+    ) -> Result<Option<PIdx<S>>, AllocError>
         requires { IsSymbolOf self.now.grammar (sym_of S.number symbol) }
-        ensures { OnOk result (Advances self.now (sym_of S.number symbol)
-            (map (sym_of S.number) pending.old.items) (map (sym_of S.number) pending.new.items)
+        ensures { IfOk result (λ p. Takes self.now (sym_of S.number symbol) (number_of S.number p)
             (map (λ t. S.number t.0) sentence.old.items) (map (λ t. S.number t.0) sentence.new.items)) }
     {
         match symbol {
-            Symbol::Rule(rule) => self.open_rule(rule, pending),
+            Symbol::Rule(rule) if self.is_free(rule) => Ok(None),
+            Symbol::Rule(rule) => match self.choice(rule) {
+                Some((p, _)) => Ok(Some(p)),
+                None => Ok(None),
+            },
             Symbol::Token(token) => {
                 sentence.push(token)?;
-                Ok(())
+                Ok(None)
             }
         }
     }
@@ -105,7 +108,8 @@ impl<'a, S: Storage, T: Tables<S>> SentenceGenerator<'a, S, T> {
         let mut pending = Vec::new(alloc);
         pending.push(Symbol::Rule(rule))?;
         while let Some(symbol) = pending.pop() {
-            self.advance(symbol, &mut pending, &mut sentence)?;
+            let chosen = self.take(symbol, &mut sentence)?;
+            push_production(self.tables, chosen, &mut pending)?;
         }
         sentence.reverse();
         Ok(sentence)

@@ -22,7 +22,7 @@ use std::marker::Model;
 /// The least and the greatest costs of a grammar's rules.
 #[derive(Drop)]
 pub struct SentenceGenerator<'a, S: Storage, T: Tables<S>> {
-    least: LeastCosts<'a, S, T>,
+    pub(crate) least: LeastCosts<'a, S, T>,
     greatest: Vec<GreatestCost>,
 }
 

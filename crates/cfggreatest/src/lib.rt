@@ -6,6 +6,7 @@ pub mod greatest;
 mod keep;
 pub mod laws;
 mod order;
+mod over;
 pub mod peel;
 mod removal;
 pub mod rounds;
@@ -16,3 +17,4 @@ mod uses;
 
 pub use generator::SentenceGenerator;
 pub use greatest::{GreatestCost, greatest_costs};
+pub use over::min_sentence_over;

@@ -9,3 +9,4 @@ pub use cfgsyntax::yacc::{
     YaccGrammarWarningKind, YaccKind, YaccOriginalActionKind, ast, parser,
 };
 pub use grammar::{AssocKind, Precedence, PrecedenceLevel, YaccGrammar};
+pub use sentences::SentenceGenerator;

@@ -1,0 +1,59 @@
+//! One minimal sentence of a rule, by productions that are opened one by one.
+
+ghost use Rattle.std.specs.Prelude.{◌≡◌, ◌↔◌, ℕ, ◌+◌, ◌*◌, ◌<◌, ◌≤◌, ◌⊎◌, Err, IfOk, length, map};
+ghost use Rattle.derivation.specs.Grammar.{HasProduction};
+ghost use Rattle.derivation.specs.Sentence.{cost_of};
+ghost use Rattle.derivation.specs.Costs.{Least, Minimal};
+ghost use Rattle.cfgcosts.specs.DerivedBy.{IsDerivedBy, OpensNoneFree};
+ghost use Rattle.cfgcosts.specs.Generator.{HasNone, IsTooDear, token_cost};
+
+use crate::generator::SentenceGenerator;
+use cfganalysis::{Productions, Tables};
+use cfgcosts::SentenceError;
+use cfgindex::{RIdx, Storage, TIdx};
+use std::alloc::Global;
+
+/// A sentence of the rule that no other of its sentences costs less than, as [`SentenceGenerator::min_sentence`] gives
+/// it, by the symbols of `productions` alone, which are the generator's.
+///
+/// Together at most one production more is opened than the sentence's tokens times the rules. By the opened productions,
+/// each used as often as it was opened, the rule derives the sentence with rules of cost 0 between its tokens: these are
+/// never opened.
+///
+/// # Errors
+///
+/// Where [`SentenceGenerator::min_sentence_cost`] refuses, the same refusal, and nothing was opened; else none but want
+/// of memory, where the least cost stands for the tokens in the bound on openings.
+pub fn min_sentence_over<'a, S: Storage, T: Tables<S>, P: Productions<S>>(
+    alloc: Global,
+    productions: &mut P,
+    generator: &SentenceGenerator<'a, S, T>,
+    rule: RIdx<S>,
+) -> Result<Vec<TIdx<S>>, SentenceError>
+    requires rule { S.number rule.0 < generator.now.grammar.rules }
+    requires same { P.content productions.old ≡ generator.now.grammar }
+    requires fresh { (q : ℕ) → q < length generator.now.grammar.productions → P.opened productions.old q ≡ 0 }
+    requires all_fresh { P.opened_all productions.old ≡ 0 }
+    ensures minimal { IfOk result (λ sentence. Minimal (HasProduction generator.now.grammar) (token_cost generator.now)
+        (S.number rule.0) (map (λ t. S.number t.0) sentence.items)) }
+    ensures length { IfOk result (λ sentence.
+        length sentence.items ≤ cost_of (token_cost generator.now) (map (λ t. S.number t.0) sentence.items)) }
+    ensures none { (result ≡ Err SentenceError.NoSentence)
+        ↔ HasNone (HasProduction generator.now.grammar) (S.number rule.0) }
+    ensures dear { (result ≡ Err SentenceError.CostTooLarge)
+        ↔ IsTooDear (HasProduction generator.now.grammar) (token_cost generator.now) (S.number rule.0) }
+    ensures content { P.content productions.new ≡ P.content productions.old }
+    ensures derived { IfOk result (λ sentence. IsDerivedBy generator.now.grammar (token_cost generator.now)
+        (P.opened productions.new) (P.opened_all productions.new) (S.number rule.0)
+        (map (λ t. S.number t.0) sentence.items)) }
+    ensures few { IfOk result (λ sentence.
+        P.opened_all productions.new ≤ 1 + length sentence.items * generator.now.grammar.rules) }
+    ensures free { OpensNoneFree generator.now.grammar (token_cost generator.now) (P.opened productions.new) }
+    ensures cut_short { result ≡ Err SentenceError.OutOfMemory
+        → (c : ℕ) → Least (HasProduction generator.now.grammar) (token_cost generator.now) (S.number rule.0) c
+        → P.opened_all productions.new ≤ 1 + c * generator.now.grammar.rules }
+    ensures refused { (result ≡ Err SentenceError.NoSentence) ⊎ (result ≡ Err SentenceError.CostTooLarge)
+        → productions.new ≡ productions.old }
+{
+    cfgcosts::min_sentence_over(alloc, productions, &generator.least, rule)
+}
