@@ -4,3 +4,4 @@ pub mod SentenceTexts
 pub mod SentenceTokens
 pub mod SentencesListed
 pub mod Told
+pub mod WarningPlaces

@@ -1,16 +1,21 @@
 //! The report of a text.
 
 ghost use Rattle.std.specs.Prelude.{◌≡◌, ◌+◌, ◌-◌, ◌^◌, ◌<◌, Some, IfOk, IsErrOf, string_bytes};
-ghost use Rattle.cfgrammar.specs.GrammarOf.{HoldsOfReading};
-ghost use Rattle.cfgtool.specs.Report.{AreLinesOf, IsReport, TellsText, fault_text, faults_met};
+ghost use Rattle.cfgwords.specs.Places.{IsPiece, IsWithin};
+ghost use Rattle.cfgast.specs.Syntax.{EachSpan};
+ghost use Rattle.cfgast.specs.View.{syntax};
+ghost use Rattle.cfgsyntax.specs.Spans.{EachParsedSpan};
+ghost use Rattle.cfgrammar.specs.Numbered.{numbered};
+ghost use Rattle.cfgtool.specs.Report.{AreLinesOf, HoldsOfText, IsReport, TellsText, fault_text, faults_met};
 ghost use Rattle.cfgtool.specs.declared.engine.ReportFault.TheVariants as variants;
 
 use crate::first_lines::first_lines;
 use crate::follow_lines::follow_lines;
-use crate::lines::{error_lines, production_lines};
+use crate::lines::{error_lines, production_lines, warning_lines};
 use crate::sentence_lines::sentence_lines;
 use crate::sink::{Sink, SinkFault, write_whole};
 use crate::words::{Command, KindArg};
+use cfgrammar::yacc::ast::{ASTWithValidityInfo, GrammarAST};
 use cfgrammar::yacc::parser::YaccFault;
 use cfgrammar::yacc::{YaccGrammar, YaccKind};
 use std::alloc::{AllocError, Global};
@@ -94,11 +99,29 @@ fn report_text(
     command: Command,
     text: &str,
 ) -> Result<(Outcome, String), AllocError>
-    ensures { HoldsOfReading kind text.now (λ errors g.
-        IfOk result (λ told. IsReport command text.now errors g told.0 (string_bytes told.1))) }
+    ensures { HoldsOfText kind text.now (λ errors s g.
+        IfOk result (λ told. IsReport command text.now errors s g told.0 (string_bytes told.1))) }
 {
-    match YaccGrammar::new(alloc, kind, text) {
-        Ok(grammar) => Ok((Outcome::Done, command_lines(alloc, command, &grammar)?)),
+    let parsed = ASTWithValidityInfo::new(alloc, kind, text)?;
+    report_parsed(alloc, command, text, &parsed)
+}
+
+/// The report of a text that was read.
+fn report_parsed(
+    alloc: Global,
+    command: Command,
+    text: &str,
+    parsed: &ASTWithValidityInfo,
+) -> Result<(Outcome, String), AllocError>
+    requires { EachParsedSpan (IsPiece text.now) (IsWithin text.now) parsed.now }
+    ensures { IfOk result (λ told. IsReport command text.now parsed.now.errors parsed.now.syntax
+        (numbered parsed.now.kind parsed.now.syntax) told.0 (string_bytes told.1)) }
+{
+    match YaccGrammar::new_from_ast_with_validity_info(alloc, parsed) {
+        Ok(grammar) => {
+            let lines = command_lines(alloc, command, text, parsed.ast(), &grammar)?;
+            Ok((Outcome::Done, lines))
+        }
         Err(YaccFault::Errors(errors)) => {
             Ok((Outcome::Refused, error_lines(alloc, text, &errors)?))
         }
@@ -106,18 +129,22 @@ fn report_text(
     }
 }
 
-/// The lines that a command tells of a grammar.
+/// The lines that a command tells of a text that is this tree, and this grammar.
 fn command_lines(
     alloc: Global,
     command: Command,
+    text: &str,
+    ast: &GrammarAST,
     grammar: &YaccGrammar<u32>,
 ) -> Result<String, AllocError>
-    ensures { IfOk result (λ lines. AreLinesOf command grammar.now (string_bytes lines)) }
+    requires { EachSpan (IsPiece text.now) (IsWithin text.now) (syntax ast.now) }
+    ensures { IfOk result (λ lines. AreLinesOf command text.now (syntax ast.now) grammar.now (string_bytes lines)) }
 {
     match command {
         Command::Grammar => production_lines(alloc, grammar),
         Command::Firsts => first_lines(alloc, grammar, &grammar.firsts(alloc)?),
         Command::Follows => follow_lines(alloc, grammar, &grammar.follows(alloc)?),
         Command::Sentences => sentence_lines(alloc, grammar),
+        Command::Warnings => warning_lines(alloc, text, &ast.warnings(alloc)?),
     }
 }

@@ -34,6 +34,8 @@ pub enum Command {
     Follows,
     /// What the sentences of its rules cost, and those of least cost.
     Sentences,
+    /// What is odd about it: rules and tokens that nothing reaches.
+    Warnings,
 }
 
 /// The kind that a word names, byte for byte.
@@ -61,6 +63,7 @@ pub fn command_of(word: &str) -> Option<Command>
         "firsts" => Some(Command::Firsts),
         "follows" => Some(Command::Follows),
         "sentences" => Some(Command::Sentences),
+        "warnings" => Some(Command::Warnings),
         _ => None,
     }
 }
