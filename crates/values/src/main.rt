@@ -1,5 +1,5 @@
-//! Worked rows on lines, maps, plain values and errors: a program that reads rows from files, and writes for each row
-//! its name and all that the public calls answer of it. A person reads what it writes beside docs/BEHAVIOUR.md; the
+//! Worked rows on lines, maps, plain values, errors and trees: a program that reads rows from files, and writes for each
+//! row its name and all that the public calls answer of it. A person reads what it writes beside docs/BEHAVIOUR.md; the
 //! merge gate compares it with what is stored.
 #![tactic(auto)]
 
@@ -7,6 +7,7 @@ mod kinds;
 mod lines;
 mod marks;
 mod numbers;
+mod trees;
 
 use rows::files::{Answers, write_files};
 use rows::row::Row;
@@ -29,6 +30,7 @@ impl Answers for Values {
             "marks" => marks::tell(out, rt.alloc(), row),
             "values" => numbers::tell(out, rt.alloc(), row, text),
             "errors" => kinds::tell(out, rt.alloc(), row, text),
+            "tree" => trees::tell(out, rt.alloc(), row, text),
             _ => writeln!(out, "no such row: {}", row.tries),
         }
     }

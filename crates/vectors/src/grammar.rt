@@ -1,7 +1,7 @@
 //! Rows on the texts of grammars.
 
 use crate::row::{Row, numbers};
-use crate::{accessors, cuts, errors, firsts, openings, paths, syntax, tables, text};
+use crate::{accessors, cuts, errors, firsts, openings, paths, syntax, tables, text, warnings};
 use cfgrammar::yacc::ast::ASTWithValidityInfo;
 use cfgrammar::yacc::parser::YaccFault;
 use cfgrammar::yacc::{YaccGrammar, YaccKind, YaccOriginalActionKind};
@@ -58,6 +58,7 @@ fn tell_whole(
     let parsed = ASTWithValidityInfo::new(alloc, kind, text)?;
     errors::write_errors(out, alloc, text, parsed.errors())?;
     syntax::write_syntax(out, alloc, &parsed)?;
+    warnings::write_warnings(out, alloc, parsed.ast())?;
     tables::write_tables(out, alloc, text, &parsed)
 }
 

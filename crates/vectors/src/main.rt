@@ -14,6 +14,7 @@ mod paths;
 mod said;
 mod syntax;
 mod tables;
+mod warnings;
 
 use rows::files::{Answers, write_files};
 use rows::row::Row;

@@ -1,0 +1,50 @@
+//! What a row asks for besides: lists for the checkers, and counted openings.
+
+ghost use Rattle.std.specs.Prelude.{◌≡◌};
+ghost use Rattle.cfgrammar.specs.Numbered.{core};
+
+use crate::certificate::Certificate;
+use crate::openings;
+use cfgrammar::yacc::YaccGrammar;
+use cfgrammar::yacc::sentences::SentenceGenerator;
+use rows::row::Row;
+use std::alloc::{AllocError, Global};
+
+/// Writes what each line of the row asks for.
+pub(crate) fn write_asked(
+    out: &mut String,
+    alloc: Global,
+    row: &Row<'_>,
+    grammar: &YaccGrammar<u32>,
+    generator: &SentenceGenerator<'_, u32, YaccGrammar<u32>>,
+) -> Result<(), AllocError>
+    requires { generator.now.grammar ≡ core grammar.now }
+{
+    let costs = generator.token_costs();
+    for (word, rest) in &row.lines {
+        match *word {
+            "least" | "choices" => write_checked(out, alloc, grammar, costs, *word, *rest)?,
+            "openings" => openings::write_openings(out, alloc, grammar)?,
+            "opened" => openings::write_opened(out, alloc, grammar, generator, *rest)?,
+            _ => {}
+        }
+    }
+    Ok(())
+}
+
+/// Writes what a checker says of the lists of a line.
+fn write_checked(
+    out: &mut String,
+    alloc: Global,
+    grammar: &YaccGrammar<u32>,
+    costs: &[u8],
+    word: &str,
+    lists: &str,
+) -> Result<(), AllocError> {
+    let certificate = Certificate::read(alloc, lists)?;
+    let passes = match word {
+        "least" => certificate.is_least(grammar, costs),
+        _ => certificate.is_reached(grammar, costs),
+    };
+    writeln!(out, "    {word} {lists}: {passes}")
+}

@@ -1,0 +1,93 @@
+//! Lists of least costs and of choices, and what the two checkers say of them.
+
+ghost use Rattle.std.specs.Prelude.{◌≡◌, IsTrue, length};
+ghost use Rattle.cfgrammar.specs.Numbered.{core};
+
+use cfgrammar::PIdx;
+use cfgrammar::yacc::YaccGrammar;
+use cfgrammar::yacc::sentences::{SentenceGenerator, check_least, check_reached};
+use std::alloc::{AllocError, Global};
+
+/// A cost for each rule, or none, and a choice for each rule, or none.
+#[derive(Drop)]
+pub(crate) struct Certificate {
+    least: Vec<Option<u16>>,
+    choices: Vec<Option<(PIdx<u32>, u32)>>,
+}
+
+impl Certificate {
+    /// What the generator answers.
+    fn of_generator(
+        alloc: Global,
+        grammar: &YaccGrammar<u32>,
+        generator: &SentenceGenerator<'_, u32, YaccGrammar<u32>>,
+    ) -> Result<Self, AllocError>
+        requires { generator.now.grammar ≡ core grammar.now }
+    {
+        let (mut least, mut choices) = (Vec::new(alloc), Vec::new(alloc));
+        for ridx in grammar.iter_rules() {
+            least.push(generator.min_sentence_cost(ridx).ok())?;
+            choices.push(generator.choice(ridx))?;
+        }
+        Ok(Certificate { least, choices })
+    }
+
+    /// The costs that words spell, and behind `by` the choices.
+    pub(crate) fn read(alloc: Global, words: &str) -> Result<Self, AllocError> {
+        let (mut least, mut choices) = (Vec::new(alloc), Vec::new(alloc));
+        let (costs, pairs) = words.split_once(" by ").unwrap_or((words, ""));
+        for word in costs.split(' ') {
+            least.push(word.parse().ok())?;
+        }
+        for word in pairs.split(' ') {
+            choices.push(read_choice(word))?;
+        }
+        Ok(Certificate { least, choices })
+    }
+
+    /// Whether `check_least` is true of the costs.
+    pub(crate) fn is_least(&self, grammar: &YaccGrammar<u32>, costs: &[u8]) -> bool {
+        self.is_whole(grammar, costs) && check_least(grammar, costs, &self.least)
+    }
+
+    /// Whether `check_reached` is true of the costs and the choices.
+    pub(crate) fn is_reached(&self, grammar: &YaccGrammar<u32>, costs: &[u8]) -> bool {
+        self.is_whole(grammar, costs)
+            && self.choices.len() == self.least.len()
+            && check_reached(grammar, costs, &self.least, &self.choices)
+    }
+
+    /// Whether there is a cost for each token and one for each rule.
+    fn is_whole(&self, grammar: &YaccGrammar<u32>, costs: &[u8]) -> bool
+        ensures costs { IsTrue result → length costs.now ≡ length grammar.now.tokens }
+        ensures least { IsTrue result → length self.now.least.items ≡ length grammar.now.rules }
+    {
+        costs.len() == usize::from(grammar.tokens_len())
+            && self.least.len() == usize::from(grammar.rules_len())
+    }
+}
+
+/// The production and the number that stand on both sides of a colon.
+fn read_choice(word: &str) -> Option<(PIdx<u32>, u32)> {
+    let (production, number) = word.split_once(':')?;
+    Some((PIdx(production.parse().ok()?), number.parse().ok()?))
+}
+
+/// Writes which of the two checkers refuses what the generator answers.
+pub(crate) fn write_failures(
+    out: &mut String,
+    alloc: Global,
+    grammar: &YaccGrammar<u32>,
+    generator: &SentenceGenerator<'_, u32, YaccGrammar<u32>>,
+) -> Result<(), AllocError>
+    requires { generator.now.grammar ≡ core grammar.now }
+{
+    let certificate = Certificate::of_generator(alloc, grammar, generator)?;
+    if !certificate.is_least(grammar, generator.token_costs()) {
+        out.push_str("    the least costs don't pass\n")?;
+    }
+    if !certificate.is_reached(grammar, generator.token_costs()) {
+        out.push_str("    the choices don't pass\n")?;
+    }
+    Ok(())
+}

@@ -1,0 +1,111 @@
+//! The grammar of a row, and the costs of its tokens.
+
+ghost use Rattle.std.specs.Prelude.{◌≡◌, ◌<◌};
+ghost use Rattle.cfgrammar.specs.Numbered.{core};
+
+use crate::{asked, certificate, rules};
+use cfgrammar::TIdx;
+use cfgrammar::yacc::parser::YaccFault;
+use cfgrammar::yacc::sentences::SentenceGenerator;
+use cfgrammar::yacc::{YaccGrammar, YaccKind, YaccOriginalActionKind};
+use rows::row::Row;
+use rows::{pen, text};
+use std::alloc::{AllocError, Global};
+
+/// The kind that a row names; that of the rows that name none is `Original(GenericParseTree)`.
+fn kind_of(row: &Row<'_>) -> YaccKind {
+    match row.first("kind") {
+        Some("grmtools") => YaccKind::Grmtools,
+        Some("eco") => YaccKind::Eco,
+        Some("original-noaction") => YaccKind::Original(YaccOriginalActionKind::NoAction),
+        Some("original-useraction") => YaccKind::Original(YaccOriginalActionKind::UserAction),
+        _ => YaccKind::Original(YaccOriginalActionKind::GenericParseTree),
+    }
+}
+
+/// Writes a row's text, where the row isn't brief, and what is answered of its costs.
+pub(crate) fn tell(
+    out: &mut String,
+    alloc: Global,
+    row: &Row<'_>,
+    text: &str,
+) -> Result<(), AllocError> {
+    let kind = kind_of(row);
+    writeln!(out, "text of {} bytes, {kind:?}", text.len())?;
+    if row.first("show") != Some("brief") {
+        text::write_text(out, text)?;
+    }
+    tell_text(out, alloc, row, kind, text)
+}
+
+/// Writes what is answered of the costs of a text's grammar, where it has one.
+fn tell_text(
+    out: &mut String,
+    alloc: Global,
+    row: &Row<'_>,
+    kind: YaccKind,
+    text: &str,
+) -> Result<(), AllocError> {
+    match YaccGrammar::new(alloc, kind, text) {
+        Ok(grammar) => tell_grammar(out, alloc, row, &grammar),
+        Err(YaccFault::Errors(_)) => out.push_str("no grammar\n"),
+        Err(YaccFault::OutOfMemory) => Err(AllocError),
+    }
+}
+
+/// Writes what is answered of the costs of a grammar.
+fn tell_grammar(
+    out: &mut String,
+    alloc: Global,
+    row: &Row<'_>,
+    grammar: &YaccGrammar<u32>,
+) -> Result<(), AllocError> {
+    let generator = grammar.sentence_generator(alloc, |tidx| cost_of(row, tidx))?;
+    tell_costs(out, alloc, row, grammar, &generator)
+}
+
+/// What a token costs by the row's `costs`, where the list is so long, or else by its `cost`, or else 1.
+fn cost_of(row: &Row<'_>, tidx: TIdx<u32>) -> u8
+    ensures { 0 < result }
+{
+    let listed = row
+        .first("costs")
+        .and_then(|costs| costs.split(' ').nth(usize::from(tidx)));
+    let word = listed.or(row.first("cost")).unwrap_or("");
+    word.parse().unwrap_or(1).max(1)
+}
+
+/// Writes the tokens' costs and what the generator answers, and what the row asks for.
+fn tell_costs(
+    out: &mut String,
+    alloc: Global,
+    row: &Row<'_>,
+    grammar: &YaccGrammar<u32>,
+    generator: &SentenceGenerator<'_, u32, YaccGrammar<u32>>,
+) -> Result<(), AllocError>
+    requires { generator.now.grammar ≡ core grammar.now }
+{
+    write_tokens(out, grammar, generator.token_costs())?;
+    rules::write_rules(out, alloc, row, grammar, generator)?;
+    certificate::write_failures(out, alloc, grammar, generator)?;
+    asked::write_asked(out, alloc, row, grammar, generator)
+}
+
+/// Writes the tokens' names and what each costs.
+fn write_tokens(
+    out: &mut String,
+    grammar: &YaccGrammar<u32>,
+    costs: &[u8],
+) -> Result<(), AllocError> {
+    out.push_str("    tokens:")?;
+    for tidx in grammar.iter_tidxs() {
+        match grammar.token_name(tidx) {
+            Some(name) => pen::name(out, " ", name)?,
+            None => out.push_str(" end")?,
+        }
+        if let Some(cost) = costs.get(usize::from(tidx)) {
+            write!(out, " {cost}")?;
+        }
+    }
+    out.push('\n')
+}

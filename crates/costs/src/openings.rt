@@ -1,0 +1,61 @@
+//! How often a grammar's productions are opened.
+
+ghost use Rattle.std.specs.Prelude.{◌≡◌};
+ghost use Rattle.cfgrammar.specs.Numbered.{core};
+
+use cfgrammar::yacc::YaccGrammar;
+use cfgrammar::yacc::firsts::firsts_over;
+use cfgrammar::yacc::grammar::Productions;
+use cfgrammar::yacc::sentences::{SentenceError, SentenceGenerator, min_sentence_over};
+use cfgrammar::{PIdx, Storage};
+use std::alloc::{AllocError, Global};
+
+/// Writes how often each production is opened while the FIRST sets are found.
+pub(crate) fn write_openings(
+    out: &mut String,
+    alloc: Global,
+    grammar: &YaccGrammar<u32>,
+) -> Result<(), AllocError> {
+    let mut productions = grammar.productions(alloc)?;
+    let _firsts = firsts_over(alloc, &mut productions)?;
+    write_counts(out, &productions)
+}
+
+/// Writes how often each production was opened.
+fn write_counts<S: Storage, P: Productions<S>>(
+    out: &mut String,
+    productions: &P,
+) -> Result<(), AllocError> {
+    out.push_str("    opened for firsts:")?;
+    for number in 0..usize::from(productions.prods_len()) {
+        if let Some(number) = S::from_usize(number) {
+            write!(out, " {}", productions.opened(PIdx(number)))?;
+        }
+    }
+    out.push('\n')
+}
+
+/// Writes how many productions are opened, all together, on the way to a minimal sentence of the rule of this name.
+pub(crate) fn write_opened(
+    out: &mut String,
+    alloc: Global,
+    grammar: &YaccGrammar<u32>,
+    generator: &SentenceGenerator<'_, u32, YaccGrammar<u32>>,
+    name: &str,
+) -> Result<(), AllocError>
+    requires { generator.now.grammar ≡ core grammar.now }
+{
+    let Some(ridx) = grammar.rule_idx(name) else {
+        return writeln!(out, "    opened {name}: no such rule");
+    };
+    let mut productions = grammar.productions(alloc)?;
+    if let Err(SentenceError::OutOfMemory) = min_sentence_over(
+        alloc,
+        &mut productions,
+        generator,
+        ridx,
+    ) {
+        return Err(AllocError);
+    }
+    writeln!(out, "    opened {name}: {}", productions.opened_all())
+}

@@ -1,0 +1,128 @@
+//! What sentences of a grammar's rules cost, and those of least cost.
+
+ghost use Rattle.std.specs.Prelude.{◌≡◌, ◌<◌};
+ghost use Rattle.cfgrammar.specs.Numbered.{core};
+
+use cfgrammar::yacc::YaccGrammar;
+use cfgrammar::yacc::sentences::{CostError, SentenceError, SentenceGenerator};
+use cfgrammar::{PIdx, RIdx, TIdx};
+use rows::row::Row;
+use std::alloc::{AllocError, Global};
+
+/// How many sentences of a rule are written, and how many tokens of a sentence; of more than these their number is.
+const MOST: usize = 20;
+
+/// Writes for each rule a line.
+pub(crate) fn write_rules(
+    out: &mut String,
+    alloc: Global,
+    row: &Row<'_>,
+    grammar: &YaccGrammar<u32>,
+    generator: &SentenceGenerator<'_, u32, YaccGrammar<u32>>,
+) -> Result<(), AllocError>
+    requires { generator.now.grammar ≡ core grammar.now }
+{
+    for ridx in grammar.iter_rules() {
+        let name = grammar.rule_name_str(ridx);
+        write_rule(out, alloc, name, generator, ridx)?;
+        if is_asked(row, name) {
+            write_sentences(out, generator.min_sentences(alloc, ridx))?;
+        }
+        out.push('\n')?;
+    }
+    Ok(())
+}
+
+/// Whether all minimal sentences of a rule are asked for: of each rule where the row doesn't name some.
+fn is_asked(row: &Row<'_>, name: &str) -> bool {
+    match row.first("sentences") {
+        Some(names) => names.split(' ').any(|other| other == name),
+        None => true,
+    }
+}
+
+/// Writes a rule's costs, its choice, and a minimal sentence.
+fn write_rule(
+    out: &mut String,
+    alloc: Global,
+    name: &str,
+    generator: &SentenceGenerator<'_, u32, YaccGrammar<u32>>,
+    ridx: RIdx<u32>,
+) -> Result<(), AllocError>
+    requires { ridx.0 < generator.now.grammar.rules }
+{
+    write!(out, "    rule {} {name}: least ", usize::from(ridx))?;
+    write_cost(out, generator.min_sentence_cost(ridx).map(Some))?;
+    out.push_str(", greatest ")?;
+    write_cost(out, generator.max_sentence_cost(ridx))?;
+    write_choice(out, generator.choice(ridx))?;
+    out.push_str("; sentence ")?;
+    match generator.min_sentence(alloc, ridx) {
+        Ok(sentence) => write_sentence(out, &sentence),
+        Err(error) => write_refusal(out, error),
+    }
+}
+
+/// Writes a cost, or why there is none.
+fn write_cost(out: &mut String, cost: Result<Option<u16>, CostError>) -> Result<(), AllocError> {
+    match cost {
+        Ok(Some(cost)) => write!(out, "{cost}"),
+        Ok(None) => out.push_str("unbounded"),
+        Err(error) => write_refusal(out, SentenceError::from(error)),
+    }
+}
+
+/// Writes why there is no cost or no sentence.
+fn write_refusal(out: &mut String, error: SentenceError) -> Result<(), AllocError> {
+    match error {
+        SentenceError::NoSentence => out.push_str("none"),
+        SentenceError::CostTooLarge => out.push_str("too large"),
+        SentenceError::OutOfMemory => Err(AllocError),
+    }
+}
+
+/// Writes a choice: a production, and its number.
+fn write_choice(out: &mut String, choice: Option<(PIdx<u32>, u32)>) -> Result<(), AllocError> {
+    match choice {
+        Some((pidx, number)) => write!(out, "; production {} at {number}", usize::from(pidx)),
+        None => out.push_str("; production none"),
+    }
+}
+
+/// Writes a sentence by its tokens' indices, or how many there are.
+fn write_sentence(out: &mut String, sentence: &[TIdx<u32>]) -> Result<(), AllocError> {
+    if sentence.len() > MOST {
+        return write!(out, "{} tokens", sentence.len());
+    }
+    out.push('[')?;
+    for (place, tidx) in sentence.iter().enumerate() {
+        out.push_str(if place > 0 { " " } else { "" })?;
+        write!(out, "{}", usize::from(*tidx))?;
+    }
+    out.push(']')
+}
+
+/// Writes all minimal sentences, or how many there are, or why there are none.
+fn write_sentences(
+    out: &mut String,
+    sentences: Result<Vec<Vec<TIdx<u32>>>, SentenceError>,
+) -> Result<(), AllocError> {
+    out.push_str("; all")?;
+    match sentences {
+        Ok(sentences) if sentences.len() > MOST => write!(out, " {}", sentences.len()),
+        Ok(sentences) => write_each(out, &sentences),
+        Err(error) => {
+            out.push(' ')?;
+            write_refusal(out, error)
+        }
+    }
+}
+
+/// Writes sentences, each behind a space.
+fn write_each(out: &mut String, sentences: &[Vec<TIdx<u32>>]) -> Result<(), AllocError> {
+    for sentence in sentences {
+        out.push(' ')?;
+        write_sentence(out, sentence)?;
+    }
+    Ok(())
+}

@@ -1,0 +1,156 @@
+"""What the sentences of a numbered grammar cost: "Sentences and their costs" of docs/BEHAVIOUR.md, plain and slow.
+
+Costs here are whole numbers of any size, and None where a rule has no sentence. What a rule derives is found by growth:
+a derivation tree of a rule is one of its productions with a tree for each rule in it, so all that trees of one more
+level give is made from what the trees so far give, till nothing is new.
+"""
+import itertools
+
+LIMIT = 65535
+UNBOUNDED = float('inf')
+
+
+class Costs:
+    """The costs of a grammar's rules, where the token with an index costs what the list says."""
+
+    def __init__(self, grammar, costs):
+        self.grammar, self.costs = grammar, costs
+        self.least = self.least_costs()
+        self.greatest = self.greatest_costs()
+        self.cheapest = [[p for p in rule.productions if self.is_cheapest(p)] for rule in grammar.rules]
+        self.minimal = {}
+
+    def sum(self, production, of_rules):
+        """What a production costs by the costs of rules: None where one of them has none."""
+        each = [self.costs[index] if what == 'token' else of_rules[index] for what, index in production.symbols]
+        if None in each:
+            return None
+        return UNBOUNDED if UNBOUNDED in each else sum(each)
+
+    def best(self, of_rules, pick):
+        """For each rule what its productions cost at the best, by the costs of rules."""
+        sums = [[self.sum(self.grammar.productions[p], of_rules) for p in rule.productions]
+                for rule in self.grammar.rules]
+        return [pick(known) if known else None for known in ([it for it in row if it is not None] for row in sums)]
+
+    def least_costs(self):
+        """A tree that no other is cheaper than needs no rule twice on a way from its root, so it has at most as many
+        levels as there are rules."""
+        least = [None] * len(self.grammar.rules)
+        while (after := self.best(least, min)) != least:
+            least = after
+        return least
+
+    def greatest_costs(self):
+        """Trees of as many levels as there are rules give the greatest cost, if there is one: where a way has a rule
+        twice, the tree without what stands between costs as much, or else what stands between can be put in again and
+        again. So a rule that costs more by trees of more levels is unbounded, and what holds it too."""
+        rules = range(len(self.grammar.rules))
+        greatest, levels = [None] * len(rules), 0
+        while (after := self.best(greatest, max)) != greatest:
+            levels += 1
+            if levels > len(rules):
+                after = [greatest[r] if after[r] == greatest[r] else UNBOUNDED for r in rules]
+            greatest = after
+        return greatest
+
+    def is_told(self, rule):
+        """Whether the least cost is answered as a number."""
+        return self.least[rule] is not None and self.least[rule] <= LIMIT
+
+    def is_cheapest(self, p):
+        """Whether a production has sentences of its rule's least cost."""
+        production = self.grammar.productions[p]
+        total = self.sum(production, self.least)
+        return total is not None and total == self.least[production.rule]
+
+    def rules_in(self, p):
+        return [index for what, index in self.grammar.productions[p].symbols if what == 'rule']
+
+    def minimal_sentences(self, rule):
+        """All sentences of least cost in the order of a dictionary: those of its productions of least cost, with
+        minimal sentences for the rules in them."""
+        if rule not in self.minimal:
+            needed, todo = [], [rule]
+            while todo:
+                one = todo.pop()
+                if one not in needed and one not in self.minimal:
+                    needed.append(one)
+                    todo += [it for p in self.cheapest[one] for it in self.rules_in(p)]
+            self.grow(needed)
+        return sorted(self.minimal[rule])
+
+    def grow(self, rules):
+        self.minimal.update((rule, set()) for rule in rules)
+        changed = True
+        while changed:
+            changed = False
+            for rule in reversed(rules):
+                before = len(self.minimal[rule])
+                for p in self.cheapest[rule]:
+                    self.minimal[rule] |= set(self.products(p))
+                changed = changed or before != len(self.minimal[rule])
+
+    def products(self, p):
+        pieces = [[(index,)] if what == 'token' else self.minimal[index]
+                  for what, index in self.grammar.productions[p].symbols]
+        for row in itertools.product(*pieces):
+            yield tuple(itertools.chain.from_iterable(row))
+
+    def choices(self):
+        """For each rule of a told cost a production of least cost and a number, above those of the rules in it: the
+        numbers 0, 1, 2 .. in the order of costs."""
+        found, left = {}, [rule for rule in range(len(self.grammar.rules)) if self.is_told(rule)]
+        while left:
+            ready = [(self.least[rule], p, rule) for rule in left for p in self.cheapest[rule]
+                     if all(it in found for it in self.rules_in(p))]
+            _, p, rule = min(ready)
+            found[rule] = (p, len(found))
+            left.remove(rule)
+        return found
+
+    def sentences(self, choices):
+        """The sentences that these choices derive, those of lesser numbers first."""
+        made = {}
+        for one in sorted(choices, key=lambda it: choices[it][1]):
+            made[one] = [token for what, index in self.grammar.productions[choices[one][0]].symbols
+                         for token in ([index] if what == 'token' else made[index])]
+        return made
+
+    def derives(self, rule, sentence):
+        """Whether the rule derives these tokens: which rules derive each piece of them, by growth."""
+        places = range(len(sentence) + 1)
+        known, changed = set(), True
+
+        def ends(symbols, i):
+            found = {i}
+            for what, index in symbols:
+                found = {j for start in found for j in places
+                         if (sentence[start:j] == [index] if what == 'token' else (index, start, j) in known)}
+            return found
+
+        while changed:
+            found = {(p.rule, i, j) for p in self.grammar.productions for i in places for j in ends(p.symbols, i)}
+            changed, known = not found <= known, known | found
+        return (rule, 0, len(sentence)) in known
+
+    # ------------------------------------------------------------ checkers
+
+    def covers(self, least):
+        """Whether each production whose rules all have a cost sums up to more than the limit, or its rule has a cost of
+        at most that sum."""
+        sums = [(p.rule, self.sum(p, least)) for p in self.grammar.productions]
+        return all(total is None or total > LIMIT or least[rule] is not None and least[rule] <= total
+                   for rule, total in sums)
+
+    def reaches(self, least, choices):
+        """Whether each rule with a cost has a choice of a production of its own that costs just that, whose rules all
+        have choices with lesser numbers."""
+        return all(cost is None or self.is_reached(rule, least, choices) for rule, cost in enumerate(least))
+
+    def is_reached(self, rule, least, choices):
+        if choices[rule] is None:
+            return False
+        p, number = choices[rule]
+        return p in self.grammar.rules[rule].productions and self.sum(self.grammar.productions[p], least) == least[rule] \
+            and all(choices[it] is not None and choices[it][1] < number for it in self.rules_in(p))
