@@ -1,5 +1,6 @@
--- What holds of all that a section's constructs give: each entry's key, and each fault, stands between places of the text.
-use Rattle.std.proofs.Common.{◌≡◌, ℕ, zero, suc, ◌+◌, Bool, true, false, cond, List, [], ◌∷◌, ◌++◌, length, Option, Some, None, codes, refl, ap, subst, sym, ◌∙◌, arith, length-append, eqb, eqb-true}
+-- What holds of all that a section's constructs give: each entry's key and value, and each fault, stands between places of the
+-- text.
+use Rattle.std.proofs.Common.{◌≡◌, ℕ, zero, suc, ◌+◌, ◌≤◌, Bool, true, false, cond, List, [], ◌∷◌, ◌++◌, length, Option, Some, None, codes, refl, ap, subst, sym, ◌∙◌, arith, length-append, eqb, eqb-true}
 use lib.Utf8.{encode}
 use Rattle.std.specs.Prelude.{encode_utf8}
 use Rattle.std.specs.Str.{IsUtf8, IsCharBoundary}
@@ -15,18 +16,19 @@ use Rattle.reading.proofs.PiecesLemmas.{IsRun-run}
 use Rattle.cfgwords.specs.declared.bytes.ByteClass.TheVariants as bytes
 use Rattle.cfgwords.specs.Bytes.{holds}
 use Rattle.cfgwords.specs.Places.{IsPiece}
-use Rattle.cfgwords.specs.SectionWords.{IsText, name_at}
+use Rattle.cfgwords.specs.SectionWords.{IsText, name_at, text_at}
 use Rattle.cfgwords.specs.Text.{place, span_of}
 use Rattle.cfgwords.proofs.Cuts.{IsCut, cut_on, cut_same, cut_word, cut_byte, cut_before, place_cut, boundary_cut}
 use Rattle.cfgwords.proofs.WordPlaces.{IsReached, reached, reached_piece, word_passed, integer_is_at}
 use Rattle.cfgheader.specs.Errors.{ShownErrorKind, ExpectedToken}
 use Rattle.cfgheader.specs.Values.{Placed, ShownNamespaced, ShownSetting}
+use Rattle.cfgheader.proofs.ValuePlaces.{EachNamePlace, EachSettingPlace, EachKindPlace}
 use Rattle.cfgheader.specs.SectionGrammar.{Entry, Fault, Strict, most_brackets, unexpected_star, error_over, fault_at, end_fault, wide_character, white_character, separator, white, separators, comma, name, namespaced, argument, applied, number, element, elements, array, bare_setting, setting_by, bracketed, setting, negated, value_of, affirmed, entry, entry_turn, entries, braced, missing, section}
 use Rattle.cfgheader.specs.SectionPlaces.{IsErrorAt}
 
 module _ (whole : List ℕ) where
   abbrev pub IsEntryAt : Entry → Type 0
-  IsEntryAt entry = IsPiece whole entry.key_span
+  IsEntryAt entry = IsPiece whole entry.key_span × EachKindPlace (IsPiece whole) entry.value
 
   abbrev pub KeepsPlaces : {l : Leaves} {G : Gives} → Construct Entry Fault l G → List ℕ → (ValueOf G → Type 0) → Type 0
   KeepsPlaces = Keeps (IsReached whole) IsEntryAt (IsErrorAt whole)
@@ -126,71 +128,92 @@ module _ (whole : List ℕ) (utf8 : IsUtf8 whole) where
   unfolding comma
   comma_kept from Q q = (word_passed whole utf8 (codes ",") refl from, white_kept from (λ _. Q true) (q true), q false)
 
-  name_kept : (from : List ℕ) (Q : Placed Span → Type 0) → ((key : Placed Span) → IsPiece whole key.1 → Q key) → KeepsPlaces whole (name len) from Q
+  -- a name's place, behind the place where its construct began
+  abbrev IsBehind : List ℕ → Placed Span → Type 0
+  IsBehind from key = IsPiece whole key.1 × (place len from ≤ key.1.end)
+
+  name_kept : (from : List ℕ) (Q : Placed Span → Type 0) → ((key : Placed Span) → IsBehind from key → Q key) → KeepsPlaces whole (name len) from Q
   unfolding name
   name_kept from Q q = (
     λ text word rest t is.
         let cut : IsCut text rest = cut_same text (word ++ rest) rest is.run.whole (cut_word (holds bytes.IdentifierStart) (λ b h. grind (arith, nat_tests)) word rest is.run.passes) in
-        (cut_to from text rest t cut, q (name_at len text word rest) (word_is from text word rest t is.run.whole cut)),
+        (cut_to from text rest t cut, q (name_at len text word rest) (word_is from text word rest t is.run.whole cut, omega (arith, place_cut from text t.further, place_cut whole text (reached whole utf8 from text t)))),
     λ text t. fault_is _ from text t,
   )
 
-  namespaced_kept : (from : List ℕ) (Q : ShownNamespaced Span → Type 0) → ((n : ShownNamespaced Span) → Q n) → KeepsPlaces whole (namespaced len) from Q
+  namespaced_kept : (from : List ℕ) (Q : ShownNamespaced Span → Type 0) → ((n : ShownNamespaced Span) → EachNamePlace (IsPiece whole) n → Q n)
+      → KeepsPlaces whole (namespaced len) from Q
   unfolding namespaced
   namespaced_kept from Q q = name_kept from _ (λ first at. white_kept from _ (
     word_passed whole utf8 (codes "::") refl from,
-    white_kept from _ (name_kept from _ (λ member also. white_kept from _ (q _))),
-    q _,
+    white_kept from _ (name_kept from _ (λ member also. white_kept from _ (q _ (at.0, also.0)))),
+    q _ (tt, at.0),
   ))
 
-  argument_kept : (from : List ℕ) (Q : ShownNamespaced Span → Type 0) → ((n : ShownNamespaced Span) → Q n) → KeepsPlaces whole (argument len) from Q
+  argument_kept : (from : List ℕ) (Q : ShownNamespaced Span → Type 0) → ((n : ShownNamespaced Span) → EachNamePlace (IsPiece whole) n → Q n)
+      → KeepsPlaces whole (argument len) from Q
   unfolding argument
-  argument_kept from Q q = namespaced_kept from _ (λ n. (word_passed whole utf8 (codes ")") refl from, q n, λ text t. fault_is _ from text t))
+  argument_kept from Q q = namespaced_kept from _ (λ n at. (word_passed whole utf8 (codes ")") refl from, q n at, λ text t. fault_is _ from text t))
 
-  applied_kept : (from : List ℕ) (Q : ShownSetting Span → Type 0) → ((s : ShownSetting Span) → Q s) → KeepsPlaces whole (applied len) from Q
+  -- a construct that keeps places, whatever is asked of settings at places
+  abbrev KeepsAll : Strict (ShownSetting Span) → Type 1
+  KeepsAll c = (from : List ℕ) (Q : ShownSetting Span → Type 0) → ((s : ShownSetting Span) → EachSettingPlace (IsPiece whole) s → Q s) → KeepsPlaces whole c from Q
+
+  applied_kept : KeepsAll (applied len)
   unfolding applied
-  applied_kept from Q q = namespaced_kept from _ (λ n. (word_passed whole utf8 (codes "(") refl from, argument_kept from _ (λ m. q _), q _))
+  applied_kept from Q q = namespaced_kept from _ (λ n at. (word_passed whole utf8 (codes "(") refl from, argument_kept from _ (λ m also. q _ (at, also)), q _ at))
 
-  number_kept : (from : List ℕ) (Q : ShownSetting Span → Type 0) → ((s : ShownSetting Span) → Q s) → KeepsPlaces whole (number len) from Q
+  number_kept : KeepsAll (number len)
   unfolding number
   number_kept from Q q = (
-    λ text number rest t is. ((integer_is_at whole utf8 from text number rest t is).0, q _),
+    λ text number rest t is. let it = integer_is_at whole utf8 from text number rest t is in (it.0, q _ it.1),
     λ text t.
         let digits = IsRun-run (holds bytes.Digit) text in
         let cut : IsCut text (run (holds bytes.Digit) text).1 = cut_same text _ _ digits.whole (cut_word (holds bytes.Digit) (λ b h. grind (arith, nat_tests)) _ _ digits.passes) in
         one_error _ _ (word_is from text _ _ t digits.whole cut),
   )
 
-  text_cut : (text word rest : List ℕ) → IsText text word rest → IsCut text rest
-  text_cut text word rest is = cut_same text (34 ∷ (word ++ 34 ∷ rest)) rest is.whole
-      (cut_on (34 ∷ (word ++ 34 ∷ rest)) (word ++ 34 ∷ rest) rest (cut_byte 34 (word ++ 34 ∷ rest) (omega arith))
-      (cut_on (word ++ 34 ∷ rest) (34 ∷ rest) rest (cut_before word 34 rest (omega arith)) (cut_byte 34 rest (omega arith))))
+  -- a text between quotes, and its place
+  text_kept : (from text word rest : List ℕ) → IsReached whole from text → IsText text word rest
+      → IsReached whole from rest × IsPiece whole (text_at len text word rest).1
+  text_kept from text word rest t is = (
+    cut_to from text rest t (cut_on text inner rest opened (cut_on inner (34 ∷ rest) rest inside (cut_byte 34 rest (omega arith)))),
+    subst (λ n. IsPiece whole (span_of n word)) at (word_is from inner word (34 ∷ rest) (cut_to from text inner t opened) refl inside),
+  )
+    where
+      inner : List ℕ
+      inner = word ++ 34 ∷ rest
 
-  -- a construct that keeps places, whatever is asked of its values
-  abbrev KeepsAll : Strict (ShownSetting Span) → Type 1
-  KeepsAll c = (from : List ℕ) (Q : ShownSetting Span → Type 0) → ((s : ShownSetting Span) → Q s) → KeepsPlaces whole c from Q
+      opened : IsCut text inner
+      opened = cut_same text (34 ∷ inner) inner is.whole (cut_byte 34 inner (omega arith))
+
+      inside : IsCut inner (34 ∷ rest)
+      inside = cut_before word 34 rest (omega arith)
+
+      at : place len inner ≡ place len text + 1
+      at = omega (arith, place_cut whole text (reached whole utf8 from text t), ap length is.whole)
 
   setting_by_kept : (bracketed : Span → Strict (ShownSetting Span)) → ((opens : Span) → IsPiece whole opens → KeepsAll (bracketed opens)) → KeepsAll (setting_by len bracketed)
   unfolding setting_by bare_setting
   setting_by_kept bracketed kept from Q q = (
-    number_kept from _ (λ s. white_kept from _ (q s)),
+    number_kept from _ (λ s at. white_kept from _ (q s at)),
     (
-      λ text word rest t is. (cut_to from text rest t (text_cut text word rest is), white_kept from _ (q _)),
+      λ text word rest t is. let it = text_kept from text word rest t is in (it.0, white_kept from _ (q _ it.1)),
       λ opening t. (
         word_passed whole utf8 (codes "[") refl opening,
-        λ behind u. kept _ (reached_piece whole utf8 opening behind u) behind _ (λ s. white_kept from _ (q s)),
-        applied_kept opening _ (λ s. white_kept from _ (q s)),
+        λ behind u. kept _ (reached_piece whole utf8 opening behind u) behind _ (λ s at. white_kept from _ (q s at)),
+        applied_kept opening _ (λ s at. white_kept from _ (q s at)),
       ),
     ),
   )
 
-  array_kept : (setting : Strict (ShownSetting Span)) → KeepsAll setting → (opens : Span) → KeepsAll (array len setting opens)
+  array_kept : (setting : Strict (ShownSetting Span)) → KeepsAll setting → (opens : Span) → IsPiece whole opens → KeepsAll (array len setting opens)
   unfolding array elements element while_test
-  array_kept setting kept opens from Q q = separators_kept from _ (
-    (kept from _ (λ s. separators_kept from _ tt), tt),
+  array_kept setting kept opens at from Q q = separators_kept from _ (
+    (kept from _ (λ s _. separators_kept from _ tt), tt),
     λ values all closing t. (
       word_passed whole utf8 (codes "]") refl closing,
-      λ behind u. q _,
+      λ behind u. q _ at,
       λ text u. fault_is _ closing text u,
     ),
   )
@@ -198,23 +221,31 @@ module _ (whole : List ℕ) (utf8 : IsUtf8 whole) where
   bracketed_kept : (room : ℕ) (opens : Span) → IsPiece whole opens → KeepsAll (bracketed len room opens)
   unfolding bracketed
   bracketed_kept zero opens at from Q q = λ text t. one_error _ opens at
-  bracketed_kept (suc room) opens at from Q q = array_kept (setting_by len (bracketed len room)) (setting_by_kept (bracketed len room) (bracketed_kept room)) opens from Q q
+  bracketed_kept (suc room) opens at from Q q = array_kept (setting_by len (bracketed len room)) (setting_by_kept (bracketed len room) (bracketed_kept room)) opens at from Q q
 
   setting_kept : (room : ℕ) → KeepsAll (setting len room)
   unfolding setting
   setting_kept room = setting_by_kept (bracketed len room) (bracketed_kept room)
 
-  entry_kept : (from : List ℕ) (Q : Entry → Type 0) → ((e : Entry) → IsEntryAt whole e → Q e) → KeepsPlaces whole (entry len) from Q
+  pub entry_kept : (from : List ℕ) (Q : Entry → Type 0) → ((e : Entry) → IsEntryAt whole e → Q e) → KeepsPlaces whole (entry len) from Q
   unfolding entry negated affirmed value_of
   entry_kept from Q q = λ text t. (
     word_passed whole utf8 (codes "!") refl text,
-    name_kept text _ (λ key at. white_kept text _ (q _ at)),
+    name_kept text _ (λ key at. white_kept text _ (q _ (at.0, negated_at text key t at))),
     name_kept text _ (λ key at. white_kept text _ (
       word_passed whole utf8 (codes ":") refl text,
-      white_kept text _ (setting_kept most_brackets text _ (λ s. q _ at)),
-      q _ at,
+      white_kept text _ (setting_kept most_brackets text _ (λ s also. q _ (at.0, also))),
+      q _ (at.0, at.0),
     )),
   )
+    where
+      -- from a `!` to the end of the key behind it
+      negated_at : (text : List ℕ) (key : Placed Span) → IsReached whole from text → IsBehind text key → IsPiece whole (record { start = place len text; end = key.1.end })
+      negated_at text key t at = record {
+        ordered = at.1;
+        begins_at = boundary_cut whole text utf8 (reached whole utf8 from text t);
+        ends_at = at.0.ends_at;
+      }
 
   entries_kept : (from : List ℕ) (Q : Unit {0} → Type 0) → Q tt → KeepsPlaces whole (entries len) from Q
   unfolding entries entry_turn repeat
@@ -241,10 +272,10 @@ module _ (whole : List ℕ) (utf8 : IsUtf8 whole) where
     λ text u. fault_is _ opening text u,
   )
 
-  pub section_kept : (required : Bool) (from : List ℕ) (Q : List ℕ → Type 0) → ((rest : List ℕ) → Q rest) → KeepsPlaces whole (section len required) from Q
+  pub section_kept : (required : Bool) (from : List ℕ) (Q : List ℕ → Type 0) → ((rest : List ℕ) → IsCut whole rest → Q rest) → KeepsPlaces whole (section len required) from Q
   unfolding section missing
   section_kept required from Q q = λ text t. white_kept text _ (
     word_passed whole utf8 (codes "%grmtools") refl text,
-    white_kept text _ (braced_kept text _ (λ rest u. q rest)),
-    (λ text u. one_error _ _ (record { ordered = omega arith; begins_at = IsCharBoundary-start whole utf8; ends_at = IsCharBoundary-start whole utf8 }), q text),
+    white_kept text _ (braced_kept text _ (λ rest u. q rest (reached whole utf8 text rest u))),
+    (λ text u. one_error _ _ (record { ordered = omega arith; begins_at = IsCharBoundary-start whole utf8; ends_at = IsCharBoundary-start whole utf8 }), q text (reached whole utf8 from text t)),
   )

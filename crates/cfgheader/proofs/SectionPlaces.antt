@@ -1,21 +1,25 @@
--- Each error of a text's section has a place, and each of its places is a piece of the text.
+-- Each error of a text's section has a place, and each of its places is a piece of the text. So are the places of its values, and
+-- what is left behind the section is a cut of the text.
 use Rattle.std.proofs.Common.{◌≡◌, ℕ, suc, ◌<◌, Bool, true, false, cond, List, [], ◌∷◌, ◌++◌, filter, length, Result, Ok, Err, eqb, eqb-true, refl, ap, subst, length-append, ◌∙◌, append_assoc, arith, All}
 use Rattle.std.specs.Str.{IsUtf8, bytes_eq}
 use Rattle.std.proofs.lemmas.List.{length-map}
-use Rattle.std.proofs.lemmas.List.Elements.{All-nil, All-cons, All-head, All-tail, All-append, All-map, All-filter}
+use Rattle.std.proofs.lemmas.List.Elements.{All-nil, All-cons, All-head, All-tail, All-append, All-map, All-filter, All-weaker}
 use Rattle.lemmas.specs.Lists.{with_fronts, with_fronts_from}
 use Rattle.reading.specs.Construct.{computes}
 use Rattle.reading.proofs.Agree.{agree}
 use Rattle.reading.proofs.Keeps.{keeps}
 use Rattle.reading.proofs.Yields.{EndsIn}
 use Rattle.cfgwords.specs.Places.{IsPiece}
-use Rattle.cfgwords.proofs.Cuts.{cut_here}
+use Rattle.cfgbase.specs.declared.span.Span.{Span}
+use Rattle.cfgwords.proofs.Cuts.{IsCut, cut_here}
 use Rattle.cfgwords.proofs.WordPlaces.{IsReached, reached_here, reached_on}
+use Rattle.cfgheader.specs.Errors.{ShownError}
 use Rattle.cfgheader.specs.SectionErrors.{places_of, is_first_repeat, repeated, duplicate_error, duplicate_errors, section_errors, stopped_by}
 use Rattle.cfgheader.specs.SectionGrammar.{Entry, Fault, section}
 use Rattle.cfgheader.specs.SectionPlaces.{IsErrorAt}
 use Rattle.cfgheader.specs.SectionReads.{end_of, unless_errors, section_of}
 use Rattle.cfgheader.proofs.SectionKept.{IsEntryAt, section_kept}
+use Rattle.cfgheader.proofs.ValuePlaces.{EachKindPlace}
 
 -- the places of a repeated key are more than none
 front_places : (front rest : List Entry) (key : List ℕ) → 0 < length (places_of front key) → 0 < length (places_of (front ++ rest) key)
@@ -38,7 +42,8 @@ front_places front rest key some = omega (
 
 module _ (whole : List ℕ) where
   places_at : (entries : List Entry) (key : List ℕ) → All (IsEntryAt whole) entries → All (IsPiece whole) (places_of entries key)
-  places_at entries key all = All-map (IsPiece whole) (λ (e : Entry). e.key_span) _ (All-filter _ (IsEntryAt whole) entries all)
+  places_at entries key all =
+      All-map (IsPiece whole) (λ (e : Entry). e.key_span) _ (All-weaker (IsEntryAt whole) (λ entry. IsPiece whole entry.key_span) (λ entry at. at.0) _ (All-filter _ (IsEntryAt whole) entries all))
 
   module _ (entries : List Entry) (all : All (IsEntryAt whole) entries) where
     abbrev IsPlaced : List Entry × Entry → Type 0
@@ -64,17 +69,11 @@ module _ (whole : List ℕ) where
         at [] placed = All-nil (λ (x : List Entry × Entry). IsErrorAt whole (duplicate_error entries x.1.key))
         at (x ∷ xs) placed = All-cons (λ (x : List Entry × Entry). IsErrorAt whole (duplicate_error entries x.1.key)) x xs (record { some = All-head IsPlaced x xs placed; each = places_at entries x.1.key all }) (at xs (All-tail IsPlaced x xs placed))
 
-    errors_at : (end : Result (List ℕ × List ℕ) Fault) → EndsIn (IsReached whole whole) (IsErrorAt whole) (λ rest. Unit {0}) end → All (IsErrorAt whole) (section_errors entries (end_of end))
+    errors_at : (end : Result (List ℕ × List ℕ) Fault) → EndsIn (IsReached whole whole) (IsErrorAt whole) (IsCut whole) end → All (IsErrorAt whole) (section_errors entries (end_of end))
     errors_at (Ok (rest, left)) t = All-append (IsErrorAt whole) (duplicate_errors entries) [] duplicates_at (All-nil (IsErrorAt whole))
     errors_at (Err fault) at = All-append (IsErrorAt whole) (duplicate_errors entries) (fault ∷ []) duplicates_at (All-cons (IsErrorAt whole) fault [] at (All-nil (IsErrorAt whole)))
 
--- the errors that are answered are those that there are
-answered : (errors : List Fault) (entries : List Entry) (end : Result (List ℕ) Fault) (shown : List Fault) → unless_errors errors entries end ≡ Err shown → errors ≡ shown
-answered errors entries (Err fault) shown e = cc
-answered (error ∷ errors) entries (Ok rest) shown e = cc
-answered [] entries (Ok rest) shown e = cc
-
--- and there is one at least
+-- a refused section has an error at least
 some_errors : (repeats : List Fault) (entries : List Entry) (end : Result (List ℕ) Fault) (shown : List Fault) → unless_errors (repeats ++ stopped_by end) entries end ≡ Err shown
     → 0 < length shown
 some_errors repeats entries (Err fault) shown e = let same : repeats ++ fault ∷ [] ≡ shown = cc in omega (arith, ap length same, length-append repeats (fault ∷ []))
@@ -85,10 +84,24 @@ pub errors_are_some : (required : Bool) (text : List ℕ) (errors : List Fault) 
 unfolding section_of
 errors_are_some required text errors e = some_errors _ _ (end_of (computes (section (length text) required) text).outcome) errors e
 
-pub errors_at_places : (required : Bool) (text : List ℕ) (errors : List Fault) → IsUtf8 text → section_of required text ≡ Err errors → All (IsErrorAt text) errors
+abbrev pub IsSectionAt : List ℕ → Result (List Entry × List ℕ) (List (ShownError Span)) → Type 0
+IsSectionAt text (Ok (entries, rest)) = IsCut text rest × All (λ entry. EachKindPlace (IsPiece text) entry.value) entries
+IsSectionAt text (Err errors) = All (IsErrorAt text) errors
+
+answer_at : (text : List ℕ) (errors : List Fault) (entries : List Entry) (end : Result (List ℕ × List ℕ) Fault) → All (IsErrorAt text) errors → All (IsEntryAt text) entries
+    → EndsIn (IsReached text text) (IsErrorAt text) (IsCut text) end → IsSectionAt text (unless_errors errors entries (end_of end))
+answer_at text errors entries (Err fault) placed kept cut = placed
+answer_at text (error ∷ errors) entries (Ok (rest, left)) placed kept cut = placed
+answer_at text [] entries (Ok (rest, left)) placed kept cut = (cut.1, All-weaker (IsEntryAt text) (λ entry. EachKindPlace (IsPiece text) entry.value) (λ entry at. at.1) entries kept)
+
+pub section_at : (required : Bool) (text : List ℕ) → IsUtf8 text → IsSectionAt text (section_of required text)
 unfolding section_of
-errors_at_places required text errors utf8 e =
+section_at required text utf8 =
     let start : IsReached text text text = record { origin = cut_here text; further = cut_here text } in
-    let kept = (keeps (IsReached text) (IsEntryAt text) (IsErrorAt text) (reached_here text utf8) (reached_on text utf8) (section (length text) required) text (λ _. Unit {0})
-    (section_kept text utf8 required text (λ _. Unit {0}) (λ rest. tt))).passes text (computes (section (length text) required) text) start ((agree (section (length text) required)).sound text) in
-    subst (All (IsErrorAt text)) (answered _ _ _ errors e) (errors_at text (computes (section (length text) required) text).items kept.items (computes (section (length text) required) text).outcome kept.outcome)
+    let read = computes (section (length text) required) text in
+    let kept = (keeps (IsReached text) (IsEntryAt text) (IsErrorAt text) (reached_here text utf8) (reached_on text utf8) (section (length text) required) text (IsCut text)
+    (section_kept text utf8 required text (IsCut text) (λ rest cut. cut))).passes text read start ((agree (section (length text) required)).sound text) in
+    answer_at text (section_errors read.items (end_of read.outcome)) read.items read.outcome (errors_at text read.items kept.items read.outcome kept.outcome) kept.items kept.outcome
+
+pub errors_at_places : (required : Bool) (text : List ℕ) (errors : List Fault) → IsUtf8 text → section_of required text ≡ Err errors → All (IsErrorAt text) errors
+errors_at_places required text errors utf8 e = subst (IsSectionAt text) e (section_at required text utf8)

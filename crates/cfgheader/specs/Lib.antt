@@ -1,5 +1,6 @@
 pub mod Errors
 pub mod Kinds
+pub mod Named
 pub mod SectionErrors
 pub mod SectionGrammar
 pub mod SectionPlaces

@@ -7,6 +7,7 @@ pub mod kind;
 mod kinds;
 pub mod laws;
 mod locations;
+pub mod named;
 mod same;
 pub mod section;
 pub mod value;

@@ -11,8 +11,11 @@ mod read;
 mod reader;
 mod settings;
 
-ghost use Rattle.std.specs.Prelude.{◌≡◌, length, drop};
+ghost use Rattle.std.specs.Prelude.{◌≡◌, length, drop, IfOk, IfErr};
 ghost use Rattle.std.specs.Str.{IsCharBoundary};
+ghost use Rattle.cfgwords.specs.Places.{IsPiece};
+ghost use Rattle.cfgheader.specs.SectionPlaces.{IsFaultAt};
+ghost use Rattle.cfgheader.specs.SectionReads.{HasOneSection, IsSectionAnswer, IsEntryAnswer, section_of, entry_at_front};
 
 use crate::value::{Header, Value};
 use cfgbase::Span;
@@ -33,8 +36,6 @@ pub struct GrmtoolsSectionParser<'a> {
 }
 
 impl<'a> GrmtoolsSectionParser<'a> {
-    ghost use Rattle.cfgheader.specs.SectionReads.{HasOneSection, IsSection, IsSectionAnswer, IsEntryAnswer, section_of, section_answer, entry_at_front};
-
     /// A parser of the text, in which a section must stand if it is required.
     pub fn new(src: &'a str, required: bool) -> Self
         ensures { (result.src.now ≡ src.now) × (result.required ≡ required) }
@@ -46,7 +47,7 @@ impl<'a> GrmtoolsSectionParser<'a> {
     /// there is no section and none is required, no key is given anything, and the offset is 0.
     ///
     /// The text's section has exactly one reading: the entries that count as read, and what is left behind it or what stopped the
-    /// reading.
+    /// reading. The offset is a place of the text: what is left of it begins there. So are the ends of each span of an error.
     ///
     /// # Errors
     ///
@@ -55,6 +56,8 @@ impl<'a> GrmtoolsSectionParser<'a> {
     pub fn parse(&self, alloc: Global) -> Result<(Header<Span>, usize), HeaderFault>
         ensures one { HasOneSection self.now.required self.now.src.now }
         ensures answer { IsSectionAnswer (length self.now.src.now) result (section_of self.now.required self.now.src.now) }
+        ensures end { IfOk result (λ x. IsCharBoundary self.now.src.now x.1) }
+        ensures fault_places { IfErr result (IsFaultAt self.now.src.now) }
     {
         let (entries, end) = read(alloc, self.src, self.required)?;
         let errors = errors_found(alloc, entries.as_slice(), &end)?;
@@ -69,7 +72,8 @@ impl<'a> GrmtoolsSectionParser<'a> {
     }
 
     /// Reads the entry at an offset in bytes: its key in lower case, the key's place, its value, and the offset behind the entry
-    /// and the white space that follows it.
+    /// and the white space that follows it. That offset is a place of the text, where another entry may be read, and the key's
+    /// place is a piece of it, as is each span of an error.
     ///
     /// # Errors
     ///
@@ -80,18 +84,34 @@ impl<'a> GrmtoolsSectionParser<'a> {
         i: usize,
     ) -> Result<(String, Span, Value<Span>, usize), HeaderFault>
         requires { IsCharBoundary self.now.src.now i }
-        ensures { IsEntryAnswer (length self.now.src.now) result (entry_at_front (length self.now.src.now) (drop i self.now.src.now)) }
+        ensures answer { IsEntryAnswer (length self.now.src.now) result (entry_at_front (length self.now.src.now) (drop i self.now.src.now)) }
+        ensures places { IfOk result (λ x. IsPiece self.now.src.now x.1 × IsCharBoundary self.now.src.now x.3) }
+        ensures fault_places { IfErr result (IsFaultAt self.now.src.now) }
     {
-        let (_, rest) = self.src.split_at(i);
-        let mut reader = Reader::new(alloc, self.src.len(), rest);
-        match reader.entry() {
-            Ok(entry) => Ok((entry.key, entry.key_span, entry.value, reader.place())),
-            Err(ReadFault::OutOfMemory) => Err(HeaderFault::OutOfMemory),
-            Err(ReadFault::Fault(fault)) => {
-                let mut errors = Vec::new(alloc);
-                errors.push(error_of(alloc, fault)?)?;
-                Err(HeaderFault::Errors(errors))
-            }
+        entry_at(alloc, self.src, i)
+    }
+}
+
+/// Reads the entry at an offset of a text: its key, the key's place, its value, and the offset behind it.
+fn entry_at(
+    alloc: Global,
+    text: &str,
+    i: usize,
+) -> Result<(String, Span, Value<Span>, usize), HeaderFault>
+    requires { IsCharBoundary text.now i }
+    ensures answer { IsEntryAnswer (length text.now) result (entry_at_front (length text.now) (drop i text.now)) }
+    ensures places { IfOk result (λ x. IsPiece text.now x.1 × IsCharBoundary text.now x.3) }
+    ensures fault_places { IfErr result (IsFaultAt text.now) }
+{
+    let (_, rest) = text.split_at(i);
+    let mut reader = Reader::new(alloc, text.len(), rest);
+    match reader.entry() {
+        Ok(entry) => Ok((entry.key, entry.key_span, entry.value, reader.place())),
+        Err(ReadFault::OutOfMemory) => Err(HeaderFault::OutOfMemory),
+        Err(ReadFault::Fault(fault)) => {
+            let mut errors = Vec::new(alloc);
+            errors.push(error_of(alloc, fault)?)?;
+            Err(HeaderFault::Errors(errors))
         }
     }
 }

@@ -1,6 +1,7 @@
 //! The reading of a text's section.
 
 ghost use Rattle.std.specs.Prelude.{◌≡◌, map, length, IfOk};
+ghost use Rattle.std.specs.Str.{IsUtf8};
 ghost use Rattle.reading.specs.Construct.{computes};
 ghost use Rattle.cfgheader.specs.SectionGrammar.{section};
 ghost use Rattle.cfgheader.specs.SectionReads.{HasOneSection, end_of};
@@ -18,6 +19,7 @@ pub(super) fn read(
     required: bool,
 ) -> Result<(Vec<Entry>, Result<&str, Fault>), AllocError>
     ensures one { HasOneSection required text.now }
+    ensures utf8 { IsUtf8 text.now }
     ensures entries { IfOk result (λ x. map entry_view x.0.items ≡ (computes (section (length text.now) required) text.now).items) }
     ensures end { IfOk result (λ x. end_view x.1 ≡ end_of (computes (section (length text.now) required) text.now).outcome) }
 {

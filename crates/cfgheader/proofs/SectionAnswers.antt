@@ -1,0 +1,77 @@
+-- Where what is answered of a section, and of one entry, stands in the text.
+use Rattle.std.proofs.Common.{ℕ, Bool, List, [], All, length, take, drop, take-append-drop, Result, Ok, Err, Global, String, sym, subst}
+use Rattle.std.specs.Prelude.{IfOk, IfErr}
+use Rattle.std.specs.Str.{IsUtf8, IsCharBoundary}
+use Rattle.std.proofs.lemmas.Str.{IsUtf8-drop}
+use Rattle.std.proofs.lemmas.List.Elements.{All-nil, All-cons}
+use Rattle.cfgbase.specs.declared.span.Span.{Span}
+use Rattle.reading.specs.Construct.{computes}
+use Rattle.reading.proofs.Agree.{agree}
+use Rattle.reading.proofs.Keeps.{keeps}
+use Rattle.reading.proofs.Yields.{EndsIn}
+use Rattle.cfgmarks.specs.declared.markmap.MarkMap.{MarkMap}
+use Rattle.cfgwords.specs.Places.{IsPiece}
+use Rattle.cfgwords.proofs.Cuts.{IsCut, cut_here, boundary_cut}
+use Rattle.cfgwords.proofs.WordPlaces.{IsReached, reached, reached_here, reached_on}
+use Rattle.cfgheader.specs.declared.section.header_fault.HeaderFault.{HeaderFault}
+use Rattle.cfgheader.specs.declared.section.header_fault.HeaderFault.TheVariants as faults
+use Rattle.cfgheader.specs.declared.value.HeaderValue.{HeaderValue}
+use Rattle.cfgheader.specs.declared.value.Value.{Value}
+use Rattle.cfgheader.specs.SectionGrammar.{Entry, Fault, entry}
+use Rattle.cfgheader.specs.SectionPlaces.{IsErrorAt, IsFaultAt}
+use Rattle.cfgheader.specs.SectionReads.{section_of, IsSectionAnswer, entry_at_front, IsEntryAnswer}
+use Rattle.cfgheader.proofs.SectionKept.{IsEntryAt, entry_kept}
+use Rattle.cfgheader.proofs.SectionParsed.{parsed}
+use Rattle.cfgheader.proofs.SectionPlaces.{IsSectionAt, section_at}
+
+module _ (text : List ℕ) (utf8 : IsUtf8 text) where
+  pub section_end : (required : Bool) (result : Result (MarkMap (String Global) (HeaderValue Span) × ℕ) HeaderFault)
+      → IsSectionAnswer (length text) result (section_of required text) → IfOk result (λ x. IsCharBoundary text x.1)
+  section_end required (Ok (header, end)) answer =
+      let (entries, rest, is, holds, ends) = parsed required text (Ok (header, end)) answer in
+      let cut : IsCut text rest = (subst (IsSectionAt text) is (section_at required text utf8)).0 in
+      subst (IsCharBoundary text) (sym ends) (boundary_cut text rest utf8 cut)
+  section_end required (Err fault) answer = tt
+
+  pub section_fault : (required : Bool) (result : Result (MarkMap (String Global) (HeaderValue Span) × ℕ) HeaderFault)
+      → IsSectionAnswer (length text) result (section_of required text) → IfErr result (IsFaultAt text)
+  section_fault required (Ok answered) answer = tt
+  section_fault required (Err (faults.Errors errors)) answer = subst (IsSectionAt text) (parsed required text (Err (faults.Errors errors)) answer) (section_at required text utf8)
+  section_fault required (Err faults.OutOfMemory) answer = tt
+
+  module _ (i : ℕ) (at : IsCharBoundary text i) where
+    abbrev IsEntryEnd : Result (Entry × List ℕ) Fault → Type 0
+    IsEntryEnd = EndsIn (IsReached text (drop i text)) (IsErrorAt text) (IsEntryAt text)
+
+    entry_read : IsEntryEnd (entry_at_front (length text) (drop i text))
+    entry_read =
+        let rest : List ℕ = drop i text in
+        let cut : IsCut text rest = record { piece = take i text; whole = sym (take-append-drop i text); utf8 = λ u. IsUtf8-drop text i u at } in
+        let start : IsReached text rest rest = record { origin = cut; further = cut_here rest } in
+        ((keeps (IsReached text) (IsEntryAt text) (IsErrorAt text) (reached_here text utf8) (reached_on text utf8) (entry (length text)) rest (IsEntryAt text)
+        (entry_kept text utf8 rest (IsEntryAt text) (λ e placed. placed))).passes rest (computes (entry (length text)) rest) start ((agree (entry (length text))).sound rest)).outcome
+
+    placed : (result : Result (String Global × Span × Value Span × ℕ) HeaderFault) (expected : Result (Entry × List ℕ) Fault) → IsEntryAnswer (length text) result expected
+        → IsEntryEnd expected → IfOk result (λ x. IsPiece text x.1 × IsCharBoundary text x.3)
+    placed (Ok (key, key_span, value, offset)) (Ok (read, rest)) answer end = (
+      subst (λ (e : Entry). IsPiece text e.key_span) answer.0 end.1.0,
+      subst (IsCharBoundary text) (sym answer.1) (boundary_cut text rest utf8 (reached text utf8 (drop i text) rest end.0)),
+    )
+    placed (Ok answered) (Err fault) answer end = absurd answer
+    placed (Err fault) expected answer end = tt
+
+    refused : (result : Result (String Global × Span × Value Span × ℕ) HeaderFault) (expected : Result (Entry × List ℕ) Fault) → IsEntryAnswer (length text) result expected
+        → IsEntryEnd expected → IfErr result (IsFaultAt text)
+    refused (Ok answered) expected answer end = tt
+    refused (Err faults.OutOfMemory) expected answer end = tt
+    refused (Err (faults.Errors errors)) (Ok expected) answer end = absurd answer
+    refused (Err (faults.Errors errors)) (Err fault) answer end =
+        subst (All (IsErrorAt text)) (sym answer) (All-cons (IsErrorAt text) fault [] end (All-nil (IsErrorAt text)))
+
+    pub entry_placed : (result : Result (String Global × Span × Value Span × ℕ) HeaderFault) → IsEntryAnswer (length text) result (entry_at_front (length text) (drop i text))
+        → IfOk result (λ x. IsPiece text x.1 × IsCharBoundary text x.3)
+    entry_placed result answer = placed result _ answer entry_read
+
+    pub entry_refused : (result : Result (String Global × Span × Value Span × ℕ) HeaderFault) → IsEntryAnswer (length text) result (entry_at_front (length text) (drop i text))
+        → IfErr result (IsFaultAt text)
+    entry_refused result answer = refused result _ answer entry_read

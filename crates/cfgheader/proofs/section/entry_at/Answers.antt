@@ -1,0 +1,19 @@
+use Rattle.std.proofs.Common.{Ok, Err, rules}
+use Rattle.cfgheader.specs.declared.section.header_fault.HeaderFault.TheVariants as faults
+use Rattle.cfgheader.proofs.SectionAnswers.{entry_placed, entry_refused}
+use Rattle.cfgheader.proofs.section.entry_at.Goals as goal
+
+pub returns-in-Ok-clause-answer : goal.returns-in-Ok-clause-answer
+returns-in-Ok-clause-answer c = search rules
+
+pub returns-in-Ok-clause-places : goal.returns-in-Ok-clause-places
+returns-in-Ok-clause-places c =
+    entry_placed c.args.text.now c.utf8.text c.args.i c.requires
+    (Ok (c.in-Ok.entry.key, c.in-Ok.entry.key_span, c.in-Ok.entry.value, c.place.result)) (returns-in-Ok-clause-answer c)
+
+pub returns-clause-answer : goal.returns-clause-answer
+returns-clause-answer c = search rules
+
+pub returns-clause-fault_places : goal.returns-clause-fault_places
+returns-clause-fault_places c =
+    entry_refused c.args.text.now c.utf8.text c.args.i c.requires (Err (faults.Errors c.push.new.self)) (returns-clause-answer c)

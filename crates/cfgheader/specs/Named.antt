@@ -1,0 +1,55 @@
+-- The kind of Yacc that the section of a text names, or the errors that keep it from naming one.
+use Rattle.std.specs.Prelude.{◌≡◌, ℕ, true, List, [], ◌∷◌, Option, Some, None, Result, Ok, Err, codes}
+use Rattle.cfgbase.specs.declared.span.Span.{Span}
+use Rattle.cfgheader.specs.declared.kind.YaccKind.{YaccKind}
+use Rattle.cfgheader.specs.declared.section.header_fault.HeaderFault.{HeaderFault}
+use Rattle.cfgheader.specs.declared.section.header_fault.HeaderFault.TheVariants as faults
+use Rattle.cfgheader.specs.Errors.{InvalidEntry, ShownError}
+use Rattle.cfgheader.specs.Kinds.{kind_of_value}
+use Rattle.cfgheader.specs.SectionGrammar.{Entry, Fault}
+use Rattle.cfgheader.specs.SectionReads.{IsSection, section_answer, given, errors_view}
+use Rattle.cfgheader.specs.Values.{ShownHeaderValue}
+
+-- a kind, or why none is named
+abbrev pub Naming : Type 0
+Naming = Result YaccKind (List (ShownError Span))
+
+-- no kind is named, because of what stands at these places
+abbrev pub unnamed : List Span → List (ShownError Span)
+unnamed places = record { kind = InvalidEntry (codes "yacckind"); locations = places } ∷ []
+
+abbrev pub kind_or_places : Result YaccKind (List Span) → Naming
+kind_or_places (Ok kind) = Ok kind
+kind_or_places (Err places) = Err (unnamed places)
+
+-- the text's front
+abbrev pub at_front : List Span
+at_front = record { start = 0; end = 0 } ∷ []
+
+-- by what is given for the key `yacckind`; where nothing is, the error stands at the text's front
+abbrev pub kind_given : Option (ShownHeaderValue Span) → Naming
+kind_given None = Err (unnamed at_front)
+kind_given (Some given) = kind_or_places (kind_of_value given.value)
+
+abbrev pub kind_in : Result (List Entry × List ℕ) (List (ShownError Span)) → Naming
+kind_in (Err errors) = Err errors
+kind_in (Ok (entries, rest)) = kind_given (given entries (codes "yacckind"))
+
+-- The text has a section, and that names this; where it has errors, these keep it from naming a kind.
+pub record Names (text : List ℕ) (naming : Naming) : Type 0 where
+  pub entries : List Entry
+  pub end : Result (List ℕ) Fault
+  pub section : IsSection true text entries end
+  pub naming_is : kind_in (section_answer entries end) ≡ naming
+
+-- A text names one kind, or has one list of errors.
+pub record HasOneNaming (text : List ℕ) : Type 0 where
+  pub naming : Naming
+  pub names : Names text naming
+  pub only : (other : Naming) → Names text other → other ≡ naming
+
+-- what a call answers that asks for the kind
+abbrev pub IsNaming : Naming → Result YaccKind HeaderFault → Type 0
+IsNaming naming (Ok kind) = naming ≡ Ok kind
+IsNaming naming (Err (faults.Errors errors)) = naming ≡ Err (errors_view errors.items)
+IsNaming naming (Err faults.OutOfMemory) = Unit {0}
