@@ -89,8 +89,7 @@ pub enum YaccGrammarErrorKind {
     ExpectedInput(char),
     /// There is no such kind of Yacc. The reader never answers this.
     InvalidYaccKind,
-    /// This is wrong with the `%grmtools` section, and what the spans stand for. The reader of files does not answer
-    /// this yet.
+    /// This is wrong with the `%grmtools` section, and what the spans stand for.
     Header(HeaderErrorKind, SpansKind),
     /// The index type cannot count the rules, tokens, productions or symbols.
     StorageTooSmall,

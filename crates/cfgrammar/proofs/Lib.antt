@@ -9,6 +9,7 @@ pub mod Lookups
 pub mod Marks
 pub mod Names
 pub mod NewKeys
+pub mod OfItself
 pub mod OwnPlaces
 pub mod Owners
 pub mod Places

@@ -6,7 +6,7 @@ use Rattle.std.specs.Option.{option_or, option_and_then, option_to_list}
 use Rattle.std.specs.Str.{IsUtf8, IsCharBoundary}
 use Rattle.std.proofs.lemmas.Str.{IsCharBoundary-start}
 use Rattle.std.proofs.lemmas.List.{length-map}
-use Rattle.std.proofs.lemmas.List.Elements.{All-nil, All-cons, All-head, All-tail, All-append, All-map, All-filter}
+use Rattle.std.proofs.lemmas.List.Elements.{All-nil, All-cons, All-head, All-tail, All-append, All-map, All-filter, All-weaker}
 use Rattle.std.proofs.lemmas.List.Folds.{list_any_at}
 use Rattle.lemmas.proofs.Fronts.{All-with_fronts}
 use Rattle.lemmas.proofs.Options.{All-slice_get, All-option_to_list}
@@ -15,7 +15,7 @@ use Rattle.reading.specs.Read.{stop_of}
 use Rattle.reading.proofs.Yields.{EndsIn}
 use Rattle.cfgwords.specs.declared.fault.Fault.{Fault}
 use Rattle.cfgwords.specs.Words.{Word}
-use Rattle.cfgwords.proofs.Cuts.{cut_here}
+use Rattle.cfgwords.proofs.Cuts.{IsCut, cut_here}
 use Rattle.cfgast.specs.Items.{Item}
 use Rattle.cfgast.specs.Building.{has_entry}
 use Rattle.cfgast.specs.Occurrences.{Unique, Occurrence, is_same, each_once, repeats, places_of, duplicates}
@@ -23,11 +23,17 @@ use Rattle.cfgast.proofs.Repeats.{is_same_equivalence}
 use Rattle.cfgast.specs.Syntax.{Symbol, RuleSymbol, TokenSymbol, EachProductionSpan, EachSpan, symbol_word, Production, Rule, Syntax, syntax_of}
 use Rattle.cfgheader.specs.declared.kind.YaccKind.{YaccKind}
 use Rattle.cfgerrors.specs.declared.error.YaccGrammarErrorKind.TheVariants.{NoStartRule}
-use Rattle.cfgerrors.specs.Errors.{ErrorKind, GrammarError, InvalidStartRule, UnknownRuleRef, UnknownToken, NoPrecForToken, UnknownEPP, Nameless, error_at}
+use Rattle.cfgheader.specs.Errors.{ShownError}
+use Rattle.cfgheader.specs.SectionGrammar.{Entry}
+use Rattle.cfgheader.specs.SectionReads.{section_answer}
+use Rattle.cfgheader.specs.SectionPlaces.{IsErrorAt as IsSectionErrorAt}
+use Rattle.cfgheader.proofs.SectionOne.{section_answered}
+use Rattle.cfgheader.proofs.SectionPlaces.{IsSectionAt, section_at}
+use Rattle.cfgerrors.specs.Errors.{ErrorKind, GrammarError, header_error, InvalidStartRule, UnknownRuleRef, UnknownToken, NoPrecForToken, UnknownEPP, Nameless, error_at}
 use Rattle.cfgsyntax.specs.Check.{is_rule, is_token, nowhere, first_error, start_error, symbol_error, precedence_error, production_error, printed_error, place_error, rule_error, check_of}
-use Rattle.cfgsyntax.specs.Faults.{kind_of, error_of, duplicate_error, errors_of}
+use Rattle.cfgsyntax.specs.Faults.{kind_of, error_of, duplicate_error, stop_errors, errors_of}
 use Rattle.cfgwords.specs.Places.{IsPiece, IsWithin, IsWordAt}
-use Rattle.cfgsyntax.specs.Reads.{Reads}
+use Rattle.cfgsyntax.specs.Reads.{Stop, InSection, InFile, ReadsFile, ReadsBehind, Reads}
 use Rattle.cfgsyntax.specs.Spans.{EachErrorSpan}
 use Rattle.cfgsyntax.proofs.Kept.{IsItemAt}
 use Rattle.cfgsyntax.proofs.KeptRules.{file_kept}
@@ -38,6 +44,16 @@ use Rattle.cfgwords.proofs.NameStarts.{begins_as_name}
 -- an error has a span, and its spans are pieces of the text
 abbrev pub IsErrorAt : List ℕ → GrammarError → Type 0
 IsErrorAt text = EachErrorSpan (IsPiece text)
+
+-- what stopped a reading stands at places of the text
+abbrev IsStopAt : List ℕ → Option Stop → Type 0
+IsStopAt text None = Unit {0}
+IsStopAt text (Some (InSection errors)) = All (IsSectionErrorAt text) errors
+IsStopAt text (Some (InFile fault)) = IsPiece text fault.span
+
+file_stop_at : (text : List ℕ) (fault : Option Fault) → IfSome fault (λ f. IsPiece text f.span) → IsStopAt text (option_map InFile fault)
+file_stop_at text None h = tt
+file_stop_at text (Some fault) h = h
 
 -- What is declared again has a place.
 
@@ -143,9 +159,14 @@ module _ (text : List ℕ) (utf8 : IsUtf8 text) (Q : Span → Type 0) (s : Synta
       (first_of_all (IsErrorAt text) (symbol_error s) s.expect_unused (λ k d lt. symbol_error_at text s (get_or s.expect_unused k d) (at.expect_unused k d lt)))))
 
 module _ (text : List ℕ) where
-  stop_error_at : (stop : Option Fault) → IfSome stop (λ fault. IsPiece text fault.span) → IfSome (option_map error_of stop) (IsErrorAt text)
-  stop_error_at None h = tt
-  stop_error_at (Some fault) h = one_span text (kind_of fault.kind) fault.span h
+  pub section_errors_at : (errors : List (ShownError Span)) → All (IsSectionErrorAt text) errors → All (IsErrorAt text) (map header_error errors)
+  section_errors_at errors at = All-map (IsErrorAt text) header_error errors
+      (All-weaker (IsSectionErrorAt text) (λ error. IsErrorAt text (header_error error)) (λ error h. record { some = h.some; each = h.each }) errors at)
+
+  stop_errors_at : (stop : Option Stop) → IsStopAt text stop → All (IsErrorAt text) (stop_errors stop)
+  stop_errors_at None h = All-nil (IsErrorAt text)
+  stop_errors_at (Some (InSection errors)) h = section_errors_at errors h
+  stop_errors_at (Some (InFile fault)) h = All-cons (IsErrorAt text) (error_of fault) [] (one_span text (kind_of fault.kind) fault.span h) (All-nil (IsErrorAt text))
 
   duplicates_at : (occurrences : List Occurrence) → All (λ o. IsPiece text o.span) occurrences → All (IsErrorAt text) (map duplicate_error (duplicates occurrences))
   unfolding duplicates
@@ -162,38 +183,54 @@ module _ (text : List ℕ) where
   ended_at T S Q (Err fault) h = h
 
 -- what a reading of a text gives
-pub record IsReadAt (text : List ℕ) (items : List Item) (stop : Option Fault) : Type 0 where
+pub record IsReadAt (text : List ℕ) (items : List Item) (stop : Option Stop) : Type 0 where
   pub items_at : All (IsItemAt text) items
-  pub stop_at : IfSome stop (λ fault. IsPiece text fault.span)
+  pub stop_at : IsStopAt text stop
 
-read_at : (kind : YaccKind) (text : List ℕ) → IsUtf8 text → (items : List Item) (stop : Option Fault) → Reads kind text items stop → IsReadAt text items stop
-read_at kind text utf8 items stop reads =
-    let start : IsReached text text text = record { origin = cut_here text; further = cut_here text } in
-    let kept = (file_kept text utf8 text kind).passes text reads.read start reads.says in
+-- of the file behind the section
+file_read_at : (kind : YaccKind) (text rest : List ℕ) → IsUtf8 text → IsCut text rest → (items : List Item) (stop : Option Stop) → ReadsFile kind (length text) rest items stop
+    → IsReadAt text items stop
+file_read_at kind text rest utf8 cut items stop reads =
+    let start : IsReached text rest rest = record { origin = cut; further = cut_here rest } in
+    let kept = (file_kept text utf8 rest kind).passes rest reads.read start reads.says in
     record {
       items_at = subst (All (IsItemAt text)) reads.items_are kept.items;
-      stop_at = subst (λ s. IfSome s (λ fault. IsPiece text fault.span)) reads.stop_is (ended_at text (IsReached text text) (λ fault. IsPiece text fault.span) (λ _. Unit {0}) reads.read.outcome kept.outcome);
+      stop_at = subst (IsStopAt text) reads.stop_is
+          (file_stop_at text (stop_of reads.read.outcome) (ended_at text (IsReached text rest) (λ fault. IsPiece text fault.span) (λ _. Unit {0}) reads.read.outcome kept.outcome));
     }
 
+behind_read_at : (kind : YaccKind) (text : List ℕ) → IsUtf8 text → (section : Result (List Entry × List ℕ) (List (ShownError Span))) → IsSectionAt text section
+    → (items : List Item) (stop : Option Stop) → ReadsBehind kind (length text) section items stop → IsReadAt text items stop
+behind_read_at kind text utf8 (Ok (entries, rest)) at items stop reads = file_read_at kind text rest utf8 at.0 items stop reads
+behind_read_at kind text utf8 (Err errors) at items stop reads = record {
+  items_at = subst (All (IsItemAt text)) (sym reads.0) (All-nil (IsItemAt text));
+  stop_at = subst (IsStopAt text) (sym reads.1) at;
+}
+
+read_at : (kind : YaccKind) (text : List ℕ) → IsUtf8 text → (items : List Item) (stop : Option Stop) → Reads kind text items stop → IsReadAt text items stop
+read_at kind text utf8 items stop reads =
+    let at = subst (IsSectionAt text) (section_answered false text reads.entries reads.end reads.section) (section_at false text utf8) in
+    behind_read_at kind text utf8 (section_answer reads.entries reads.end) at items stop reads.behind
+
 -- of the syntax of every reading
-pub read_syntax_at : (kind : YaccKind) (text : List ℕ) → IsUtf8 text → (items : List Item) (stop : Option Fault) → Reads kind text items stop
+pub read_syntax_at : (kind : YaccKind) (text : List ℕ) → IsUtf8 text → (items : List Item) (stop : Option Stop) → Reads kind text items stop
     → EachSpan (IsPiece text) (IsWithin text) (syntax_of items)
 read_syntax_at kind text utf8 items stop reads = syntax_at text items (read_at kind text utf8 items stop reads).items_at
 
-pub read_names : (kind : YaccKind) (text : List ℕ) → IsUtf8 text → (items : List Item) (stop : Option Fault) → Reads kind text items stop
+pub read_names : (kind : YaccKind) (text : List ℕ) → IsUtf8 text → (items : List Item) (stop : Option Stop) → Reads kind text items stop
     → All (λ rule. begins_as_name rule.0) (syntax_of items).rules
 read_names kind text utf8 items stop reads = rules_are_names text items (read_at kind text utf8 items stop reads).items_at
 
 -- of the errors of every reading
-pub read_errors_at : (kind : YaccKind) (text : List ℕ) → IsUtf8 text → (items : List Item) (stop : Option Fault) → Reads kind text items stop
+pub read_errors_at : (kind : YaccKind) (text : List ℕ) → IsUtf8 text → (items : List Item) (stop : Option Stop) → Reads kind text items stop
     → All (IsErrorAt text) (errors_of items stop)
 read_errors_at kind text utf8 items stop reads =
     let read = read_at kind text utf8 items stop reads in
     let at = syntax_at text items read.items_at in
     let duplicated : List GrammarError = map duplicate_error (duplicates (syntax_of items).occurrences) in
-    let stopped : List GrammarError = option_to_list (option_map error_of stop) in
+    let stopped : List GrammarError = stop_errors stop in
     let unfit : Option GrammarError = check_of (syntax_of items) in
     All-append (IsErrorAt text) duplicated (stopped ++ option_to_list unfit) (duplicates_at text (syntax_of items).occurrences at.occurrences)
     (All-append (IsErrorAt text) stopped (option_to_list unfit)
-    (All-option_to_list (IsErrorAt text) (option_map error_of stop) (stop_error_at text stop read.stop_at))
+    (stop_errors_at text stop read.stop_at)
     (All-option_to_list (IsErrorAt text) unfit (check_at text utf8 (IsWithin text) (syntax_of items) at)))

@@ -6,8 +6,7 @@ use Rattle.cfgheader.specs.declared.kind.YaccKind.{YaccKind}
 use Rattle.cfgerrors.specs.Errors.{GrammarError, InvalidStartRule, error_at}
 use Rattle.cfgsyntax.specs.Check.{is_rule, first_error, start_error, rule_error, printed_error, symbol_error, check_of}
 use Rattle.cfgsyntax.specs.Faults.{all_errors, errors_of}
-use Rattle.cfgsyntax.specs.Reads.{Reads, HasOneReading}
-use Rattle.cfgwords.specs.declared.fault.Fault.{Fault}
+use Rattle.cfgsyntax.specs.Reads.{Stop, Reads, HasOneReading}
 use Rattle.cfgast.specs.Items.{Item}
 use Rattle.cfgwords.specs.Words.{Word}
 use Rattle.cfgast.specs.Writing.{started_at}
@@ -24,12 +23,12 @@ checked errors first more last e none = none_second (first ++ more) last (sym no
 
 -- what holds of the syntax of every reading
 pub of_reading : (kind : YaccKind) (text : List ℕ) (s : Syntax) (P : Syntax → Type 0) → HasOneReading kind text
-    → ((items : List Item) (stop : Option Fault) → Reads kind text items stop → s ≡ syntax_of items)
-    → ((items : List Item) (stop : Option Fault) → Reads kind text items stop → P (syntax_of items)) → P s
+    → ((items : List Item) (stop : Option Stop) → Reads kind text items stop → s ≡ syntax_of items)
+    → ((items : List Item) (stop : Option Stop) → Reads kind text items stop → P (syntax_of items)) → P s
 of_reading kind text s P one same holds = subst P (sym (same one.items one.stop one.reads)) (holds one.items one.stop one.reads)
 
 -- the errors that were found, by any reading of the text
-pub errors_read : (errors : List GrammarError) (made : Syntax) (found : Option Fault) (items : List Item) (stop : Option Fault)
+pub errors_read : (errors : List GrammarError) (made : Syntax) (found : Option Stop) (items : List Item) (stop : Option Stop)
     → errors ≡ all_errors made found → (made ≡ syntax_of items) × (found ≡ stop) → errors ≡ errors_of items stop
 errors_read errors made found items stop e same = e ∙ (λ i. all_errors (same.0 i) (same.1 i))
 

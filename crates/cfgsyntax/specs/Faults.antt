@@ -1,6 +1,6 @@
--- The errors of a text: what it declares more than once, the fault that stopped its reading, and then the first check that
--- what was read fails.
-use Rattle.std.specs.Prelude.{List, ◌++◌, map, Option, option_map}
+-- The errors of a text: what it declares more than once, what stopped its reading, and then the first check that what was
+-- read fails.
+use Rattle.std.specs.Prelude.{List, [], ◌∷◌, ◌++◌, map, Option, Some, None}
 use Rattle.std.specs.Option.{option_to_list}
 use Rattle.cfgwords.specs.declared.fault.Fault.{Fault}
 use Rattle.cfgwords.specs.declared.fault.FaultKind.{FaultKind}
@@ -10,9 +10,10 @@ use Rattle.cfgast.specs.declared.occurrence.UniqueKind.TheVariants as unique
 use Rattle.cfgast.specs.Items.{Item}
 use Rattle.cfgast.specs.Occurrences.{Duplicate, duplicates}
 use Rattle.cfgast.specs.Syntax.{Syntax, syntax_of}
-use Rattle.cfgerrors.specs.Errors.{ErrorKind, GrammarError, Nameless, error_at}
+use Rattle.cfgerrors.specs.Errors.{ErrorKind, GrammarError, Nameless, error_at, header_error}
 use Rattle.cfgerrors.specs.declared.error.YaccGrammarErrorKind.TheVariants as kinds
 use Rattle.cfgsyntax.specs.Check.{check_of}
+use Rattle.cfgsyntax.specs.Reads.{Stop, InSection, InFile}
 
 abbrev pub kind_of : FaultKind → ErrorKind
 kind_of faults.IllegalInteger = Nameless kinds.IllegalInteger
@@ -31,9 +32,15 @@ kind_of faults.UnknownDeclaration = Nameless kinds.UnknownDeclaration
 kind_of faults.ReachedEOL = Nameless kinds.ReachedEOL
 kind_of faults.UnknownSymbol = Nameless kinds.UnknownSymbol
 
--- the error for what stopped a reading
+-- the error for a fault of the file
 abbrev pub error_of : Fault → GrammarError
 error_of fault = error_at (kind_of fault.kind) fault.span
+
+-- the errors for what stopped a reading
+abbrev pub stop_errors : Option Stop → List GrammarError
+stop_errors None = []
+stop_errors (Some (InSection errors)) = map header_error errors
+stop_errors (Some (InFile fault)) = error_of fault ∷ []
 
 abbrev pub repeated_kind : UniqueKind → ErrorKind
 repeated_kind unique.Start = Nameless kinds.DuplicateStartDeclaration
@@ -50,10 +57,10 @@ abbrev pub duplicate_error : Duplicate → GrammarError
 duplicate_error duplicate = record { kind = repeated_kind duplicate.what.kind; spans = duplicate.spans }
 
 -- the errors of what was read as a syntax, up to stop
-abbrev pub all_errors : Syntax → Option Fault → List GrammarError
+abbrev pub all_errors : Syntax → Option Stop → List GrammarError
 all_errors syntax stop =
-    map duplicate_error (duplicates syntax.occurrences) ++ (option_to_list (option_map error_of stop) ++ option_to_list (check_of syntax))
+    map duplicate_error (duplicates syntax.occurrences) ++ (stop_errors stop ++ option_to_list (check_of syntax))
 
 -- the errors of a text that reads as these items, up to stop
-abbrev pub errors_of : List Item → Option Fault → List GrammarError
+abbrev pub errors_of : List Item → Option Stop → List GrammarError
 errors_of items stop = all_errors (syntax_of items) stop

@@ -5,6 +5,7 @@ pub mod Faults
 pub mod Grammar
 pub mod Here
 pub mod Lists
+pub mod OfItself
 pub mod Parsed
 pub mod Reads
 pub mod Rules

@@ -3,6 +3,8 @@ use Rattle.std.specs.Prelude.{◌<◌, All, length}
 use Rattle.cfgbase.specs.declared.span.Span.{Span}
 use Rattle.cfgast.specs.Syntax.{EachSpan}
 use Rattle.cfgerrors.specs.Errors.{GrammarError}
+use Rattle.cfgerrors.specs.declared.error.YaccFault.{YaccFault}
+use Rattle.cfgerrors.specs.declared.error.YaccFault.TheVariants as faults
 use Rattle.cfgsyntax.specs.Parsed.{Parsed}
 
 -- an error has a span, and P holds of each that it has
@@ -14,3 +16,8 @@ pub record EachErrorSpan (P : Span → Type 0) (error : GrammarError) : Type 0 w
 pub record EachParsedSpan (P Q : Span → Type 0) (parsed : Parsed) : Type 0 where
   pub errors : All (EachErrorSpan P) parsed.errors
   pub syntax : EachSpan P Q parsed.syntax
+
+-- P holds of each span of the errors; want of memory has none.
+abbrev pub EachFaultSpan : (Span → Type 0) → YaccFault → Type 0
+EachFaultSpan P faults.OutOfMemory = Unit {0}
+EachFaultSpan P (faults.Errors told) = All (EachErrorSpan P) told.items

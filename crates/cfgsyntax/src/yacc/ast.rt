@@ -2,28 +2,31 @@
 
 mod check;
 mod errors;
+mod named;
 mod start;
 
 ghost use Rattle.std.specs.Prelude.{◌≡◌, ◌↔◌, [], true, List, Option, string_bytes, IsTrue, IfOk, IfErr, OnOk};
-ghost use Rattle.cfgwords.specs.declared.fault.Fault.{Fault};
 ghost use Rattle.cfgast.specs.Items.{Item};
 ghost use Rattle.cfgast.specs.Syntax.{syntax_of};
 ghost use Rattle.cfgast.specs.View.{syntax, named_view};
+ghost use Rattle.cfgheader.specs.Named.{HasOneNaming, Names, Naming};
 ghost use Rattle.cfgsyntax.specs.Check.{is_rule};
 ghost use Rattle.cfgsyntax.specs.Faults.{errors_of};
 ghost use Rattle.cfgwords.specs.Places.{IsPiece, IsWithin};
-ghost use Rattle.cfgsyntax.specs.Reads.{Reads, HasOneReading};
+ghost use Rattle.cfgsyntax.specs.OfItself.{AnswersNaming};
+ghost use Rattle.cfgsyntax.specs.Reads.{Reads, HasOneReading, Stop};
 ghost use Rattle.cfgsyntax.specs.Sound.{IsSound};
-ghost use Rattle.cfgsyntax.specs.Spans.{EachParsedSpan};
+ghost use Rattle.cfgsyntax.specs.Spans.{EachFaultSpan, EachParsedSpan};
 ghost use Rattle.cfgsyntax.specs.Starts.{restarted, IsStartFault};
 
 use crate::yacc::parser::read;
 use cfgast::clone_with_start;
 pub use cfgast::{GrammarAST, Production, Rule, Settings, Symbol};
-use cfgerrors::{YaccGrammarError, YaccGrammarErrorKind};
+use cfgerrors::{YaccGrammarError, YaccGrammarErrorKind, YaccGrammarResult};
 use cfgheader::YaccKind;
 use check::is_rule;
 use errors::errors_found;
+use named::named_kind;
 pub use start::{ASTModificationError, StartFault};
 use std::alloc::{AllocError, Global};
 use std::marker::Model;
@@ -49,12 +52,13 @@ impl Model for ASTWithValidityInfo {
 }
 
 impl ASTWithValidityInfo {
-    /// Reads the text as a Yacc file of the kind, and validates what was read.
+    /// Reads the text as a Yacc file of the kind, and validates what was read. What its section says counts for nothing, but
+    /// behind one with errors nothing is read.
     ///
     /// The text has exactly one reading: the items that count as read, and what stopped the reading, if anything
-    /// did. The syntax is what these items say. The errors are one for each that is declared more than once, at all its
-    /// places, then the fault that stopped the reading, if there is one, and then the first check that the syntax fails,
-    /// if it fails one.
+    /// did. The syntax is what these items say. The errors are what is declared more than once, then the errors of the
+    /// section or the fault that stopped the reading, if there are any, and then the first check that the syntax fails, if it
+    /// fails one.
     ///
     /// Each error has a span. Each span of the syntax and of an error begins and ends at a place of the text: where a
     /// character begins, or where the text ends. But an action's span is as long as its trimmed text and begins behind its
@@ -62,15 +66,31 @@ impl ASTWithValidityInfo {
     pub fn new(alloc: Global, kind: YaccKind, text: &str) -> Result<Self, AllocError>
         ensures one { HasOneReading kind text.now }
         ensures kind { IfOk result (λ parsed. parsed.kind ≡ kind) }
-        ensures syntax { IfOk result (λ parsed. (items : List Item) (stop : Option Fault) → Reads kind text.now items stop
+        ensures syntax { IfOk result (λ parsed. (items : List Item) (stop : Option Stop) → Reads kind text.now items stop
             → parsed.syntax ≡ syntax_of items) }
-        ensures errors { IfOk result (λ parsed. (items : List Item) (stop : Option Fault) → Reads kind text.now items stop
+        ensures errors { IfOk result (λ parsed. (items : List Item) (stop : Option Stop) → Reads kind text.now items stop
             → parsed.errors ≡ errors_of items stop) }
         ensures places { IfOk result (EachParsedSpan (IsPiece text.now) (IsWithin text.now)) }
     {
         let (ast, stop) = read(alloc, kind, text)?;
         let errors = errors_found(alloc, &ast, stop)?;
         Ok(ASTWithValidityInfo { kind, ast, errors })
+    }
+
+    /// Reads the text as a Yacc file of the kind that its section names, as [`new`](ASTWithValidityInfo::new) does.
+    ///
+    /// # Errors
+    ///
+    /// Those of the section, which must be there; where it has none, one where it has no key `yacckind`, or what it gives
+    /// that isn't a kind; and want of memory. What is wrong behind the section is no error of this call.
+    pub fn from_str(alloc: Global, text: &str) -> YaccGrammarResult<Self>
+        ensures one { HasOneNaming text.now }
+        ensures answer { (naming : Naming) → Names text.now naming → AnswersNaming text.now naming result }
+        ensures places { IfOk result (EachParsedSpan (IsPiece text.now) (IsWithin text.now)) }
+        ensures fault_places { IfErr result (EachFaultSpan (IsPiece text.now)) }
+    {
+        let kind = named_kind(alloc, text)?;
+        Ok(ASTWithValidityInfo::new(alloc, kind, text)?)
     }
 
     /// What was read of the file. It need not be valid.

@@ -13,7 +13,7 @@ ghost use Rattle.cfgheader.specs.declared.kind.YaccKind.{YaccKind};
 ghost use Rattle.cfgrammar.specs.Answer.{IsAnswer};
 ghost use Rattle.cfgrammar.specs.Counting.{YieldsNumbersInOrder};
 ghost use Rattle.cfgrammar.specs.Fits.{LeavesRoom};
-ghost use Rattle.cfgrammar.specs.GrammarOf.{IsGrammarOf};
+ghost use Rattle.cfgrammar.specs.GrammarOf.{IsGrammarOf, IsGrammarOfItself};
 ghost use Rattle.cfgrammar.specs.Numbered.{implicit_of, numbered};
 ghost use Rattle.cfgrammar.specs.Shown.{IsSymbolWithin, has_token_name, production_part, production_text, rule_part, token_part};
 ghost use Rattle.cfgrammar.specs.Spans.{EachAnswerSpan};
@@ -98,6 +98,21 @@ impl<S: Storage> YaccGrammar<S> {
         ensures places { EachAnswerSpan (IsPiece text.now) (IsWithin text.now) result }
     {
         let parsed = ASTWithValidityInfo::new(alloc, kind, text)?;
+        YaccGrammar::new_from_ast_with_validity_info(alloc, &parsed)
+    }
+
+    /// Reads a Yacc file of the kind that its section names as a grammar, as
+    /// [`new_with_storaget`](YaccGrammar::new_with_storaget) does.
+    ///
+    /// # Errors
+    ///
+    /// Those of the section, which must be there; where it has none, one where it has no key `yacckind`, or what it gives
+    /// that isn't a kind; else those of reading the file as the kind.
+    pub fn from_str(alloc: Global, text: &str) -> YaccGrammarResult<Self>
+        ensures answer { IsGrammarOfItself text.now S.MAX result }
+        ensures places { EachAnswerSpan (IsPiece text.now) (IsWithin text.now) result }
+    {
+        let parsed = ASTWithValidityInfo::from_str(alloc, text)?;
         YaccGrammar::new_from_ast_with_validity_info(alloc, &parsed)
     }
 

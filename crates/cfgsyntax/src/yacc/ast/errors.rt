@@ -1,22 +1,25 @@
 //! The errors of a file, in order.
 
-ghost use Rattle.std.specs.Prelude.{◌≡◌, map, IfOk};
+ghost use Rattle.std.specs.Prelude.{◌≡◌, map, option_map, IfOk};
 ghost use Rattle.cfgast.specs.Occurrences.{duplicates};
 ghost use Rattle.cfgast.specs.View.{syntax, occurrence_view};
-ghost use Rattle.cfgerrors.specs.Errors.{kind_view};
-ghost use Rattle.cfgsyntax.specs.Faults.{repeated_kind, duplicate_error, all_errors};
+ghost use Rattle.cfgheader.specs.SectionReads.{errors_view};
+ghost use Rattle.cfgerrors.specs.Errors.{kind_view, header_error};
+ghost use Rattle.cfgsyntax.specs.Builds.{stop_view};
+ghost use Rattle.cfgsyntax.specs.Faults.{repeated_kind, duplicate_error, stop_errors, all_errors};
 
 use super::check::check;
-use crate::yacc::parser::error_of;
+use crate::yacc::parser::{Stopped, error_of};
 use cfgast::duplicates::duplicates;
 use cfgast::{GrammarAST, Occurrence, UniqueKind};
+use cfgbase::Span;
 use cfgerrors::YaccGrammarErrorKind::{
     DuplicateActiontypeDeclaration, DuplicateAvoidInsertDeclaration, DuplicateEPP,
     DuplicateExpectDeclaration, DuplicateExpectRRDeclaration, DuplicateImplicitTokensDeclaration,
     DuplicatePrecedence, DuplicateStartDeclaration,
 };
 use cfgerrors::{YaccGrammarError, YaccGrammarErrorKind};
-use cfgwords::fault::Fault;
+use cfgheader::HeaderError;
 use std::alloc::{AllocError, Global};
 
 /// The kind of error for what is declared more than once.
@@ -49,18 +52,43 @@ fn duplicate_errors(
     Ok(errors)
 }
 
+/// The errors of a section.
+pub(super) fn section_errors(
+    alloc: Global,
+    found: Vec<HeaderError<Span>>,
+) -> Result<Vec<YaccGrammarError>, AllocError>
+    ensures { IfOk result (λ errors. errors.items ≡ map header_error (errors_view found.items)) }
+{
+    let mut errors = Vec::new(alloc);
+    for error in found {
+        errors.push(YaccGrammarError::from(error))?;
+    }
+    Ok(errors)
+}
+
+/// The errors for what stopped a reading.
+fn stop_errors(alloc: Global, stop: Option<Stopped>) -> Result<Vec<YaccGrammarError>, AllocError>
+    ensures { IfOk result (λ errors. errors.items ≡ stop_errors (option_map stop_view stop)) }
+{
+    let mut errors = Vec::new(alloc);
+    match stop {
+        None => {}
+        Some(Stopped::Section(found)) => return section_errors(alloc, found),
+        Some(Stopped::File(fault)) => errors.push(error_of(alloc, fault)?)?,
+    }
+    Ok(errors)
+}
+
 /// The errors of a file that was read as this syntax, up to what stopped the reading.
 pub(super) fn errors_found(
     alloc: Global,
     ast: &GrammarAST,
-    stop: Option<Fault>,
+    stop: Option<Stopped>,
 ) -> Result<Vec<YaccGrammarError>, AllocError>
-    ensures { IfOk result (λ errors. errors.items ≡ all_errors (syntax ast.now) stop) }
+    ensures { IfOk result (λ errors. errors.items ≡ all_errors (syntax ast.now) (option_map stop_view stop)) }
 {
     let mut errors = duplicate_errors(alloc, ast.occurrences())?;
-    if let Some(fault) = stop {
-        errors.push(error_of(alloc, fault)?)?;
-    }
+    errors.append(&mut stop_errors(alloc, stop)?)?;
     if let Err(unfit) = check(ast) {
         errors.push(unfit.error(alloc)?)?;
     }

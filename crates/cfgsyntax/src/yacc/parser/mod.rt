@@ -15,4 +15,4 @@ pub use cfgerrors::{
 };
 pub(crate) use fault::error_of;
 pub use laws::file_is_graph;
-pub(crate) use read::read;
+pub(crate) use read::{Stopped, read};

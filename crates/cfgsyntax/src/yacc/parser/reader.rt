@@ -71,15 +71,16 @@ impl<'a> Reader<'a> {
     ghost use Rattle.cfgast.specs.View.{syntax, syntax_built, word_view, token_view};
     ghost use Rattle.cfgast.specs.Syntax.{syntax_of};
 
-    /// At the front of the text, with nothing read.
-    pub(super) fn new(alloc: Global, text: &'a str) -> Self
-        ensures place { (result.rest.now ≡ text.now) × (result.len ≡ length text.now) }
+    /// At the front of what is left of a text of `len` bytes, with nothing read.
+    pub(super) fn new(alloc: Global, len: usize, rest: &'a str) -> Self
+        requires { length rest.now ≤ len }
+        ensures place { (result.rest.now ≡ rest.now) × (result.len ≡ len) }
         ensures tree { syntax_built result.tree ≡ syntax_of [] }
     {
         Reader {
             alloc,
-            len: text.len(),
-            rest: text,
+            len,
+            rest,
             tree: AstBuilder::new(alloc),
         }
     }

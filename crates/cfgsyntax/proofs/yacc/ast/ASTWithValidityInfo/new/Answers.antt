@@ -1,4 +1,5 @@
-use Rattle.std.proofs.Common.{All, sym, subst}
+use Rattle.std.proofs.Common.{All, option_map, sym, subst}
+use Rattle.cfgsyntax.specs.Builds.{stop_view}
 use Rattle.cfgsyntax.specs.Check.{check_of}
 use Rattle.cfgast.specs.WellFormed.{IsWellFormed}
 use Rattle.cfgast.proofs.WellFormedLemmas.{syntax_of-IsWellFormed}
@@ -14,12 +15,12 @@ returns-clause-syntax c = λ items stop reads. (c.in_ok-ast.ensures.read items s
 
 pub returns-clause-errors : goal.returns-clause-errors
 returns-clause-errors c = λ items stop reads.
-    errors_read c.in_ok-errors.errors.items _ c.in_ok-ast.stop items stop c.in_ok-errors.ensures (c.in_ok-ast.ensures.read items stop reads)
+    errors_read c.in_ok-errors.errors.items _ (option_map stop_view c.in_ok-ast.stop) items stop c.in_ok-errors.ensures (c.in_ok-ast.ensures.read items stop reads)
 
 pub returns-clause-places : goal.returns-clause-places
 returns-clause-places c =
     let one = c.in_ok-ast.ensures.one in
-    let errors = errors_read c.in_ok-errors.errors.items _ c.in_ok-ast.stop one.items one.stop c.in_ok-errors.ensures (c.in_ok-ast.ensures.read one.items one.stop one.reads) in
+    let errors = errors_read c.in_ok-errors.errors.items _ (option_map stop_view c.in_ok-ast.stop) one.items one.stop c.in_ok-errors.ensures (c.in_ok-ast.ensures.read one.items one.stop one.reads) in
     record {
       errors = subst (All (IsErrorAt c.args.text.now)) (sym errors) (read_errors_at c.args.kind c.args.text.now c.utf8.text one.items one.stop one.reads);
       syntax = of_reading c.args.kind c.args.text.now _ (EachSpan (IsPiece c.args.text.now) (IsWithin c.args.text.now)) one

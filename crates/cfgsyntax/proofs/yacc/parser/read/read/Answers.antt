@@ -1,24 +1,22 @@
-use Rattle.std.proofs.Common.{sym, ◌∙◌, ap}
-use Rattle.reading.specs.Read.{stop_of}
-use Rattle.cfgast.specs.View.{syntax}
-use Rattle.cfgsyntax.proofs.OneReading.{one_reading, read_result}
+use Rattle.std.proofs.Common.{refl, ◌∙◌, Err, option_map}
+use Rattle.cfgsyntax.proofs.OneReading.{one_reading, read_by, read_on}
 use Rattle.cfgsyntax.proofs.yacc.parser.read.read.Goals as goal
-use Rattle.cfgsyntax.proofs.yacc.parser.read.read.Goals.{in-Ok, in-Err-Fault}
+
+pub returns-in-Ok-clause-one : goal.returns-in-Ok-clause-one
+returns-in-Ok-clause-one c = one_reading c.args.kind c.args.text.now
+
+pub returns-in-Err-Errors-clause-one : goal.returns-in-Err-Errors-clause-one
+returns-in-Err-Errors-clause-one c = one_reading c.args.kind c.args.text.now
 
 pub returns-in-Err-OutOfMemory-clause-one : goal.returns-in-Err-OutOfMemory-clause-one
 returns-in-Err-OutOfMemory-clause-one c = one_reading c.args.kind c.args.text.now
 
-pub returns-clause-one : goal.returns-clause-one
-returns-clause-one c = one_reading c.args.kind c.args.text.now
+pub returns-in-Ok-clause-read : goal.returns-in-Ok-clause-read
+returns-in-Ok-clause-read c =
+    let behind = c.in-Ok.ensures.rest in
+    read_on c.args.kind c.args.text.now c.in-Ok.rest.now _ refl behind.0 behind.1 c.read_file.result c.read_file.ensures
 
-pub returns-clause-read : goal.returns-clause-read
-returns-clause-read c = elim c.match-file.branch [
-  | in-Ok w ↦ read_result c.args.kind c.args.text.now c.new-reader.result c.file.new.self c.match-file.stop (syntax c.into_tree.result)
-      c.new-reader.ensures.place.0 c.new-reader.ensures.place.1 c.new-reader.ensures.tree c.into_tree.ensures
-      (ap stop_of w.in-Ok.ensures.0 ∙ sym w.stop-is) w.in-Ok.ensures.2
-  | in-Err-Fault w ↦
-      let fails = rw w.in-Err-Fault.field-0-is at w.in-Err-Fault.ensures in
-      read_result c.args.kind c.args.text.now c.new-reader.result c.file.new.self c.match-file.stop (syntax c.into_tree.result)
-      c.new-reader.ensures.place.0 c.new-reader.ensures.place.1 c.new-reader.ensures.tree c.into_tree.ensures
-      (ap stop_of fails.0 ∙ sym w.stop-is) fails.1
-]
+pub returns-in-Err-Errors-clause-read : goal.returns-in-Err-Errors-clause-read
+returns-in-Err-Errors-clause-read c =
+    let behind = rw c.in-Err-Errors.field-0-is at c.in-Err-Errors.ensures.rest in
+    rw c.in-Err-Errors.field-0-is (read_by c.args.kind c.args.text.now (Err _) _ _ behind (c.finish-nothing.ensures ∙ c.new.ensures) refl)

@@ -1,0 +1,38 @@
+-- What is answered of a text that names its own kind.
+use Rattle.std.proofs.Common.{◌≡◌, ℕ, List, map, All, Option, Result, Ok, Err, sym, subst}
+use Rattle.std.specs.Prelude.{IfErr}
+use Rattle.cfgbase.specs.declared.span.Span.{Span}
+use Rattle.cfgwords.specs.Places.{IsPiece}
+use Rattle.cfgast.specs.Items.{Item}
+use Rattle.cfgast.specs.Syntax.{syntax_of}
+use Rattle.cfgheader.specs.declared.kind.YaccKind.{YaccKind}
+use Rattle.cfgheader.specs.Errors.{ShownError}
+use Rattle.cfgheader.specs.Named.{Naming}
+use Rattle.cfgheader.specs.SectionPlaces.{IsErrorAt}
+use Rattle.cfgerrors.specs.Errors.{GrammarError, header_error}
+use Rattle.cfgerrors.specs.declared.error.YaccFault.{YaccFault}
+use Rattle.cfgerrors.specs.declared.error.YaccFault.TheVariants as faults
+use Rattle.cfgsyntax.specs.OfItself.{IsParsedAs, AnswersNaming, IsRefusedBy, IsKindOf}
+use Rattle.cfgsyntax.specs.Parsed.{Parsed}
+use Rattle.cfgsyntax.specs.Spans.{EachErrorSpan}
+use Rattle.cfgsyntax.proofs.ErrorPlaces.{section_errors_at}
+
+pub refused_by : (naming : Naming) (errors : List (ShownError Span)) (told : List GrammarError) → naming ≡ Err errors → told ≡ map header_error errors → IsRefusedBy naming told
+refused_by naming errors told is e = subst (λ n. IsRefusedBy n told) (sym is) e
+
+pub refused_at : (text : List ℕ) (errors : List (ShownError Span)) (told : List GrammarError) → told ≡ map header_error errors → All (IsErrorAt text) errors
+    → All (EachErrorSpan (IsPiece text)) told
+refused_at text errors told e at = subst (All (EachErrorSpan (IsPiece text))) (sym e) (section_errors_at text errors at)
+
+pub refusal : (text : List ℕ) (naming : Naming) (fault : YaccFault) → IsKindOf naming (Err fault) → AnswersNaming text naming (Err fault)
+refusal text (Ok kind) (faults.Errors told) h = absurd h
+refusal text (Ok kind) faults.OutOfMemory h = tt
+refusal text (Err errors) (faults.Errors told) h = h
+refusal text (Err errors) faults.OutOfMemory h = tt
+
+pub no_memory : (text : List ℕ) (naming : Naming) → AnswersNaming text naming (Err faults.OutOfMemory)
+no_memory text (Ok kind) = tt
+no_memory text (Err errors) = tt
+
+pub parsed_as : (text : List ℕ) (naming : Naming) (kind : YaccKind) (parsed : Parsed) → naming ≡ Ok kind → IsParsedAs kind text parsed → AnswersNaming text naming (Ok parsed)
+parsed_as text naming kind parsed is h = subst (λ n. AnswersNaming text n (Ok parsed)) (sym is) h

@@ -1,0 +1,46 @@
+-- What is answered of a text that names its own kind.
+use Rattle.std.specs.Prelude.{◌≡◌, ℕ, List, map, Option, Result, Ok, Err}
+use Rattle.cfgast.specs.Items.{Item}
+use Rattle.cfgast.specs.Syntax.{syntax_of}
+use Rattle.cfgheader.specs.declared.kind.YaccKind.{YaccKind}
+use Rattle.cfgheader.specs.Named.{Naming}
+use Rattle.cfgerrors.specs.Errors.{GrammarError, header_error}
+use Rattle.cfgerrors.specs.declared.error.YaccFault.{YaccFault}
+use Rattle.cfgerrors.specs.declared.error.YaccFault.TheVariants as faults
+use Rattle.cfgsyntax.specs.Faults.{errors_of}
+use Rattle.cfgsyntax.specs.Parsed.{Parsed}
+use Rattle.cfgsyntax.specs.Reads.{Stop, Reads, HasOneReading}
+
+-- This was parsed from the text as a file of this kind: the text has one reading, and the syntax and the errors are that's.
+pub record IsParsedAs (kind : YaccKind) (text : List ℕ) (parsed : Parsed) : Type 0 where
+  pub one : HasOneReading kind text
+  pub kind_is : parsed.kind ≡ kind
+  pub syntax : (items : List Item) (stop : Option Stop) → Reads kind text items stop → parsed.syntax ≡ syntax_of items
+  pub errors : (items : List Item) (stop : Option Stop) → Reads kind text items stop → parsed.errors ≡ errors_of items stop
+
+-- of a text that names this kind
+abbrev pub AnswersKind : YaccKind → List ℕ → Result Parsed YaccFault → Type 0
+AnswersKind kind text (Ok parsed) = IsParsedAs kind text parsed
+AnswersKind kind text (Err faults.OutOfMemory) = Unit {0}
+AnswersKind kind text (Err (faults.Errors told)) = ⊥
+
+-- of a text that names none, because of these errors
+abbrev pub AnswersErrors : List GrammarError → Result Parsed YaccFault → Type 0
+AnswersErrors errors (Ok parsed) = ⊥
+AnswersErrors errors (Err faults.OutOfMemory) = Unit {0}
+AnswersErrors errors (Err (faults.Errors told)) = told.items ≡ errors
+
+abbrev pub AnswersNaming : List ℕ → Naming → Result Parsed YaccFault → Type 0
+AnswersNaming text (Ok kind) result = AnswersKind kind text result
+AnswersNaming text (Err errors) result = AnswersErrors (map header_error errors) result
+
+-- these are the errors of a text that names no kind
+abbrev pub IsRefusedBy : Naming → List GrammarError → Type 0
+IsRefusedBy (Ok kind) told = ⊥
+IsRefusedBy (Err errors) told = told ≡ map header_error errors
+
+-- of a text that names this, where the kind is asked for
+abbrev pub IsKindOf : Naming → Result YaccKind YaccFault → Type 0
+IsKindOf naming (Ok kind) = naming ≡ Ok kind
+IsKindOf naming (Err faults.OutOfMemory) = Unit {0}
+IsKindOf naming (Err (faults.Errors told)) = IsRefusedBy naming told.items
