@@ -1,5 +1,6 @@
 pub mod Beginnings
 pub mod Handled
+pub mod OfText
 pub mod SentenceTexts
 pub mod SentenceTokens
 pub mod SentencesListed

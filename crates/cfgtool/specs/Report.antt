@@ -6,19 +6,15 @@ use Rattle.std.specs.Fmt.{decimal}
 use Rattle.std.specs.Io.KnownBytes.{Appends, Keeps}
 use Rattle.cfgbase.specs.declared.span.Span.{Span}
 use Rattle.cfglines.specs.Lines.{line_number, column}
-use Rattle.cfgwords.specs.declared.fault.Fault.{Fault}
-use Rattle.cfgast.specs.Items.{Item}
-use Rattle.cfgast.specs.Syntax.{Syntax, syntax_of}
+use Rattle.cfgast.specs.Syntax.{Syntax}
 use Rattle.cfgast.specs.Unused.{AreWarnings}
 use Rattle.cfgerrors.specs.Errors.{GrammarError}
 use Rattle.cfgerrors.specs.Texts.{error_text, warning_text}
 use Rattle.cfgerrors.specs.Warnings.{GrammarWarning}
-use Rattle.cfgheader.specs.declared.kind.YaccKind.{YaccKind}
-use Rattle.cfgsyntax.specs.Faults.{errors_of}
-use Rattle.cfgsyntax.specs.Reads.{HasOneReading, Reads}
 use Rattle.cfgrammar.specs.Answer.{IsRefused}
 use Rattle.cfgrammar.specs.Fits.{Fits}
-use Rattle.cfgrammar.specs.Numbered.{Numbered, NumberedProduction, numbered}
+use Rattle.cfgrammar.specs.GrammarOf.{HoldsOfItself, HoldsOfReading}
+use Rattle.cfgrammar.specs.Numbered.{Numbered, NumberedProduction}
 use Rattle.cfgrammar.specs.Shown.{production_text}
 use Rattle.cfgtool.specs.declared.engine.Outcome.{Outcome}
 use Rattle.cfgtool.specs.declared.engine.Outcome.TheVariants.{Done, Refused}
@@ -27,21 +23,16 @@ use Rattle.cfgtool.specs.declared.engine.ReportFault.TheVariants as faults
 use Rattle.cfgtool.specs.declared.words.Command.{Command}
 use Rattle.cfgtool.specs.declared.words.Command.TheVariants.{Grammar, Firsts, Follows, Sentences, Warnings}
 use Rattle.cfgtool.specs.declared.words.KindArg.{KindArg}
-use Rattle.cfgtool.specs.declared.words.KindArg.TheVariants.{Named}
+use Rattle.cfgtool.specs.declared.words.KindArg.TheVariants.{Named, Section}
 use Rattle.cfgtool.specs.FirstLines.{AreFirstLines}
 use Rattle.cfgtool.specs.FollowLines.{AreFollowLines}
 use Rattle.cfgtool.specs.SentenceLines.{AreSentenceLines}
 use Rattle.cfgtool.specs.Sinks.{AppendsBeginning}
 
--- the kind that a text is read as
-abbrev pub kind_read : KindArg → YaccKind
-kind_read (Named kind) = kind
-
--- The text has exactly one reading, and this holds of its errors, of its syntax, and of that in numbers.
-abbrev pub HoldsOfText : YaccKind → List ℕ → (List GrammarError → Syntax → Numbered → Type 0) → Type 0
-HoldsOfText kind text Holds = HasOneReading kind text
-    × ((items : List Item) (stop : Option Fault) → Reads kind text items stop
-    → Holds (errors_of items stop) (syntax_of items) (numbered kind (syntax_of items)))
+-- This holds of a text: of its reading as the kind that is asked for, or else as the kind that it names itself.
+abbrev pub HoldsOfText : KindArg → List ℕ → (List GrammarError → Syntax → Numbered → Type 0) → Type 0
+HoldsOfText (Named kind) text Holds = HoldsOfReading kind text Holds
+HoldsOfText Section text Holds = HoldsOfItself text Holds
 
 -- the greatest index of the program's grammars
 abbrev pub greatest : ℕ
@@ -107,11 +98,12 @@ Tells command text errors s g old new (Err faults.Write) = (outcome : Outcome) �
     × IsReport command text errors s g outcome lines × AppendsBeginning old new lines
 Tells command text errors s g old new (Err faults.OutOfMemory) = Keeps old new
 
--- A report of a text tells so of the text's one reading: of its errors, of its syntax, and of that in numbers.
+-- A report of a text tells so of the text's one reading: of its errors, of its syntax, and of that in numbers. Where the
+-- text names no kind, it tells so of the errors that keep it from that.
 abbrev pub TellsText : KindArg → Command → List ℕ → Option (List ℕ) → Option (List ℕ) → Result Outcome ReportFault
     → Type 0
 TellsText kind command text old new answer =
-    HoldsOfText (kind_read kind) text (λ errors s g. Tells command text errors s g old new answer)
+    HoldsOfText kind text (λ errors s g. Tells command text errors s g old new answer)
 
 -- how many faults of its sink a report meets
 abbrev pub faults_met : Result Outcome ReportFault → ℕ

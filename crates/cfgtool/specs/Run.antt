@@ -17,7 +17,7 @@ use Rattle.cfgtool.specs.declared.source.Input.TheVariants as input
 use Rattle.cfgtool.specs.declared.words.Command.{Command}
 use Rattle.cfgtool.specs.declared.words.Command.TheVariants.{Grammar, Firsts, Follows, Sentences, Warnings}
 use Rattle.cfgtool.specs.declared.words.KindArg.{KindArg}
-use Rattle.cfgtool.specs.declared.words.KindArg.TheVariants.{Named}
+use Rattle.cfgtool.specs.declared.words.KindArg.TheVariants.{Named, Section}
 use Rattle.cfgtool.specs.Report.{TellsText}
 
 -- the kind that a word names
@@ -28,6 +28,7 @@ kind_named word =
     else if bytes_eq word (codes "original-genericparsetree") then Some (Named (Original GenericParseTree))
     else if bytes_eq word (codes "grmtools") then Some (Named Grmtools)
     else if bytes_eq word (codes "eco") then Some (Named Eco)
+    else if bytes_eq word (codes "section") then Some Section
     else None
 
 -- the command that a word names

@@ -5,6 +5,7 @@ ghost use Rattle.cfgwords.specs.Places.{IsPiece, IsWithin};
 ghost use Rattle.cfgast.specs.Syntax.{EachSpan};
 ghost use Rattle.cfgast.specs.View.{syntax};
 ghost use Rattle.cfgsyntax.specs.Spans.{EachParsedSpan};
+ghost use Rattle.cfgrammar.specs.GrammarOf.{HoldsOfItself, HoldsOfReading};
 ghost use Rattle.cfgrammar.specs.Numbered.{numbered};
 ghost use Rattle.cfgtool.specs.Report.{AreLinesOf, HoldsOfText, IsReport, TellsText, fault_text, faults_met};
 ghost use Rattle.cfgtool.specs.declared.engine.ReportFault.TheVariants as variants;
@@ -87,7 +88,7 @@ pub fn report<W: Sink>(
     ensures faults { W.faults_counted out.new ≡ W.faults_counted out.old + faults_met result }
     ensures untouched { IsErrOf result variants.OutOfMemory → out.new ≡ out.old }
 {
-    let (outcome, lines) = report_text(alloc, kind.yacc_kind(), command, text)?;
+    let (outcome, lines) = report_text(alloc, kind, command, text)?;
     write_whole(out, lines.as_bytes())?;
     Ok(outcome)
 }
@@ -95,15 +96,50 @@ pub fn report<W: Sink>(
 /// The whole report, before any of it is written.
 fn report_text(
     alloc: Global,
-    kind: YaccKind,
+    kind: KindArg,
     command: Command,
     text: &str,
 ) -> Result<(Outcome, String), AllocError>
     ensures { HoldsOfText kind text.now (λ errors s g.
         IfOk result (λ told. IsReport command text.now errors s g told.0 (string_bytes told.1))) }
 {
+    match kind {
+        KindArg::Named(kind) => report_as(alloc, kind, command, text),
+        KindArg::Section => report_itself(alloc, command, text),
+    }
+}
+
+/// The report of a text as a file of the kind.
+fn report_as(
+    alloc: Global,
+    kind: YaccKind,
+    command: Command,
+    text: &str,
+) -> Result<(Outcome, String), AllocError>
+    ensures { HoldsOfReading kind text.now (λ errors s g.
+        IfOk result (λ told. IsReport command text.now errors s g told.0 (string_bytes told.1))) }
+{
     let parsed = ASTWithValidityInfo::new(alloc, kind, text)?;
     report_parsed(alloc, command, text, &parsed)
+}
+
+/// The report of a text as a file of the kind that it names.
+fn report_itself(
+    alloc: Global,
+    command: Command,
+    text: &str,
+) -> Result<(Outcome, String), AllocError>
+    ensures { HoldsOfItself text.now (λ errors s g.
+        IfOk result (λ told. IsReport command text.now errors s g told.0 (string_bytes told.1))) }
+{
+    match ASTWithValidityInfo::from_str(alloc, text) {
+        Ok(parsed) => report_parsed(alloc, command, text, &parsed),
+        Err(YaccFault::Errors(errors)) => {
+            let lines = error_lines(alloc, text, &errors)?;
+            Ok((Outcome::Refused, lines))
+        }
+        Err(YaccFault::OutOfMemory) => Err(AllocError),
+    }
 }
 
 /// The report of a text that was read.

@@ -1,7 +1,6 @@
 //! The words that name a kind of Yacc and a command.
 
 ghost use Rattle.std.specs.Prelude.{◌≡◌};
-ghost use Rattle.cfgtool.specs.Report.{kind_read};
 ghost use Rattle.cfgtool.specs.Run.{command_named, kind_named};
 
 use cfgrammar::yacc::{YaccKind, YaccOriginalActionKind};
@@ -11,16 +10,8 @@ use cfgrammar::yacc::{YaccKind, YaccOriginalActionKind};
 pub enum KindArg {
     /// This kind.
     Named(YaccKind),
-}
-
-impl KindArg {
-    /// The kind that a text is read as.
-    pub fn yacc_kind(self) -> YaccKind
-        ensures { result ≡ kind_read self }
-    {
-        let KindArg::Named(kind) = self;
-        kind
-    }
+    /// The kind that the section of the text names.
+    Section,
 }
 
 /// What is reported of a grammar.
@@ -48,6 +39,7 @@ pub fn kind_of(word: &str) -> Option<KindArg>
         "original-genericparsetree" => YaccKind::Original(YaccOriginalActionKind::GenericParseTree),
         "grmtools" => YaccKind::Grmtools,
         "eco" => YaccKind::Eco,
+        "section" => return Some(KindArg::Section),
         _ => return None,
     };
     Some(KindArg::Named(kind))
