@@ -6,3 +6,4 @@ pub mod firsts;
 pub mod lines;
 pub mod marks;
 pub mod productions;
+pub mod sections;
