@@ -47,6 +47,27 @@ class Fault(Exception):
         return 'DuplicationError' if self.kind.startswith('Duplicate') else 'Error'
 
 
+class HeaderFault(Fault):
+    """An error in a section: its kind, its spans, and the characters and texts that the kind holds."""
+
+    def __init__(self, kind, spans, holds=()):
+        Fault.__init__(self, kind, spans[0], None, spans[1:])
+        self.holds = holds
+
+    def text(self):
+        return {
+            'MissingGrmtoolsSection': 'Missing %%grmtools section',
+            'IllegalName': 'Illegal name',
+            'ExpectedToken': "Expected token: '%s'",
+            'UnexpectedToken': "Unxpected token: '%s', %s ",
+            'DuplicateEntry': 'Duplicate Entry',
+            'InvalidEntry': "Invalid entry: '%s'",
+        }[self.kind] % self.holds
+
+    def display(self):
+        return "Error in '%grmtools' " + self.text()
+
+
 def at(kind, p):
     return Fault(kind, (p, p))
 

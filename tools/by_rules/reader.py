@@ -1,5 +1,6 @@
 """What is read of a text: "The parts of a file", "What a file says", "Declared more than once", "Where a reading stops"."""
 from .faults import Fault, at
+from .section import section
 from .words import (
     QUOTES, action_text, blank, colon_text, integer, line_rest, name, same_line_blank, string, token)
 
@@ -68,13 +69,16 @@ class Tree:
 
 
 def read(kind, t):
-    """What was read of t, and the fault that stopped the reading or None."""
+    """What was read of t, and the faults that stopped the reading: those of its section, or one behind that."""
     tree = Tree(kind)
+    _, errors, end = section(t, False)
+    if errors:
+        return tree, errors
     try:
-        programs(t, rules(t, declarations(t, blank(t, 0), tree), tree), tree)
+        programs(t, rules(t, declarations(t, blank(t, end), tree), tree), tree)
     except Fault as fault:
-        return tree, fault
-    return tree, None
+        return tree, [fault]
+    return tree, []
 
 
 def declarations(t, p, tree):

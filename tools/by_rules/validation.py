@@ -40,5 +40,6 @@ def unknown(symbol):
 
 
 def errors_of(kind, t):
-    tree, fault = read(kind, t)
-    return tree, tree.duplicates() + [e for e in (fault, validate(tree)) if e is not None]
+    tree, faults = read(kind, t)
+    unfit = validate(tree)
+    return tree, tree.duplicates() + faults + ([] if unfit is None else [unfit])

@@ -1,13 +1,13 @@
 //! Rows on what writes a syntax: another start, rules, productions and programs.
 
-use cfgbase::Span;
+use cfgbase::{Span, Spanned};
 use cfgsyntax::yacc::ast::{ASTWithValidityInfo, GrammarAST, Rule, StartFault};
 use cfgsyntax::yacc::{YaccKind, YaccOriginalActionKind};
 use rows::row::{Row, number, words};
 use std::alloc::{AllocError, Global};
 
-/// Writes what each call of the row answers on the row's text: each `start` on what was read, and then the others, one
-/// after another on a copy of the tree.
+/// Writes what each call of the row answers on the row's text: each `start` on what was read, which stays as it was, and then
+/// the others, one after another on a copy of the tree.
 pub(crate) fn tell(
     out: &mut String,
     alloc: Global,
@@ -25,16 +25,18 @@ fn tell_read(
     row: &Row<'_>,
     parsed: &ASTWithValidityInfo,
 ) -> Result<(), AllocError> {
+    write_start(out, alloc, parsed)?;
     for (word, rest) in &row.lines {
         if *word == "start" {
             change_start(out, alloc, parsed, *rest)?;
         }
     }
+    write_start(out, alloc, parsed)?;
     let mut ast = parsed.ast().clone()?;
     write_tree(out, alloc, row, &mut ast)
 }
 
-/// Writes the start and the number of errors where the rule of this name is the start, or why it can't be.
+/// Writes what starts where the rule of this name is the start, or why it can't be.
 fn change_start(
     out: &mut String,
     alloc: Global,
@@ -43,21 +45,45 @@ fn change_start(
 ) -> Result<(), AllocError> {
     let rule = rule_of(alloc, line)?;
     match parsed.clone_and_change_start_rule(alloc, rule) {
-        Ok(changed) => write_start(out, &changed),
+        Ok(changed) => write_start(out, alloc, &changed),
         Err(StartFault::Modification(error)) => writeln!(out, "    {error}"),
         Err(StartFault::OutOfMemory) => Err(AllocError),
     }
 }
 
-fn write_start(out: &mut String, parsed: &ASTWithValidityInfo) -> Result<(), AllocError> {
-    let errors = parsed.errors().len();
+/// Writes the start, the number of errors, and the warnings.
+fn write_start(
+    out: &mut String,
+    alloc: Global,
+    parsed: &ASTWithValidityInfo,
+) -> Result<(), AllocError> {
     match parsed.ast().start() {
         Some((name, span)) => {
             let (start, end) = (span.start(), span.end());
-            writeln!(out, "    start {name:?} ({start},{end}), {errors} errors")
+            write!(out, "    start {name:?} ({start},{end})")?;
         }
-        None => writeln!(out, "    no start"),
+        None => out.push_str("    no start")?,
     }
+    write!(out, ", {} errors", parsed.errors().len())?;
+    write_warnings(out, alloc, parsed.ast())
+}
+
+/// Writes the warnings of a tree, each by its kind and its span.
+fn write_warnings(out: &mut String, alloc: Global, ast: &GrammarAST) -> Result<(), AllocError> {
+    let warnings = ast.warnings(alloc)?;
+    out.push_str(if warnings.is_empty() {
+        ", warnings: none"
+    } else {
+        ", warnings:"
+    })?;
+    for (index, warning) in warnings.iter().enumerate() {
+        out.push_str(if index == 0 { " " } else { ", " })?;
+        write!(out, "{:?}", warning.kind())?;
+        for span in warning.spans() {
+            write!(out, " ({},{})", span.start(), span.end())?;
+        }
+    }
+    out.push('\n')
 }
 
 /// The rule that a line tells, by its name and the two ends of its span.
@@ -74,7 +100,7 @@ fn rule_of(alloc: Global, line: &str) -> Result<Rule, AllocError> {
     })
 }
 
-/// Writes the rules after each call that writes the tree, and then how many productions there are, and the programs.
+/// Writes the tree after all calls that write it: its rules, how many productions there are, its programs and its warnings.
 fn write_tree(
     out: &mut String,
     alloc: Global,
@@ -93,12 +119,9 @@ fn write_tree(
         }
     }
     write_rules(out, ast)?;
-    let programs = ast.programs();
-    writeln!(
-        out,
-        "    {} productions, programs {programs:?}",
-        ast.prods().len()
-    )
+    let (productions, programs) = (ast.prods().len(), ast.programs());
+    write!(out, "    {productions} productions, programs {programs:?}")?;
+    write_warnings(out, alloc, ast)
 }
 
 /// Adds an empty production to the rule of this name, where it is there.

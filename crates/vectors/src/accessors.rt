@@ -14,7 +14,7 @@ use std::alloc::{AllocError, Global};
 pub(crate) fn write_accessors(
     out: &mut String,
     alloc: Global,
-    kind: YaccKind,
+    kind: Option<YaccKind>,
     text: &str,
 ) -> Result<(), AllocError> {
     let Some(grammar) = grammar_of(alloc, kind, text)? else {

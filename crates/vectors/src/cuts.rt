@@ -1,9 +1,11 @@
 //! Each beginning of a text.
 
 use crate::errors::{write_kind, write_spans};
+use crate::grammar::parse;
 use crate::pen;
 use cfgrammar::Span;
-use cfgrammar::yacc::ast::{ASTWithValidityInfo, GrammarAST};
+use cfgrammar::yacc::ast::GrammarAST;
+use cfgrammar::yacc::parser::YaccFault;
 use cfgrammar::yacc::{YaccGrammarError, YaccKind};
 use indexmap::IndexMap;
 use std::alloc::{AllocError, Global};
@@ -12,7 +14,7 @@ use std::alloc::{AllocError, Global};
 pub(crate) fn write_cuts(
     out: &mut String,
     alloc: Global,
-    kind: YaccKind,
+    kind: Option<YaccKind>,
     text: &str,
 ) -> Result<(), AllocError> {
     for len in 0..=text.len() {
@@ -29,12 +31,20 @@ pub(crate) fn write_cuts(
 fn write_cut(
     out: &mut String,
     alloc: Global,
-    kind: YaccKind,
+    kind: Option<YaccKind>,
     text: &str,
 ) -> Result<(), AllocError> {
-    let parsed = ASTWithValidityInfo::new(alloc, kind, text)?;
-    write_errors(out, parsed.errors())?;
-    write_read(out, parsed.ast())
+    match parse(alloc, kind, text) {
+        Ok(parsed) => {
+            write_errors(out, parsed.errors())?;
+            write_read(out, parsed.ast())
+        }
+        Err(YaccFault::Errors(errors)) => {
+            write_errors(out, &errors)?;
+            out.push_str("; no kind\n")
+        }
+        Err(YaccFault::OutOfMemory) => Err(AllocError),
+    }
 }
 
 fn write_errors(out: &mut String, errors: &[YaccGrammarError]) -> Result<(), AllocError> {

@@ -1,20 +1,37 @@
 //! Rows on the texts of grammars.
 
 use crate::row::{Row, numbers};
-use crate::{accessors, cuts, errors, firsts, openings, paths, syntax, tables, text, warnings};
+use crate::{
+    accessors, cuts, errors, firsts, openings, paths, starts, syntax, tables, text, warnings,
+};
 use cfgrammar::yacc::ast::ASTWithValidityInfo;
-use cfgrammar::yacc::parser::YaccFault;
+use cfgrammar::yacc::parser::{YaccFault, YaccGrammarError, YaccGrammarResult};
 use cfgrammar::yacc::{YaccGrammar, YaccKind, YaccOriginalActionKind};
 use std::alloc::{AllocError, Global};
 
-/// The kind that a row names; that of the rows that name none is `Original(GenericParseTree)`.
-fn kind_of(row: &Row<'_>) -> YaccKind {
-    match row.first("kind") {
+/// The kind that a row names; that of the rows that name none is `Original(GenericParseTree)`. Where the row says `section`,
+/// the text names its kind.
+fn kind_of(row: &Row<'_>) -> Option<YaccKind> {
+    let kind = match row.first("kind") {
+        Some("section") => return None,
         Some("grmtools") => YaccKind::Grmtools,
         Some("eco") => YaccKind::Eco,
         Some("original-noaction") => YaccKind::Original(YaccOriginalActionKind::NoAction),
         Some("original-useraction") => YaccKind::Original(YaccOriginalActionKind::UserAction),
         _ => YaccKind::Original(YaccOriginalActionKind::GenericParseTree),
+    };
+    Some(kind)
+}
+
+/// Reads a text as a kind, or as the one that it names.
+pub(crate) fn parse(
+    alloc: Global,
+    kind: Option<YaccKind>,
+    text: &str,
+) -> YaccGrammarResult<ASTWithValidityInfo> {
+    match kind {
+        Some(kind) => Ok(ASTWithValidityInfo::new(alloc, kind, text)?),
+        None => ASTWithValidityInfo::from_str(alloc, text),
     }
 }
 
@@ -25,24 +42,80 @@ pub(crate) fn tell(
     row: &Row<'_>,
     text: &str,
 ) -> Result<(), AllocError> {
-    let kind = kind_of(row);
-    writeln!(out, "text of {} bytes, {kind:?}", text.len())?;
+    match parse(alloc, kind_of(row), text) {
+        Ok(parsed) => tell_parsed(out, alloc, row, text, &parsed),
+        Err(YaccFault::Errors(errors)) => tell_refused(out, alloc, row, text, &errors),
+        Err(YaccFault::OutOfMemory) => Err(AllocError),
+    }
+}
+
+/// Writes the errors of a text that names no kind.
+fn tell_refused(
+    out: &mut String,
+    alloc: Global,
+    row: &Row<'_>,
+    text: &str,
+    errors: &[YaccGrammarError],
+) -> Result<(), AllocError> {
+    writeln!(out, "text of {} bytes, no kind", text.len())?;
+    text::write_text(out, text)?;
+    if row.first("show") == Some("cuts") {
+        return cuts::write_cuts(out, alloc, kind_of(row), text);
+    }
+    errors::write_errors(out, alloc, text, errors)?;
+    if !is_refused_so(alloc, text, errors)? {
+        out.push_str("    and its grammar isn't refused so\n")?;
+    }
+    Ok(())
+}
+
+/// Whether a text has no grammar of the kind that it names, for these errors.
+fn is_refused_so(
+    alloc: Global,
+    text: &str,
+    errors: &[YaccGrammarError],
+) -> Result<bool, AllocError> {
+    match YaccGrammar::<u32>::from_str(alloc, text) {
+        Ok(_grammar) => Ok(false),
+        Err(YaccFault::Errors(others)) => Ok(others.as_slice() == errors),
+        Err(YaccFault::OutOfMemory) => Err(AllocError),
+    }
+}
+
+/// Writes what is answered of a text that was read.
+fn tell_parsed(
+    out: &mut String,
+    alloc: Global,
+    row: &Row<'_>,
+    text: &str,
+    parsed: &ASTWithValidityInfo,
+) -> Result<(), AllocError> {
+    writeln!(
+        out,
+        "text of {} bytes, {:?}",
+        text.len(),
+        parsed.yacc_kind()
+    )?;
     match row.first("show") {
         Some("cuts") => {
             text::write_text(out, text)?;
-            cuts::write_cuts(out, alloc, kind, text)
+            cuts::write_cuts(out, alloc, kind_of(row), text)
         }
         Some("brief") => {
-            tell_brief(out, alloc, kind, text)?;
+            tell_brief(out, alloc, text, parsed)?;
             tell_analyses(out, alloc, row, text)
         }
         Some("accessors") => {
             text::write_text(out, text)?;
-            accessors::write_accessors(out, alloc, kind, text)
+            accessors::write_accessors(out, alloc, kind_of(row), text)
         }
         _ => {
             text::write_text(out, text)?;
-            tell_whole(out, alloc, kind, text)?;
+            tell_whole(out, alloc, text, parsed)?;
+            if kind_of(row).is_none() {
+                tables::write_tables_by_name(out, alloc, text, parsed)?;
+            }
+            starts::write_starts(out, alloc, row, text, parsed)?;
             tell_analyses(out, alloc, row, text)
         }
     }
@@ -52,23 +125,26 @@ pub(crate) fn tell(
 fn tell_whole(
     out: &mut String,
     alloc: Global,
-    kind: YaccKind,
     text: &str,
+    parsed: &ASTWithValidityInfo,
 ) -> Result<(), AllocError> {
-    let parsed = ASTWithValidityInfo::new(alloc, kind, text)?;
     errors::write_errors(out, alloc, text, parsed.errors())?;
-    syntax::write_syntax(out, alloc, &parsed)?;
+    syntax::write_syntax(out, alloc, parsed)?;
     warnings::write_warnings(out, alloc, parsed.ast())?;
-    tables::write_tables(out, alloc, text, &parsed)
+    tables::write_tables(out, alloc, text, parsed)
 }
 
 /// The grammar of a text, where it has one.
 pub(crate) fn grammar_of(
     alloc: Global,
-    kind: YaccKind,
+    kind: Option<YaccKind>,
     text: &str,
 ) -> Result<Option<YaccGrammar<u32>>, AllocError> {
-    match YaccGrammar::new(alloc, kind, text) {
+    let answer = match kind {
+        Some(kind) => YaccGrammar::new(alloc, kind, text),
+        None => YaccGrammar::from_str(alloc, text),
+    };
+    match answer {
         Ok(grammar) => Ok(Some(grammar)),
         Err(YaccFault::Errors(_)) => Ok(None),
         Err(YaccFault::OutOfMemory) => Err(AllocError),
@@ -122,11 +198,10 @@ fn tell_asked(
 fn tell_brief(
     out: &mut String,
     alloc: Global,
-    kind: YaccKind,
     text: &str,
+    parsed: &ASTWithValidityInfo,
 ) -> Result<(), AllocError> {
-    let parsed = ASTWithValidityInfo::new(alloc, kind, text)?;
     errors::write_errors(out, alloc, text, parsed.errors())?;
     syntax::write_lengths(out, parsed.ast())?;
-    tables::write_lengths_of_all(out, alloc, text, &parsed)
+    tables::write_lengths_of_all(out, alloc, text, parsed)
 }

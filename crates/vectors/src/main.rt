@@ -9,9 +9,12 @@ mod errors;
 mod firsts;
 mod follows;
 mod grammar;
+mod held;
 mod openings;
 mod paths;
 mod said;
+mod sections;
+mod starts;
 mod syntax;
 mod tables;
 mod warnings;
@@ -35,6 +38,7 @@ impl Answers for Grammars {
     ) -> Result<(), AllocError> {
         match row.tries {
             "row" => grammar::tell(out, rt.alloc(), row, text),
+            "section" => sections::tell(out, rt.alloc(), row, text),
             _ => writeln!(out, "no such row: {}", row.tries),
         }
     }

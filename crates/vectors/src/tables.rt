@@ -46,12 +46,47 @@ fn tables_text<S: Storage>(
 ) -> Result<String, AllocError> {
     let of_text = YaccGrammar::<S>::new_with_storaget(alloc, parsed.yacc_kind(), text);
     let mut tables = answer_text(alloc, text, parsed, of_text)?;
-    let of_tree = YaccGrammar::<S>::new_from_ast_with_validity_info(alloc, parsed);
-    let of_syntax = answer_text(alloc, text, parsed, of_tree)?;
+    let of_syntax = tree_text::<S>(alloc, text, parsed)?;
     if of_syntax != tables {
         write!(tables, "and of its syntax{of_syntax}")?;
     }
     Ok(tables)
+}
+
+/// The tables of a syntax.
+fn tree_text<S: Storage>(
+    alloc: Global,
+    text: &str,
+    parsed: &ASTWithValidityInfo,
+) -> Result<String, AllocError> {
+    let of_tree = YaccGrammar::<S>::new_from_ast_with_validity_info(alloc, parsed);
+    answer_text(alloc, text, parsed, of_tree)
+}
+
+/// Writes the tables of a syntax over u32.
+pub(crate) fn write_tables_of_tree(
+    out: &mut String,
+    alloc: Global,
+    text: &str,
+    parsed: &ASTWithValidityInfo,
+) -> Result<(), AllocError> {
+    let tables = tree_text::<u32>(alloc, text, parsed)?;
+    write!(out, "grammar over u32{tables}")
+}
+
+/// Writes the tables of a text as the kind that it names, where they aren't those of its syntax.
+pub(crate) fn write_tables_by_name(
+    out: &mut String,
+    alloc: Global,
+    text: &str,
+    parsed: &ASTWithValidityInfo,
+) -> Result<(), AllocError> {
+    let named = YaccGrammar::<u32>::from_str(alloc, text);
+    let by_name = answer_text(alloc, text, parsed, named)?;
+    if by_name != tree_text::<u32>(alloc, text, parsed)? {
+        write!(out, "and as the kind that it names{by_name}")?;
+    }
+    Ok(())
 }
 
 /// What a call that makes tables answers.

@@ -1,0 +1,6 @@
+%grmtools {
+  yacckind: Original(YaccOriginalActionKind::GenericParseTree),
+}
+%start A
+%% A: 'x' B;
+B: ;
