@@ -1,6 +1,6 @@
 pub mod Settling
 pub mod OneBit
-pub mod Queueing
+pub mod Stacking
 pub mod Noting
 pub mod RuleNotes
 pub mod Visiting
@@ -10,5 +10,6 @@ pub mod FirstVisits
 pub mod Joins
 pub mod Slices
 pub mod FollowVisits
+pub mod Gathering
 pub mod FollowBits
 pub mod Searching

@@ -5,7 +5,7 @@ use Rattle.std.proofs.lemmas.List.{get_or-map, map-set, length-map, take_more, t
 use Rattle.std.proofs.lemmas.List.Elements.{Contains-append_left, Contains-push, Contains-push_cases}
 use Rattle.lemmas.proofs.Elements.{get_or-set}
 use Rattle.cfganalysis.specs.Waiting.{Waits, NoneWaits, Leaves, waits}
-use Rattle.cfganalysis.specs.Work.{users_of, Notes, RestsOn, Queues}
+use Rattle.cfganalysis.specs.Work.{users_of, Notes, RestsOn, LetsWait}
 
 pub nothing_among : (q : ℕ) → Contains [] q → ⊥
 nothing_among q h = omega (arith, h.1)
@@ -100,22 +100,22 @@ pub put_there : (x : List Bool) (n q : ℕ) → n < length x → q ≡ n → Wai
 put_there x n q lt e = ap (waits (slice_set x n true)) e ∙ get_or-set_same x n true false lt
 
 -- the first n productions of a list were let wait
-pub record QueuesFront (list : List ℕ) (n : ℕ) (old new : List Bool) : Type 0 where
+pub record LetsWaitFront (list : List ℕ) (n : ℕ) (old new : List Bool) : Type 0 where
   pub shape : length new ≡ length old
   pub to : (q : ℕ) → Waits new q → Waits old q ⊎ Contains (take n list) q
   pub from : (q : ℕ) → Waits old q ⊎ Contains (take n list) q → Waits new q
 
 module _ (list : List ℕ) where
-  pub queues_none : (x : List Bool) → QueuesFront list 0 x x
-  queues_none x = record {
+  pub lets_wait_none : (x : List Bool) → LetsWaitFront list 0 x x
+  lets_wait_none x = record {
     shape = refl;
     to = λ q h. inl h;
     from = λ q h. elim h [ inl i ↦ i | inr i ↦ absurd (nothing_among q i) ];
   }
 
-  pub queues_one : (n p : ℕ) (old mid new : List Bool) → n < length list → p ≡ get_or list n p → p < length mid → QueuesFront list n old mid
-      → new ≡ slice_set mid p true → QueuesFront list (n + 1) old new
-  queues_one n p old mid new lt is within w put = subst (λ l. QueuesFront list (n + 1) old l) (sym put) (record {
+  pub lets_wait_one : (n p : ℕ) (old mid new : List Bool) → n < length list → p ≡ get_or list n p → p < length mid → LetsWaitFront list n old mid
+      → new ≡ slice_set mid p true → LetsWaitFront list (n + 1) old new
+  lets_wait_one n p old mid new lt is within w put = subst (λ l. LetsWaitFront list (n + 1) old l) (sym put) (record {
     shape = length-set mid p true ∙ w.shape;
     to = λ q h. elim (put_waits mid p q within h) [
       | inl i ↦ elim (w.to q i) [ inl j ↦ inl j | inr j ↦ inr (among q (Contains-append_left (take n list) (p ∷ []) q j)) ]
@@ -136,9 +136,9 @@ module _ (list : List ℕ) where
       among : (q : ℕ) → Contains (take n list ++ p ∷ []) q → Contains (take (n + 1) list) q
       among q h = subst (λ l. Contains l q) (sym longer) h
 
-  pub queues_all : (users : List (List ℕ)) (rule n : ℕ) (old new : List Bool) → length list ≤ n → list ≡ users_of users rule → QueuesFront list n old new
-      → Queues users (λ r. r ≡ rule) old new
-  queues_all users rule n old new le is w = record {
+  pub lets_wait_all : (users : List (List ℕ)) (rule n : ℕ) (old new : List Bool) → length list ≤ n → list ≡ users_of users rule → LetsWaitFront list n old new
+      → LetsWait users (λ r. r ≡ rule) old new
+  lets_wait_all users rule n old new le is w = record {
     shape = w.shape;
     waits = λ q. (
       (λ h. elim (w.to q h) [
@@ -156,7 +156,7 @@ module _ (list : List ℕ) where
       all = take_all n list le
 
 -- between two rules that gained: the productions that rest on those that are done wait
-pub record Queueing (users : List (List ℕ)) (gained left : List Bool) (old new : List Bool) : Type 0 where
+pub record LettingWait (users : List (List ℕ)) (gained left : List Bool) (old new : List Bool) : Type 0 where
   pub shape : length new ≡ length old
   pub fewer : (r : ℕ) → Waits left r → Waits gained r
   pub same : length left ≡ length gained
@@ -165,12 +165,12 @@ pub record Queueing (users : List (List ℕ)) (gained left : List Bool) (old new
   pub done : (r q : ℕ) → Waits gained r → Contains (users_of users r) q → Waits left r ⊎ Waits new q
 
 module _ (users : List (List ℕ)) (gained : List Bool) where
-  pub queueing_none : (x : List Bool) → Queueing users gained gained x x
-  queueing_none x = record { shape = refl; fewer = λ r h. h; same = refl; only = λ q h. inl h; kept = λ q h. h; done = λ r q h k. inl h }
+  pub letting_wait_none : (x : List Bool) → LettingWait users gained gained x x
+  letting_wait_none x = record { shape = refl; fewer = λ r h. h; same = refl; only = λ q h. inl h; kept = λ q h. h; done = λ r q h k. inl h }
 
-  pub queueing_one : (rule : ℕ) (left left' old mid new : List Bool) → Queueing users gained left old mid → Leaves rule left left'
-      → Queues users (λ r. r ≡ rule) mid new → Queueing users gained left' old new
-  queueing_one rule left left' old mid new w leaves v = record {
+  pub letting_wait_one : (rule : ℕ) (left left' old mid new : List Bool) → LettingWait users gained left old mid → Leaves rule left left'
+      → LetsWait users (λ r. r ≡ rule) mid new → LettingWait users gained left' old new
+  letting_wait_one rule left left' old mid new w leaves v = record {
     shape = v.shape ∙ w.shape;
     fewer = λ r h. w.fewer r (stayed r h);
     same = ap length leaves.rest ∙ length-set left rule false ∙ w.same;
@@ -194,8 +194,8 @@ module _ (users : List (List ℕ)) (gained : List Bool) where
         | inr e ↦ absurd (true≢false (sym h ∙ ap (λ l. get_or l r false) leaves.rest ∙ e.1))
       ]
 
-  pub queueing_all : (left old new : List Bool) → NoneWaits left → Queueing users gained left old new → Queues users (Waits gained) old new
-  queueing_all left old new none w = record {
+  pub letting_wait_all : (left old new : List Bool) → NoneWaits left → LettingWait users gained left old new → LetsWait users (Waits gained) old new
+  letting_wait_all left old new none w = record {
     shape = w.shape;
     waits = λ q. (
       w.only q,

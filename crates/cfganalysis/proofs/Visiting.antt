@@ -10,11 +10,11 @@ use Rattle.cfganalysis.specs.Openings.{nth_production, OpensOne}
 use Rattle.cfganalysis.specs.Rounds.{IsSettled}
 use Rattle.cfganalysis.specs.Table.{bits_on}
 use Rattle.cfganalysis.specs.Waiting.{waits, Waits, NoneWaits, Leaves}
-use Rattle.cfganalysis.specs.Work.{users_of, Notes, Queues}
+use Rattle.cfganalysis.specs.Work.{users_of, Notes, LetsWait}
 use Rattle.cfganalysis.specs.Growth.{TakesIn, TakesInto, Visited, left_to_do}
 use Rattle.cfganalysis.proofs.Settling.{same_production, at_place}
 use Rattle.cfganalysis.proofs.Noting.{nothing_among}
-use Rattle.cfganalysis.proofs.Queueing.{bits_on-clear, bits_on-none}
+use Rattle.cfganalysis.proofs.Stacking.{bits_on-clear, bits_on-none}
 
 -- a number doesn't wait and waits
 both : {b : Bool} → b ≡ true → b ≡ false → ⊥
@@ -65,7 +65,7 @@ left_less most places m m' w w' top le (inr h) = subst (λ k. left most places k
 
 module _ {X : Type 0} (holds : Grammar → X → Type 0) (covers : X → Production → Type 0) (bits : X → ℕ) (rests_on : Production → ℕ → Type 0) where
   pub takes_into : (no_more : ℕ → X → X → Type 0) (p : Production) (users : List (List ℕ)) (old new : X) (gained waiting waiting' : List Bool)
-      → TakesIn holds covers bits rests_on no_more p old new (Waits gained) → Queues users (Waits gained) waiting waiting'
+      → TakesIn holds covers bits rests_on no_more p old new (Waits gained) → LetsWait users (Waits gained) waiting waiting'
       → TakesInto holds covers bits rests_on no_more p users old new waiting waiting'
   takes_into no_more p users old new gained waiting waiting' w v = record {
     sound = w.sound;

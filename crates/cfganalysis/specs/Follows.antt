@@ -1,12 +1,15 @@
 -- FOLLOW sets: the tokens that stand right after rules.
-use Rattle.std.specs.Prelude.{◌≡◌, ◌↔◌, ◌⊎◌, ◌<◌, ◌≤◌, ℕ, ◌+◌, Bool, List, length}
-use Rattle.derivation.specs.Grammar.{Sym, Grammar, Production}
+use Rattle.std.specs.Prelude.{◌≡◌, ◌↔◌, ◌⊎◌, ⊤, ◌<◌, ◌≤◌, ℕ, ◌+◌, Bool, false, List, [], ◌∷◌, length, IsTrue, slice_index_or}
+use Rattle.derivation.specs.Grammar.{Sym, Grammar, IsSymbolOf, Production}
 use Rattle.derivation.specs.Follow.{MayFollow}
 use Rattle.derivation.specs.FirstSets.{Vanishes, Begins}
 use Rattle.derivation.specs.FollowSets.{Flows}
 use Rattle.cfganalysis.specs.Table.{Table, IsTable, HasBit, Joins, count_of}
+use Rattle.cfganalysis.specs.Symbols.{sym_of}
 use Rattle.cfganalysis.specs.Waiting.{Waits}
 use Rattle.cfganalysis.specs.Firsts.{FirstSets, FitsGrammar, AreFirsts, IsAmongFirsts, IsEpsilon}
+use Rattle.cfganalysis.specs.declared.follows.Front.{Front}
+use Rattle.cfganalysis.specs.declared.follows.Front.TheVariants as fronts
 
 -- exactly what derivations show
 pub record AreFollows (g : Grammar) (x : Table) : Type 0 where
@@ -78,3 +81,38 @@ pub record PutsBehind (gives : ℕ → ℕ → Type 0) (old new : FollowSets) (w
   pub gained : (r : ℕ) → Waits waiting' r → Waits waiting r ⊎ (count_follows old < count_follows new)
   pub more : (r : ℕ) → Waits waiting' r → Waits waiting r ⊎ (HasNoMoreFollows r old new → ⊥)
   pub told : (r t : ℕ) → HasBit new.follows r t → HasBit old.follows r t ⊎ Waits waiting' r
+
+-- the token is gathered
+abbrev pub IsGathered : List Bool → ℕ → Type 0
+IsGathered tokens t = IsTrue (slice_index_or tokens t false)
+
+-- tokens were gathered beside those that were before
+pub record Gathers (gives : ℕ → Type 0) (old new : List Bool) : Type 0 where
+  pub long : length new ≡ length old
+  pub tokens : (t : ℕ) → (IsGathered new t ↔ (IsGathered old t ⊎ gives t))
+
+-- what stands at a front: what follows the rule, what begins the symbol, or what was gathered
+abbrev pub FrontGives : {S : Type 0} → (S → ℕ) → FollowSets → ℕ → List Bool → Front S → ℕ → Type 0
+FrontGives number x rule tokens fronts.End t = HasBit x.follows rule t
+FrontGives number x rule tokens (fronts.Symbol symbol) t = BeginsList x (sym_of number symbol ∷ []) t
+FrontGives number x rule tokens fronts.Gathered t = IsGathered tokens t
+
+-- its symbol is one of the grammar
+abbrev pub IsFrontOf : {S : Type 0} → (S → ℕ) → Grammar → Front S → Type 0
+IsFrontOf number g fronts.End = ⊤
+IsFrontOf number g (fronts.Symbol symbol) = IsSymbolOf g (sym_of number symbol)
+IsFrontOf number g fronts.Gathered = ⊤
+
+abbrev pub IsEnd : {S : Type 0} → Front S → Type 0
+IsEnd fronts.End = ⊤
+IsEnd (fronts.Symbol symbol) = ⊥
+IsEnd fronts.Gathered = ⊥
+
+-- the front before a symbol: what begins the symbol, and, where it vanishes, what stands at the front behind it
+pub record StepsBack {S : Type 0} (number : S → ℕ) (x : FollowSets) (rule : ℕ) (s : Sym) (front : Front S) (tokens : List Bool)
+    (front' : Front S) (tokens' : List Bool) : Type 0 where
+  pub past : (t : ℕ) → (FrontGives number x rule tokens' front' t
+      ↔ (BeginsList x (s ∷ []) t ⊎ (VanishesList x (s ∷ []) × FrontGives number x rule tokens front t)))
+  pub begun : IsEnd front' → ⊥
+  pub fits : (g : Grammar) → IsSymbolOf g s → IsFrontOf number g front'
+  pub long : length tokens' ≡ length tokens

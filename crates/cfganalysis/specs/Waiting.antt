@@ -1,4 +1,4 @@
--- Numbers that wait, a bit for each, and the queue in which they stand.
+-- Numbers that wait, a bit for each, and the stack in which they stand.
 use Rattle.std.specs.Prelude.{◌≡◌, ℕ, ◌==◌, Bool, false, cond, List, length, IsTrue, count_by, slice_index_or, slice_set}
 use Rattle.cfganalysis.specs.Table.{bits_on}
 
@@ -16,7 +16,7 @@ pub record Leaves (n : ℕ) (old new : List Bool) : Type 0 where
   pub waited : Waits old n
   pub rest : new ≡ slice_set old n false
 
--- each number that waits stands in the queue once, and no other stands there
-pub record IsQueue (x : List Bool) (queue : List ℕ) : Type 0 where
-  pub once : (n : ℕ) → count_by (λ m. m == n) queue ≡ cond (waits x n) 1 0
-  pub together : length queue ≡ bits_on x
+-- each number that waits stands in the stack once, and no other stands there
+pub record IsStack (x : List Bool) (stack : List ℕ) : Type 0 where
+  pub once : (n : ℕ) → count_by (λ m. m == n) stack ≡ cond (waits x n) 1 0
+  pub together : length stack ≡ bits_on x

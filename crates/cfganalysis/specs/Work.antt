@@ -23,6 +23,6 @@ pub record RestsOn (users : List (List ℕ)) (gained : ℕ → Type 0) (q : ℕ)
   pub noted : Contains (users_of users rule) q
 
 -- beside the productions that waited, those wait that rest on a rule that gained
-pub record Queues (users : List (List ℕ)) (gained : ℕ → Type 0) (old new : List Bool) : Type 0 where
+pub record LetsWait (users : List (List ℕ)) (gained : ℕ → Type 0) (old new : List Bool) : Type 0 where
   pub shape : length new ≡ length old
   pub waits : (q : ℕ) → (Waits new q ↔ (Waits old q ⊎ RestsOn users gained q))

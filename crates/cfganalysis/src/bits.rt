@@ -1,6 +1,7 @@
 //! Tables of bits.
 
-ghost use Rattle.std.specs.Prelude.{◌≡◌, ◌≢◌, ◌<◌, [], false, true, length, slice_index_or, slice_set, IfOk, IsTrue, MatchBool};
+ghost use Rattle.std.specs.Prelude.{◌≡◌, ◌≢◌, ◌<◌, [], false, true, length, slice_index_or, slice_set};
+ghost use Rattle.std.specs.Prelude.{IfOk, IsTrue, MatchBool};
 ghost use Rattle.cfganalysis.specs.Table.{GrewTo, HasBit, Joins, bit, joined, no_bits, row_of, with_bit};
 
 use cfgindex::Vob;

@@ -61,7 +61,11 @@ impl<'a, S: Storage, T: Tables<S>> Model for CountedTables<'a, S, T> {
 
     ghost Value = { Counts };
 
-    ghost view = { λ x. record { grammar = T.grammar x.tables.now; opened = x.opened.items; opened_all = x.opened_all } };
+    ghost view = { λ x. record {
+      grammar = T.grammar x.tables.now;
+      opened = x.opened.items;
+      opened_all = x.opened_all;
+    } };
 
     ghost invariant = { λ x. (length x.opened.items ≡ length (T.grammar x.tables.now).productions)
         × (S.number x.prods_len.0 ≡ length (T.grammar x.tables.now).productions) };
@@ -140,8 +144,11 @@ impl<'a, S: Storage, T: Tables<S>> Productions<S> for CountedTables<'a, S, T> {
         requires in_range { S.number p.0 < length self.old.grammar.productions }
         requires countable { slice_index self.old.opened (S.number p.0) < 2 ^ 64 - 1 }
         requires all_countable { self.old.opened_all < 2 ^ 128 - 1 }
-        ensures symbols { map (sym_of S.number) result.now ≡ (nth_production self.old.grammar (S.number p.0)).symbols }
-        ensures* counts { sem 𝓛 (Rests (the_row (record { mir = named 1; lft = [] }) S.row T.row S.Storage.own S.Ord.own S.PartialEq.own S.PartialOrd.own S.Hash.own T.Tables.own) self.entry (λ new.
+        ensures symbols { map (sym_of S.number) result.now
+            ≡ (nth_production self.old.grammar (S.number p.0)).symbols }
+        ensures* counts { sem 𝓛 (Rests (the_row
+            (record { mir = named 1; lft = [] }) S.row T.row S.Storage.own S.Ord.own S.PartialEq.own S.PartialOrd.own
+            S.Hash.own T.Tables.own) self.entry (λ new.
             OpensOne (S.number p.0) self.old.grammar new.grammar (slice_index self.old.opened) (slice_index new.opened)
             self.old.opened_all new.opened_all)) }
     {

@@ -1,8 +1,11 @@
 //! FIRST: the tokens that rules begin with, and the rules that are empty (Aho, Lam, Sethi and Ullman, 4.4.2).
 
-ghost use Rattle.std.specs.Prelude.{◌≡◌, ◌<◌, ◌≤◌, ◌↔◌, ℕ, [], ◌∷◌, Contains, false, true, length, map, IfOk, IsTrue, MatchBool};
+ghost use Rattle.std.specs.Prelude.{◌≡◌, ◌<◌, ◌≤◌, ◌↔◌, ℕ, [], ◌∷◌, Contains, false};
+ghost use Rattle.std.specs.Prelude.{true, length, map, IfOk, IsTrue, MatchBool};
 ghost use Rattle.derivation.specs.Grammar.{Grammar, IsGrammar, IsSymbolOf, Rule};
-ghost use Rattle.cfganalysis.specs.Firsts.{AreFirsts, BeginsBy, FitsGrammar, HasNoMoreFirsts, HaveFirstsOf, HoldsRule, IsAmongFirsts, IsEpsilon, SayFirsts, count_firsts, epsilon_bit, is_empty_symbol, no_firsts, with_epsilon, with_first};
+ghost use Rattle.cfganalysis.specs.Firsts.{AreFirsts, BeginsBy, FitsGrammar, HasNoMoreFirsts, HaveFirstsOf, HoldsRule};
+ghost use Rattle.cfganalysis.specs.Firsts.{IsAmongFirsts, IsEpsilon, SayFirsts, count_firsts, epsilon_bit};
+ghost use Rattle.cfganalysis.specs.Firsts.{is_empty_symbol, no_firsts, with_epsilon, with_first};
 ghost use Rattle.cfganalysis.specs.Openings.{most_openings, most_openings_all};
 ghost use Rattle.cfganalysis.specs.Growth.{TakesIn};
 ghost use Rattle.cfganalysis.specs.Symbols.{sym_of};
@@ -190,9 +193,11 @@ impl<S: Storage> Analysis<S> for YaccFirsts<S> {
         users: &mut Users,
     ) -> Result<(), AllocError>
         requires { (g : Grammar) × IsGrammar g × (length users.old ≡ g.rules)
-            × Contains g.productions (record { rule = S.number _rule.0; symbols = map (sym_of S.number) symbols.now }) }
+            × Contains g.productions
+            (record { rule = S.number _rule.0; symbols = map (sym_of S.number) symbols.now }) }
         ensures { IfOk result (λ _. Notes production
-            (HoldsRule (record { rule = S.number _rule.0; symbols = map (sym_of S.number) symbols.now })) users.old users.new) }
+            (HoldsRule (record { rule = S.number _rule.0; symbols = map (sym_of S.number) symbols.now }))
+            users.old users.new) }
     {
         for held in symbols {
             note_symbol(production, *held, users)?;
@@ -201,7 +206,8 @@ impl<S: Storage> Analysis<S> for YaccFirsts<S> {
     }
 
     fn visit(&mut self, rule: RIdx<S>, symbols: &[Symbol<S>], gained: &mut Waiting)
-        requires { (g : Grammar) × IsGrammar g × SayFirsts g self.old × NoneWaits gained.old × (length gained.old ≡ g.rules)
+        requires { (g : Grammar) × IsGrammar g × SayFirsts g self.old × NoneWaits gained.old
+            × (length gained.old ≡ g.rules)
             × Contains g.productions (record { rule = S.number rule.0; symbols = map (sym_of S.number) symbols.now }) }
         ensures takes { TakesIn SayFirsts HaveFirstsOf count_firsts HoldsRule HasNoMoreFirsts
             (record { rule = S.number rule.0; symbols = map (sym_of S.number) symbols.now })
@@ -223,7 +229,8 @@ pub fn firsts_over<S: Storage, P: Productions<S>>(
     alloc: Global,
     productions: &mut P,
 ) -> Result<YaccFirsts<S>, AllocError>
-    requires fresh { (q : ℕ) → q < length (P.content productions.old).productions → P.opened productions.old q ≡ 0 }
+    requires fresh { (q : ℕ) → q < length (P.content productions.old).productions
+        → P.opened productions.old q ≡ 0 }
     requires all_fresh { P.opened_all productions.old ≡ 0 }
     ensures firsts { IfOk result (AreFirsts (P.content productions.old)) }
     ensures content { P.content productions.new ≡ P.content productions.old }

@@ -1,9 +1,12 @@
 //! FOLLOW: the tokens that stand right after rules (Aho, Lam, Sethi and Ullman, 4.4.2).
 
-ghost use Rattle.std.specs.Prelude.{◌≡◌, ◌<◌, ◌≤◌, ◌↔◌, ℕ, [], ◌∷◌, All, Contains, length, map, IfOk, IsTrue};
+ghost use Rattle.std.specs.Prelude.{◌≡◌, ◌<◌, ◌≤◌, ◌↔◌, ℕ, [], ◌∷◌, Contains, length};
+ghost use Rattle.std.specs.Prelude.{map, IfOk, IsTrue};
 ghost use Rattle.derivation.specs.Grammar.{Grammar, IsGrammar, IsSymbolOf, Rule};
 ghost use Rattle.cfganalysis.specs.Firsts.{AreFirsts};
-ghost use Rattle.cfganalysis.specs.Follows.{AreFollows, BeginsList, Behind, FitFollows, HasNoMoreFollows, HaveFollowsOf, IsOwner, Puts, PutsBehind, SayFollows, count_follows};
+ghost use Rattle.cfganalysis.specs.Follows.{AreFollows, BeginsList, FitFollows, FrontGives, Gathers, HasNoMoreFollows};
+ghost use Rattle.cfganalysis.specs.Follows.{HaveFollowsOf, IsFrontOf, IsGathered, IsOwner, Puts, PutsBehind};
+ghost use Rattle.cfganalysis.specs.Follows.{SayFollows, StepsBack, count_follows};
 ghost use Rattle.cfganalysis.specs.Openings.{most_openings, most_openings_all};
 ghost use Rattle.cfganalysis.specs.Growth.{TakesIn};
 ghost use Rattle.cfganalysis.specs.Symbols.{sym_of};
@@ -70,14 +73,25 @@ impl<S: Storage> YaccFollows<S> {
     }
 }
 
+/// What stands behind a place of a production.
+#[derive(Drop)]
+enum Front<S: Storage> {
+    /// What follows the production's rule: the place is the production's end.
+    End,
+    /// What begins the symbol, which doesn't vanish.
+    Symbol(Symbol<S>),
+    /// What was gathered in a row of tokens: the symbol at the place vanishes.
+    Gathered,
+}
+
 /// FOLLOW sets that grow, beside the FIRST sets.
 #[derive(Drop)]
-struct FollowAnalysis<'a, S: Storage> {
+struct GrowingFollows<'a, S: Storage> {
     firsts: &'a YaccFirsts<S>,
     follows: BitTable,
 }
 
-impl<'a, S: Storage> Model for FollowAnalysis<'a, S> {
+impl<'a, S: Storage> Model for GrowingFollows<'a, S> {
     ghost use Rattle.cfganalysis.specs.Follows.{FollowSets};
 
     ghost Value = { FollowSets };
@@ -85,7 +99,7 @@ impl<'a, S: Storage> Model for FollowAnalysis<'a, S> {
     ghost view = { λ x. record { firsts = x.firsts.now; follows = x.follows } };
 }
 
-impl<'a, S: Storage> FollowAnalysis<'a, S> {
+impl<'a, S: Storage> GrowingFollows<'a, S> {
     /// Puts what begins the symbol behind the rule, and tells whether that changed anything.
     fn put_first(&mut self, before: RIdx<S>, symbol: Symbol<S>) -> bool
         requires { (g : Grammar) × FitFollows g self.old × (S.number before.0 < g.rules)
@@ -103,7 +117,8 @@ impl<'a, S: Storage> FollowAnalysis<'a, S> {
 
     /// Puts what follows the rule behind the other, and tells whether that changed anything.
     fn put_follows(&mut self, before: RIdx<S>, rule: RIdx<S>) -> bool
-        requires { (g : Grammar) × FitFollows g self.old × (S.number before.0 < g.rules) × (S.number rule.0 < g.rules) }
+        requires { (g : Grammar) × FitFollows g self.old × (S.number before.0 < g.rules)
+            × (S.number rule.0 < g.rules) }
         ensures { Puts (λ r t. (r ≡ S.number before.0) × HasBit self.old.follows (S.number rule.0) t)
             self.old self.new result }
     {
@@ -111,50 +126,155 @@ impl<'a, S: Storage> FollowAnalysis<'a, S> {
             .join_row(usize::from(before), usize::from(rule))
     }
 
-    /// Puts what the rest of a production gives behind the rule that stands before it, and tells whether that changed
-    /// anything.
-    fn put_rest(&mut self, rule: RIdx<S>, before: RIdx<S>, rest: &[Symbol<S>]) -> bool
-        requires { (g : Grammar) × FitFollows g self.old × (S.number rule.0 < g.rules) × (S.number before.0 < g.rules)
-            × All (IsSymbolOf g) (map (sym_of S.number) rest.now) }
+    /// Puts what stands at the front behind the rule before it, and tells whether that changed anything.
+    fn put_front(
+        &mut self,
+        rule: RIdx<S>,
+        before: RIdx<S>,
+        front: &Front<S>,
+        gathered: &Vob,
+    ) -> bool
+        requires { (g : Grammar) × FitFollows g self.old × (S.number rule.0 < g.rules)
+            × (S.number before.0 < g.rules)
+            × IsFrontOf S.number g front.now × (length gathered.now ≡ g.tokens) }
         ensures { Puts (λ r t. (r ≡ S.number before.0)
-            × Behind self.old (S.number rule.0) (map (sym_of S.number) rest.now) t)
+            × FrontGives S.number self.old (S.number rule.0) gathered.now front.now t)
             self.old self.new result }
     {
-        let mut changed = false;
-        for symbol in rest {
-            changed |= self.put_first(before, *symbol);
-            if !self.firsts.is_empty_symbol(*symbol) {
-                return changed;
-            }
+        match front {
+            Front::End => self.put_follows(before, rule),
+            Front::Symbol(symbol) => self.put_first(before, *symbol),
+            Front::Gathered => self.follows.join(usize::from(before), gathered),
         }
-        changed | self.put_follows(before, rule)
     }
 
-    /// Puts what the rest of a production gives behind the symbol before it where that is a rule, which waits if its
-    /// set gained.
+    /// Puts what stands at the front behind the symbol before it where that is a rule, which waits if its set gained.
     fn put_behind(
         &mut self,
         rule: RIdx<S>,
         symbol: Symbol<S>,
-        rest: &[Symbol<S>],
+        front: &Front<S>,
+        gathered: &Vob,
         gained: &mut Waiting,
     )
-        requires { (g : Grammar) × FitFollows g self.old × (length gained.old ≡ g.rules) × (S.number rule.0 < g.rules)
+        requires { (g : Grammar) × FitFollows g self.old × (length gained.old ≡ g.rules)
+            × (S.number rule.0 < g.rules)
             × IsSymbolOf g (sym_of S.number symbol)
-            × All (IsSymbolOf g) (map (sym_of S.number) rest.now) }
+            × IsFrontOf S.number g front.now × (length gathered.now ≡ g.tokens) }
         ensures { PutsBehind (λ r t. (Rule r ≡ sym_of S.number symbol)
-            × Behind self.old (S.number rule.0) (map (sym_of S.number) rest.now) t)
+            × FrontGives S.number self.old (S.number rule.0) gathered.now front.now t)
             self.old self.new gained.old gained.new }
     {
         match symbol {
             Symbol::Rule(before) => {
-                if self.put_rest(rule, before, rest) {
+                if self.put_front(rule, before, front, gathered) {
                     gained.put(usize::from(before));
                 }
             }
             Symbol::Token(_) => {}
         }
     }
+
+    /// Gathers what begins the symbol, beside what was gathered.
+    fn gather_first(&self, symbol: Symbol<S>, gathered: &mut Vob)
+        requires { (g : Grammar) × FitFollows g self.now × (length gathered.old ≡ g.tokens)
+            × IsSymbolOf g (sym_of S.number symbol) }
+        ensures { Gathers (BeginsList self.now (sym_of S.number symbol ∷ [])) gathered.old gathered.new }
+    {
+        match symbol {
+            Symbol::Token(token) => gathered.set(usize::from(token), true),
+            Symbol::Rule(rule) => gathered.or(self.firsts.firsts(rule)),
+        };
+    }
+
+    /// Gathers what stands at the front, and nothing else.
+    fn gather_front(&self, rule: RIdx<S>, front: &Front<S>, gathered: &mut Vob)
+        requires { (g : Grammar) × FitFollows g self.now × (S.number rule.0 < g.rules)
+            × IsFrontOf S.number g front.now × (length gathered.old ≡ g.tokens) }
+        ensures length { length gathered.new ≡ length gathered.old }
+        ensures tokens { (t : ℕ) → (IsGathered gathered.new t
+            ↔ FrontGives S.number self.now (S.number rule.0) gathered.old front.now t) }
+    {
+        match front {
+            Front::End => {
+                gathered.set_all(false);
+                gathered.or(self.follows.row(usize::from(rule)));
+            }
+            Front::Symbol(symbol) => {
+                gathered.set_all(false);
+                self.gather_first(*symbol, gathered);
+            }
+            Front::Gathered => {}
+        }
+    }
+
+    /// The front before the symbol, where the other stands behind it. What no longer stands at one symbol is gathered.
+    fn front_before(
+        &self,
+        rule: RIdx<S>,
+        symbol: Symbol<S>,
+        front: &Front<S>,
+        gathered: &mut Vob,
+    ) -> Front<S>
+        requires { (g : Grammar) × FitFollows g self.now × (S.number rule.0 < g.rules)
+            × IsSymbolOf g (sym_of S.number symbol)
+            × IsFrontOf S.number g front.now × (length gathered.old ≡ g.tokens) }
+        ensures { StepsBack S.number self.now (S.number rule.0) (sym_of S.number symbol) front.now gathered.old
+            result gathered.new }
+    {
+        if !self.firsts.is_empty_symbol(symbol) {
+            return Front::Symbol(symbol);
+        }
+        self.gather_front(rule, front, gathered);
+        self.gather_first(symbol, gathered);
+        Front::Gathered
+    }
+
+    /// Puts what a production gives behind its rules, from its end on; those whose sets gained wait. So each of its
+    /// symbols is looked at once, however many of them vanish.
+    fn take_in(
+        &mut self,
+        rule: RIdx<S>,
+        symbols: &[Symbol<S>],
+        gathered: &mut Vob,
+        gained: &mut Waiting,
+    )
+        requires { (g : Grammar) × IsGrammar g × SayFollows g self.old × NoneWaits gained.old
+            × (length gained.old ≡ g.rules)
+            × (length gathered.old ≡ g.tokens)
+            × Contains g.productions (record { rule = S.number rule.0; symbols = map (sym_of S.number) symbols.now }) }
+        ensures takes { TakesIn SayFollows HaveFollowsOf count_follows IsOwner HasNoMoreFollows
+            (record { rule = S.number rule.0; symbols = map (sym_of S.number) symbols.now })
+            self.old self.new (Waits gained.new) }
+        ensures rules { length gained.new ≡ length gained.old }
+        ensures columns { self.new.follows.columns ≡ self.old.follows.columns }
+        ensures gathered { length gathered.new ≡ length gathered.old }
+    {
+        let mut front = Front::End;
+        for place in (0..symbols.len()).rev() {
+            let symbol = symbols[place];
+            self.put_behind(rule, symbol, &front, gathered, gained);
+            front = self.front_before(rule, symbol, &front, gathered);
+        }
+    }
+}
+
+/// FOLLOW sets that grow, and a row of tokens for what a visit gathers.
+#[derive(Drop)]
+struct FollowAnalysis<'a, S: Storage> {
+    sets: GrowingFollows<'a, S>,
+    gathered: Vob,
+}
+
+impl<'a, S: Storage> Model for FollowAnalysis<'a, S> {
+    ghost use Rattle.std.specs.Prelude.{◌≡◌, length};
+    ghost use Rattle.cfganalysis.specs.Follows.{FollowSets};
+
+    ghost Value = { FollowSets };
+
+    ghost view = { λ x. x.sets };
+
+    ghost invariant = { λ x. length x.gathered ≡ x.sets.follows.columns };
 }
 
 impl<'a, S: Storage> Analysis<S> for FollowAnalysis<'a, S> {
@@ -178,24 +298,25 @@ impl<'a, S: Storage> Analysis<S> for FollowAnalysis<'a, S> {
         users: &mut Users,
     ) -> Result<(), AllocError>
         requires { (g : Grammar) × IsGrammar g × (length users.old ≡ g.rules)
-            × Contains g.productions (record { rule = S.number rule.0; symbols = map (sym_of S.number) _symbols.now }) }
+            × Contains g.productions
+            (record { rule = S.number rule.0; symbols = map (sym_of S.number) _symbols.now }) }
         ensures { IfOk result (λ _. Notes production
-            (IsOwner (record { rule = S.number rule.0; symbols = map (sym_of S.number) _symbols.now })) users.old users.new) }
+            (IsOwner (record { rule = S.number rule.0; symbols = map (sym_of S.number) _symbols.now }))
+            users.old users.new) }
     {
         users.note(usize::from(rule), production)
     }
 
     fn visit(&mut self, rule: RIdx<S>, symbols: &[Symbol<S>], gained: &mut Waiting)
-        requires { (g : Grammar) × IsGrammar g × SayFollows g self.old × NoneWaits gained.old × (length gained.old ≡ g.rules)
+        requires { (g : Grammar) × IsGrammar g × SayFollows g self.old × NoneWaits gained.old
+            × (length gained.old ≡ g.rules)
             × Contains g.productions (record { rule = S.number rule.0; symbols = map (sym_of S.number) symbols.now }) }
         ensures takes { TakesIn SayFollows HaveFollowsOf count_follows IsOwner HasNoMoreFollows
             (record { rule = S.number rule.0; symbols = map (sym_of S.number) symbols.now })
             self.old self.new (Waits gained.new) }
         ensures rules { length gained.new ≡ length gained.old }
     {
-        for place in 0..symbols.len() {
-            self.put_behind(rule, symbols[place], &symbols[place + 1..], gained);
-        }
+        self.sets.take_in(rule, symbols, &mut self.gathered, gained);
     }
 }
 
@@ -210,7 +331,8 @@ pub fn follows_over<S: Storage, P: Productions<S>>(
     firsts: &YaccFirsts<S>,
 ) -> Result<YaccFollows<S>, AllocError>
     requires firsts { AreFirsts (P.content productions.old) firsts.now }
-    requires fresh { (q : ℕ) → q < length (P.content productions.old).productions → P.opened productions.old q ≡ 0 }
+    requires fresh { (q : ℕ) → q < length (P.content productions.old).productions
+        → P.opened productions.old q ≡ 0 }
     requires all_fresh { P.opened_all productions.old ≡ 0 }
     ensures follows { IfOk result (AreFollows (P.content productions.old)) }
     ensures content { P.content productions.new ≡ P.content productions.old }
@@ -222,11 +344,13 @@ pub fn follows_over<S: Storage, P: Productions<S>>(
     let tokens = productions.tokens_len().0.to_usize();
     let mut follows = BitTable::new(alloc, rules, tokens)?;
     let _ = follows.set(0, tokens - 1);
-    let mut analysis = FollowAnalysis { firsts, follows };
+    let mut analysis = FollowAnalysis {
+        sets: GrowingFollows { firsts, follows },
+        gathered: Vob::from_elem(alloc, false, tokens)?,
+    };
     settle(alloc, productions, &mut analysis)?;
-    let FollowAnalysis { firsts: _, follows } = analysis;
     Ok(YaccFollows {
-        follows,
+        follows: analysis.sets.follows,
         storage: PhantomData,
     })
 }

@@ -44,11 +44,13 @@ pub trait Analysis<S: Storage> {
         requires { (g : Grammar) × IsGrammar g × (length users.old ≡ g.rules)
             × Contains g.productions (record { rule = S.number rule.0; symbols = map (sym_of S.number) symbols.now }) }
         ensures { IfOk result (λ _. Notes production
-            (rests_on (record { rule = S.number rule.0; symbols = map (sym_of S.number) symbols.now })) users.old users.new) };
+            (rests_on (record { rule = S.number rule.0; symbols = map (sym_of S.number) symbols.now }))
+            users.old users.new) };
 
     /// Adds what a production gives, and lets the rules wait whose sets gained.
     fn visit(&mut self, rule: RIdx<S>, symbols: &[Symbol<S>], gained: &mut Waiting)
-        requires { (g : Grammar) × IsGrammar g × holds g self.old × NoneWaits gained.old × (length gained.old ≡ g.rules)
+        requires { (g : Grammar) × IsGrammar g × holds g self.old × NoneWaits gained.old
+            × (length gained.old ≡ g.rules)
             × Contains g.productions (record { rule = S.number rule.0; symbols = map (sym_of S.number) symbols.now }) }
         ensures takes { TakesIn holds covers bits rests_on no_more
             (record { rule = S.number rule.0; symbols = map (sym_of S.number) symbols.now })
@@ -78,5 +80,5 @@ pub(crate) fn take_in<S: Storage, A: Analysis<S>>(
     ensures rules { length work.new.gained ≡ length work.old.gained }
 {
     analysis.visit(rule, symbols, &mut work.gained);
-    work.queue_users();
+    work.let_users_wait();
 }

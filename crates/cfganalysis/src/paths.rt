@@ -1,6 +1,7 @@
 //! Paths from rule to rule, by references.
 
-ghost use Rattle.std.specs.Prelude.{◌≡◌, ◌<◌, ◌↔◌, [], ◌∷◌, ◌++◌, All, Contains, None, Some, false, length, map, replicate, slice_index_or, IfOk, IsTrue, MatchOption};
+ghost use Rattle.std.specs.Prelude.{◌≡◌, ◌<◌, ◌↔◌, [], ◌∷◌, ◌++◌, All, Contains, None, Some};
+ghost use Rattle.std.specs.Prelude.{false, length, map, replicate, slice_index_or, IfOk, IsTrue, MatchOption};
 ghost use Rattle.derivation.specs.Grammar.{Grammar, HasProduction, IsSymbolOf, Rule};
 ghost use Rattle.derivation.specs.Path.{Holds, Path};
 ghost use Rattle.cfganalysis.specs.Paths.{Reaches};

@@ -53,7 +53,8 @@ pub trait Productions<S: Storage> {
         requires in_range { S.number p.0 < length (content self.old).productions }
         requires countable { opened self.old (S.number p.0) < 2 ^ 64 - 1 }
         requires all_countable { opened_all self.old < 2 ^ 128 - 1 }
-        ensures symbols { map (sym_of S.number) result.now ≡ (nth_production (content self.old) (S.number p.0)).symbols }
+        ensures symbols { map (sym_of S.number) result.now
+            ≡ (nth_production (content self.old) (S.number p.0)).symbols }
         ensures* counts { sem 𝓛 (Rests Self.row self.entry (λ new.
             OpensOne (S.number p.0) (content self.old) (content new) (opened self.old) (opened new)
             (opened_all self.old) (opened_all new))) };

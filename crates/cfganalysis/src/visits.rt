@@ -1,7 +1,8 @@
 //! Visits of productions, till none gives more. A production is visited again only where the set of a rule that it
 //! rests on has gained (Nielson, Nielson and Hankin, Principles of Program Analysis, 6.1).
 
-ghost use Rattle.std.specs.Prelude.{◌≡◌, ℕ, ◌+◌, ◌-◌, ◌*◌, ◌^◌, ◌<◌, ◌≤◌, length, IfOk, MatchBool, OnErr, OnOk};
+ghost use Rattle.std.specs.Prelude.{◌≡◌, ℕ, ◌+◌, ◌-◌, ◌*◌, ◌^◌, ◌<◌, ◌≤◌, length};
+ghost use Rattle.std.specs.Prelude.{IfOk, MatchBool, OnErr, OnOk};
 ghost use Rattle.derivation.specs.Grammar.{Grammar, IsGrammar};
 ghost use Rattle.cfganalysis.specs.Growth.{Visited, left_to_do};
 ghost use Rattle.cfganalysis.specs.Openings.{OpensOne, most_openings, most_openings_all};
@@ -33,8 +34,10 @@ fn visit_first<S: Storage, P: Productions<S>, A: Analysis<S>>(
     requires visited { Visited A.holds A.covers A.bits A.rests_on (P.content productions.old) number analysis.old
         work.old.users work.old.waiting work.old.gained (P.opened productions.old) (P.opened_all productions.old) }
     ensures opens { OpensOne number (P.content productions.old) (P.content productions.new)
-        (P.opened productions.old) (P.opened productions.new) (P.opened_all productions.old) (P.opened_all productions.new) }
-    ensures visited { IfOk result (λ _. Visited A.holds A.covers A.bits A.rests_on (P.content productions.old) (number + 1) analysis.new
+        (P.opened productions.old) (P.opened productions.new)
+        (P.opened_all productions.old) (P.opened_all productions.new) }
+    ensures visited { IfOk result (λ _. Visited A.holds A.covers A.bits A.rests_on
+        (P.content productions.old) (number + 1) analysis.new
         work.new.users work.new.waiting work.new.gained (P.opened productions.new) (P.opened_all productions.new)) }
     ensures refused { OnErr result (analysis.new ≡ analysis.old) }
 {
@@ -65,7 +68,8 @@ fn visit_each<S: Storage, P: Productions<S>, A: Analysis<S>>(
     requires visited { Visited A.holds A.covers A.bits A.rests_on (P.content productions.old) 0 analysis.old
         work.old.users work.old.waiting work.old.gained (P.opened productions.old) (P.opened_all productions.old) }
     ensures content { P.content productions.new ≡ P.content productions.old }
-    ensures visited { IfOk result (λ _. Visited A.holds A.covers A.bits A.rests_on (P.content productions.old) prods_len analysis.new
+    ensures visited { IfOk result (λ _. Visited A.holds A.covers A.bits A.rests_on
+        (P.content productions.old) prods_len analysis.new
         work.new.users work.new.waiting work.new.gained (P.opened productions.new) (P.opened_all productions.new)) }
     ensures refused { OnErr result (A.holds (P.content productions.old) analysis.new) }
     ensures counts { OnErr result ((q : ℕ) → q < length (P.content productions.old).productions
@@ -122,7 +126,8 @@ pub fn settle<S: Storage, P: Productions<S>, A: Analysis<S>>(
     requires grammar { IsGrammar (P.content productions.old) }
     requires small { most_openings (P.content productions.old) < 2 ^ 64 - 1 }
     requires holds { A.holds (P.content productions.old) analysis.old }
-    requires fresh { (q : ℕ) → q < length (P.content productions.old).productions → P.opened productions.old q ≡ 0 }
+    requires fresh { (q : ℕ) → q < length (P.content productions.old).productions
+        → P.opened productions.old q ≡ 0 }
     requires all_fresh { P.opened_all productions.old ≡ 0 }
     ensures content { P.content productions.new ≡ P.content productions.old }
     ensures holds { A.holds (P.content productions.old) analysis.new }

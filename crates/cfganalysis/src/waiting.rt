@@ -1,34 +1,33 @@
-//! A queue in which each number stands at most once.
+//! A stack in which each number stands at most once.
 
 ghost use Rattle.std.specs.Prelude.{◌≡◌, ◌<◌, true, false, length, replicate, slice_set, IfOk, MatchOption};
 ghost use Rattle.cfganalysis.specs.Waiting.{Leaves, NoneWaits};
 
 use cfgindex::Vob;
 use std::alloc::{AllocError, Global};
-use std::collections::VecDeque;
 use std::marker::Model;
 
-/// Numbers below a bound that wait, first come, first served. A number that waits already isn't put there again.
+/// Numbers below a bound that wait, last come, first served. A number that waits already isn't put there again, and
+/// keeps its place.
 #[derive(Drop)]
 pub struct Waiting {
     bits: Vob,
-    queue: VecDeque<usize>,
+    stack: Vec<usize>,
 }
 
 impl Model for Waiting {
-    ghost use Rattle.std.specs.Prelude.{◌≤◌, List, Bool, length};
-    ghost use Rattle.std.specs.VecDeque.{deque_capacity};
-    ghost use Rattle.cfganalysis.specs.Waiting.{IsQueue};
+    ghost use Rattle.std.specs.Prelude.{◌≤◌, List, Bool, length, vec_capacity};
+    ghost use Rattle.cfganalysis.specs.Waiting.{IsStack};
 
     ghost Value = { List Bool };
 
     ghost view = { λ x. x.bits };
 
-    ghost invariant = { λ x. IsQueue x.bits x.queue.items × (length x.bits ≤ deque_capacity x.queue) };
+    ghost invariant = { λ x. IsStack x.bits x.stack.items × (length x.bits ≤ vec_capacity x.stack) };
 }
 
 impl Waiting {
-    /// A queue for numbers below the bound, in which none waits. Nothing that is done with it later wants memory.
+    /// A stack for numbers below the bound, in which none waits. Nothing that is done with it later wants memory.
     ///
     /// # Errors
     ///
@@ -38,25 +37,26 @@ impl Waiting {
     {
         Ok(Waiting {
             bits: Vob::from_elem(alloc, false, bound)?,
-            queue: VecDeque::with_capacity(alloc, bound)?,
+            stack: Vec::with_capacity(alloc, bound)?,
         })
     }
 
-    /// Lets the number wait, behind all that wait already.
+    /// Lets the number wait, before all that wait already.
     pub fn put(&mut self, number: usize)
         requires { number < length self.old }
         ensures { self.new ≡ slice_set self.old number true }
     {
         if self.bits.set(number, true) {
-            self.queue.push_back_reserved(number);
+            self.stack.push_reserved(number);
         }
     }
 
-    /// The number that has waited longest, which then waits no longer.
+    /// The number that came last, which then waits no longer.
     pub fn next(&mut self) -> Option<usize>
-        ensures { MatchOption result (NoneWaits self.old × (self.new ≡ self.old)) (λ n. Leaves n self.old self.new) }
+        ensures { MatchOption result (NoneWaits self.old × (self.new ≡ self.old))
+            (λ n. Leaves n self.old self.new) }
     {
-        let number = self.queue.pop_front()?;
+        let number = self.stack.pop()?;
         self.bits.set(number, false);
         Some(number)
     }

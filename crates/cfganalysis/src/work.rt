@@ -2,7 +2,7 @@
 
 ghost use Rattle.std.specs.Prelude.{◌≡◌, ◌<◌, ℕ, [], false, length, replicate, Contains, IfOk};
 ghost use Rattle.cfganalysis.specs.Waiting.{NoneWaits, Waits};
-ghost use Rattle.cfganalysis.specs.Work.{Notes, Queues, users_of};
+ghost use Rattle.cfganalysis.specs.Work.{Notes, LetsWait, users_of};
 
 use crate::waiting::Waiting;
 use std::alloc::{AllocError, Global};
@@ -53,10 +53,10 @@ impl Users {
     }
 
     /// Lets the productions wait that rest on the rule.
-    fn queue(&self, rule: usize, waiting: &mut Waiting)
+    fn let_wait(&self, rule: usize, waiting: &mut Waiting)
         requires rule { rule < length self.now }
         requires within { (p : ℕ) → Contains (users_of self.now rule) p → p < length waiting.old }
-        ensures { Queues self.now (λ r. r ≡ rule) waiting.old waiting.new }
+        ensures { LetsWait self.now (λ r. r ≡ rule) waiting.old waiting.new }
     {
         for production in &self.lists[rule] {
             waiting.put(*production);
@@ -96,16 +96,16 @@ impl Work {
     }
 
     /// Lets the productions wait that rest on rules that gained, and forgets these.
-    pub(crate) fn queue_users(&mut self)
+    pub(crate) fn let_users_wait(&mut self)
         requires gained { length self.old.gained ≡ length self.old.users }
         requires within { (r p : ℕ) → Contains (users_of self.old.users r) p → p < length self.old.waiting }
         ensures users { self.new.users ≡ self.old.users }
-        ensures waiting { Queues self.old.users (Waits self.old.gained) self.old.waiting self.new.waiting }
+        ensures waiting { LetsWait self.old.users (Waits self.old.gained) self.old.waiting self.new.waiting }
         ensures gained { NoneWaits self.new.gained }
         ensures rules { length self.new.gained ≡ length self.old.gained }
     {
         while let Some(rule) = self.gained.next() {
-            self.users.queue(rule, &mut self.waiting);
+            self.users.let_wait(rule, &mut self.waiting);
         }
     }
 }

@@ -79,6 +79,18 @@ impl Vob {
         has_bit(word, i % 64) != bit
     }
 
+    /// Makes each bit be `bit`.
+    pub fn set_all(&mut self, bit: bool)
+        ensures { self.new ≡ replicate (length self.old) bit }
+    {
+        if self.len == 0 {
+            return;
+        }
+        let word = filled(bit);
+        fill(self.words.as_mut_slice(), word);
+        self.words[(self.len - 1) / 64] = word >> (63 - (self.len - 1) % 64);
+    }
+
     /// Turns on each bit that `other` has on, and tells whether that changed any.
     pub fn or(&mut self, other: &Vob) -> bool
         requires { length self.old ≡ length other.now }
@@ -111,6 +123,15 @@ fn filled(bit: bool) -> u64
     ensures { result ≡ (if bit then 2 ^ 64 - 1 else 0) }
 {
     if bit { u64::MAX } else { 0 }
+}
+
+/// Makes each of the words be `word`.
+fn fill(words: &mut [u64], word: u64)
+    ensures { words.new ≡ replicate (length words.old) word }
+{
+    for place in 0..words.len() {
+        words[place] = word;
+    }
 }
 
 /// Whether a word's bit is on.

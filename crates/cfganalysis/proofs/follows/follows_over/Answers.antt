@@ -12,5 +12,6 @@ settle-requires-clause-holds g c =
 
 pub returns-clause-follows : goal.returns-clause-follows
 returns-clause-follows g c =
-    subst (λ x. AreFollows (g.P.Productions.content c.args.productions.now) x.follows) (sym c.analysis.view_is)
+    subst (λ x. AreFollows (g.P.Productions.content c.args.productions.now) x)
+    (sym (ap (λ x. x.sets.follows) c.analysis-inside.view_is ∙ ap (λ x. x.follows) c.analysis.view_is))
     (are_follows _ _ c.in_ok-settle.ensures.holds c.in_ok-settle.ensures.settled)

@@ -1,15 +1,15 @@
 use Rattle.std.proofs.Common.{false, length, arith, sym, ap, subst, length-set}
-use Rattle.cfganalysis.specs.Waiting.{IsQueue}
-use Rattle.cfganalysis.proofs.Queueing.{first_within, queue_next}
+use Rattle.cfganalysis.specs.Waiting.{IsStack}
+use Rattle.cfganalysis.proofs.Stacking.{last_within, stack_next}
 use Rattle.cfganalysis.proofs.waiting.Waiting.next.Goals as goal
 
 pub set-requires : goal.set-requires
-set-requires c = first_within _ _ c.self.invariant.0 _ _ c.in_ok-number.ensures.items
+set-requires c = last_within _ _ c.self.invariant.0 _ _ c.in_ok-number.ensures.items
 
 pub invariant_of-self-2 : goal.invariant_of-self-2
 invariant_of-self-2 c =
     let x = c.self.inside.bits in
     let n = c.in_ok-number.number in (
-      subst (λ l. IsQueue l c.pop_front.new.self.items) (sym c.set.ensures.bits) (queue_next _ _ c.self.invariant.0 _ _ c.in_ok-number.ensures.items),
-      omega (arith, c.self.invariant.1, c.pop_front.ensures.capacity, ap length c.set.ensures.bits, length-set x n false),
+      subst (λ l. IsStack l c.pop.new.self.items) (sym c.set.ensures.bits) (stack_next _ _ c.self.invariant.0 _ _ c.in_ok-number.ensures.items),
+      omega (arith, c.self.invariant.1, c.pop.ensures.capacity, ap length c.set.ensures.bits, length-set x n false),
     )

@@ -1,4 +1,4 @@
--- A queue in which each number stands at most once: one number more, and one less.
+-- A stack in which each number stands at most once: one number more, and one less.
 use Rattle.std.proofs.Common.{◌≡◌, ℕ, ◌+◌, ◌<◌, Bool, true, false, cond, eqb, List, [], ◌∷◌, ◌++◌, length, get_or, slice_set, slice_get, Some, count_by, arith, refl, sym, ap, ◌∙◌, subst, true≢false, length-set, replicate, zero, suc, eq-eqb, get_or-set_same, get_or-set_other, inl, inr}
 use Rattle.std.proofs.lemmas.Bool.{cases_eq, ne_eqb}
 use Rattle.std.proofs.lemmas.List.{length_push}
@@ -6,7 +6,7 @@ use Rattle.std.proofs.lemmas.List.Sums.{sum_by-cons, sum_by_push, sum_by-set, co
 use Rattle.std.proofs.lemmas.Option.{get_or_from_slice_get}
 use Rattle.lemmas.proofs.Elements.{get_or-replicate_default, within_from_get_or, set-slice_get}
 use Rattle.cfganalysis.specs.Table.{bits_on}
-use Rattle.cfganalysis.specs.Waiting.{waits, Waits, NoneWaits, IsQueue}
+use Rattle.cfganalysis.specs.Waiting.{waits, Waits, NoneWaits, IsStack}
 use Rattle.cfganalysis.proofs.OneBit.{bits_on-set}
 
 -- one bit fewer
@@ -20,31 +20,31 @@ pub bits_on-none : (bound : ℕ) → bits_on (replicate bound false) ≡ 0
 bits_on-none zero = refl
 bits_on-none (suc n) = let e = sum_by-cons (λ (b : Bool). cond b 1 0) false (replicate n false) in omega (arith, e, bits_on-none n)
 
-pub queue_none : (bound : ℕ) → IsQueue (replicate bound false) []
-queue_none bound = record {
+pub stack_none : (bound : ℕ) → IsStack (replicate bound false) []
+stack_none bound = record {
   once = λ n. sym (ap (λ b. cond b 1 0) (get_or-replicate_default bound n false));
   together = sym (bits_on-none bound);
 }
 
-module _ (x : List Bool) (queue : List ℕ) (is : IsQueue x queue) where
+module _ (x : List Bool) (stack : List ℕ) (is : IsStack x stack) where
   -- where a number doesn't wait there is room for it
-  pub queue_room : (n : ℕ) → n < length x → slice_get x n ≡ Some false → length queue < length x
-  queue_room n lt off =
+  pub stack_room : (n : ℕ) → n < length x → slice_get x n ≡ Some false → length stack < length x
+  stack_room n lt off =
       let e = bits_on-set x n lt (get_or_from_slice_get x n false false off) in
       let most = count_by-le-length (λ (b : Bool). b) (slice_set x n true) in
       let k = is.together in
       omega (arith, e, most, k, length-set x n true)
 
-  pub queue_put : (n : ℕ) → n < length x → slice_get x n ≡ Some false → IsQueue (slice_set x n true) (queue ++ n ∷ [])
-  queue_put n lt off = record {
-    once = λ m. sum_by_push (λ k. cond (eqb k m) 1 0) queue n ∙ one m;
-    together = let e = bits_on-set x n lt here in let l = length_push queue n in let k = is.together in omega (arith, e, l, k);
+  pub stack_put : (n : ℕ) → n < length x → slice_get x n ≡ Some false → IsStack (slice_set x n true) (stack ++ n ∷ [])
+  stack_put n lt off = record {
+    once = λ m. sum_by_push (λ k. cond (eqb k m) 1 0) stack n ∙ one m;
+    together = let e = bits_on-set x n lt here in let l = length_push stack n in let k = is.together in omega (arith, e, l, k);
   }
     where
       here : waits x n ≡ false
       here = get_or_from_slice_get x n false false off
 
-      one : (m : ℕ) → count_by (λ k. eqb k m) queue + cond (eqb n m) 1 0 ≡ cond (waits (slice_set x n true) m) 1 0
+      one : (m : ℕ) → count_by (λ k. eqb k m) stack + cond (eqb n m) 1 0 ≡ cond (waits (slice_set x n true) m) 1 0
       one m = elim (cases_eq m n) [
         | inl e ↦
             let k = is.once m in
@@ -62,42 +62,42 @@ module _ (x : List Bool) (queue : List ℕ) (is : IsQueue x queue) where
       ]
 
   -- a number that waits isn't put there again
-  pub queue_again : (n : ℕ) → slice_get x n ≡ Some true → IsQueue (slice_set x n true) queue
-  queue_again n on = subst (λ l. IsQueue l queue) (sym (set-slice_get x n true on)) is
+  pub stack_again : (n : ℕ) → slice_get x n ≡ Some true → IsStack (slice_set x n true) stack
+  stack_again n on = subst (λ l. IsStack l stack) (sym (set-slice_get x n true on)) is
 
-  -- where the queue is empty no number waits
-  pub queue_empty : queue ≡ [] → NoneWaits x
-  queue_empty e n = off (waits x n) (sym (is.once n) ∙ ap (λ l. count_by (λ m. eqb m n) l) e)
+  -- where the stack is empty no number waits
+  pub stack_empty : stack ≡ [] → NoneWaits x
+  stack_empty e n = off (waits x n) (sym (is.once n) ∙ ap (λ l. count_by (λ m. eqb m n) l) e)
     where
       off : (b : Bool) → ◌≡◌ {A = ℕ} (cond b 1 0) 0 → b ≡ false
       off true h = absurd (omega (arith, h))
       off false h = refl
 
-  module _ (n : ℕ) (rest : List ℕ) (first : queue ≡ n ∷ rest) where
-    counted : (m : ℕ) → cond (eqb n m) 1 0 + count_by (λ k. eqb k m) rest ≡ cond (waits x m) 1 0
-    counted m = sym (sum_by-cons (λ k. cond (eqb k m) 1 0) n rest) ∙ ap (λ l. count_by (λ k. eqb k m) l) (sym first) ∙ is.once m
+  module _ (n : ℕ) (rest : List ℕ) (last : stack ≡ rest ++ n ∷ []) where
+    counted : (m : ℕ) → count_by (λ k. eqb k m) rest + cond (eqb n m) 1 0 ≡ cond (waits x m) 1 0
+    counted m = sym (sum_by_push (λ k. cond (eqb k m) 1 0) rest n) ∙ ap (λ l. count_by (λ k. eqb k m) l) (sym last) ∙ is.once m
 
-    pub first_waits : Waits x n
-    first_waits = on (waits x n) (counted n)
+    pub last_waits : Waits x n
+    last_waits = on (waits x n) (counted n)
       where
-        on : (b : Bool) → cond (eqb n n) 1 0 + count_by (λ k. eqb k n) rest ≡ cond b 1 0 → b ≡ true
+        on : (b : Bool) → count_by (λ k. eqb k n) rest + cond (eqb n n) 1 0 ≡ cond b 1 0 → b ≡ true
         on true h = refl
         on false h =
             let own : ◌≡◌ {A = ℕ} (cond (eqb n n) 1 0) 1 = ap (λ b. cond b 1 0) (eq-eqb n n refl) in
             absurd (omega (arith, h, own))
 
-    pub first_within : n < length x
-    first_within = within_from_get_or x n false (λ e. true≢false (sym first_waits ∙ e))
+    pub last_within : n < length x
+    last_within = within_from_get_or x n false (λ e. true≢false (sym last_waits ∙ e))
 
-    pub queue_next : IsQueue (slice_set x n false) rest
-    queue_next = record {
+    pub stack_next : IsStack (slice_set x n false) rest
+    stack_next = record {
       once = λ m. elim (cases_eq m n) [
         | inl e ↦
             let k = counted m in
-            let on : ◌≡◌ {A = ℕ} (cond (waits x m) 1 0) 1 = ap (λ b. cond b 1 0) (ap (waits x) e ∙ first_waits) in
+            let on : ◌≡◌ {A = ℕ} (cond (waits x m) 1 0) 1 = ap (λ b. cond b 1 0) (ap (waits x) e ∙ last_waits) in
             let own : ◌≡◌ {A = ℕ} (cond (eqb n m) 1 0) 1 = ap (λ b. cond b 1 0) (eq-eqb n m (sym e)) in
             let off : ◌≡◌ {A = ℕ} (cond (waits (slice_set x n false) m) 1 0) 0 =
-            ap (λ b. cond b 1 0) (ap (waits (slice_set x n false)) e ∙ get_or-set_same x n false false first_within) in
+            ap (λ b. cond b 1 0) (ap (waits (slice_set x n false)) e ∙ get_or-set_same x n false false last_within) in
             omega (arith, k, on, own, off)
         | inr ne ↦
             let k = counted m in
@@ -107,8 +107,8 @@ module _ (x : List Bool) (queue : List ℕ) (is : IsQueue x queue) where
             omega (arith, k, other, same)
       ];
       together =
-          let e = bits_on-clear x n first_within first_waits in
+          let e = bits_on-clear x n last_within last_waits in
           let k = is.together in
-          let l : length queue ≡ suc (length rest) = ap length first in
+          let l : length stack ≡ length rest + 1 = ap length last ∙ length_push rest n in
           omega (arith, e, k, l);
     }

@@ -1,0 +1,183 @@
+-- FOLLOW sets: what stands at a front of a production, and what is gathered there.
+use Rattle.std.proofs.Common.{◌≡◌, ◌↔◌, ℕ, ◌+◌, ◌<◌, ◌≤◌, ◌⊎◌, inl, inr, ◌||◌, Bool, true, false, List, [], ◌∷◌, drop, get_or, slice_set, length, replicate, All, refl, sym, ap, ◌∙◌, subst, true≢false, length-set, get_or-set_same}
+use Rattle.std.proofs.lemmas.Bool.{or_cases, or_left, or_right}
+use Rattle.std.proofs.lemmas.List.{drop_all, length-replicate}
+use Rattle.lemmas.proofs.Elements.{get_or-set, get_or-replicate_default}
+use Rattle.cfgindex.proofs.Bits.{length-union, get_or-union}
+use Rattle.derivation.specs.Grammar.{Sym, Rule, Token, Grammar, IsSymbolOf}
+use Rattle.derivation.specs.FirstSets.{Vanishes, Begins}
+use Rattle.derivation.proofs.Firsts.{vanishes_parts, vanishes_both, begins_parts}
+use Rattle.cfgindex.specs.declared.idxnewtype.Symbol.{Symbol}
+use Rattle.cfganalysis.specs.declared.follows.Front.{Front}
+use Rattle.cfganalysis.specs.declared.follows.Front.TheVariants as fronts
+use Rattle.cfganalysis.specs.Symbols.{sym_of}
+use Rattle.cfganalysis.specs.Table.{HasBit, joined, row_of}
+use Rattle.cfganalysis.specs.Firsts.{IsAmongFirsts, IsEpsilon, is_empty_symbol}
+use Rattle.cfganalysis.specs.Follows.{FollowSets, BeginsList, VanishesList, Behind, IsGathered, Gathers, FrontGives, IsFrontOf, IsEnd, StepsBack}
+use Rattle.cfganalysis.proofs.Fronts.{begins_front, begins_past, vanishes_alone, stays_alone}
+use Rattle.cfganalysis.proofs.FollowVisits.{behind_grow}
+
+-- sets that have all that others have
+abbrev pub Grows : FollowSets → FollowSets → Type 0
+Grows x y = (r t : ℕ) → HasBit x.follows r t → HasBit y.follows r t
+
+-- one token was turned on
+pub gathers_token : (x : FollowSets) (u : ℕ) (old new : List Bool) → u < length old → new ≡ slice_set old u true
+    → Gathers (BeginsList x (Token u ∷ [])) old new
+gathers_token x u old new lt put = record {
+  long = ap length put ∙ length-set old u true;
+  tokens = λ t. (to t, λ h. subst (λ l. IsGathered l t) (sym put) (elim h [ inl i ↦ kept t i | inr e ↦ given t e ]));
+}
+  where
+    to : (t : ℕ) → IsGathered new t → IsGathered old t ⊎ (u ≡ t)
+    to t h = elim (get_or-set old u t true false) [
+      | inl e ↦ inl (sym e ∙ subst (λ l. IsGathered l t) put h)
+      | inr e ↦ inr (sym e.0)
+    ]
+
+    kept : (t : ℕ) → IsGathered old t → IsGathered (slice_set old u true) t
+    kept t h = elim (get_or-set old u t true false) [ inl e ↦ e ∙ h | inr e ↦ e.1 ]
+
+    given : (t : ℕ) → u ≡ t → IsGathered (slice_set old u true) t
+    given t e = subst (λ k. IsGathered (slice_set old u true) k) e (get_or-set_same old u true false lt)
+
+-- a row was joined
+pub gathers_row : (gives : ℕ → Type 0) (row old new : List Bool) → length old ≡ length row → new ≡ joined old row
+    → ((t : ℕ) → IsGathered row t → gives t) → ((t : ℕ) → gives t → IsGathered row t) → Gathers gives old new
+gathers_row gives row old new wide put to from = record {
+  long = ap length put ∙ length-union old row wide;
+  tokens = λ t. (
+    (λ h. elim (or_cases (get_or old t false) (get_or row t false) (sym (here t) ∙ h)) [ inl i ↦ inl i | inr i ↦ inr (to t i) ]),
+    (λ h. here t ∙ elim h [
+      | inl i ↦ or_left (get_or old t false) (get_or row t false) i
+      | inr i ↦ or_right (get_or old t false) (get_or row t false) (from t i)
+    ]),
+  );
+}
+  where
+    here : (t : ℕ) → get_or new t false ≡ (get_or old t false || get_or row t false)
+    here t = ap (λ l. get_or l t false) put ∙ get_or-union old row wide t
+
+-- what begins a rule
+pub gathers_rule : (x : FollowSets) (r : ℕ) (old new : List Bool) → length old ≡ length (row_of x.firsts.firsts r)
+    → new ≡ joined old (row_of x.firsts.firsts r) → Gathers (BeginsList x (Rule r ∷ [])) old new
+gathers_rule x r old new wide put = gathers_row _ (row_of x.firsts.firsts r) old new wide put (λ t h. inl h)
+    (λ t h. elim h [ inl i ↦ i | inr i ↦ absurd i.1 ])
+
+-- gathered where nothing was
+module _ (gives : ℕ → Type 0) (old none new : List Bool) (bare : none ≡ replicate (length old) false) (w : Gathers gives none new) where
+  pub anew_long : length new ≡ length old
+  anew_long = w.long ∙ ap length bare ∙ length-replicate (length old) false
+
+  pub anew_tokens : (t : ℕ) → (IsGathered new t ↔ gives t)
+  anew_tokens t = (
+    (λ h. elim ((w.tokens t).0 h) [
+      | inl i ↦ absurd (true≢false (sym i ∙ ap (λ l. get_or l t false) bare ∙ get_or-replicate_default (length old) t false))
+      | inr i ↦ i
+    ]),
+    (λ h. (w.tokens t).1 (inr h)),
+  )
+
+-- What stands at a front before the n-th symbol: all that stood behind its place at the start, and nothing but what stands
+-- there now, or later, as sets grow.
+pub record Fronting {S : Type 0} (number : S → ℕ) (rule : ℕ) (symbols : List Sym) (n wide : ℕ) (old new : FollowSets) (front : Front S)
+    (tokens : List Bool) : Type 0 where
+  pub fits : (g : Grammar) → All (IsSymbolOf g) symbols → IsFrontOf number g front
+  pub long : length tokens ≡ wide
+  pub below : (x : FollowSets) → x.firsts ≡ old.firsts → Grows new x → (t : ℕ) → Behind old rule (drop n symbols) t
+      → FrontGives number x rule tokens front t
+  pub above : (x : FollowSets) → x.firsts ≡ old.firsts → Grows new x → (t : ℕ) → FrontGives number x rule tokens front t
+      → Behind x rule (drop n symbols) t
+
+module _ {S : Type 0} (number : S → ℕ) (rule : ℕ) where
+  -- at a symbol that doesn't vanish stands what begins it
+  pub steps_over : (x : FollowSets) (symbol : Symbol S) (front : Front S) (tokens : List Bool)
+      → is_empty_symbol x.firsts (sym_of number symbol) ≡ false
+      → StepsBack number x rule (sym_of number symbol) front tokens (fronts.Symbol symbol) tokens
+  steps_over x symbol front tokens e = record {
+    past = λ t. ((λ h. inl h), (λ h. elim h [ inl i ↦ i | inr i ↦ absurd (stays_alone x.firsts (sym_of number symbol) e i.0) ]));
+    begun = λ h. h;
+    fits = λ g is. is;
+    long = refl;
+  }
+
+  -- at one that vanishes is gathered what stands behind it too
+  pub steps_through : (x : FollowSets) (s : Sym) (front : Front S) (tokens mid tokens' : List Bool) → is_empty_symbol x.firsts s ≡ true
+      → length mid ≡ length tokens → ((t : ℕ) → (IsGathered mid t ↔ FrontGives number x rule tokens front t))
+      → Gathers (BeginsList x (s ∷ [])) mid tokens' → StepsBack number x rule s front tokens fronts.Gathered tokens'
+  steps_through x s front tokens mid tokens' e long at w = record {
+    past = λ t. (
+      (λ h. elim ((w.tokens t).0 h) [ inl i ↦ inr (vanishes_alone x.firsts s e, (at t).0 i) | inr i ↦ inl i ]),
+      (λ h. (w.tokens t).1 (elim h [ inl i ↦ inr i | inr i ↦ inl ((at t).1 i.1) ])),
+    );
+    begun = λ h. h;
+    fits = λ g is. tt;
+    long = w.long ∙ long;
+  }
+
+  gives_grow : (x y : FollowSets) (tokens : List Bool) (front : Front S) (t : ℕ) → y.firsts ≡ x.firsts → Grows x y
+      → FrontGives number x rule tokens front t → FrontGives number y rule tokens front t
+  gives_grow x y tokens fronts.End t e grow h = grow rule t h
+  gives_grow x y tokens (fronts.Symbol symbol) t e grow h =
+      subst (λ f. Begins (IsEpsilon f) (IsAmongFirsts f) (sym_of number symbol ∷ []) t) (sym e) h
+  gives_grow x y tokens fronts.Gathered t e grow h = h
+
+  gives_stays : (x y : FollowSets) (tokens : List Bool) (front : Front S) (t : ℕ) → (IsEnd front → ⊥) → y.firsts ≡ x.firsts
+      → FrontGives number y rule tokens front t → FrontGives number x rule tokens front t
+  gives_stays x y tokens fronts.End t begun e h = absurd (begun tt)
+  gives_stays x y tokens (fronts.Symbol symbol) t begun e h =
+      subst (λ f. Begins (IsEpsilon f) (IsAmongFirsts f) (sym_of number symbol ∷ []) t) e h
+  gives_stays x y tokens fronts.Gathered t begun e h = h
+
+  module _ (symbols : List Sym) where
+    pub fronting_none : (n : ℕ) (x : FollowSets) (tokens : List Bool) → length symbols ≤ n
+        → Fronting number rule symbols n (length tokens) x x fronts.End tokens
+    fronting_none n x tokens le = record {
+      fits = λ g all. tt;
+      long = refl;
+      below = λ y e grow t h. elim (subst (λ l. Behind x rule l t) (drop_all n symbols le) h) [ inl i ↦ absurd i | inr i ↦ grow rule t i.1 ];
+      above = λ y e grow t h. subst (λ l. Behind y rule l t) (sym (drop_all n symbols le)) (inr (tt, h));
+    }
+
+    -- one symbol back
+    pub fronting_one : (n wide : ℕ) (s : Sym) (rest : List Sym) (old mid new : FollowSets) (front front' : Front S) (tokens tokens' : List Bool)
+        → drop n symbols ≡ s ∷ rest → rest ≡ drop (n + 1) symbols → ((g : Grammar) → All (IsSymbolOf g) symbols → IsSymbolOf g s)
+        → Fronting number rule symbols (n + 1) wide old mid front tokens → new.firsts ≡ old.firsts → Grows mid new
+        → StepsBack number new rule s front tokens front' tokens' → Fronting number rule symbols n wide old new front' tokens'
+    fronting_one n wide s rest old mid new front front' tokens tokens' at behind of w same grew step = record {
+      fits = λ g all. step.fits g (of g all);
+      long = step.long ∙ w.long;
+      below = λ x e grow t h. gives_grow new x tokens' front' t (e ∙ sym same) grow
+          ((step.past t).1 (back t (subst (λ l. Behind old rule l t) at h)));
+      above = λ x e grow t h. subst (λ l. Behind x rule l t) (sym at)
+          (behind_grow new x rule (s ∷ rest) t (e ∙ sym same) (grow rule t)
+          (on t ((step.past t).0 (gives_stays new x tokens' front' t step.begun (e ∙ sym same) h))));
+    }
+      where
+        fronts_below : (t : ℕ) → Behind old rule rest t → FrontGives number new rule tokens front t
+        fronts_below t h = w.below new same grew t (subst (λ l. Behind old rule l t) behind h)
+
+        fronts_above : (t : ℕ) → FrontGives number new rule tokens front t → Behind new rule rest t
+        fronts_above t h = subst (λ l. Behind new rule l t) (sym behind) (w.above new same grew t h)
+
+        begins_now : (t : ℕ) → BeginsList old (s ∷ []) t → BeginsList new (s ∷ []) t
+        begins_now t h = subst (λ f. Begins (IsEpsilon f) (IsAmongFirsts f) (s ∷ []) t) (sym same) h
+
+        vanishes_now : VanishesList old (s ∷ []) → VanishesList new (s ∷ [])
+        vanishes_now h = subst (λ f. Vanishes (IsEpsilon f) (s ∷ [])) (sym same) h
+
+        back : (t : ℕ) → Behind old rule (s ∷ rest) t
+            → BeginsList new (s ∷ []) t ⊎ (VanishesList new (s ∷ []) × FrontGives number new rule tokens front t)
+        back t (inl h) = elim (begins_parts _ _ (s ∷ []) rest t h) [
+          | inl i ↦ inl (begins_now t i)
+          | inr i ↦ inr (vanishes_now i.0, fronts_below t (inl i.1))
+        ]
+        back t (inr h) = let v = vanishes_parts _ (s ∷ []) rest h.0 in inr (vanishes_now v.0, fronts_below t (inr (v.1, h.1)))
+
+        on : (t : ℕ) → BeginsList new (s ∷ []) t ⊎ (VanishesList new (s ∷ []) × FrontGives number new rule tokens front t)
+            → Behind new rule (s ∷ rest) t
+        on t (inl h) = inl (begins_front _ _ (s ∷ []) rest t h)
+        on t (inr h) = elim (fronts_above t h.1) [
+          | inl i ↦ inl (begins_past _ _ (s ∷ []) rest t h.0 i)
+          | inr i ↦ inr (vanishes_both _ (s ∷ []) rest h.0 i.0, i.1)
+        ]

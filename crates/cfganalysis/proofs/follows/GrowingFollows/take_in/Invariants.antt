@@ -1,0 +1,12 @@
+use Rattle.std.proofs.Common.{map, length}
+use Rattle.cfganalysis.specs.Symbols.{sym_of}
+use Rattle.cfganalysis.proofs.FollowVisits.{Flowing}
+use Rattle.cfganalysis.proofs.Gathering.{Fronting}
+use Rattle.cfganalysis.proofs.follows.GrowingFollows.take_in.Given as goal
+
+abbrev pub invariant-loop-place : goal.invariant-loop-place
+invariant-loop-place g l = record {
+  flowing : Flowing (g.S.Storage.number l.rule.0) (map (sym_of g.S.Storage.number) l.symbols) l.place l.fn.self l.self l.fn.gained l.gained;
+  fronting : Fronting g.S.Storage.number (g.S.Storage.number l.rule.0) (map (sym_of g.S.Storage.number) l.symbols) l.place (length l.fn.gathered)
+      l.fn.self l.self l.front l.gathered;
+}
