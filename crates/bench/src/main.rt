@@ -1,8 +1,9 @@
-//! How long each phase of the library takes on the grammar of a file: a program for `tools/bench`, which makes the files.
+//! How long each phase of the library takes on the grammar of a file: a program for `tools/bench`, which makes the
+//! files.
 //!
-//! Its words are a file, and `times` behind it. For each phase it writes a line as soon as the phase has ended: its name,
-//! how much it found, and with `times` how many microseconds it took. The merge gate asks for no times, since what it
-//! compares has to be the same in each run.
+//! Its words are a file, and `times` behind it. For each phase it writes a line as soon as the phase has ended: its
+//! name, how much it found, and with `times` how many microseconds it took. The merge gate asks for no times, since
+//! what it compares has to be the same in each run.
 #![tactic(auto)]
 
 mod phases;

@@ -2,7 +2,9 @@ ghost use Rattle.std.specs.Prelude.{◌≡◌, ◌↔◌, map, option_map, IfOk,
 ghost use Rattle.std.specs.Map.{lookup};
 ghost use Rattle.std.specs.Str.{bytes_eq};
 ghost use Rattle.std.specs.String.{string_bytes};
-ghost use Rattle.cfgast.specs.View.{production_view, rule_view, named_view, rule_entry, settings_view, tables_view, precedence_entry, printed_entry, span_entry, pair_view, symbol_view, occurrence_view};
+ghost use Rattle.cfgast.specs.View.{production_view, rule_view, named_view, rule_entry, settings_view, tables_view};
+ghost use Rattle.cfgast.specs.View.{precedence_entry, printed_entry, span_entry, pair_view, symbol_view};
+ghost use Rattle.cfgast.specs.View.{occurrence_view};
 
 use crate::occurrence::Occurrence;
 use crate::precedence::Precedence;
@@ -93,14 +95,16 @@ impl GrammarAST {
 
     /// The tokens of the `%avoid_insert` lists, each with its first place there, where there is such a list.
     pub fn avoid_insert(&self) -> &Option<IndexMap<String, Span>>
-        ensures { option_map (λ table. map span_entry table.entries) result.now ≡ (syntax self.now).tables.avoid_insert }
+        ensures { option_map (λ table. map span_entry table.entries) result.now
+            ≡ (syntax self.now).tables.avoid_insert }
     {
         &self.tables.avoid_insert
     }
 
     /// The tokens of the `%implicit_tokens` lists, each with its first place there, where there is such a list.
     pub fn implicit_tokens(&self) -> &Option<IndexMap<String, Span>>
-        ensures { option_map (λ table. map span_entry table.entries) result.now ≡ (syntax self.now).tables.implicit_tokens }
+        ensures { option_map (λ table. map span_entry table.entries) result.now
+            ≡ (syntax self.now).tables.implicit_tokens }
     {
         &self.tables.implicit_tokens
     }
@@ -194,7 +198,8 @@ impl GrammarAST {
         &self,
     ) -> Result<(IndexMap<String, Rule>, Vec<Production>, Vec<usize>), AllocError>
         ensures rules { IfOk result (λ copy. map rule_entry copy.0.entries ≡ (syntax self.now).rules) }
-        ensures productions { IfOk result (λ copy. map production_view copy.1.items ≡ (syntax self.now).productions) }
+        ensures productions { IfOk result
+            (λ copy. map production_view copy.1.items ≡ (syntax self.now).productions) }
         ensures production_rules { IfOk result (λ copy. copy.2.items ≡ (syntax self.now).production_rules) }
     {
         let production_rules = self.prods_rules.clone()?;
@@ -205,8 +210,10 @@ impl GrammarAST {
 
     // Copies of the symbols that are expected to be unused, and of the occurrences.
     fn clone_lists(&self) -> Result<(Vec<Symbol>, Vec<Occurrence>), AllocError>
-        ensures expect_unused { IfOk result (λ copy. map symbol_view copy.0.items ≡ (syntax self.now).expect_unused) }
-        ensures occurrences { IfOk result (λ copy. map occurrence_view copy.1.items ≡ (syntax self.now).occurrences) }
+        ensures expect_unused { IfOk result
+            (λ copy. map symbol_view copy.0.items ≡ (syntax self.now).expect_unused) }
+        ensures occurrences { IfOk result
+            (λ copy. map occurrence_view copy.1.items ≡ (syntax self.now).occurrences) }
     {
         let occurrences = self.occurrences.clone()?;
         let expect_unused = self.expect_unused.clone()?;

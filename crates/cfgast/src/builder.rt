@@ -1,5 +1,9 @@
 ghost use Rattle.std.specs.Prelude.{◌≡◌, List, [], ◌∷◌, ◌++◌, map, Some, string_bytes, IfOk, OnOk};
-ghost use Rattle.cfgast.specs.Items.{Item, TokenDeclared, StartDeclared, ActionTypeDeclared, PrintedFormDeclared, ExpectDeclared, ExpectReduceReduceDeclared, ExpectedUnused, ParseParamDeclared, GenericsDeclared, AvoidInsertBegun, AvoidInsertDeclared, ImplicitTokensBegun, ImplicitTokenDeclared, PrecedenceDeclared, LevelEnded, RuleSymbol, TokenSymbol, RuleBegun, RuleNamed, TokenQuoted, PrecedenceUsed, Alternative, ProgramsGiven};
+ghost use Rattle.cfgast.specs.Items.{Item, TokenDeclared, StartDeclared, ActionTypeDeclared, PrintedFormDeclared};
+ghost use Rattle.cfgast.specs.Items.{ExpectDeclared, ExpectReduceReduceDeclared, ExpectedUnused, ParseParamDeclared};
+ghost use Rattle.cfgast.specs.Items.{GenericsDeclared, AvoidInsertBegun, AvoidInsertDeclared, ImplicitTokensBegun};
+ghost use Rattle.cfgast.specs.Items.{ImplicitTokenDeclared, PrecedenceDeclared, LevelEnded, RuleSymbol, TokenSymbol};
+ghost use Rattle.cfgast.specs.Items.{RuleBegun, RuleNamed, TokenQuoted, PrecedenceUsed, Alternative, ProgramsGiven};
 ghost use Rattle.cfgast.specs.Syntax.{syntax_of, symbol_of, production_of, head_name, index_of, typed};
 ghost use Rattle.cfgast.specs.Occurrences.{of_grammar, of_token};
 ghost use Rattle.cfgast.specs.Building.{add, adds, with_first, with_rule, new_rule, is_declared};
@@ -32,7 +36,8 @@ pub struct AstBuilder {
 
 #[tactic(auto, unfolding(crate::specs::View::syntax_built, crate::specs::View::syntax, crate::specs::Building::add))]
 impl AstBuilder {
-    ghost use Rattle.cfgast.specs.View.{syntax, syntax_built, production_view, rule_view, symbol_view, word_view, token_view, head_view, body_view};
+    ghost use Rattle.cfgast.specs.View.{syntax, syntax_built, production_view, rule_view, symbol_view, word_view};
+    ghost use Rattle.cfgast.specs.View.{token_view, head_view, body_view};
 
     /// A builder that no item was added to.
     pub fn new(alloc: Global) -> Self
@@ -71,21 +76,24 @@ impl AstBuilder {
 
     /// Adds a token of a `%token` list.
     pub fn declare_token(&mut self, alloc: Global, word: Word<'_>) -> Result<(), AllocError>
-        ensures { OnOk result (syntax_built self.new ≡ add (syntax_built self.old) (TokenDeclared (word_view word.entry))) }
+        ensures { OnOk result (syntax_built self.new
+            ≡ add (syntax_built self.old) (TokenDeclared (word_view word.entry))) }
     {
         let index = self.put_token(alloc, word)?;
         self.ast.token_directives.insert(index)?;
         Ok(())
     }
 
-    /// Adds a token of a `%left`, `%right` or `%nonassoc` list, at the level of that list. The first one of its name counts.
+    /// Adds a token of a `%left`, `%right` or `%nonassoc` list, at the level of that list. The first one of its name
+    /// counts.
     pub fn declare_precedence(
         &mut self,
         alloc: Global,
         kind: AssocKind,
         word: Word<'_>,
     ) -> Result<(), AllocError>
-        ensures { OnOk result (syntax_built self.new ≡ add (syntax_built self.old) (PrecedenceDeclared kind (word_view word.entry))) }
+        ensures { OnOk result (syntax_built self.new
+            ≡ add (syntax_built self.old) (PrecedenceDeclared kind (word_view word.entry))) }
     {
         let level = self.ast.tables.levels.len() as u64;
         let precedence = Precedence { level, kind };
@@ -115,7 +123,8 @@ impl AstBuilder {
 
     /// Adds a token of an `%avoid_insert` list. The first one of its name counts.
     pub fn declare_avoid_insert(&mut self, alloc: Global, word: Word<'_>) -> Result<(), AllocError>
-        ensures { OnOk result (syntax_built self.new ≡ add (syntax_built self.old) (AvoidInsertDeclared (word_view word.entry))) }
+        ensures { OnOk result (syntax_built self.new
+            ≡ add (syntax_built self.old) (AvoidInsertDeclared (word_view word.entry))) }
     {
         self.put_token(alloc, word)?;
         put_marked(alloc, &mut self.ast.tables.avoid_insert, word)?;
@@ -135,7 +144,8 @@ impl AstBuilder {
         alloc: Global,
         word: Word<'_>,
     ) -> Result<(), AllocError>
-        ensures { OnOk result (syntax_built self.new ≡ add (syntax_built self.old) (ImplicitTokenDeclared (word_view word.entry))) }
+        ensures { OnOk result (syntax_built self.new
+            ≡ add (syntax_built self.old) (ImplicitTokenDeclared (word_view word.entry))) }
     {
         self.put_token(alloc, word)?;
         put_marked(alloc, &mut self.ast.tables.implicit_tokens, word)?;
@@ -164,7 +174,8 @@ impl AstBuilder {
 
     /// Adds a quoted token of a rule's body.
     pub fn quote_token(&mut self, alloc: Global, word: Word<'_>) -> Result<(), AllocError>
-        ensures { OnOk result (syntax_built self.new ≡ add (syntax_built self.old) (TokenQuoted (word_view word.entry))) }
+        ensures { OnOk result (syntax_built self.new
+            ≡ add (syntax_built self.old) (TokenQuoted (word_view word.entry))) }
     {
         self.put_token(alloc, word)?;
         Ok(())
@@ -172,7 +183,8 @@ impl AstBuilder {
 
     /// Adds the token that a production takes its precedence from.
     pub fn use_precedence(&mut self, alloc: Global, word: Word<'_>) -> Result<(), AllocError>
-        ensures { OnOk result (syntax_built self.new ≡ add (syntax_built self.old) (PrecedenceUsed (word_view word.entry))) }
+        ensures { OnOk result (syntax_built self.new
+            ≡ add (syntax_built self.old) (PrecedenceUsed (word_view word.entry))) }
     {
         self.put_token(alloc, word)?;
         Ok(())
@@ -180,7 +192,8 @@ impl AstBuilder {
 
     /// Adds the rule that a `%start` names: it is the start where none was named before.
     pub fn declare_start(&mut self, alloc: Global, word: Word<'_>) -> Result<(), AllocError>
-        ensures { OnOk result (syntax_built self.new ≡ add (syntax_built self.old) (StartDeclared (word_view word.entry))) }
+        ensures { OnOk result (syntax_built self.new
+            ≡ add (syntax_built self.old) (StartDeclared (word_view word.entry))) }
     {
         self.put_start(alloc, word)?;
         self.note(UniqueKind::Start, word.span)
@@ -193,7 +206,8 @@ impl AstBuilder {
         text: &str,
         span: Span,
     ) -> Result<(), AllocError>
-        ensures { OnOk result (syntax_built self.new ≡ add (syntax_built self.old) (ActionTypeDeclared (text.now, span))) }
+        ensures { OnOk result (syntax_built self.new
+            ≡ add (syntax_built self.old) (ActionTypeDeclared (text.now, span))) }
     {
         if self.ast.settings.action_type.is_none() {
             self.ast.settings.action_type = Some(String::from_str(alloc, text)?);
@@ -213,7 +227,8 @@ impl AstBuilder {
 
     /// Adds the number of a `%expect-rr`, with its place.
     pub fn declare_expect_rr(&mut self, number: (usize, Span)) -> Result<(), AllocError>
-        ensures { OnOk result (syntax_built self.new ≡ add (syntax_built self.old) (ExpectReduceReduceDeclared number)) }
+        ensures { OnOk result (syntax_built self.new
+            ≡ add (syntax_built self.old) (ExpectReduceReduceDeclared number)) }
     {
         if self.ast.settings.expectrr.is_none() {
             self.ast.settings.expectrr = Some(number);
@@ -228,7 +243,8 @@ impl AstBuilder {
         name: &str,
         kind: &str,
     ) -> Result<(), AllocError>
-        ensures { OnOk result (syntax_built self.new ≡ add (syntax_built self.old) (ParseParamDeclared (name.now, kind.now))) }
+        ensures { OnOk result (syntax_built self.new
+            ≡ add (syntax_built self.old) (ParseParamDeclared (name.now, kind.now))) }
     {
         let name = String::from_str(alloc, name)?;
         let kind = String::from_str(alloc, kind)?;
@@ -246,7 +262,8 @@ impl AstBuilder {
 
     /// Adds a rule of a `%expect-unused` list.
     pub fn expect_unused_rule(&mut self, alloc: Global, word: Word<'_>) -> Result<(), AllocError>
-        ensures { OnOk result (syntax_built self.new ≡ add (syntax_built self.old) (ExpectedUnused (RuleSymbol (word_view word.entry)))) }
+        ensures { OnOk result (syntax_built self.new
+            ≡ add (syntax_built self.old) (ExpectedUnused (RuleSymbol (word_view word.entry)))) }
     {
         let name = String::from_str(alloc, word.name)?;
         self.ast.expect_unused.push(Symbol::Rule(name, word.span))?;
@@ -255,7 +272,8 @@ impl AstBuilder {
 
     /// Adds a token of a `%expect-unused` list.
     pub fn expect_unused_token(&mut self, alloc: Global, word: Word<'_>) -> Result<(), AllocError>
-        ensures { OnOk result (syntax_built self.new ≡ add (syntax_built self.old) (ExpectedUnused (TokenSymbol (word_view word.entry)))) }
+        ensures { OnOk result (syntax_built self.new
+            ≡ add (syntax_built self.old) (ExpectedUnused (TokenSymbol (word_view word.entry)))) }
     {
         let name = String::from_str(alloc, word.name)?;
         self.ast.expect_unused.push(Symbol::Token(name, word.span))?;
@@ -272,14 +290,16 @@ impl AstBuilder {
 
     /// Adds the name of a rule: it is the start where none was named before.
     pub fn begin_rule(&mut self, alloc: Global, word: Word<'_>) -> Result<(), AllocError>
-        ensures { OnOk result (syntax_built self.new ≡ add (syntax_built self.old) (RuleBegun (word_view word.entry))) }
+        ensures { OnOk result (syntax_built self.new
+            ≡ add (syntax_built self.old) (RuleBegun (word_view word.entry))) }
     {
         self.put_start(alloc, word)
     }
 
     /// Adds a rule once its head is read. Where the head says no type of its actions, the one of all rules counts.
     pub fn name_rule(&mut self, alloc: Global, head: RuleHead<'_>) -> Result<(), AllocError>
-        ensures { OnOk result (syntax_built self.new ≡ add (syntax_built self.old) (RuleNamed (head_view head.entry))) }
+        ensures { OnOk result (syntax_built self.new
+            ≡ add (syntax_built self.old) (RuleNamed (head_view head.entry))) }
     {
         self.put_rule(alloc, head)?;
         Ok(())
@@ -352,7 +372,8 @@ impl AstBuilder {
 
     // The index of the token of this name, which is added where it is new.
     fn put_token(&mut self, alloc: Global, word: Word<'_>) -> Result<usize, AllocError>
-        ensures added { OnOk result (syntax_built self.new ≡ add (syntax_built self.old) (TokenQuoted (word_view word.entry))) }
+        ensures added { OnOk result (syntax_built self.new
+            ≡ add (syntax_built self.old) (TokenQuoted (word_view word.entry))) }
         ensures index { IfOk result (λ index. index ≡ index_of word.entry.name.now (syntax_built self.new).tokens) }
     {
         if let Some(index) = self.ast.tokens.get_index_of(word.name) {
@@ -403,7 +424,8 @@ impl AstBuilder {
     }
 
     fn production_of(&self, alloc: Global, body: Body<'_, '_>) -> Result<Production, AllocError>
-        ensures { IfOk result (λ made. production_view made ≡ production_of (is_declared (syntax_built self.now)) (body_view body.entry)) }
+        ensures { IfOk result (λ made. production_view made
+            ≡ production_of (is_declared (syntax_built self.now)) (body_view body.entry)) }
     {
         let precedence = match body.precedence {
             Some(name) => Some(String::from_str(alloc, name)?),

@@ -15,7 +15,8 @@ pub fn duplicates(
     alloc: Global,
     occurrences: &[Occurrence],
 ) -> Result<IndexMap<&Unique, Vec<Span>>, AllocError>
-    ensures { IfOk result (λ found. map duplicate_view found.entries ≡ duplicates (map occurrence_view occurrences.now)) }
+    ensures { IfOk result (λ found. map duplicate_view found.entries
+        ≡ duplicates (map occurrence_view occurrences.now)) }
 {
     let mut found = repeated(alloc, occurrences)?;
     for occurrence in occurrences {
@@ -32,7 +33,8 @@ fn repeated(
     occurrences: &[Occurrence],
 ) -> Result<IndexMap<&Unique, Vec<Span>>, AllocError>
     ensures { IfOk result (λ found. map duplicate_view found.entries
-        ≡ map (λ what. record { what = what; spans = [] }) (each_once is_same (repeats (map occurrence_view occurrences.now)))) }
+        ≡ map (λ what. record { what = what; spans = [] })
+        (each_once is_same (repeats (map occurrence_view occurrences.now)))) }
 {
     let mut declared = IndexSet::new(alloc);
     let mut again = IndexMap::new(alloc);

@@ -1,5 +1,5 @@
-//! What `==` of the tree's types compares. It is derived, so each law names the impl, as in `⟦<Symbol as PartialEq>⟧`, and
-//! holds of every value.
+//! What `==` of the tree's types compares. It is derived, so each law names the impl, as in `⟦<Symbol as PartialEq>⟧`,
+//! and holds of every value.
 
 ghost use Rattle.std.specs.Prelude.{◌≡◌, ◌↔◌, IsTrue};
 ghost use Rattle.cfgast.specs.View.{symbol_view, production_view, rule_view};
@@ -21,7 +21,8 @@ pub fn symbols_are_what_they_show()
 
 /// Productions are equal exactly where they show the same.
 pub fn productions_are_what_they_show()
-    ensures { (a b : Production) → IsTrue (⟦<Production as PartialEq>⟧.eq a b) ↔ (production_view a ≡ production_view b) }
+    ensures { (a b : Production) → IsTrue (⟦<Production as PartialEq>⟧.eq a b)
+        ↔ (production_view a ≡ production_view b) }
 {}
 
 /// Rules are equal exactly where they show the same.

@@ -98,7 +98,8 @@ pub(crate) fn put_marked(
     word: Word<'_>,
 ) -> Result<(), AllocError>
     ensures { OnOk result (option_map (λ table. map span_entry table.entries) table.new
-        ≡ with_marked (Some (Some (word_view word.entry))) (option_map (λ table. map span_entry table.entries) table.old)) }
+        ≡ with_marked (Some (Some (word_view word.entry)))
+        (option_map (λ table. map span_entry table.entries) table.old)) }
 {
     begin_marked(alloc, table);
     if let Some(entries) = table {

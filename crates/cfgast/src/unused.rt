@@ -2,7 +2,8 @@
 
 ghost use Rattle.std.specs.Prelude.{◌≡◌, ◌++◌, [], List, map, Contains, IfOk, OnOk};
 ghost use Rattle.cfgerrors.specs.Warnings.{GrammarWarning};
-ghost use Rattle.cfgast.specs.Unused.{RuleName, TokenName, name_of, entry_token, Reached, Expected, AreRuleWarnings, AreTokenWarnings, AreWarnings};
+ghost use Rattle.cfgast.specs.Unused.{RuleName, TokenName, name_of, entry_token, Reached, Expected, AreRuleWarnings};
+ghost use Rattle.cfgast.specs.Unused.{AreTokenWarnings, AreWarnings};
 ghost use Rattle.cfgast.specs.Marks.{AreMarksOf, IsOfStart, Marked, MarksMore, HeldAt, IsKnown};
 ghost use Rattle.cfgast.specs.View.{syntax, symbol_view, span_entry};
 
@@ -14,9 +15,9 @@ use indexmap::IndexMap;
 use std::alloc::{AllocError, Global};
 
 impl GrammarAST {
-    /// The rules, then the tokens, that no row of productions reaches from the start rule and that aren't expected to be
-    /// unused: each as a warning, in order, at the place of its name. Without a start rule nothing is reached. Implicit
-    /// tokens are expected to be unused; a token that `%prec` alone names isn't reached.
+    /// The rules, then the tokens, that no row of productions reaches from the start rule and that aren't expected to
+    /// be unused: each as a warning, in order, at the place of its name. Without a start rule nothing is reached.
+    /// Implicit tokens are expected to be unused; a token that `%prec` alone names isn't reached.
     ///
     /// # Errors
     ///

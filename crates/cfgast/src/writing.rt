@@ -1,6 +1,7 @@
 //! Writing a tree that is there.
 
-ghost use Rattle.std.specs.Prelude.{◌≡◌, ℕ, List, false, map, option_map, string_bytes, IsSome, IfOk, OnOk, OnErr};
+ghost use Rattle.std.specs.Prelude.{◌≡◌, ℕ, List, false, map, option_map, string_bytes, IsSome, IfOk, OnOk};
+ghost use Rattle.std.specs.Prelude.{OnErr};
 ghost use Rattle.std.specs.Map.{lookup};
 ghost use Rattle.std.specs.Str.{bytes_eq};
 ghost use Rattle.cfgast.specs.Items.{RuleHead};
@@ -8,7 +9,8 @@ ghost use Rattle.cfgast.specs.Syntax.{Syntax};
 ghost use Rattle.cfgast.specs.Building.{has_rule, listed};
 ghost use Rattle.cfgast.specs.WellFormed.{IsWellFormed};
 ghost use Rattle.cfgast.specs.View.{syntax, named_view, rule_entry, symbol_view, text_view};
-ghost use Rattle.cfgast.specs.Writing.{rule_added, production_added, programs_set, started_at, IsTree, ProductionsKeepTrees};
+ghost use Rattle.cfgast.specs.Writing.{rule_added, production_added, programs_set, started_at, IsTree};
+ghost use Rattle.cfgast.specs.Writing.{ProductionsKeepTrees};
 
 use crate::ast::GrammarAST;
 use crate::production::Production;
@@ -70,12 +72,13 @@ impl GrammarAST {
         prod_span: Span,
     ) -> Result<(), AllocError>
         requires { IsSome (lookup (bytes_eq (string_bytes rule)) (syntax self.old).rules) }
-        ensures added { OnOk result (syntax self.new ≡ production_added (syntax self.old) (string_bytes rule) (record {
-          symbols = map symbol_view symbols.items;
-          precedence = option_map string_bytes precedence;
-          action = option_map text_view action;
-          span = prod_span;
-        })) }
+        ensures added { OnOk result (syntax self.new
+            ≡ production_added (syntax self.old) (string_bytes rule) (record {
+              symbols = map symbol_view symbols.items;
+              precedence = option_map string_bytes precedence;
+              action = option_map text_view action;
+              span = prod_span;
+            })) }
         ensures unchanged { OnErr result (syntax self.new ≡ syntax self.old) }
     {
         let name = rule.as_str();
@@ -117,7 +120,8 @@ pub(crate) fn list_production(
     name: &str,
     index: usize,
 ) -> Result<(), AllocError>
-    ensures listed { OnOk result (map rule_entry rules.new.entries ≡ map (listed name.now index) (map rule_entry rules.old.entries)) }
+    ensures listed { OnOk result (map rule_entry rules.new.entries
+        ≡ map (listed name.now index) (map rule_entry rules.old.entries)) }
     ensures unchanged { OnErr result (map rule_entry rules.new.entries ≡ map rule_entry rules.old.entries) }
 {
     if let Some(rule) = rules.get_mut(name) {

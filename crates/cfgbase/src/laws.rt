@@ -24,8 +24,10 @@ pub fn spans_are_their_ends()
 /// Locations are equal exactly where they show the same: the same span, the command line, or the same words. A
 /// clone shows what its source does, and takes memory for words alone.
 pub fn locations_are_what_they_show()
-    ensures equal { (a b : Location) → IsTrue (⟦<Location as PartialEq>⟧.eq a b) ↔ (location_view a ≡ location_view b) }
-    ensures clone { (a b : Location) → ⟦<Location as Clone>⟧.is_clone a b → location_view b ≡ location_view a }
+    ensures equal { (a b : Location)
+        → IsTrue (⟦<Location as PartialEq>⟧.eq a b) ↔ (location_view a ≡ location_view b) }
+    ensures clone { (a b : Location) → ⟦<Location as Clone>⟧.is_clone a b
+        → location_view b ≡ location_view a }
     ensures cloned_span { (span : Span) → ⟦<Location as Clone>⟧.is_infallible (location.Span span) }
     ensures cloned_command_line { ⟦<Location as Clone>⟧.is_infallible location.CommandLine }
 {}

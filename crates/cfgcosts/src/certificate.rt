@@ -1,11 +1,14 @@
 //! A certificate of least costs, and what checks it.
 
-ghost use Rattle.std.specs.Prelude.{◌≡◌, ◌↔◌, ℕ, ◌<◌, ◌≤◌, List, All, EachIndex, IfSome, IsTrue, MatchOption, Some, None, length, map, min, option_map, slice_index, slice_index_or};
+ghost use Rattle.std.specs.Prelude.{◌≡◌, ◌↔◌, ℕ, ◌<◌, ◌≤◌, List, All, EachIndex, IfSome};
+ghost use Rattle.std.specs.Prelude.{IsTrue, MatchOption, Some, None, length, map, min, option_map, slice_index};
+ghost use Rattle.std.specs.Prelude.{slice_index_or};
 ghost use Rattle.derivation.specs.Grammar.{IsGrammar, HasProduction};
 ghost use Rattle.derivation.specs.Sentence.{Sentence, HasSentenceOf, cost_of};
 ghost use Rattle.cfganalysis.specs.Openings.{nth_production};
 ghost use Rattle.cfganalysis.specs.Symbols.{sym_of};
-ghost use Rattle.cfgcosts.specs.Certificate.{IsChosenBelow, IsCovered, IsListed, IsReached, RestsOn, choice_of, rule_choice, rule_cost, sum_by_lists};
+ghost use Rattle.cfgcosts.specs.Certificate.{IsChosenBelow, IsCovered, IsListed, IsReached, RestsOn, choice_of};
+ghost use Rattle.cfgcosts.specs.Certificate.{rule_choice, rule_cost, sum_by_lists};
 ghost use Rattle.cfgcosts.specs.Sums.{symbol_cost};
 
 use crate::walk::TOO_LARGE;

@@ -1,12 +1,14 @@
 //! Least costs of the rules of a grammar, and the productions that show them.
 
-ghost use Rattle.std.specs.Prelude.{◌≡◌, ◌↔◌, ℕ, ◌<◌, ◌≤◌, ◌⊎◌, List, Option, All, EachIndex, Err, IfOk, IfSome, None, Ok, length, slice_index};
+ghost use Rattle.std.specs.Prelude.{◌≡◌, ◌↔◌, ℕ, ◌<◌, ◌≤◌, ◌⊎◌, List, Option, All};
+ghost use Rattle.std.specs.Prelude.{EachIndex, Err, IfOk, IfSome, None, Ok, length, slice_index};
 ghost use Rattle.std.specs.Result.{result_ok};
 ghost use Rattle.cfgindex.specs.declared.idxnewtype.TIdx.{TIdx};
 ghost use Rattle.derivation.specs.Grammar.{HasProduction};
 ghost use Rattle.derivation.specs.Costs.{Least};
 ghost use Rattle.cfgcosts.specs.Certificate.{IsCovered, IsReached, choice_of, rule_choice, rule_cost};
-ghost use Rattle.cfgcosts.specs.Generator.{AnswersLeast, HasNone, IsLeastProduction, IsTooDear, choice_answer, cost_answer, token_cost};
+ghost use Rattle.cfgcosts.specs.Generator.{AnswersLeast, HasNone, IsLeastProduction, IsTooDear, choice_answer};
+ghost use Rattle.cfgcosts.specs.Generator.{cost_answer, token_cost};
 
 use crate::errors::CostError;
 use crate::settle::{Settled, settle};

@@ -1,6 +1,7 @@
 //! Laws of least costs, which hold of every grammar.
 
-ghost use Rattle.std.specs.Prelude.{◌≡◌, ℕ, ◌<◌, ◌≤◌, List, Option, Some, All, EachIndex, IfSome, length, slice_index};
+ghost use Rattle.std.specs.Prelude.{◌≡◌, ℕ, ◌<◌, ◌≤◌, List, Option, Some, All, EachIndex, IfSome};
+ghost use Rattle.std.specs.Prelude.{length, slice_index};
 ghost use Rattle.derivation.specs.Grammar.{Grammar, IsGrammar, HasProduction};
 ghost use Rattle.derivation.specs.Sentence.{Sentence, cost_of};
 ghost use Rattle.derivation.specs.Costs.{Least};

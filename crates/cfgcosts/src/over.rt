@@ -1,6 +1,7 @@
 //! One minimal sentence of a rule, by productions that are opened one by one.
 
-ghost use Rattle.std.specs.Prelude.{◌≡◌, ◌↔◌, ℕ, ◌+◌, ◌-◌, ◌*◌, ◌^◌, ◌<◌, ◌≤◌, ◌++◌, ◌⊎◌, Err, IfOk, IfSome, OnErr, OnOk, Some, length, map};
+ghost use Rattle.std.specs.Prelude.{◌≡◌, ◌↔◌, ℕ, ◌+◌, ◌-◌, ◌*◌, ◌^◌, ◌<◌, ◌≤◌};
+ghost use Rattle.std.specs.Prelude.{◌++◌, ◌⊎◌, Err, IfOk, IfSome, OnErr, OnOk, Some, length, map};
 ghost use Rattle.derivation.specs.Grammar.{HasProduction};
 ghost use Rattle.derivation.specs.Sentence.{cost_of};
 ghost use Rattle.derivation.specs.Costs.{Least, Minimal};
@@ -30,9 +31,11 @@ fn open_production<S: Storage, P: Productions<S>>(
     requires countable { IfSome chosen (λ p. P.opened productions.old (S.number p.0) < 2 ^ 64 - 1) }
     requires all_countable { P.opened_all productions.old < 2 ^ 128 - 1 }
     ensures pending { OnOk result (map (sym_of S.number) pending.new.items
-        ≡ map (sym_of S.number) pending.old.items ++ symbols_at (P.content productions.old) (number_of S.number chosen)) }
+        ≡ map (sym_of S.number) pending.old.items
+        ++ symbols_at (P.content productions.old) (number_of S.number chosen)) }
     ensures opens { OpensAt (number_of S.number chosen) (P.content productions.old) (P.content productions.new)
-        (P.opened productions.old) (P.opened productions.new) (P.opened_all productions.old) (P.opened_all productions.new) }
+        (P.opened productions.old) (P.opened productions.new) (P.opened_all productions.old)
+        (P.opened_all productions.new) }
 {
     match chosen {
         Some(p) => push_symbols(pending, productions.open(p)),
@@ -79,9 +82,9 @@ impl<'a, S: Storage, T: Tables<S>> SentenceGenerator<'a, S, T> {
 /// A sentence of the rule that no other of its sentences costs less than, as [`SentenceGenerator::min_sentence`] gives
 /// it, by the symbols of `productions` alone, which are the generator's.
 ///
-/// Together at most one production more is opened than the sentence's tokens times the rules. By the opened productions,
-/// each used as often as it was opened, the rule derives the sentence with rules of cost 0 between its tokens: these are
-/// never opened.
+/// Together at most one production more is opened than the sentence's tokens times the rules. By the opened
+/// productions, each used as often as it was opened, the rule derives the sentence with rules of cost 0 between its
+/// tokens: these are never opened.
 ///
 /// # Errors
 ///

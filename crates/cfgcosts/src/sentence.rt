@@ -1,6 +1,7 @@
 //! One minimal sentence of a rule, by the productions that were chosen.
 
-ghost use Rattle.std.specs.Prelude.{◌≡◌, ◌↔◌, ℕ, ◌<◌, ◌≤◌, ◌++◌, Err, IfOk, IfSome, IsTrue, OnOk, Some, length, map};
+ghost use Rattle.std.specs.Prelude.{◌≡◌, ◌↔◌, ℕ, ◌<◌, ◌≤◌, ◌++◌, Err, IfOk, IfSome, IsTrue};
+ghost use Rattle.std.specs.Prelude.{OnOk, Some, length, map};
 ghost use Rattle.derivation.specs.Grammar.{HasProduction, IsSymbolOf};
 ghost use Rattle.derivation.specs.Sentence.{cost_of};
 ghost use Rattle.derivation.specs.Costs.{Minimal};
@@ -63,7 +64,8 @@ impl<'a, S: Storage, T: Tables<S>> SentenceGenerator<'a, S, T> {
         }
     }
 
-    /// Moves a token to the sentence, or answers the production that was chosen for a rule, if the rule costs something.
+    /// Moves a token to the sentence, or answers the production that was chosen for a rule, if the rule costs
+    /// something.
     ///
     /// # Errors
     ///

@@ -1,7 +1,8 @@
 //! Least costs: the rule of the cheapest production is settled, till none is left whose rules are all settled (Knuth,
 //! A generalization of Dijkstra's algorithm, 1977).
 
-ghost use Rattle.std.specs.Prelude.{◌≡◌, ◌+◌, ◌^◌, ◌<◌, ◌≤◌, [], IfOk, None, OnOk, Some, length, map, replicate, slice_index, slice_set};
+ghost use Rattle.std.specs.Prelude.{◌≡◌, ◌+◌, ◌^◌, ◌<◌, ◌≤◌, [], IfOk, None, OnOk, Some};
+ghost use Rattle.std.specs.Prelude.{length, map, replicate, slice_index, slice_set};
 ghost use Rattle.derivation.specs.Grammar.{IsGrammar};
 ghost use Rattle.cfgcosts.specs.Certificate.{choice_of, rule_cost};
 ghost use Rattle.cfgcosts.specs.Open.{AreAllOpen, AreInput, count_open};
@@ -69,7 +70,8 @@ impl<S: Storage> Settled<S> {
         requires number { self.old.number + 1 < 2 ^ 32 }
         ensures least { self.new.least.items ≡ slice_set self.old.least.items rule (Some cost) }
         ensures choices { map (choice_of S.number) self.new.choices.items
-            ≡ slice_set (map (choice_of S.number) self.old.choices.items) rule (Some (S.number p.0, self.old.number)) }
+            ≡ slice_set (map (choice_of S.number) self.old.choices.items) rule
+            (Some (S.number p.0, self.old.number)) }
         ensures number { self.new.number ≡ self.old.number + 1 }
     {
         self.least[rule] = Some(cost);
@@ -102,7 +104,8 @@ fn settle_next<S: Storage, T: Tables<S>>(
     ensures lists { OnOk result (length waiting.new ≡ (T.grammar grm.now).rules) }
     ensures chosen { OnOk result (AreChosen (T.grammar grm.now) (slice_index costs.now) settled.new.least.items
         (map (choice_of S.number) settled.new.choices.items) settled.new.number) }
-    ensures state { OnOk result (AreAllOpen (slice_index costs.now) (rule_cost settled.new.least.items) (T.grammar grm.now)
+    ensures state { OnOk result (AreAllOpen (slice_index costs.now) (rule_cost settled.new.least.items)
+        (T.grammar grm.now)
         queue.new waiting.new) }
     ensures count { OnOk result (count_open queue.new waiting.new ≡ count_open queue.old waiting.old) }
 {

@@ -1,6 +1,7 @@
 //! Productions that wait for a rule to be settled.
 
-ghost use Rattle.std.specs.Prelude.{◌≡◌, ◌<◌, ◌++◌, [], ◌∷◌, length, replicate, IfOk, OnOk, slice_set};
+ghost use Rattle.std.specs.Prelude.{◌≡◌, ◌<◌, ◌++◌, [], ◌∷◌, length, replicate, IfOk, OnOk};
+ghost use Rattle.std.specs.Prelude.{slice_set};
 ghost use Rattle.cfgcosts.specs.Open.{waiting_for};
 
 use crate::partial::Partial;

@@ -1,10 +1,12 @@
 //! Productions that go on towards their sums.
 
-ghost use Rattle.std.specs.Prelude.{◌≡◌, ◌+◌, ◌^◌, ◌<◌, ◌≤◌, [], All, IfErr, IfOk, None, OnOk, Some, length, map, replicate, slice_index, take};
+ghost use Rattle.std.specs.Prelude.{◌≡◌, ◌+◌, ◌^◌, ◌<◌, ◌≤◌, [], All, IfErr, IfOk, None, OnOk};
+ghost use Rattle.std.specs.Prelude.{Some, length, map, replicate, slice_index, take};
 ghost use Rattle.derivation.specs.Grammar.{Rule};
 ghost use Rattle.cfganalysis.specs.Symbols.{sym_of};
 ghost use Rattle.cfgcosts.specs.Certificate.{IsListed, rule_cost};
-ghost use Rattle.cfgcosts.specs.Open.{AreInput, AreWaking, AreAllOpen, IsCutSum, IsPartial, MovesOn, StopsAt, count_open};
+ghost use Rattle.cfgcosts.specs.Open.{AreInput, AreWaking, AreAllOpen, IsCutSum, IsPartial, MovesOn, StopsAt};
+ghost use Rattle.cfgcosts.specs.Open.{count_open};
 ghost use Rattle.cfgcosts.specs.Sums.{symbol_cost};
 
 use crate::partial::Partial;

@@ -4,7 +4,8 @@ ghost use Rattle.std.specs.Prelude.{◌≡◌, ◌↔◌, ◌++◌, IsTrue, IfOk
 ghost use Rattle.std.specs.Fmt.{WritesOnOk, WritesStyledOnOk};
 ghost use Rattle.std.specs.Cmp.{partial_equiv_from_equiv};
 ghost use Rattle.cfgheader.specs.Errors.{error_view};
-ghost use Rattle.cfgerrors.specs.Errors.{error_at, header_error, kind_view, same_error, same_error-equivalence, spanskind_of};
+ghost use Rattle.cfgerrors.specs.Errors.{error_at, header_error, kind_view, same_error, same_error-equivalence};
+ghost use Rattle.cfgerrors.specs.Errors.{spanskind_of};
 ghost use Rattle.cfgerrors.specs.Texts.{error_text, fault_text};
 ghost use Rattle.cfgerrors.specs.declared.error.YaccFault.TheVariants.{OutOfMemory};
 

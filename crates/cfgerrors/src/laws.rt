@@ -1,5 +1,5 @@
-//! What `==` and `clone` of errors and of warnings compare and copy. They are derived, so each law names the impl, as in
-//! `⟦<YaccGrammarErrorKind as PartialEq>⟧`, and holds of every value.
+//! What `==` and `clone` of errors and of warnings compare and copy. They are derived, so each law names the impl, as
+//! in `⟦<YaccGrammarErrorKind as PartialEq>⟧`, and holds of every value.
 
 ghost use Rattle.std.specs.Prelude.{◌≡◌, ◌↔◌, IsTrue};
 ghost use Rattle.cfgerrors.specs.Errors.{kind_view};
@@ -20,7 +20,9 @@ pub fn error_kinds_are_what_they_show()
 
 /// The two kinds of warnings differ, and each is equal to itself. A clone is its source.
 pub fn warning_kinds_are_told_apart()
-    ensures equal { (a b : YaccGrammarWarningKind) → IsTrue (⟦<YaccGrammarWarningKind as PartialEq>⟧.eq a b) ↔ (a ≡ b) }
-    ensures clone { (a b : YaccGrammarWarningKind) → ⟦<YaccGrammarWarningKind as Clone>⟧.is_clone a b → b ≡ a }
+    ensures equal { (a b : YaccGrammarWarningKind)
+        → IsTrue (⟦<YaccGrammarWarningKind as PartialEq>⟧.eq a b) ↔ (a ≡ b) }
+    ensures clone { (a b : YaccGrammarWarningKind) → ⟦<YaccGrammarWarningKind as Clone>⟧.is_clone a b
+        → b ≡ a }
     ensures cloned { (a : YaccGrammarWarningKind) → ⟦<YaccGrammarWarningKind as Clone>⟧.is_infallible a }
 {}

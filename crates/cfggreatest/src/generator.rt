@@ -1,6 +1,7 @@
 //! The costs of a grammar's sentences: the least and the greatest of each rule.
 
-ghost use Rattle.std.specs.Prelude.{◌≡◌, ◌↔◌, ℕ, ◌<◌, ◌≤◌, ◌⊎◌, List, Option, All, Contains, EachIndex, Err, IfOk, IfSome, None, Ok, Some, length, map};
+ghost use Rattle.std.specs.Prelude.{◌≡◌, ◌↔◌, ℕ, ◌<◌, ◌≤◌, ◌⊎◌, List, Option, All};
+ghost use Rattle.std.specs.Prelude.{Contains, EachIndex, Err, IfOk, IfSome, None, Ok, Some, length, map};
 ghost use Rattle.cfgindex.specs.declared.idxnewtype.TIdx.{TIdx};
 ghost use Rattle.derivation.specs.Grammar.{HasProduction};
 ghost use Rattle.derivation.specs.Sentence.{cost_of};
@@ -9,7 +10,8 @@ ghost use Rattle.std.specs.List.Sorted.{IsStrictlySortedBy};
 ghost use Rattle.std.specs.Result.{result_ok};
 ghost use Rattle.cfgcosts.specs.Certificate.{IsCovered, IsReached, choice_of, rule_choice, rule_cost};
 ghost use Rattle.cfgcosts.specs.Minimal.{dictionary, numbers_of};
-ghost use Rattle.cfgcosts.specs.Generator.{HasNone, IsLeastProduction, IsTooDear, choice_answer, cost_answer, token_cost};
+ghost use Rattle.cfgcosts.specs.Generator.{HasNone, IsLeastProduction, IsTooDear, choice_answer, cost_answer};
+ghost use Rattle.cfgcosts.specs.Generator.{token_cost};
 ghost use Rattle.cfggreatest.specs.Words.{in_answer};
 
 use crate::greatest::{GreatestCost, told_costs};
@@ -185,7 +187,8 @@ impl<'a, S: Storage, T: Tables<S>> SentenceGenerator<'a, S, T> {
         rule: RIdx<S>,
     ) -> Result<Vec<Vec<TIdx<S>>>, SentenceError>
         requires { S.number rule.0 < self.now.grammar.rules }
-        ensures all { IfOk result (λ sentences. (w : List ℕ) → Contains (map (numbers_of S.number) sentences.items) w
+        ensures all { IfOk result (λ sentences. (w : List ℕ)
+            → Contains (map (numbers_of S.number) sentences.items) w
             ↔ Minimal (HasProduction self.now.grammar) (token_cost self.now) (S.number rule.0) w) }
         ensures order { IfOk result (λ sentences.
             IsStrictlySortedBy dictionary (map (numbers_of S.number) sentences.items)) }

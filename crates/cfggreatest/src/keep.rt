@@ -1,6 +1,7 @@
 //! Groups of rules that are bounded beside the rules found so far.
 
-ghost use Rattle.std.specs.Prelude.{◌≡◌, ℕ, ◌<◌, ◌≤◌, All, Bool, IfOk, List, OnOk, Option, length, replicate, true};
+ghost use Rattle.std.specs.Prelude.{◌≡◌, ℕ, ◌<◌, ◌≤◌, All, Bool, IfOk, List, OnOk, Option, length};
+ghost use Rattle.std.specs.Prelude.{replicate, true};
 ghost use Rattle.derivation.specs.Grammar.{Grammar, IsGrammar};
 ghost use Rattle.cfggreatest.specs.Keep.{AddsGroup, AreSame, DifferFrom, IsKeeping, IsRuleKept, StandsFrom};
 ghost use Rattle.cfggreatest.specs.Stages.{AreFoundBounded};

@@ -1,6 +1,7 @@
 //! Laws of greatest costs, which hold of every grammar.
 
-ghost use Rattle.std.specs.Prelude.{◌≡◌, ℕ, ◌<◌, ◌≤◌, ◌⊎◌, Bool, true, false, List, Option, Some, None, IsTrue, length};
+ghost use Rattle.std.specs.Prelude.{◌≡◌, ℕ, ◌<◌, ◌≤◌, ◌⊎◌, Bool, true, false, List, Option};
+ghost use Rattle.std.specs.Prelude.{Some, None, IsTrue, length};
 ghost use Rattle.derivation.specs.Grammar.{Grammar, IsGrammar, HasProduction, Sym};
 ghost use Rattle.derivation.specs.Sentence.{Sentence, cost_of};
 ghost use Rattle.derivation.specs.Costs.{Greatest, Unbounded};
@@ -25,13 +26,15 @@ pub fn bounded_rules_have_a_greatest_cost()
 
 /// Where no production leaves the further set, one number bounds what its rules cost, if one bounds the bounded rules.
 pub fn bounds_give_bounds()
-    ensures { (g : Grammar) (cost : ℕ → ℕ) (live positive bounded further next : ℕ → Bool) (dearest longest : ℕ)
+    ensures { (g : Grammar) (cost : ℕ → ℕ) (live positive bounded further next : ℕ → Bool)
+        (dearest longest : ℕ)
         → AreSigns (HasProduction g) cost live positive → AreBounded (HasProduction g) cost live bounded
         → ((t : ℕ) → cost t ≤ dearest)
         → ((r : ℕ) (symbols : List Sym) → HasProduction g r symbols → length symbols ≤ longest)
         → ((r : ℕ) (symbols : List Sym) → HasProduction g r symbols → further r ≡ true
         → Keeps live positive bounded further symbols)
-        → ((r : ℕ) → bounded r ≡ true → next r ≡ true) → ((r : ℕ) → further r ≡ true → next r ≡ true)
+        → ((r : ℕ) → bounded r ≡ true → next r ≡ true)
+        → ((r : ℕ) → further r ≡ true → next r ≡ true)
         → ((r : ℕ) → next r ≡ true → (bounded r ≡ true) ⊎ (further r ≡ true))
         → AreBounded (HasProduction g) cost live next }
 {}
@@ -47,15 +50,18 @@ pub fn removed_rules_are_unbounded()
 
 /// A table that no production of a bounded set betters has the greatest costs of its rules, cut down to the limit.
 pub fn topped_tables_show_greatest()
-    ensures none { (g : Grammar) (cost : ℕ → ℕ) (limit : ℕ) (live positive set : ℕ → Bool) (table : List (Option ℕ))
+    ensures none { (g : Grammar) (cost : ℕ → ℕ) (limit : ℕ) (live positive set : ℕ → Bool)
+        (table : List (Option ℕ))
         → IsGrammar g → AreSigns (HasProduction g) cost live positive → AreBounded (HasProduction g) cost live set
         → AreReached g cost limit table → AreTopped g cost limit set table → (r : ℕ) → set r ≡ true
         → rule_cost table r ≡ None → (w : List ℕ) → Sentence (HasProduction g) r w → ⊥ }
-    ensures greatest { (g : Grammar) (cost : ℕ → ℕ) (limit : ℕ) (live positive set : ℕ → Bool) (table : List (Option ℕ))
+    ensures greatest { (g : Grammar) (cost : ℕ → ℕ) (limit : ℕ) (live positive set : ℕ → Bool)
+        (table : List (Option ℕ))
         → IsGrammar g → AreSigns (HasProduction g) cost live positive → AreBounded (HasProduction g) cost live set
         → AreReached g cost limit table → AreTopped g cost limit set table → (r : ℕ) → set r ≡ true
         → (c : ℕ) → rule_cost table r ≡ Some c → c < limit → Greatest (HasProduction g) cost r c }
-    ensures larger { (g : Grammar) (cost : ℕ → ℕ) (limit : ℕ) (live positive set : ℕ → Bool) (table : List (Option ℕ))
+    ensures larger { (g : Grammar) (cost : ℕ → ℕ) (limit : ℕ) (live positive set : ℕ → Bool)
+        (table : List (Option ℕ))
         → IsGrammar g → AreSigns (HasProduction g) cost live positive → AreBounded (HasProduction g) cost live set
         → AreReached g cost limit table → AreTopped g cost limit set table → (r : ℕ) → set r ≡ true
         → (c : ℕ) → rule_cost table r ≡ Some c → limit ≤ c

@@ -2,7 +2,8 @@
 //! strong-connectivity algorithm and its applications in data flow analysis, 1981). The order decides how long it takes
 //! to find costs, and nothing else.
 
-ghost use Rattle.std.specs.Prelude.{◌≡◌, ℕ, ◌+◌, ◌<◌, ◌≤◌, All, Bool, IfOk, List, OnOk, Option, length, map};
+ghost use Rattle.std.specs.Prelude.{◌≡◌, ℕ, ◌+◌, ◌<◌, ◌≤◌, All, Bool, IfOk, List, OnOk, Option};
+ghost use Rattle.std.specs.Prelude.{length, map};
 ghost use Rattle.derivation.specs.Grammar.{IsGrammar};
 ghost use Rattle.cfganalysis.specs.Symbols.{sym_of};
 ghost use Rattle.cfgcosts.specs.Certificate.{IsListed};

@@ -1,6 +1,7 @@
 //! One minimal sentence of a rule, by productions that are opened one by one.
 
-ghost use Rattle.std.specs.Prelude.{◌≡◌, ◌↔◌, ℕ, ◌+◌, ◌*◌, ◌<◌, ◌≤◌, ◌⊎◌, Err, IfOk, length, map};
+ghost use Rattle.std.specs.Prelude.{◌≡◌, ◌↔◌, ℕ, ◌+◌, ◌*◌, ◌<◌, ◌≤◌, ◌⊎◌, Err};
+ghost use Rattle.std.specs.Prelude.{IfOk, length, map};
 ghost use Rattle.derivation.specs.Grammar.{HasProduction};
 ghost use Rattle.derivation.specs.Sentence.{cost_of};
 ghost use Rattle.derivation.specs.Costs.{Least, Minimal};
@@ -16,9 +17,9 @@ use std::alloc::Global;
 /// A sentence of the rule that no other of its sentences costs less than, as [`SentenceGenerator::min_sentence`] gives
 /// it, by the symbols of `productions` alone, which are the generator's.
 ///
-/// Together at most one production more is opened than the sentence's tokens times the rules. By the opened productions,
-/// each used as often as it was opened, the rule derives the sentence with rules of cost 0 between its tokens: these are
-/// never opened.
+/// Together at most one production more is opened than the sentence's tokens times the rules. By the opened
+/// productions, each used as often as it was opened, the rule derives the sentence with rules of cost 0 between its
+/// tokens: these are never opened.
 ///
 /// # Errors
 ///

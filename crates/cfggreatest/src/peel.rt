@@ -1,7 +1,8 @@
 //! Which rules have bounded costs: a rule is removed where a production shows that it rises from rules that are not
 //! bounded.
 
-ghost use Rattle.std.specs.Prelude.{◌≡◌, ℕ, ◌<◌, ◌≤◌, All, Bool, Contains, IfOk, List, Option, false, length, map, true};
+ghost use Rattle.std.specs.Prelude.{◌≡◌, ℕ, ◌<◌, ◌≤◌, All, Bool, Contains, IfOk, List, Option, false};
+ghost use Rattle.std.specs.Prelude.{length, map, true};
 ghost use Rattle.derivation.specs.Grammar.{Grammar, IsGrammar};
 ghost use Rattle.cfganalysis.specs.Rounds.{IsSettled, Sweeps};
 ghost use Rattle.cfganalysis.specs.Symbols.{sym_of};
@@ -151,7 +152,8 @@ fn peel_round<S: Storage, T: Tables<S>>(
     requires bounded { length bounded.now ≡ (T.grammar grm.now).rules }
     requires peeled { IsPeeled (T.grammar grm.now) signs.now bounded.now further.old }
     requires content { IsGrammar (T.grammar grm.now) }
-    ensures { Sweeps (λ g x. IsPeeled g signs.now bounded.now x) (λ x p. IsKept signs.now bounded.now x p) count_removed
+    ensures { Sweeps (λ g x. IsPeeled g signs.now bounded.now x)
+        (λ x p. IsKept signs.now bounded.now x p) count_removed
         (T.grammar grm.now) (length (T.grammar grm.now).productions) further.old further.new result }
 {
     let mut changed = false;

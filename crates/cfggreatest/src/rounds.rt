@@ -1,6 +1,8 @@
 //! The costs that rules' sentences reach, cut down to a limit: rounds over all productions, till one raises nothing.
 
-ghost use Rattle.std.specs.Prelude.{◌≡◌, ◌↔◌, ℕ, ◌<◌, ◌≤◌, ◌+◌, All, Contains, false, true, IfOk, IsTrue, List, None, Option, Some, length, map, min, option_map, replicate, slice_index, slice_index_or};
+ghost use Rattle.std.specs.Prelude.{◌≡◌, ◌↔◌, ℕ, ◌<◌, ◌≤◌, ◌+◌, All, Contains, false, true};
+ghost use Rattle.std.specs.Prelude.{IfOk, IsTrue, List, None, Option, Some, length, map, min, option_map, replicate};
+ghost use Rattle.std.specs.Prelude.{slice_index, slice_index_or};
 ghost use Rattle.derivation.specs.Grammar.{Grammar, HasProduction, IsGrammar};
 ghost use Rattle.cfganalysis.specs.Rounds.{Sweeps, TakesIn};
 ghost use Rattle.cfganalysis.specs.Symbols.{sym_of};

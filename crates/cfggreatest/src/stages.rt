@@ -1,6 +1,7 @@
 //! Which rules have bounded costs, found in stages: those that peeling keeps beside the rules found so far.
 
-ghost use Rattle.std.specs.Prelude.{◌≡◌, ℕ, ◌<◌, ◌≤◌, All, Bool, IfOk, List, Option, false, length, replicate};
+ghost use Rattle.std.specs.Prelude.{◌≡◌, ℕ, ◌<◌, ◌≤◌, All, Bool, IfOk, List, Option, false, length};
+ghost use Rattle.std.specs.Prelude.{replicate};
 ghost use Rattle.derivation.specs.Grammar.{Grammar, IsGrammar};
 ghost use Rattle.cfganalysis.specs.Rounds.{IsSettled};
 ghost use Rattle.cfggreatest.specs.Peel.{IsKept, IsPeeled};

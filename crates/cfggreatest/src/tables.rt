@@ -1,6 +1,7 @@
 //! The tables of costs that sentences reach: of each rule's sign, and of the greatest costs of bounded rules.
 
-ghost use Rattle.std.specs.Prelude.{◌≡◌, ℕ, ◌<◌, ◌≤◌, All, IfOk, List, OnOk, Option, length, map, replicate, slice_index};
+ghost use Rattle.std.specs.Prelude.{◌≡◌, ℕ, ◌<◌, ◌≤◌, All, IfOk, List, OnOk, Option, length, map};
+ghost use Rattle.std.specs.Prelude.{replicate, slice_index};
 ghost use Rattle.derivation.specs.Grammar.{HasProduction, IsGrammar};
 ghost use Rattle.cfggreatest.specs.Rows.{in_set};
 ghost use Rattle.cfggreatest.specs.Tops.{AreReached, AreTopped, free_of, live_in, positive_in};

@@ -5,7 +5,8 @@ ghost use Rattle.std.specs.Option.{option_copied};
 ghost use Rattle.std.specs.Str.{bytes_eq};
 ghost use Rattle.cfgbase.specs.Locations.{location_view};
 ghost use Rattle.cfgheader.specs.Values.{namespaced_view, value_view, map_namespaced, map_value};
-ghost use Rattle.cfgheader.specs.Kinds.{Refuses, action_name, from_kind, judged, kind_of_value, name_of_kind, original_kind, plain_kind, value_of_kind, wrong_member, wrong_namespace};
+ghost use Rattle.cfgheader.specs.Kinds.{Refuses, action_name, from_kind, judged, kind_of_value, name_of_kind};
+ghost use Rattle.cfgheader.specs.Kinds.{original_kind, plain_kind, value_of_kind, wrong_member, wrong_namespace};
 
 use crate::error::{HeaderError, HeaderErrorKind};
 use crate::fault::KindFault;
@@ -151,7 +152,8 @@ fn action_name(action: YaccOriginalActionKind) -> &'static str
 
 /// A name behind a namespace, as they are made of a kind.
 fn named(alloc: Global, namespace: &str, name: &str) -> Result<Namespaced<Location>, AllocError>
-    ensures { IfOk result (λ both. map_namespaced location_view (namespaced_view both) ≡ name_of_kind namespace.now name.now) }
+    ensures { IfOk result (λ both. map_namespaced location_view (namespaced_view both)
+        ≡ name_of_kind namespace.now name.now) }
 {
     let namespace = placed(alloc, namespace)?;
     let member = placed(alloc, name)?;

@@ -1,5 +1,5 @@
-//! What `==` and `clone` of kinds and of errors compare and copy, and that a kind comes back out of its value. Where they
-//! are derived, a law names the impl, as in `⟦<YaccKind as PartialEq>⟧`, and holds of every value.
+//! What `==` and `clone` of kinds and of errors compare and copy, and that a kind comes back out of its value. Where
+//! they are derived, a law names the impl, as in `⟦<YaccKind as PartialEq>⟧`, and holds of every value.
 
 ghost use Rattle.std.specs.Prelude.{◌≡◌, ◌≢◌, ◌↔◌, IsTrue, List, [], Ok, Err};
 ghost use Rattle.std.specs.List.{AllZip};
@@ -30,13 +30,15 @@ pub fn yacc_kinds_are_told_apart()
 
 /// Kinds of actions are equal exactly where they are the same. A clone is its source, and takes no memory.
 pub fn action_kinds_are_told_apart()
-    ensures equal { (a b : YaccOriginalActionKind) → IsTrue (⟦<YaccOriginalActionKind as PartialEq>⟧.eq a b) ↔ (a ≡ b) }
-    ensures clone { (a b : YaccOriginalActionKind) → ⟦<YaccOriginalActionKind as Clone>⟧.is_clone a b → b ≡ a }
+    ensures equal { (a b : YaccOriginalActionKind)
+        → IsTrue (⟦<YaccOriginalActionKind as PartialEq>⟧.eq a b) ↔ (a ≡ b) }
+    ensures clone { (a b : YaccOriginalActionKind) → ⟦<YaccOriginalActionKind as Clone>⟧.is_clone a b
+        → b ≡ a }
     ensures cloned { (a : YaccOriginalActionKind) → ⟦<YaccOriginalActionKind as Clone>⟧.is_infallible a }
 {}
 
-/// Kinds of errors are equal exactly where they show the same: the same kind, with the same character and texts where it
-/// holds some. A clone is its source, and takes no memory.
+/// Kinds of errors are equal exactly where they show the same: the same kind, with the same character and texts where
+/// it holds some. A clone is its source, and takes no memory.
 pub fn error_kinds_are_what_they_show()
     ensures equal { (a b : HeaderErrorKind) → IsTrue (⟦<HeaderErrorKind as PartialEq>⟧.eq a b)
         ↔ (error_kind_view a ≡ error_kind_view b) }
@@ -67,7 +69,8 @@ pub fn refusals_have_places<T>()
 pub fn values_are_compared_whole<T: PartialEq>()
     ensures name { (a b : Namespaced T) → ⟦<Namespaced<T> as PartialEq>⟧.eq a b
         ≡ same_namespaced T.eq (namespaced_view a) (namespaced_view b) }
-    ensures value { (a b : Value T) → ⟦<Value<T> as PartialEq>⟧.eq a b ≡ same_value T.eq (value_view a) (value_view b) }
+    ensures value { (a b : Value T)
+        → ⟦<Value<T> as PartialEq>⟧.eq a b ≡ same_value T.eq (value_view a) (value_view b) }
     ensures entry { (a b : HeaderValue T) → ⟦<HeaderValue<T> as PartialEq>⟧.eq a b
         ≡ same_header_value T.eq (header_value_view a) (header_value_view b) }
 {}

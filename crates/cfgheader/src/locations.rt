@@ -2,7 +2,9 @@
 
 ghost use Rattle.std.specs.Prelude.{◌≡◌, IfOk};
 ghost use Rattle.cfgbase.specs.declared.span.Location.TheVariants.{Span as at_span};
-ghost use Rattle.cfgheader.specs.Values.{header_value_view, map_header_value, map_namespaced, map_setting, map_settings, map_value, namespaced_view, setting_view, settings_view, value_view};
+ghost use Rattle.cfgheader.specs.Values.{header_value_view, map_header_value, map_namespaced, map_setting};
+ghost use Rattle.cfgheader.specs.Values.{map_settings, map_value, namespaced_view, setting_view, settings_view};
+ghost use Rattle.cfgheader.specs.Values.{value_view};
 
 use crate::value::{HeaderValue, Namespaced, Setting, Value};
 use cfgbase::{Location, Span};
@@ -15,7 +17,8 @@ impl HeaderValue<Span> {
     ///
     /// There is no memory for the copies of names and texts.
     pub fn to_location(&self, alloc: Global) -> Result<HeaderValue<Location>, AllocError>
-        ensures { IfOk result (λ entry. header_value_view entry ≡ map_header_value at_span (header_value_view self.now)) }
+        ensures { IfOk result (λ entry. header_value_view entry
+            ≡ map_header_value at_span (header_value_view self.now)) }
     {
         Ok(HeaderValue(Location::Span(self.0), self.1.to_location(alloc)?))
     }
@@ -76,7 +79,8 @@ fn all_located(
     alloc: Global,
     settings: &Vec<Setting<Span>>,
 ) -> Result<Vec<Setting<Location>>, AllocError>
-    ensures { IfOk result (λ copies. settings_view copies.items ≡ map_settings at_span (settings_view settings.now.items)) }
+    ensures { IfOk result (λ copies. settings_view copies.items
+        ≡ map_settings at_span (settings_view settings.now.items)) }
 {
     let mut copies = Vec::with_capacity(alloc, settings.len())?;
     for setting in settings {

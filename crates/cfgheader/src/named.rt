@@ -16,7 +16,8 @@ use std::alloc::{AllocError, Global};
 
 /// The error of a section that has no key `yacckind`.
 fn key_missing(alloc: Global) -> Result<HeaderError<Span>, AllocError>
-    ensures { IfOk result (λ error. error_view error ≡ record { kind = InvalidEntry (codes "yacckind"); locations = at_front }) }
+    ensures { IfOk result (λ error. error_view error
+        ≡ record { kind = InvalidEntry (codes "yacckind"); locations = at_front }) }
 {
     let mut locations = Vec::new(alloc);
     locations.push(Span::new(0, 0))?;
@@ -43,12 +44,13 @@ fn kind_given(alloc: Global, given: Option<&HeaderValue<Span>>) -> Result<YaccKi
     Err(HeaderFault::Errors(errors))
 }
 
-/// The kind that the section of a text names. A text names one kind, or has one list of errors, each at places of the text.
+/// The kind that the section of a text names. A text names one kind, or has one list of errors, each at places of the
+/// text.
 ///
 /// # Errors
 ///
-/// The errors of the section, which must be there; where there are none, one error where it has no key `yacckind`, or gives
-/// that what is no kind; and want of memory.
+/// The errors of the section, which must be there; where there are none, one error where it has no key `yacckind`, or
+/// gives that what is no kind; and want of memory.
 pub fn kind_named(alloc: Global, text: &str) -> Result<YaccKind, HeaderFault>
     ensures one { HasOneNaming text.now }
     ensures naming { (naming : Naming) → Names text.now naming → IsNaming naming result }

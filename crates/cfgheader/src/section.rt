@@ -15,7 +15,8 @@ ghost use Rattle.std.specs.Prelude.{◌≡◌, length, drop, IfOk, IfErr};
 ghost use Rattle.std.specs.Str.{IsCharBoundary};
 ghost use Rattle.cfgwords.specs.Places.{IsPiece};
 ghost use Rattle.cfgheader.specs.SectionPlaces.{IsFaultAt};
-ghost use Rattle.cfgheader.specs.SectionReads.{HasOneSection, IsSectionAnswer, IsEntryAnswer, section_of, entry_at_front};
+ghost use Rattle.cfgheader.specs.SectionReads.{HasOneSection, IsSectionAnswer, IsEntryAnswer, section_of};
+ghost use Rattle.cfgheader.specs.SectionReads.{entry_at_front};
 
 use crate::value::{Header, Value};
 use cfgbase::Span;
@@ -43,19 +44,21 @@ impl<'a> GrmtoolsSectionParser<'a> {
         GrmtoolsSectionParser { src, required }
     }
 
-    /// Reads the section, and answers what it gives each of its keys, and the offset in bytes right behind its `}`. Where
-    /// there is no section and none is required, no key is given anything, and the offset is 0.
+    /// Reads the section, and answers what it gives each of its keys, and the offset in bytes right behind its `}`.
+    /// Where there is no section and none is required, no key is given anything, and the offset is 0.
     ///
-    /// The text's section has exactly one reading: the entries that count as read, and what is left behind it or what stopped the
-    /// reading. The offset is a place of the text: what is left of it begins there. So are the ends of each span of an error.
+    /// The text's section has exactly one reading: the entries that count as read, and what is left behind it or what
+    /// stopped the reading. The offset is a place of the text: what is left of it begins there. So are the ends of each
+    /// span of an error.
     ///
     /// # Errors
     ///
-    /// An error for each key that is given more than once, in the order of the first repeats, with all its places, and then
-    /// the one that stopped the reading, if there is one; at least one. Or want of memory.
+    /// An error for each key that is given more than once, in the order of the first repeats, with all its places, and
+    /// then the one that stopped the reading, if there is one; at least one. Or want of memory.
     pub fn parse(&self, alloc: Global) -> Result<(Header<Span>, usize), HeaderFault>
         ensures one { HasOneSection self.now.required self.now.src.now }
-        ensures answer { IsSectionAnswer (length self.now.src.now) result (section_of self.now.required self.now.src.now) }
+        ensures answer { IsSectionAnswer (length self.now.src.now) result
+            (section_of self.now.required self.now.src.now) }
         ensures end { IfOk result (λ x. IsCharBoundary self.now.src.now x.1) }
         ensures fault_places { IfErr result (IsFaultAt self.now.src.now) }
     {
@@ -71,9 +74,9 @@ impl<'a> GrmtoolsSectionParser<'a> {
         Ok((header, self.src.len().saturating_sub(rest.len())))
     }
 
-    /// Reads the entry at an offset in bytes: its key in lower case, the key's place, its value, and the offset behind the entry
-    /// and the white space that follows it. That offset is a place of the text, where another entry may be read, and the key's
-    /// place is a piece of it, as is each span of an error.
+    /// Reads the entry at an offset in bytes: its key in lower case, the key's place, its value, and the offset behind
+    /// the entry and the white space that follows it. That offset is a place of the text, where another entry may be
+    /// read, and the key's place is a piece of it, as is each span of an error.
     ///
     /// # Errors
     ///
@@ -84,7 +87,8 @@ impl<'a> GrmtoolsSectionParser<'a> {
         i: usize,
     ) -> Result<(String, Span, Value<Span>, usize), HeaderFault>
         requires { IsCharBoundary self.now.src.now i }
-        ensures answer { IsEntryAnswer (length self.now.src.now) result (entry_at_front (length self.now.src.now) (drop i self.now.src.now)) }
+        ensures answer { IsEntryAnswer (length self.now.src.now) result
+            (entry_at_front (length self.now.src.now) (drop i self.now.src.now)) }
         ensures places { IfOk result (λ x. IsPiece self.now.src.now x.1 × IsCharBoundary self.now.src.now x.3) }
         ensures fault_places { IfErr result (IsFaultAt self.now.src.now) }
     {

@@ -1,6 +1,8 @@
 //! Lists of bits.
 
-ghost use Rattle.std.specs.Prelude.{◌≡◌, ◌≢◌, ◌<◌, ◌==◌, ◌↔◌, ◌||◌, ◌-◌, ◌^◌, ℕ, Bool, List, Some, false, if◌then◌else◌, length, map, not, replicate, slice_get, slice_index_or, slice_set, IfOk, IsTrue, MatchBool};
+ghost use Rattle.std.specs.Prelude.{◌≡◌, ◌≢◌, ◌<◌, ◌==◌, ◌↔◌, ◌||◌, ◌-◌, ◌^◌};
+ghost use Rattle.std.specs.Prelude.{ℕ, Bool, List, Some, false, if◌then◌else◌, length, map, not, replicate};
+ghost use Rattle.std.specs.Prelude.{slice_get, slice_index_or, slice_set, IfOk, IsTrue, MatchBool};
 ghost use Rattle.std.specs.Bool.{beq};
 ghost use Rattle.std.specs.Cmp.{bool_eq_equiv, partial_equiv_from_equiv};
 ghost use Rattle.std.specs.Cmp.Lexicographic.{lists_equiv, lists_per, pointwise};
@@ -72,7 +74,8 @@ impl Vob {
     pub fn set(&mut self, i: usize, bit: bool) -> bool
         requires { i < length self.old }
         ensures bits { self.new ≡ slice_set self.old i bit }
-        ensures changed { MatchBool result (slice_get self.old i ≡ Some (not bit)) (slice_get self.old i ≡ Some bit) }
+        ensures changed { MatchBool result (slice_get self.old i ≡ Some (not bit))
+            (slice_get self.old i ≡ Some bit) }
     {
         let word = self.words[i / 64];
         self.words[i / 64] = with_bit(word, i % 64, bit);

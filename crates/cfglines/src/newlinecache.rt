@@ -1,10 +1,12 @@
-ghost use Rattle.std.specs.Prelude.{◌≡◌, ◌+◌, ◌^◌, ◌<◌, ◌≤◌, ◌↔◌, ℕ, List, [], ◌++◌, map, length, take, Some, IfOk, OnOk, OnErr, IsErrOf, IsOkUnless, SomeIff};
+ghost use Rattle.std.specs.Prelude.{◌≡◌, ◌+◌, ◌^◌, ◌<◌, ◌≤◌, ◌↔◌, ℕ, List, []};
+ghost use Rattle.std.specs.Prelude.{◌++◌, map, length, take, Some, IfOk, OnOk, OnErr, IsErrOf, IsOkUnless, SomeIff};
 ghost use Rattle.std.specs.Iterator.{Drains, IsFinite};
 ghost use Rattle.std.specs.List.{after_last};
 ghost use Rattle.std.specs.Str.{IsCharBoundary};
 ghost use Rattle.cfglines.specs.declared.newlinecache.FeedError.TheVariants.{OutOfMemory};
 ghost use Rattle.cfglines.specs.FeedTexts.{feed_error_text};
-ghost use Rattle.cfglines.specs.Lines.{HasNewline, Kept, StandsFor, StopsAt, character_count, column, ends_crlf, is_newline, joined, line_end, line_number, line_start, newlines_of};
+ghost use Rattle.cfglines.specs.Lines.{HasNewline, Kept, StandsFor, StopsAt, character_count, column, ends_crlf};
+ghost use Rattle.cfglines.specs.Lines.{is_newline, joined, line_end, line_number, line_start, newlines_of};
 
 use cfgbase::Span;
 use std::alloc::{AllocError, Global};

@@ -107,7 +107,8 @@ impl<K: Ord, V: PartialEq> PartialEq for MarkMap<K, V> {
 
     fn eq(&self, other: &Self) -> bool
         ensures value { result ≡ same_marks K.eq V.eq (marks self.now) (marks other.now) }
-        ensures same { IsIdentity K.eq → IsIdentity V.eq → (IsTrue result ↔ (marks self.now ≡ marks other.now)) }
+        ensures same { IsIdentity K.eq → IsIdentity V.eq
+            → (IsTrue result ↔ (marks self.now ≡ marks other.now)) }
     {
         self.contents == other.contents
             && behavior_word(Some(self.default_behavior))

@@ -11,8 +11,8 @@
 //! }
 //! ```
 //!
-//! A crate that lists `cfgrammar` alone in `crates.txt` has all of it but `usize::from` and `u32::from` of an index, for
-//! which it lists `cfgindex` too, and loops over a `&MarkMap`, for which it lists `cfgmarks`.
+//! A crate that lists `cfgrammar` alone in `crates.txt` has all of it but `usize::from` and `u32::from` of an index,
+//! for which it lists `cfgindex` too, and loops over a `&MarkMap`, for which it lists `cfgmarks`.
 #![tactic(auto)]
 
 pub mod header;

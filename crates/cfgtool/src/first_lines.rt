@@ -20,7 +20,8 @@ pub fn first_lines(
     grammar: &YaccGrammar<u32>,
     firsts: &YaccFirsts<u32>,
 ) -> Result<String, AllocError>
-    ensures { IfOk result (λ lines. string_bytes lines ≡ first_lines grammar.now (bit firsts.now.firsts) (epsilon_bit firsts.now)) }
+    ensures { IfOk result (λ lines. string_bytes lines
+        ≡ first_lines grammar.now (bit firsts.now.firsts) (epsilon_bit firsts.now)) }
 {
     let mut lines = String::new(alloc);
     for ridx in grammar.iter_rules() {
@@ -37,7 +38,9 @@ fn write_line(
     ridx: RIdx<u32>,
 ) -> Result<(), AllocError>
     requires { ridx.0 < length grammar.now.rules }
-    ensures { OnOk result (Adds (rule_part (λ rule. first_line grammar.now (bit firsts.now.firsts) (epsilon_bit firsts.now) (ridx.0, rule)) grammar.now ridx.0)
+    ensures { OnOk result (Adds (rule_part
+        (λ rule. first_line grammar.now (bit firsts.now.firsts) (epsilon_bit firsts.now)
+        (ridx.0, rule)) grammar.now ridx.0)
         (string_bytes lines.old) (string_bytes lines.new)) }
 {
     lines.push_str(grammar.rule_name_str(ridx))?;

@@ -36,7 +36,8 @@ fn write_line(
     ridx: RIdx<u32>,
 ) -> Result<(), AllocError>
     requires { ridx.0 < length grammar.now.rules }
-    ensures { OnOk result (Adds (rule_part (λ rule. follow_line grammar.now (bit follows.now) (ridx.0, rule)) grammar.now ridx.0)
+    ensures { OnOk result (Adds (rule_part
+        (λ rule. follow_line grammar.now (bit follows.now) (ridx.0, rule)) grammar.now ridx.0)
         (string_bytes lines.old) (string_bytes lines.new)) }
 {
     lines.push_str(grammar.rule_name_str(ridx))?;

@@ -1,5 +1,5 @@
-//! What `==` and `clone` of kinds, commands, outcomes and faults compare and copy. They are derived, so each law names the
-//! impl, as in `⟦<Command as PartialEq>⟧`, and holds of every value.
+//! What `==` and `clone` of kinds, commands, outcomes and faults compare and copy. They are derived, so each law names
+//! the impl, as in `⟦<Command as PartialEq>⟧`, and holds of every value.
 
 ghost use Rattle.std.specs.Prelude.{◌≡◌, ◌↔◌, IsTrue};
 ghost use Rattle.cfgtool.specs.declared.engine.Outcome.{Outcome};

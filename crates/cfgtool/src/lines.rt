@@ -4,7 +4,8 @@ ghost use Rattle.std.specs.Prelude.{◌≡◌, ◌++◌, ◌<◌, All, length, I
 ghost use Rattle.cfglines.specs.Lines.{StandsFor};
 ghost use Rattle.cfgwords.specs.Places.{IsPiece};
 ghost use Rattle.cfgsyntax.specs.Spans.{EachErrorSpan};
-ghost use Rattle.cfgtool.specs.Report.{EachWarningSpan, error_line, error_lines, first_place, production_lines, warning_line, warning_lines};
+ghost use Rattle.cfgtool.specs.Report.{EachWarningSpan, error_line, error_lines, first_place, production_lines};
+ghost use Rattle.cfgtool.specs.Report.{warning_line, warning_lines};
 
 use cfgrammar::yacc::{YaccGrammar, YaccGrammarError, YaccGrammarWarning};
 use cfgrammar::{FeedError, NewlineCache, Span, Spanned};

@@ -6,15 +6,16 @@ ghost use Rattle.derivation.specs.Grammar.{HasProduction};
 ghost use Rattle.cfgcosts.specs.Generator.{token_cost};
 ghost use Rattle.cfgcosts.specs.Minimal.{numbers_of};
 ghost use Rattle.cfgrammar.specs.Numbered.{core};
-ghost use Rattle.cfgtool.specs.SentenceLines.{AreNamed, AreSentenceLines, ListsMinimal, TellsEach, TellsRule, cost_line, greatest_word, least_word, sentence_line, token_text};
+ghost use Rattle.cfgtool.specs.SentenceLines.{AreNamed, AreSentenceLines, ListsMinimal, TellsEach, TellsRule};
+ghost use Rattle.cfgtool.specs.SentenceLines.{cost_line, greatest_word, least_word, sentence_line, token_text};
 
 use cfgrammar::yacc::YaccGrammar;
 use cfgrammar::yacc::sentences::{CostError, SentenceError, SentenceGenerator};
 use cfgrammar::{RIdx, TIdx};
 use std::alloc::{AllocError, Global};
 
-/// What the sentences of a grammar's rules cost, where each token costs 1: for each rule a line with its name, its least
-/// and its greatest cost, and a line for each of its sentences of least cost.
+/// What the sentences of a grammar's rules cost, where each token costs 1: for each rule a line with its name, its
+/// least and its greatest cost, and a line for each of its sentences of least cost.
 pub fn sentence_lines(alloc: Global, grammar: &YaccGrammar<u32>) -> Result<String, AllocError>
     ensures { IfOk result (λ lines. AreSentenceLines grammar.now (string_bytes lines)) }
 {
@@ -29,7 +30,8 @@ fn rule_lines(
     generator: &SentenceGenerator<'_, u32, YaccGrammar<u32>>,
 ) -> Result<String, AllocError>
     requires { generator.now.grammar ≡ core grammar.now }
-    ensures { IfOk result (λ lines. TellsEach (TellsRule grammar.now (token_cost generator.now)) (length grammar.now.rules)
+    ensures { IfOk result (λ lines. TellsEach (TellsRule grammar.now (token_cost generator.now))
+        (length grammar.now.rules)
         (string_bytes lines)) }
 {
     let mut lines = String::new(alloc);
@@ -110,9 +112,11 @@ fn minimal_sentences(
 ) -> Result<Vec<Vec<TIdx<u32>>>, AllocError>
     requires within { ridx.0 < length grammar.now.rules }
     requires same { generator.now.grammar ≡ core grammar.now }
-    ensures minimal { IfOk result (λ sentences. ListsMinimal (HasProduction (core grammar.now)) (token_cost generator.now)
+    ensures minimal { IfOk result (λ sentences. ListsMinimal (HasProduction (core grammar.now))
+        (token_cost generator.now)
         ridx.0 (map (numbers_of (λ s. s)) sentences.items)) }
-    ensures tokens { IfOk result (λ sentences. All (AreNamed grammar.now) (map (numbers_of (λ s. s)) sentences.items)) }
+    ensures tokens { IfOk result (λ sentences. All (AreNamed grammar.now)
+        (map (numbers_of (λ s. s)) sentences.items)) }
 {
     grammar.invariant_holds();
     match generator.min_sentences(alloc, ridx) {
@@ -131,7 +135,8 @@ fn write_sentences(
 ) -> Result<(), AllocError>
     requires { All (AreNamed grammar.now) (map (numbers_of (λ s. s)) sentences.now) }
     ensures { OnOk result (string_bytes lines.new
-        ≡ string_bytes lines.old ++ concat (map (sentence_line grammar.now) (map (numbers_of (λ s. s)) sentences.now))) }
+        ≡ string_bytes lines.old ++ concat
+        (map (sentence_line grammar.now) (map (numbers_of (λ s. s)) sentences.now))) }
 {
     for sentence in sentences {
         lines.push_str("-")?;

@@ -1,6 +1,7 @@
 //! What the program writes to.
 
-ghost use Rattle.std.specs.Prelude.{◌≡◌, ℕ, ◌+◌, ◌-◌, ◌^◌, ◌<◌, List, Option, Some, OnErr, OnOk, codes, length};
+ghost use Rattle.std.specs.Prelude.{◌≡◌, ℕ, ◌+◌, ◌-◌, ◌^◌, ◌<◌, List, Option, Some, OnErr};
+ghost use Rattle.std.specs.Prelude.{OnOk, codes, length};
 ghost use Rattle.std.specs.Io.{WritesAtMost};
 ghost use Rattle.std.specs.Io.KnownBytes.{Appends, WriteAppends};
 ghost use Rattle.cfgtool.specs.Sinks.{AppendsBeginning, faults_of};

@@ -1,6 +1,7 @@
 //! The tokens of a rule's set, as they are written.
 
-ghost use Rattle.std.specs.Prelude.{◌≡◌, ◌↔◌, ◌++◌, ◌<◌, ℕ, Bool, length, IsTrue, OnOk, string_bytes};
+ghost use Rattle.std.specs.Prelude.{◌≡◌, ◌↔◌, ◌++◌, ◌<◌, ℕ, Bool, length, IsTrue, OnOk};
+ghost use Rattle.std.specs.Prelude.{string_bytes};
 ghost use Rattle.std.specs.List.{enumerate_from, flat_map};
 ghost use Rattle.cfganalysis.specs.Table.{bit};
 ghost use Rattle.cfgrammar.specs.Shown.{token_part};
@@ -47,7 +48,8 @@ pub fn write_tokens<T: TokenSets>(
     end: &str,
 ) -> Result<(), AllocError>
     ensures { OnOk result (string_bytes lines.new
-        ≡ string_bytes lines.old ++ flat_map (set_word end.now (T.among sets.now ridx.0)) (enumerate_from 0 grammar.now.tokens)) }
+        ≡ string_bytes lines.old ++ flat_map (set_word end.now (T.among sets.now ridx.0))
+        (enumerate_from 0 grammar.now.tokens)) }
 {
     for tidx in grammar.iter_tidxs() {
         write_token(lines, grammar, sets, ridx, tidx, end)?;
@@ -65,7 +67,8 @@ fn write_token<T: TokenSets>(
     end: &str,
 ) -> Result<(), AllocError>
     requires { tidx.0 < length grammar.now.tokens }
-    ensures { OnOk result (Adds (token_part (λ token. set_word end.now (T.among sets.now ridx.0) (tidx.0, token)) grammar.now tidx.0)
+    ensures { OnOk result (Adds (token_part
+        (λ token. set_word end.now (T.among sets.now ridx.0) (tidx.0, token)) grammar.now tidx.0)
         (string_bytes lines.old) (string_bytes lines.new)) }
 {
     if !sets.has(ridx, tidx) {

@@ -44,7 +44,8 @@ fn has_line_end(text: &str) -> bool
     text.as_bytes().iter().any(|b| ByteClass::LineEnd.holds(*b))
 }
 
-/// Whether a CR or an LF was passed on the way from the place where `text` is left to a later one, where `rest` is left.
+/// Whether a CR or an LF was passed on the way from the place where `text` is left to a later one, where `rest` is
+/// left.
 #[tactic(auto, unfolding(crate::specs::Blank::passes_line_end))]
 pub fn passes_line_end(text: &str, rest: &str) -> bool
     ensures { result ≡ passes_line_end text.now rest.now }

@@ -7,7 +7,8 @@ ghost use Rattle.cfgwords.specs.Strings.{EppString, epp_string};
 ghost use Rattle.cfgwords.specs.ColonText.{ColonText, colon_text};
 ghost use Rattle.cfgwords.specs.Actions.{IsAction, action_of};
 ghost use Rattle.cfgwords.specs.SectionWords.{IsName as IsSectionName, name_of as section_name_of, IsText, text_of};
-ghost use Rattle.cfgwords.specs.Words.{IsName, name_of, IsIdentifier, identifier_of, IsQuoted, quoted_of, TokenText, IsToken, token_of, IsInteger, integer_of, LineRest, line_rest};
+ghost use Rattle.cfgwords.specs.Words.{IsName, name_of, IsIdentifier, identifier_of, IsQuoted, quoted_of, TokenText};
+ghost use Rattle.cfgwords.specs.Words.{IsToken, token_of, IsInteger, integer_of, LineRest, line_rest};
 
 /// What stands at the front of a text is one thing, the one that `Front::of` tells.
 #[tactic(auto, using(crate::proofs::Blanks::front_graph))]
@@ -31,8 +32,10 @@ pub fn names_found()
 /// Every identifier is found, and only identifiers are.
 #[tactic(auto, using(crate::proofs::Finders::identifier_finder))]
 pub fn identifiers_found()
-    ensures sound { (text word rest : List ℕ) → identifier_of text ≡ Some (word, rest) → IsIdentifier text word rest }
-    ensures only { (text word rest : List ℕ) → IsIdentifier text word rest → identifier_of text ≡ Some (word, rest) }
+    ensures sound { (text word rest : List ℕ) → identifier_of text ≡ Some (word, rest)
+        → IsIdentifier text word rest }
+    ensures only { (text word rest : List ℕ) → IsIdentifier text word rest
+        → identifier_of text ≡ Some (word, rest) }
 {}
 
 /// Every quoted token is found, and only quoted tokens are.
@@ -45,15 +48,19 @@ pub fn quoted_tokens_found()
 /// Every token is found, and only tokens are.
 #[tactic(auto, using(crate::proofs::Finders::token_finder))]
 pub fn tokens_found()
-    ensures sound { (text : List ℕ) (token : TokenText) (rest : List ℕ) → token_of text ≡ Some (token, rest) → IsToken text token rest }
-    ensures only { (text : List ℕ) (token : TokenText) (rest : List ℕ) → IsToken text token rest → token_of text ≡ Some (token, rest) }
+    ensures sound { (text : List ℕ) (token : TokenText) (rest : List ℕ) → token_of text ≡ Some (token, rest)
+        → IsToken text token rest }
+    ensures only { (text : List ℕ) (token : TokenText) (rest : List ℕ) → IsToken text token rest
+        → token_of text ≡ Some (token, rest) }
 {}
 
 /// Every integer is found, and only integers are.
 #[tactic(auto, using(crate::proofs::Finders::integer_finder))]
 pub fn integers_found()
-    ensures sound { (text : List ℕ) (number : ℕ) (rest : List ℕ) → integer_of text ≡ Some (number, rest) → IsInteger text number rest }
-    ensures only { (text : List ℕ) (number : ℕ) (rest : List ℕ) → IsInteger text number rest → integer_of text ≡ Some (number, rest) }
+    ensures sound { (text : List ℕ) (number : ℕ) (rest : List ℕ) → integer_of text ≡ Some (number, rest)
+        → IsInteger text number rest }
+    ensures only { (text : List ℕ) (number : ℕ) (rest : List ℕ) → IsInteger text number rest
+        → integer_of text ≡ Some (number, rest) }
 {}
 
 /// The rest of a line is one thing, whatever the text.
@@ -83,8 +90,10 @@ pub fn actions_found()
 
 /// Every name of a section is found, and only these names are.
 pub fn section_names_found()
-    ensures sound { (text word rest : List ℕ) → section_name_of text ≡ Some (word, rest) → IsSectionName text word rest }
-    ensures only { (text word rest : List ℕ) → IsSectionName text word rest → section_name_of text ≡ Some (word, rest) }
+    ensures sound { (text word rest : List ℕ) → section_name_of text ≡ Some (word, rest)
+        → IsSectionName text word rest }
+    ensures only { (text word rest : List ℕ) → IsSectionName text word rest
+        → section_name_of text ≡ Some (word, rest) }
 {}
 
 /// Every text between double quotes is found, and only these are.

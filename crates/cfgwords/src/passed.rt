@@ -8,13 +8,13 @@ use crate::bytes::ByteClass;
 /// Single bytes, and bytes two at a time, that are passed on the way to the byte that ends a word.
 #[derive(Clone, Copy, Debug, PartialEq, Eq)]
 pub enum Passed {
-    /// In a string, up to this quote: a backslash with a quote behind it (`"` or `'`), and any other byte but a backslash, a
-    /// CR and an LF.
+    /// In a string, up to this quote: a backslash with a quote behind it (`"` or `'`), and any other byte but a
+    /// backslash, a CR and an LF.
     InString(u8),
     /// Before a single colon: two colons, and any other byte.
     BeforeColon,
-    /// Between double quotes: a backslash with any byte but an LF behind it, and any other byte but a double quote and a
-    /// backslash.
+    /// Between double quotes: a backslash with any byte but an LF behind it, and any other byte but a double quote and
+    /// a backslash.
     InQuotes,
 }
 

@@ -16,8 +16,8 @@ pub fn leading_section_name(text: &str) -> Option<(&str, &str)>
     run_from(text, ByteClass::Letter, ByteClass::IdentifierStart)
 }
 
-/// What stands between the two double quotes at the front of the text, and what is left behind them: single characters but
-/// these and a backslash, and backslashes with another character than an LF.
+/// What stands between the two double quotes at the front of the text, and what is left behind them: single characters
+/// but these and a backslash, and backslashes with another character than an LF.
 #[tactic(auto, unfolding(crate::specs::SectionWords::text_of))]
 pub fn leading_text(text: &str) -> Option<(&str, &str)>
     ensures exact { option_map (λ x. (x.0.now, x.1.now)) result ≡ text_of text.now }

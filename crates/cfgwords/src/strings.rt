@@ -21,18 +21,19 @@ fn closed_by<'a>(quote: u8, inside: &'a str, left: &'a str) -> Result<(&'a str, 
     }
 }
 
-/// What stands between the quotes of the string at the front of the text, with its backslashes, and what is left behind the
-/// closing quote: a quote, any bytes but that quote, a backslash, a CR and an LF, or a backslash with a quote (`"` or `'`)
-/// behind it, and the same quote.
+/// What stands between the quotes of the string at the front of the text, with its backslashes, and what is left behind
+/// the closing quote: a quote, any bytes but that quote, a backslash, a CR and an LF, or a backslash with a quote (`"`
+/// or `'`) behind it, and the same quote.
 ///
 /// # Errors
 ///
-/// Where no such string stands, what is left at the fault's place: at the front where no quote stands there, else at a CR, an
-/// LF, a backslash with no quote behind it, or the end.
+/// Where no such string stands, what is left at the fault's place: at the front where no quote stands there, else at a
+/// CR, an LF, a backslash with no quote behind it, or the end.
 #[tactic(auto, unfolding(crate::specs::Strings::raw_string))]
 pub fn leading_string(text: &str) -> Result<(&str, &str), &str>
     ensures exact { raw_view result ≡ raw_string text.now }
-    ensures lengths { MatchResult result (λ x. 2 + length x.0.now + length x.1.now ≡ length text.now) (λ left. length left.now ≤ length text.now) }
+    ensures lengths { MatchResult result (λ x. 2 + length x.0.now + length x.1.now ≡ length text.now)
+        (λ left. length left.now ≤ length text.now) }
 {
     let quote = match text.as_bytes() {
         [b, ..] if ByteClass::Quote.holds(*b) => *b,

@@ -1,8 +1,10 @@
 //! Names, identifiers, quoted tokens, tokens and integers.
 
-ghost use Rattle.std.specs.Prelude.{◌≡◌, ◌+◌, ◌≤◌, length, None, IfSome, MatchOption, option_map, if◌then◌else◌};
+ghost use Rattle.std.specs.Prelude.{◌≡◌, ◌+◌, ◌≤◌, length, None, IfSome, MatchOption, option_map};
+ghost use Rattle.std.specs.Prelude.{if◌then◌else◌};
 ghost use Rattle.std.specs.List.{prefix_len};
-ghost use Rattle.cfgwords.specs.Words.{name_of, identifier_of, quoted_of, token_of, integer_of, run_from, is_inside, IsQuotedLen};
+ghost use Rattle.cfgwords.specs.Words.{name_of, identifier_of, quoted_of, token_of, integer_of, run_from, is_inside};
+ghost use Rattle.cfgwords.specs.Words.{IsQuotedLen};
 
 use crate::bytes::ByteClass;
 use crate::run::{run, starts};
@@ -37,7 +39,8 @@ impl<'a> Token<'a> {
     }
 }
 
-/// The longest front of bytes of the second class, where the text begins with a byte of the first, and what is left behind it.
+/// The longest front of bytes of the second class, where the text begins with a byte of the first, and what is left
+/// behind it.
 #[tactic(auto, unfolding(crate::specs::Words::run_from))]
 pub fn run_from(text: &str, first: ByteClass, others: ByteClass) -> Option<(&str, &str)>
     ensures exact { option_map (λ x. (x.0.now, x.1.now)) result ≡ run_from first others text.now }
@@ -111,7 +114,8 @@ pub fn leading_quoted(text: &str) -> Option<(&str, &str)>
 #[tactic(auto, unfolding(crate::specs::Words::token_of))]
 pub fn leading_token(text: &str) -> Option<(&str, bool, &str)>
     ensures exact { option_map (λ x. (record { name = x.0.now; quoted = x.1 }, x.2.now)) result ≡ token_of text.now }
-    ensures lengths { IfSome result (λ x. (if x.1 then 2 else 0) + length x.0.now + length x.2.now ≡ length text.now) }
+    ensures lengths { IfSome result
+        (λ x. (if x.1 then 2 else 0) + length x.0.now + length x.2.now ≡ length text.now) }
 {
     if starts(text, ByteClass::Quote) {
         let (name, rest) = leading_quoted(text)?;

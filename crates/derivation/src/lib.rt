@@ -3,7 +3,8 @@
 //! The definitions stand in `specs`; the laws are the contracts of functions that do nothing.
 #![tactic(auto)]
 
-ghost use Rattle.std.specs.Prelude.{◌≡◌, ◌↔◌, ℕ, ◌+◌, ◌<◌, ◌≤◌, Bool, IsTrue, List, [], ◌∷◌, ◌++◌, Contains, map};
+ghost use Rattle.std.specs.Prelude.{◌≡◌, ◌↔◌, ℕ, ◌+◌, ◌<◌, ◌≤◌, Bool, IsTrue, List, []};
+ghost use Rattle.std.specs.Prelude.{◌∷◌, ◌++◌, Contains, map};
 ghost use Rattle.derivation.specs.Grammar.{Grammar, HasProduction, Sym, Rule, Token};
 ghost use Rattle.derivation.specs.Derivation.{Derives};
 ghost use Rattle.derivation.specs.Concatenation.{DerivedInParts};
@@ -19,8 +20,10 @@ ghost use Rattle.derivation.specs.Cycles.{GrowingCycle, Meets};
 
 /// What a concatenation derives is what its parts derive, one after the other.
 pub fn concatenations_derive_in_parts()
-    ensures parts { (g : Grammar) (a b c : List Sym) → Derives (HasProduction g) (a ++ b) c → DerivedInParts (HasProduction g) a b c }
-    ensures whole { (g : Grammar) (a b c d : List Sym) → Derives (HasProduction g) a c → Derives (HasProduction g) b d
+    ensures parts { (g : Grammar) (a b c : List Sym) → Derives (HasProduction g) (a ++ b) c
+        → DerivedInParts (HasProduction g) a b c }
+    ensures whole { (g : Grammar) (a b c d : List Sym) → Derives (HasProduction g) a c
+        → Derives (HasProduction g) b d
         → Derives (HasProduction g) (a ++ b) (c ++ d) }
 {}
 
@@ -32,7 +35,8 @@ pub fn derivations_hold_inside()
 
 /// The tokens that a list of symbols derives are those that its parse trees yield.
 pub fn trees_are_derivations()
-    ensures { (g : Grammar) (a : List Sym) (w : List ℕ) → Derives (HasProduction g) a (map Token w) ↔ Yields (HasProduction g) a w }
+    ensures { (g : Grammar) (a : List Sym) (w : List ℕ)
+        → Derives (HasProduction g) a (map Token w) ↔ Yields (HasProduction g) a w }
 {}
 
 /// Sets that are closed under the productions hold all that derivations show.
@@ -54,7 +58,8 @@ pub fn first_is_closed()
 pub fn closed_sets_hold_follow()
     ensures { (g : Grammar) (empty : ℕ → Bool) (first follow : ℕ → ℕ → Bool)
         → IsClosed (HasProduction g) (λ r. IsTrue (empty r)) (λ r t. IsTrue (first r t))
-        → IsFollowClosed (HasProduction g) (λ r. IsTrue (empty r)) (λ r t. IsTrue (first r t)) (λ r t. IsTrue (follow r t))
+        → IsFollowClosed (HasProduction g) (λ r. IsTrue (empty r)) (λ r t. IsTrue (first r t))
+        (λ r t. IsTrue (follow r t))
         → ((t : ℕ) → t + 1 ≡ g.tokens → IsTrue (follow 0 t))
         → (r t : ℕ) → MayFollow g r t → IsTrue (follow r t) }
 {}
@@ -112,7 +117,8 @@ pub fn extreme_sentences_cost_the_extremes()
 /// A rule meets each rule that stands in a list on the way to one of its sentences. One that leads to itself, beside
 /// symbols that derive tokens which cost something, has a growing cycle.
 pub fn derivations_show_cycles()
-    ensures meets { (g : Grammar) (r x : ℕ) (l : List Sym) (w : List ℕ) → Derives (HasProduction g) (Rule r ∷ []) l
+    ensures meets { (g : Grammar) (r x : ℕ) (l : List Sym) (w : List ℕ)
+        → Derives (HasProduction g) (Rule r ∷ []) l
         → Contains l (Rule x) → Derives (HasProduction g) l (map Token w) → Meets (HasProduction g) r x }
     ensures grows { (g : Grammar) (cost : ℕ → ℕ) (x : ℕ) (w : List ℕ) (l : LeadsTo (HasProduction g) x x)
         → Derives (HasProduction g) (l.before ++ l.after) (map Token w) → 0 < cost_of cost w

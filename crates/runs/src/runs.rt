@@ -65,8 +65,8 @@ fn run_over(
     Ok(status)
 }
 
-/// Writes how the program ends on outputs with room for none of the bytes, for one, and so on up to all of them: how many
-/// bytes each took, and the status.
+/// Writes how the program ends on outputs with room for none of the bytes, for one, and so on up to all of them: how
+/// many bytes each took, and the status.
 fn write_rooms(
     out: &mut String,
     alloc: Global,

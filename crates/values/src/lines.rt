@@ -10,8 +10,8 @@ use rows::row::{Row, number, numbers};
 use rows::text::write_text;
 use std::alloc::{AllocError, Global};
 
-/// Writes what a cache of the text's newlines answers, of the text fed whole; and the ways to feed it in pieces by which
-/// it answers something else.
+/// Writes what a cache of the text's newlines answers, of the text fed whole; and the ways to feed it in pieces by
+/// which it answers something else.
 pub(crate) fn tell(
     out: &mut String,
     alloc: Global,
@@ -44,9 +44,9 @@ pub(crate) fn tell(
     write_joined(out, alloc, text)
 }
 
-/// The ways to feed a text, each as the lengths of all pieces but the last: in two pieces, cut before each character and
-/// at the end; in pieces of one character; and as the row says. A text of which a digest is written is only fed as the
-/// row says.
+/// The ways to feed a text, each as the lengths of all pieces but the last: in two pieces, cut before each character
+/// and at the end; in pieces of one character; and as the row says. A text of which a digest is written is only fed as
+/// the row says.
 fn ways(alloc: Global, row: &Row<'_>, text: &str) -> Result<Vec<Vec<usize>>, AllocError> {
     let mut ways = if row.first("show") == Some("digest") {
         Vec::new(alloc)
@@ -82,8 +82,8 @@ fn all_ways(alloc: Global, text: &str) -> Result<Vec<Vec<usize>>, AllocError> {
     Ok(ways)
 }
 
-/// The cache of a text that is fed in pieces: these lengths, and then the rest. There is none where a character would be
-/// cut.
+/// The cache of a text that is fed in pieces: these lengths, and then the rest. There is none where a character would
+/// be cut.
 fn feed_pieces(
     alloc: Global,
     text: &str,

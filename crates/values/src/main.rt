@@ -1,6 +1,6 @@
-//! Worked rows on lines, maps, plain values, errors and trees: a program that reads rows from files, and writes for each
-//! row its name and all that the public calls answer of it. A person reads what it writes beside docs/BEHAVIOUR.md; the
-//! merge gate compares it with what is stored.
+//! Worked rows on lines, maps, plain values, errors and trees: a program that reads rows from files, and writes for
+//! each row its name and all that the public calls answer of it. A person reads what it writes beside
+//! docs/BEHAVIOUR.md; the merge gate compares it with what is stored.
 #![tactic(auto)]
 
 mod kinds;

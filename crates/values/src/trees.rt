@@ -6,8 +6,8 @@ use cfgsyntax::yacc::{YaccKind, YaccOriginalActionKind};
 use rows::row::{Row, number, words};
 use std::alloc::{AllocError, Global};
 
-/// Writes what each call of the row answers on the row's text: each `start` on what was read, which stays as it was, and then
-/// the others, one after another on a copy of the tree.
+/// Writes what each call of the row answers on the row's text: each `start` on what was read, which stays as it was,
+/// and then the others, one after another on a copy of the tree.
 pub(crate) fn tell(
     out: &mut String,
     alloc: Global,
@@ -100,7 +100,8 @@ fn rule_of(alloc: Global, line: &str) -> Result<Rule, AllocError> {
     })
 }
 
-/// Writes the tree after all calls that write it: its rules, how many productions there are, its programs and its warnings.
+/// Writes the tree after all calls that write it: its rules, how many productions there are, its programs and its
+/// warnings.
 fn write_tree(
     out: &mut String,
     alloc: Global,

@@ -1,4 +1,5 @@
-//! What the accessors answer of each rule, production and token of a grammar and of the whole, also where that is nothing.
+//! What the accessors answer of each rule, production and token of a grammar and of the whole, also where that is
+//! nothing.
 
 ghost use Rattle.std.specs.Prelude.{◌<◌, length};
 

@@ -9,8 +9,8 @@ use cfgrammar::yacc::parser::{YaccFault, YaccGrammarError, YaccGrammarResult};
 use cfgrammar::yacc::{YaccGrammar, YaccKind, YaccOriginalActionKind};
 use std::alloc::{AllocError, Global};
 
-/// The kind that a row names; that of the rows that name none is `Original(GenericParseTree)`. Where the row says `section`,
-/// the text names its kind.
+/// The kind that a row names; that of the rows that name none is `Original(GenericParseTree)`. Where the row says
+/// `section`, the text names its kind.
 fn kind_of(row: &Row<'_>) -> Option<YaccKind> {
     let kind = match row.first("kind") {
         Some("section") => return None,

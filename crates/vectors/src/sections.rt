@@ -9,8 +9,8 @@ use cfgrammar::yacc::{YaccKind, YaccOriginalActionKind};
 use cfgrammar::{Span, Spanned};
 use std::alloc::{AllocError, Global};
 
-/// Writes what is answered of the section at a text's front, of that of each of its beginnings, or of an entry at each of
-/// its places; or the values of all kinds.
+/// Writes what is answered of the section at a text's front, of that of each of its beginnings, or of an entry at each
+/// of its places; or the values of all kinds.
 pub(crate) fn tell(
     out: &mut String,
     alloc: Global,

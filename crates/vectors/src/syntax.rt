@@ -9,8 +9,8 @@ use cfgrammar::yacc::ast::{ASTWithValidityInfo, GrammarAST, Production, Rule, Sy
 use indexmap::IndexMap;
 use std::alloc::{AllocError, Global};
 
-/// Writes all that a syntax holds: its start, what the declarations say, and a line for each rule, production and token. A
-/// copy holds the same.
+/// Writes all that a syntax holds: its start, what the declarations say, and a line for each rule, production and
+/// token. A copy holds the same.
 pub(crate) fn write_syntax(
     out: &mut String,
     alloc: Global,

@@ -133,8 +133,8 @@ fn grammar_text<S: Storage>(alloc: Global, grammar: &YaccGrammar<S>) -> Result<S
     Ok(out)
 }
 
-/// Writes how many rules, productions and tokens there are, which of them are the start's and the end's, and what is said
-/// of the grammar as a whole.
+/// Writes how many rules, productions and tokens there are, which of them are the start's and the end's, and what is
+/// said of the grammar as a whole.
 fn write_lengths<S: Storage>(out: &mut String, grammar: &YaccGrammar<S>) -> Result<(), AllocError> {
     let rules = usize::from(grammar.rules_len());
     let start_rule = usize::from(grammar.start_rule_idx());

@@ -1,11 +1,13 @@
 //! All minimal sentences of a rule, made of those of the rules that it needs.
 
-ghost use Rattle.std.specs.Prelude.{◌≡◌, ◌↔◌, ℕ, ◌<◌, [], ◌∷◌, List, Bool, All, Contains, Err, IfOk, Some, length, map};
+ghost use Rattle.std.specs.Prelude.{◌≡◌, ◌↔◌, ℕ, ◌<◌, [], ◌∷◌, List, Bool, All, Contains, Err};
+ghost use Rattle.std.specs.Prelude.{IfOk, Some, length, map};
 ghost use Rattle.std.specs.List.Sorted.{IsStrictlySortedBy};
 ghost use Rattle.derivation.specs.Grammar.{HasProduction};
 ghost use Rattle.derivation.specs.Costs.{Minimal};
 ghost use Rattle.cfgcosts.specs.Generator.{HasNone, IsTooDear, cost_answer, token_cost};
-ghost use Rattle.cfgcosts.specs.Minimal.{AddsProducts, AreLeastSentences, AreTightProductions, HasAllOfMarked, HasSentence, IsTight, dictionary, numbers_of, place_of};
+ghost use Rattle.cfgcosts.specs.Minimal.{AddsProducts, AreLeastSentences, AreTightProductions, HasAllOfMarked};
+ghost use Rattle.cfgcosts.specs.Minimal.{HasSentence, IsTight, dictionary, numbers_of, place_of};
 
 use crate::errors::SentenceError;
 use crate::generator::SentenceGenerator;
@@ -24,7 +26,8 @@ impl<'a, S: Storage, T: Tables<S>> SentenceGenerator<'a, S, T> {
     fn empty_sentences(&self, alloc: Global) -> Result<SentenceTable<S>, AllocError>
         ensures rules { IfOk result (λ table. length table ≡ self.now.grammar.rules) }
         ensures least { IfOk result (AreLeastSentences self.now) }
-        ensures free { IfOk result (λ table. (r : ℕ) → cost_answer self.now r ≡ Some 0 → HasSentence table r []) }
+        ensures free { IfOk result (λ table. (r : ℕ) → cost_answer self.now r ≡ Some 0
+            → HasSentence table r []) }
     {
         let rules_len = self.tables.rules_len().0.to_usize();
         let mut table = SentenceTable::new(alloc, rules_len)?;
@@ -108,8 +111,10 @@ impl<'a, S: Storage, T: Tables<S>> SentenceGenerator<'a, S, T> {
         requires marks { length marks.now ≡ self.now.grammar.rules }
         ensures rules { IfOk result (λ table. length table ≡ self.now.grammar.rules) }
         ensures least { IfOk result (AreLeastSentences self.now) }
-        ensures free { IfOk result (λ table. (r : ℕ) → cost_answer self.now r ≡ Some 0 → HasSentence table r []) }
-        ensures closed { IfOk result (λ table. All (λ p. HasAllOfMarked self.now marks.now p table) (map place_of tight.now)) }
+        ensures free { IfOk result (λ table. (r : ℕ) → cost_answer self.now r ≡ Some 0
+            → HasSentence table r []) }
+        ensures closed { IfOk result (λ table. All (λ p. HasAllOfMarked self.now marks.now p table)
+            (map place_of tight.now)) }
     {
         let mut table = self.empty_sentences(alloc)?;
         let mut changed = true;
@@ -132,7 +137,8 @@ impl<'a, S: Storage, T: Tables<S>> SentenceGenerator<'a, S, T> {
         rule: RIdx<S>,
     ) -> Result<Vec<Vec<TIdx<S>>>, SentenceError>
         requires { S.number rule.0 < self.now.grammar.rules }
-        ensures all { IfOk result (λ sentences. (w : List ℕ) → Contains (map (numbers_of S.number) sentences.items) w
+        ensures all { IfOk result (λ sentences. (w : List ℕ)
+            → Contains (map (numbers_of S.number) sentences.items) w
             ↔ Minimal (HasProduction self.now.grammar) (token_cost self.now) (S.number rule.0) w) }
         ensures order { IfOk result (λ sentences.
             IsStrictlySortedBy dictionary (map (numbers_of S.number) sentences.items)) }

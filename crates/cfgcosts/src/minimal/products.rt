@@ -1,6 +1,7 @@
 //! What rows of symbols derive by the sentences of a table.
 
-ghost use Rattle.std.specs.Prelude.{◌≡◌, ◌↔◌, ◌++◌, ◌∷◌, [], ℕ, List, All, Contains, IfOk, OnOk, length, map};
+ghost use Rattle.std.specs.Prelude.{◌≡◌, ◌↔◌, ◌++◌, ◌∷◌, [], ℕ, List, All, Contains, IfOk};
+ghost use Rattle.std.specs.Prelude.{OnOk, length, map};
 ghost use Rattle.derivation.specs.Grammar.{Grammar, IsSymbolOf};
 ghost use Rattle.cfganalysis.specs.Symbols.{sym_of};
 ghost use Rattle.cfgcosts.specs.Minimal.{HasSentence, IsJoined, numbers_of, words_of_symbol};

@@ -1,6 +1,7 @@
 //! Productions that cost just what their rules do.
 
-ghost use Rattle.std.specs.Prelude.{◌≡◌, ◌↔◌, ℕ, ◌<◌, All, Contains, IfOk, IsTrue, MatchOption, None, length, map};
+ghost use Rattle.std.specs.Prelude.{◌≡◌, ◌↔◌, ℕ, ◌<◌, All, Contains, IfOk, IsTrue, MatchOption, None};
+ghost use Rattle.std.specs.Prelude.{length, map};
 ghost use Rattle.cfganalysis.specs.Symbols.{sym_of};
 ghost use Rattle.cfganalysis.specs.Openings.{nth_production};
 ghost use Rattle.derivation.specs.Grammar.{IsSymbolOf};
@@ -22,7 +23,8 @@ impl<'a, S: Storage, T: Tables<S>> SentenceGenerator<'a, S, T> {
     fn row_cost(&self, symbols: &[Symbol<S>]) -> Option<u32>
         requires { All (IsSymbolOf self.now.grammar) (map (sym_of S.number) symbols.now) }
         ensures { MatchOption result
-            (sum_of (symbol_cost (token_cost self.now) (rule_cost self.now.least)) (map (sym_of S.number) symbols.now) ≡ None)
+            (sum_of (symbol_cost (token_cost self.now) (rule_cost self.now.least)) (map (sym_of S.number) symbols.now)
+            ≡ None)
             (IsCutSum (token_cost self.now) (rule_cost self.now.least) (map (sym_of S.number) symbols.now)) }
     {
         let start = Partial {

@@ -3,7 +3,8 @@
 ghost use Rattle.std.specs.Prelude.{◌≡◌, ◌≤◌, Ok, length};
 ghost use Rattle.reading.specs.Construct.{goes_on};
 ghost use Rattle.cfgwords.specs.Text.{place};
-ghost use Rattle.cfgheader.specs.SectionGrammar.{end_fault, negated, value_of, affirmed, entry, entry_turn, entries, braced, section};
+ghost use Rattle.cfgheader.specs.SectionGrammar.{end_fault, negated, value_of, affirmed, entry, entry_turn, entries};
+ghost use Rattle.cfgheader.specs.SectionGrammar.{braced, section};
 ghost use Rattle.cfgheader.specs.Values.{placed_view};
 
 use crate::error::HeaderErrorKind;
@@ -136,7 +137,8 @@ impl<'a> Reader<'a> {
         }
     }
 
-    /// Passes the section, and answers what is left behind it: all of the text where there is none, unless one is required.
+    /// Passes the section, and answers what is left behind it: all of the text where there is none, unless one is
+    /// required.
     #[tactic(auto, unfolding(crate::specs::SectionGrammar::section, crate::specs::SectionGrammar::missing, crate::specs::SectionSteps::noted))]
     pub(super) fn section(&mut self, required: bool) -> Result<&'a str, ReadFault>
         ensures { Builds (λ rest. rest.now) self.old self.new result (section self.old.len required) }

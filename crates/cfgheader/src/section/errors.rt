@@ -1,6 +1,7 @@
 //! The errors of a section, in order.
 
-ghost use Rattle.std.specs.Prelude.{◌≡◌, ◌++◌, ◌∷◌, [], ℕ, List, length, map, IfOk, OnOk, ◌==◌, if◌then◌else◌};
+ghost use Rattle.std.specs.Prelude.{◌≡◌, ◌++◌, ◌∷◌, [], ℕ, List, length, map, IfOk, OnOk, ◌==◌};
+ghost use Rattle.std.specs.Prelude.{if◌then◌else◌};
 ghost use Rattle.std.specs.Str.{bytes_eq};
 ghost use Rattle.cfgheader.specs.SectionErrors.{places_of, repeated, duplicate_errors, section_errors};
 ghost use Rattle.cfgheader.specs.SectionReads.{errors_view};
@@ -36,8 +37,10 @@ fn gathered<'a>(
     alloc: Global,
     entries: &'a [Entry],
 ) -> Result<(BTreeMap<&'a str, Vec<Span>>, Vec<&'a str>), AllocError>
-    ensures places { IfOk result (λ found. (key : List ℕ) → spans_at found.0 key ≡ places_of (map entry_view entries.now) key) }
-    ensures again { IfOk result (λ found. map (λ key. key.now) found.1.items ≡ repeated (map entry_view entries.now)) }
+    ensures places { IfOk result (λ found. (key : List ℕ)
+        → spans_at found.0 key ≡ places_of (map entry_view entries.now) key) }
+    ensures again { IfOk result (λ found. map (λ key. key.now) found.1.items
+        ≡ repeated (map entry_view entries.now)) }
 {
     let mut places = BTreeMap::new(alloc);
     let mut again = Vec::new(alloc);
@@ -70,7 +73,8 @@ fn errors_at(
     places: &BTreeMap<&str, Vec<Span>>,
     keys: Vec<&str>,
 ) -> Result<Vec<HeaderError<Span>>, AllocError>
-    ensures { IfOk result (λ errors. errors_view errors.items ≡ map (λ key. duplicate_at places.now key.now) keys.entry.items) }
+    ensures { IfOk result (λ errors. errors_view errors.items
+        ≡ map (λ key. duplicate_at places.now key.now) keys.entry.items) }
 {
     let mut errors = Vec::new(alloc);
     for key in keys {
@@ -109,7 +113,8 @@ pub(super) fn errors_found(
     entries: &[Entry],
     end: &Result<&str, Fault>,
 ) -> Result<Vec<HeaderError<Span>>, AllocError>
-    ensures { IfOk result (λ errors. errors_view errors.items ≡ section_errors (map entry_view entries.now) (end_view end.now)) }
+    ensures { IfOk result (λ errors. errors_view errors.items
+        ≡ section_errors (map entry_view entries.now) (end_view end.now)) }
 {
     let mut errors = duplicate_errors(alloc, entries)?;
     if let Err(fault) = end {

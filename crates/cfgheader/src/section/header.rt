@@ -14,7 +14,9 @@ use std::alloc::{AllocError, Global};
 
 /// Gives an entry's key its value, with no mark.
 fn put(header: &mut Header<Span>, entry: Entry) -> Result<(), AllocError>
-    ensures { OnOk result (marks header.new ≡ changed string_cmp (marks header.old) entry.key (set_value (record { 0 = entry.key_span; 1 = entry.value }))) }
+    ensures { OnOk result (marks header.new
+        ≡ changed string_cmp (marks header.old) entry.key
+        (set_value (record { 0 = entry.key_span; 1 = entry.value }))) }
 {
     let value = HeaderValue(entry.key_span, entry.value);
     match header.insert(entry.key, value) {

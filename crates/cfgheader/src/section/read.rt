@@ -20,8 +20,10 @@ pub(super) fn read(
 ) -> Result<(Vec<Entry>, Result<&str, Fault>), AllocError>
     ensures one { HasOneSection required text.now }
     ensures utf8 { IsUtf8 text.now }
-    ensures entries { IfOk result (λ x. map entry_view x.0.items ≡ (computes (section (length text.now) required) text.now).items) }
-    ensures end { IfOk result (λ x. end_view x.1 ≡ end_of (computes (section (length text.now) required) text.now).outcome) }
+    ensures entries { IfOk result (λ x. map entry_view x.0.items
+        ≡ (computes (section (length text.now) required) text.now).items) }
+    ensures end { IfOk result (λ x. end_view x.1
+        ≡ end_of (computes (section (length text.now) required) text.now).outcome) }
 {
     let mut reader = Reader::new(alloc, text.len(), text);
     let end = match reader.section(required) {

@@ -7,7 +7,9 @@ ghost use Rattle.reading.specs.Construct.{expect, goes_on};
 ghost use Rattle.reading.specs.Pieces.{strip};
 ghost use Rattle.cfgwords.specs.Text.{place};
 ghost use Rattle.cfgheader.specs.Errors.{error_kind_view};
-ghost use Rattle.cfgheader.specs.SectionGrammar.{begins, goes_on_before, unexpected_star, fault_at, wide_character, white_character, separator, white, separators, comma, name, name_fault};
+ghost use Rattle.cfgheader.specs.SectionGrammar.{begins, goes_on_before, unexpected_star, fault_at, wide_character};
+ghost use Rattle.cfgheader.specs.SectionGrammar.{white_character, separator, white, separators, comma, name};
+ghost use Rattle.cfgheader.specs.SectionGrammar.{name_fault};
 ghost use Rattle.cfgheader.specs.Values.{placed_view};
 
 use crate::error::HeaderErrorKind;
@@ -111,7 +113,8 @@ impl<'a> Reader<'a> {
     /// Passes the word, where it stands here.
     pub(super) fn accept(&mut self, word: &str) -> bool
         ensures { MatchBool result
-            ((strip word.now self.old.rest.now ≡ Some self.new.rest.now) × (self.new.len ≡ self.old.len) × (self.new.entries ≡ self.old.entries)
+            ((strip word.now self.old.rest.now ≡ Some self.new.rest.now) × (self.new.len ≡ self.old.len)
+            × (self.new.entries ≡ self.old.entries)
             × (length self.new.rest.now + length word.now ≡ length self.old.rest.now))
             ((strip word.now self.old.rest.now ≡ None) × (self.new ≡ self.old)) }
     {
@@ -127,7 +130,8 @@ impl<'a> Reader<'a> {
     /// Passes the word that must stand here.
     #[tactic(auto, unfolding(crate::specs::SectionSteps::noted))]
     pub(super) fn expect(&mut self, word: &str, kind: HeaderErrorKind) -> Result<(), ReadFault>
-        ensures { Builds (λ x. x) self.old self.new result (expect word.now (fault_at self.old.len (error_kind_view kind))) }
+        ensures { Builds (λ x. x) self.old self.new result
+            (expect word.now (fault_at self.old.len (error_kind_view kind))) }
     {
         if self.accept(word) {
             Ok(())

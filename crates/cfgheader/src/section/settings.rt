@@ -1,7 +1,8 @@
 //! Settings: what stands behind a key's colon.
 
 ghost use Rattle.std.specs.Prelude.{◌≡◌};
-ghost use Rattle.cfgheader.specs.SectionGrammar.{number_fault, namespaced, argument, applied, number, element, elements, array, bare_setting, bracketed, setting};
+ghost use Rattle.cfgheader.specs.SectionGrammar.{number_fault, namespaced, argument, applied, number, element};
+ghost use Rattle.cfgheader.specs.SectionGrammar.{elements, array, bare_setting, bracketed, setting};
 ghost use Rattle.cfgheader.specs.Values.{namespaced_view, setting_view};
 
 use crate::error::HeaderErrorKind;
@@ -103,7 +104,8 @@ impl<'a> Reader<'a> {
     /// The settings of an array.
     #[cycle(setting)]
     fn elements(&mut self, room: usize) -> Result<Vec<Setting<Span>>, ReadFault>
-        ensures { Builds (λ values. settings_list values.items) self.old self.new result (elements self.old.len (setting self.old.len room)) }
+        ensures { Builds (λ values. settings_list values.items) self.old self.new result
+            (elements self.old.len (setting self.old.len room)) }
     {
         let mut values = Vec::new(self.alloc);
         'elements: while self.goes_on_before(b']') {
@@ -142,7 +144,8 @@ impl<'a> Reader<'a> {
     #[cycle(setting)]
     #[tactic(auto, unfolding(crate::specs::SectionGrammar::bare_setting, crate::specs::SectionSteps::noted))]
     fn bare_setting(&mut self, room: usize) -> Result<Setting<Span>, ReadFault>
-        ensures { Builds setting_view self.old self.new result (bare_setting self.old.len (bracketed self.old.len room)) }
+        ensures { Builds setting_view self.old self.new result
+            (bare_setting self.old.len (bracketed self.old.len room)) }
     {
         if starts(self.rest, ByteClass::Digit) {
             return self.number();

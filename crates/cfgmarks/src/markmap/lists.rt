@@ -8,7 +8,8 @@ use std::alloc::{AllocError, Global};
 impl<K: Ord + Clone, V: Drop> MarkMap<K, V> {
     ghost use Rattle.cfgmarks.specs.Marks.{marks, unused_keys, missing_keys};
 
-    /// Clones of the keys that hold a value and aren't marked as used, in order. Only where there is one is memory taken.
+    /// Clones of the keys that hold a value and aren't marked as used, in order. Only where there is one is memory
+    /// taken.
     pub fn unused(&self, alloc: Global) -> Result<Vec<K>, AllocError>
         ensures ok { IfOk result (λ keys. AllZip K.is_clone (unused_keys (marks self.now)) keys.items) }
         ensures not_empty { OnErr result (unused_keys (marks self.now) ≢ []) }

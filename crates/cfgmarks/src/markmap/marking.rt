@@ -1,5 +1,6 @@
 //! The calls that change a map of marks.
-ghost use Rattle.std.specs.Prelude.{◌≡◌, None, Some, IsOk, IsSome, IfErr, OnOk, OnErr, IfOk, is_ok, is_some, if◌then◌else◌};
+ghost use Rattle.std.specs.Prelude.{◌≡◌, None, Some, IsOk, IsSome, IfErr, OnOk, OnErr, IfOk, is_ok, is_some};
+ghost use Rattle.std.specs.Prelude.{if◌then◌else◌};
 ghost use Rattle.std.specs.Borrow.{sem};
 ghost use Rattle.cfgmarks.specs.MarkLends.{lends_put};
 
@@ -7,7 +8,8 @@ use super::{MarkMap, Marked, MergeBehavior};
 use std::alloc::AllocError;
 
 impl<K: Ord + Clone, V: Drop> MarkMap<K, V> {
-    ghost use Rattle.cfgmarks.specs.Marks.{marks, unmarked, entry_at, value_at, changed, without, set_used, set_required, set_behavior, set_value, ChangesAt, IsFaithful};
+    ghost use Rattle.cfgmarks.specs.Marks.{marks, unmarked, entry_at, value_at, changed, without, set_used};
+    ghost use Rattle.cfgmarks.specs.Marks.{set_required, set_behavior, set_value, ChangesAt, IsFaithful};
 
     /// Gives the key a value, and answers the value that it held. A stored key stays, and its marks too. Only a key
     /// without an entry can be refused, for want of memory: key and value then come back.
@@ -73,7 +75,8 @@ impl<K: Ord + Clone, V: Drop> MarkMap<K, V> {
     /// clone of the key, and only that takes memory.
     pub fn set_merge_behavior(&mut self, key: &K, behavior: MergeBehavior) -> Result<(), AllocError>
         requires { IsFaithful K.cmp K.is_clone }
-        ensures ok { OnOk result (ChangesAt K.cmp K.is_clone key.now (set_behavior behavior) (marks self.old) (marks self.new)) }
+        ensures ok { OnOk result (ChangesAt K.cmp K.is_clone key.now (set_behavior behavior) (marks self.old)
+            (marks self.new)) }
         ensures err { OnErr result (marks self.new ≡ marks self.old) }
         ensures absent { OnErr result (entry_at K.cmp (marks self.old) key.now ≡ None) }
     {
@@ -88,7 +91,8 @@ impl<K: Ord + Clone, V: Drop> MarkMap<K, V> {
     /// Marks the key as used where it has an entry, and answers whether it has one.
     pub(super) fn use_entry(&mut self, key: &K) -> bool
         ensures found { result ≡ is_some (entry_at K.cmp (marks self.old) key.now) }
-        ensures map { marks self.new ≡ (if result then changed K.cmp (marks self.old) key.now set_used else marks self.old) }
+        ensures map { marks self.new ≡ (if result then changed K.cmp
+            (marks self.old) key.now set_used else marks self.old) }
     {
         match self.contents.get_mut(key) {
             Some(marked) => {
@@ -102,7 +106,8 @@ impl<K: Ord + Clone, V: Drop> MarkMap<K, V> {
     /// Marks the key as required where it has an entry, and answers whether it has one.
     pub(super) fn require_entry(&mut self, key: &K) -> bool
         ensures found { result ≡ is_some (entry_at K.cmp (marks self.old) key.now) }
-        ensures map { marks self.new ≡ (if result then changed K.cmp (marks self.old) key.now set_required else marks self.old) }
+        ensures map { marks self.new ≡ (if result then changed K.cmp
+            (marks self.old) key.now set_required else marks self.old) }
     {
         match self.contents.get_mut(key) {
             Some(marked) => {
@@ -116,7 +121,8 @@ impl<K: Ord + Clone, V: Drop> MarkMap<K, V> {
     /// Sets what merging does at the key where it has an entry, and answers whether it has one.
     pub(super) fn set_entry_behavior(&mut self, key: &K, behavior: MergeBehavior) -> bool
         ensures found { result ≡ is_some (entry_at K.cmp (marks self.old) key.now) }
-        ensures map { marks self.new ≡ (if result then changed K.cmp (marks self.old) key.now (set_behavior behavior) else marks self.old) }
+        ensures map { marks self.new ≡ (if result then changed K.cmp (marks self.old) key.now
+            (set_behavior behavior) else marks self.old) }
     {
         match self.contents.get_mut(key) {
             Some(marked) => {
@@ -165,7 +171,8 @@ impl<K: Ord + Clone, V: Drop> MarkMap<K, V> {
     /// Adds an entry at a clone of the key, which has none.
     fn add(&mut self, key: &K, marked: Marked<V>) -> Result<(), AllocError>
         requires { entry_at K.cmp (marks self.old) key.now ≡ None }
-        ensures ok { OnOk result ((c : K) × K.is_clone key.now c × (marks self.new ≡ changed K.cmp (marks self.old) c (λ _. marked))) }
+        ensures ok { OnOk result ((c : K) × K.is_clone key.now c
+            × (marks self.new ≡ changed K.cmp (marks self.old) c (λ _. marked))) }
         ensures err { OnErr result (marks self.new ≡ marks self.old) }
     {
         self.contents.insert(key.clone()?, marked)?;

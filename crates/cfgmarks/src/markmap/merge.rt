@@ -1,8 +1,10 @@
 //! Merging one map of marks into another.
-ghost use Rattle.std.specs.Prelude.{◌≡◌, true, false, is_some, if◌then◌else◌, Some, None, Ok, Err, IsSomeAnd, IfErr, IfOk, OnOk, OnErr, MatchResult};
+ghost use Rattle.std.specs.Prelude.{◌≡◌, true, false, is_some, if◌then◌else◌, Some, None, Ok, Err};
+ghost use Rattle.std.specs.Prelude.{IsSomeAnd, IfErr, IfOk, OnOk, OnErr, MatchResult};
 ghost use Rattle.std.specs.Option.{ForSome};
 ghost use Rattle.cfgmarks.specs.Marks.{marks, entry_at};
-ghost use Rattle.cfgmarks.specs.Merging.{stays, conflicts, combined, adopted, behavior_of, Takes, MergesInto, AllMerged, KeepsStored, wanted, CallableOnWanted};
+ghost use Rattle.cfgmarks.specs.Merging.{stays, conflicts, combined, adopted, behavior_of, Takes, MergesInto};
+ghost use Rattle.cfgmarks.specs.Merging.{AllMerged, KeepsStored, wanted, CallableOnWanted};
 ghost use Rattle.cfgmarks.specs.MergeFaults.{IsRefusal, IsConflict, IsFaultAt, MergesKey, StoresKey, StopsAt};
 
 use super::{MarkMap, Marked, MergeBehavior, MergeError, MergeFault};
@@ -27,15 +29,18 @@ impl<K: Ord + Clone, V: Drop> MarkMap<K, V> {
     ///   none, and else is a conflict.
     ///
     /// A value that is taken or that conflicts is converted, and no other. After that only a new entry takes memory,
-    /// and a conflict, for its value. Where merging stops, exactly the keys below the one that it stopped at are merged.
+    /// and a conflict, for its value. Where merging stops, exactly the keys below the one that it stopped at are
+    /// merged.
     pub fn merge_from<U: Drop, E: Drop, F: Fn(U) -> Result<V, E> + Drop>(
         &mut self,
         other: MarkMap<K, U>,
         convert: F,
     ) -> Result<(), MergeFault<K, V, E>>
         requires { CallableOnWanted K.cmp (F.pre convert) (marks self.old) (marks other) }
-        ensures ok { OnOk result (AllMerged K.cmp (λ u v. F.post convert u (Ok v)) (marks self.old) (marks other) (marks self.new)) }
-        ensures fault { IfErr result (λ fault. StopsAt (λ u v. F.post convert u (Ok v)) (λ u e. F.post convert u (Err e))
+        ensures ok { OnOk result (AllMerged K.cmp (λ u v. F.post convert u (Ok v)) (marks self.old) (marks other)
+            (marks self.new)) }
+        ensures fault { IfErr result (λ fault. StopsAt (λ u v. F.post convert u (Ok v))
+            (λ u e. F.post convert u (Err e))
             K.cmp (marks self.old) (marks other) fault (marks self.new)) }
         ensures stored { KeepsStored K.cmp (marks self.old) (marks other) (marks self.new) }
     {
@@ -52,11 +57,14 @@ impl<K: Ord + Clone, V: Drop> MarkMap<K, V> {
         theirs: Marked<U>,
         convert: &F,
     ) -> Result<(), MergeFault<K, V, E>>
-        requires { ForSome (wanted (marks self.old).behavior (entry_at K.cmp (marks self.old) key) theirs) (F.pre convert.now) }
-        ensures ok { OnOk result (MergesKey K.cmp (λ u v. F.post convert.now u (Ok v)) key theirs (marks self.old) (marks self.new)) }
+        requires { ForSome (wanted (marks self.old).behavior (entry_at K.cmp (marks self.old) key) theirs)
+            (F.pre convert.now) }
+        ensures ok { OnOk result (MergesKey K.cmp (λ u v. F.post convert.now u (Ok v)) key theirs (marks self.old)
+            (marks self.new)) }
         ensures stored { OnOk result (StoresKey K.cmp key (marks self.old) (marks self.new)) }
         ensures err { OnErr result (marks self.new ≡ marks self.old) }
-        ensures fault { IfErr result (IsFaultAt (λ u v. F.post convert.now u (Ok v)) (λ u e. F.post convert.now u (Err e))
+        ensures fault { IfErr result (IsFaultAt (λ u v. F.post convert.now u (Ok v))
+            (λ u e. F.post convert.now u (Err e))
             (marks self.old).behavior key (entry_at K.cmp (marks self.old) key) theirs) }
     {
         match self.contents.get_mut(&key) {
@@ -78,10 +86,12 @@ impl<K: Ord + Clone, V: Drop> MarkMap<K, V> {
     ) -> Result<(), MergeFault<K, V, E>>
         requires callable { ForSome theirs.value (F.pre convert.now) }
         requires absent { entry_at K.cmp (marks self.old) key ≡ None }
-        ensures ok { OnOk result (MergesKey K.cmp (λ u v. F.post convert.now u (Ok v)) key theirs (marks self.old) (marks self.new)) }
+        ensures ok { OnOk result (MergesKey K.cmp (λ u v. F.post convert.now u (Ok v)) key theirs (marks self.old)
+            (marks self.new)) }
         ensures stored { OnOk result (StoresKey K.cmp key (marks self.old) (marks self.new)) }
         ensures err { OnErr result (marks self.new ≡ marks self.old) }
-        ensures fault { IfErr result (IsFaultAt (λ u v. F.post convert.now u (Ok v)) (λ u e. F.post convert.now u (Err e))
+        ensures fault { IfErr result (IsFaultAt (λ u v. F.post convert.now u (Ok v))
+            (λ u e. F.post convert.now u (Err e))
             (marks self.old).behavior key None theirs) }
     {
         let marked = match convert_value(theirs, convert) {
@@ -104,9 +114,11 @@ impl<V: Drop> Marked<V> {
         convert: &F,
     ) -> Result<(), Refusal<V, E>>
         requires { ForSome (wanted default (Some self.old) theirs) (F.pre convert.now) }
-        ensures ok { OnOk result (MergesInto (λ u v. F.post convert.now u (Ok v)) (behavior_of default self.old) self.old theirs self.new) }
+        ensures ok { OnOk result (MergesInto (λ u v. F.post convert.now u (Ok v))
+            (behavior_of default self.old) self.old theirs self.new) }
         ensures err { OnErr result (self.new ≡ self.old) }
-        ensures refused { IfErr result (IsRefusal (λ u v. F.post convert.now u (Ok v)) (λ u e. F.post convert.now u (Err e))
+        ensures refused { IfErr result (IsRefusal (λ u v. F.post convert.now u (Ok v))
+            (λ u e. F.post convert.now u (Err e))
             (behavior_of default self.old) self.old theirs) }
     {
         let behavior = self.behavior.unwrap_or(default);
@@ -137,9 +149,11 @@ impl<V: Drop> Marked<V> {
     /// Joins other marks, and takes their value, where the behavior doesn't forbid it. A forbidden value comes back.
     fn join(&mut self, theirs: Marked<V>, behavior: MergeBehavior) -> Result<(), V>
         ensures ok { OnOk result ((conflicts behavior self.old theirs ≡ false)
-            × (self.new ≡ combined self.old theirs (if is_some theirs.value then theirs.value else self.old.value))) }
+            × (self.new ≡ combined self.old theirs
+            (if is_some theirs.value then theirs.value else self.old.value))) }
         ensures err { OnErr result (self.new ≡ self.old) }
-        ensures conflict { IfErr result (λ value. (conflicts behavior self.old theirs ≡ true) × (theirs.value ≡ Some value)) }
+        ensures conflict { IfErr result
+            (λ value. (conflicts behavior self.old theirs ≡ true) × (theirs.value ≡ Some value)) }
     {
         let Marked {
             used,

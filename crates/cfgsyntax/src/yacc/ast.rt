@@ -5,7 +5,8 @@ mod errors;
 mod named;
 mod start;
 
-ghost use Rattle.std.specs.Prelude.{◌≡◌, ◌↔◌, [], true, List, Option, string_bytes, IsTrue, IfOk, IfErr, OnOk};
+ghost use Rattle.std.specs.Prelude.{◌≡◌, ◌↔◌, [], true, List, Option, string_bytes, IsTrue, IfOk, IfErr};
+ghost use Rattle.std.specs.Prelude.{OnOk};
 ghost use Rattle.cfgast.specs.Items.{Item};
 ghost use Rattle.cfgast.specs.Syntax.{syntax_of};
 ghost use Rattle.cfgast.specs.View.{syntax, named_view};
@@ -52,23 +53,25 @@ impl Model for ASTWithValidityInfo {
 }
 
 impl ASTWithValidityInfo {
-    /// Reads the text as a Yacc file of the kind, and validates what was read. What its section says counts for nothing, but
-    /// behind one with errors nothing is read.
+    /// Reads the text as a Yacc file of the kind, and validates what was read. What its section says counts for
+    /// nothing, but behind one with errors nothing is read.
     ///
-    /// The text has exactly one reading: the items that count as read, and what stopped the reading, if anything
-    /// did. The syntax is what these items say. The errors are what is declared more than once, then the errors of the
-    /// section or the fault that stopped the reading, if there are any, and then the first check that the syntax fails, if it
-    /// fails one.
+    /// The text has exactly one reading: the items that count as read, and what stopped the reading, if anything did.
+    /// The syntax is what these items say. The errors are what is declared more than once, then the errors of the
+    /// section or the fault that stopped the reading, if there are any, and then the first check that the syntax fails,
+    /// if it fails one.
     ///
     /// Each error has a span. Each span of the syntax and of an error begins and ends at a place of the text: where a
-    /// character begins, or where the text ends. But an action's span is as long as its trimmed text and begins behind its
-    /// brace, so it may end inside a character: it lies within the text.
+    /// character begins, or where the text ends. But an action's span is as long as its trimmed text and begins behind
+    /// its brace, so it may end inside a character: it lies within the text.
     pub fn new(alloc: Global, kind: YaccKind, text: &str) -> Result<Self, AllocError>
         ensures one { HasOneReading kind text.now }
         ensures kind { IfOk result (λ parsed. parsed.kind ≡ kind) }
-        ensures syntax { IfOk result (λ parsed. (items : List Item) (stop : Option Stop) → Reads kind text.now items stop
+        ensures syntax { IfOk result (λ parsed. (items : List Item) (stop : Option Stop)
+            → Reads kind text.now items stop
             → parsed.syntax ≡ syntax_of items) }
-        ensures errors { IfOk result (λ parsed. (items : List Item) (stop : Option Stop) → Reads kind text.now items stop
+        ensures errors { IfOk result (λ parsed. (items : List Item) (stop : Option Stop)
+            → Reads kind text.now items stop
             → parsed.errors ≡ errors_of items stop) }
         ensures places { IfOk result (EachParsedSpan (IsPiece text.now) (IsWithin text.now)) }
     {
@@ -81,8 +84,8 @@ impl ASTWithValidityInfo {
     ///
     /// # Errors
     ///
-    /// Those of the section, which must be there; where it has none, one where it has no key `yacckind`, or what it gives
-    /// that isn't a kind; and want of memory. What is wrong behind the section is no error of this call.
+    /// Those of the section, which must be there; where it has none, one where it has no key `yacckind`, or what it
+    /// gives that isn't a kind; and want of memory. What is wrong behind the section is no error of this call.
     pub fn from_str(alloc: Global, text: &str) -> YaccGrammarResult<Self>
         ensures one { HasOneNaming text.now }
         ensures answer { (naming : Naming) → Names text.now naming → AnswersNaming text.now naming result }
@@ -122,8 +125,8 @@ impl ASTWithValidityInfo {
         self.errors.as_slice()
     }
 
-    /// A copy with another start: the name and the span of the handed rule. The kind and the errors stay as they are, and so
-    /// does the rest of the syntax.
+    /// A copy with another start: the name and the span of the handed rule. The kind and the errors stay as they are,
+    /// and so does the rest of the syntax.
     ///
     /// # Errors
     ///

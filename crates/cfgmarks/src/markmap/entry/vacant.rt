@@ -2,7 +2,8 @@
 ghost use Rattle.std.specs.Prelude.{◌≡◌, None, IsSome, IfOk, IfErr, OnOk, OnErr};
 ghost use Rattle.std.specs.Borrow.{sem};
 ghost use Rattle.std.specs.declared.cmp.Ordering.TheVariants.{Equal};
-ghost use Rattle.cfgmarks.specs.Marks.{marks, entry_at, changed, set_required, set_behavior, set_value, ChangesAt, IsFaithful};
+ghost use Rattle.cfgmarks.specs.Marks.{marks, entry_at, changed, set_required, set_behavior, set_value, ChangesAt};
+ghost use Rattle.cfgmarks.specs.Marks.{IsFaithful};
 ghost use Rattle.cfgmarks.specs.MarkEntry.{occupied_map, occupied_key, vacant_map, vacant_key, IsSamePlace};
 ghost use Rattle.cfgmarks.specs.MarkLends.{lends_value, rests_if_refused};
 
@@ -62,7 +63,8 @@ impl<'a, K: Ord + Clone, V: Drop> VacantEntry<'a, K, V> {
     pub fn mark_required(&mut self) -> Result<(), AllocError>
         requires { IsFaithful K.cmp K.is_clone }
         ensures place { IsSamePlace self.old self.new }
-        ensures ok { OnOk result (ChangesAt K.cmp K.is_clone (vacant_key self.old) set_required (vacant_map self.old) (vacant_map self.new)) }
+        ensures ok { OnOk result (ChangesAt K.cmp K.is_clone (vacant_key self.old) set_required (vacant_map self.old)
+            (vacant_map self.new)) }
         ensures err { OnErr result (vacant_map self.new ≡ vacant_map self.old) }
         ensures absent { OnErr result (entry_at K.cmp (vacant_map self.old) (vacant_key self.old) ≡ None) }
     {
@@ -74,7 +76,8 @@ impl<'a, K: Ord + Clone, V: Drop> VacantEntry<'a, K, V> {
     pub fn set_merge_behavior(&mut self, behavior: MergeBehavior) -> Result<(), AllocError>
         requires { IsFaithful K.cmp K.is_clone }
         ensures place { IsSamePlace self.old self.new }
-        ensures ok { OnOk result (ChangesAt K.cmp K.is_clone (vacant_key self.old) (set_behavior behavior) (vacant_map self.old) (vacant_map self.new)) }
+        ensures ok { OnOk result (ChangesAt K.cmp K.is_clone (vacant_key self.old) (set_behavior behavior)
+            (vacant_map self.old) (vacant_map self.new)) }
         ensures err { OnErr result (vacant_map self.new ≡ vacant_map self.old) }
         ensures absent { OnErr result (entry_at K.cmp (vacant_map self.old) (vacant_key self.old) ≡ None) }
     {

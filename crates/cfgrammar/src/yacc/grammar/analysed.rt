@@ -72,8 +72,8 @@ impl<S: Storage> YaccGrammar<S> {
         YaccFirsts::new(alloc, self)
     }
 
-    /// The FOLLOW sets of the grammar: for each rule the tokens that stand right after it in what some rule derives, and
-    /// the end token where the start rule derives a list that ends in it (Aho, Lam, Sethi and Ullman, 4.4.2).
+    /// The FOLLOW sets of the grammar: for each rule the tokens that stand right after it in what some rule derives,
+    /// and the end token where the start rule derives a list that ends in it (Aho, Lam, Sethi and Ullman, 4.4.2).
     ///
     /// # Errors
     ///
@@ -92,7 +92,8 @@ impl<S: Storage> YaccGrammar<S> {
     /// Want of memory.
     pub fn has_path(&self, alloc: Global, from: RIdx<S>, to: RIdx<S>) -> Result<bool, AllocError>
         requires { S.number from.0 < length self.now.rules }
-        ensures { IfOk result (λ b. IsTrue b ↔ Path (HasProduction (core self.now)) (S.number from.0) (S.number to.0)) }
+        ensures { IfOk result (λ b. IsTrue b
+            ↔ Path (HasProduction (core self.now)) (S.number from.0) (S.number to.0)) }
     {
         has_path(alloc, self, from, to)
     }

@@ -18,7 +18,8 @@ pub(super) fn tokens_by_name<S: Storage>(
 ) -> Result<HashMap<&str, TIdx<S>>, AllocError>
     requires { length rows.now.entries ≤ S.MAX }
     ensures { IfOk result (λ map. (name : List ℕ)
-        → option_map (λ x. S.number x.0) (get_by (λ key. bytes_eq name key.now) map) ≡ position (bytes_eq name) (names rows.now.entries)) }
+        → option_map (λ x. S.number x.0) (get_by (λ key. bytes_eq name key.now) map)
+        ≡ position (bytes_eq name) (names rows.now.entries)) }
 {
     let mut map = HashMap::with_capacity(alloc, rows.len())?;
     for place in 0..rows.len() {

@@ -1,6 +1,7 @@
 //! The tables of a grammar.
 
-ghost use Rattle.std.specs.Prelude.{◌≡◌, ◌↔◌, ◌==◌, ℕ, ◌+◌, ◌<◌, if◌then◌else◌, List, [], Some, map, length, position};
+ghost use Rattle.std.specs.Prelude.{◌≡◌, ◌↔◌, ◌==◌, ℕ, ◌+◌, ◌<◌, if◌then◌else◌, List};
+ghost use Rattle.std.specs.Prelude.{[], Some, map, length, position};
 ghost use Rattle.std.specs.Prelude.{option_map, All, IfOk, IfSome, IsSome};
 ghost use Rattle.std.specs.HashMap.{get_by};
 ghost use Rattle.std.specs.Str.{IsUtf8, bytes_eq};
@@ -15,7 +16,8 @@ ghost use Rattle.cfgrammar.specs.Counting.{YieldsNumbersInOrder};
 ghost use Rattle.cfgrammar.specs.Fits.{LeavesRoom};
 ghost use Rattle.cfgrammar.specs.GrammarOf.{IsGrammarOf, IsGrammarOfItself};
 ghost use Rattle.cfgrammar.specs.Numbered.{implicit_of, numbered};
-ghost use Rattle.cfgrammar.specs.Shown.{IsSymbolWithin, has_token_name, production_part, production_text, rule_part, token_part};
+ghost use Rattle.cfgrammar.specs.Shown.{IsSymbolWithin, has_token_name, production_part, production_text, rule_part};
+ghost use Rattle.cfgrammar.specs.Shown.{token_part};
 ghost use Rattle.cfgrammar.specs.Spans.{EachAnswerSpan};
 ghost use Rattle.cfgrammar.specs.WellNumbered.{IsWellNumbered, times};
 
@@ -40,9 +42,9 @@ use std::marker::Model;
 /// Rule 0 is the start rule, of the name `^`, and has one production: the rule that the file starts from. The last
 /// token is the end token, which has no name and stands in no production.
 ///
-/// In an Eco file with implicit tokens rule 1, `~`, derives each row of them, and stands behind each token of the file's
-/// productions. The production of rule 0 then is rule 2, `^~`, whose one production is `~` and the rule that the file
-/// starts from.
+/// In an Eco file with implicit tokens rule 1, `~`, derives each row of them, and stands behind each token of the
+/// file's productions. The production of rule 0 then is rule 2, `^~`, whose one production is `~` and the rule that the
+/// file starts from.
 #[derive(Drop)]
 pub struct YaccGrammar<S: Storage> {
     rules: IndexMap<String, RuleRow<S>>,
@@ -60,9 +62,11 @@ impl<S: Storage> Model for YaccGrammar<S> {
 
     ghost Value = { Numbered };
 
-    ghost view = { λ x. tables S.number x.rules.entries x.prods.items x.tokens.entries x.start_prod x.implicit_rule x.settings };
+    ghost view = { λ x. tables S.number x.rules.entries x.prods.items x.tokens.entries x.start_prod x.implicit_rule
+        x.settings };
 
-    ghost invariant = { λ x. IsWellNumbered S.MAX (tables S.number x.rules.entries x.prods.items x.tokens.entries x.start_prod x.implicit_rule x.settings) };
+    ghost invariant = { λ x. IsWellNumbered S.MAX
+        (tables S.number x.rules.entries x.prods.items x.tokens.entries x.start_prod x.implicit_rule x.settings) };
 }
 
 impl YaccGrammar<u32> {
@@ -86,8 +90,8 @@ impl<S: Storage> YaccGrammar<S> {
     /// grammar of what was read.
     ///
     /// Each error has a span. Each span of the grammar and of an error begins and ends at a place of the text: where a
-    /// character begins, or where the text ends. That of an action, which has the length of the trimmed text, lies within
-    /// the text. That of what is added is (0,0).
+    /// character begins, or where the text ends. That of an action, which has the length of the trimmed text, lies
+    /// within the text. That of what is added is (0,0).
     ///
     /// # Errors
     ///
@@ -106,8 +110,8 @@ impl<S: Storage> YaccGrammar<S> {
     ///
     /// # Errors
     ///
-    /// Those of the section, which must be there; where it has none, one where it has no key `yacckind`, or what it gives
-    /// that isn't a kind; else those of reading the file as the kind.
+    /// Those of the section, which must be there; where it has none, one where it has no key `yacckind`, or what it
+    /// gives that isn't a kind; else those of reading the file as the kind.
     pub fn from_str(alloc: Global, text: &str) -> YaccGrammarResult<Self>
         ensures answer { IsGrammarOfItself text.now S.MAX result }
         ensures places { EachAnswerSpan (IsPiece text.now) (IsWithin text.now) result }
@@ -164,9 +168,9 @@ impl<S: Storage> YaccGrammar<S> {
 impl<S: Storage> YaccGrammar<S> {
     ghost use Rattle.cfganalysis.specs.Symbols.{sym_of};
 
-    /// A law, so the call does nothing: what holds of every grammar holds of this one. Rule 0 is the start rule, with the
-    /// one production `start_prod`; the last token is the end token, which no production holds; all that is referred to
-    /// is there, and `S` counts it; names differ; and each production is listed once, by its own rule.
+    /// A law, so the call does nothing: what holds of every grammar holds of this one. Rule 0 is the start rule, with
+    /// the one production `start_prod`; the last token is the end token, which no production holds; all that is
+    /// referred to is there, and `S` counts it; names differ; and each production is listed once, by its own rule.
     pub fn invariant_holds(&self)
         ensures { IsWellNumbered S.MAX self.now }
     {
@@ -191,7 +195,8 @@ impl<S: Storage> YaccGrammar<S> {
     /// The symbols of a production.
     pub fn prod(&self, pidx: PIdx<S>) -> &[Symbol<S>]
         requires { S.number pidx.0 < length self.now.productions }
-        ensures value { production_part (λ x. x.symbols) self.now (S.number pidx.0) ≡ Some (map (sym_of S.number) result.now) }
+        ensures value { production_part (λ x. x.symbols) self.now (S.number pidx.0)
+            ≡ Some (map (sym_of S.number) result.now) }
         ensures within { All (IsSymbolWithin S.number self.now) result.now }
     {
         self.prods[usize::from(pidx)].symbols.as_slice()
@@ -214,8 +219,8 @@ impl<S: Storage> YaccGrammar<S> {
         self.prods[usize::from(pidx)].rule
     }
 
-    /// The precedence of a production: that of the token behind its `%prec`, else of its last token (POSIX yacc). One that
-    /// the file does not have has none.
+    /// The precedence of a production: that of the token behind its `%prec`, else of its last token (POSIX yacc). One
+    /// that the file does not have has none.
     pub fn prod_precedence(&self, pidx: PIdx<S>) -> Option<Precedence>
         requires { S.number pidx.0 < length self.now.productions }
         ensures { production_part (λ x. x.precedence) self.now (S.number pidx.0) ≡ Some result }
@@ -234,7 +239,8 @@ impl<S: Storage> YaccGrammar<S> {
     /// The text of a production's action.
     pub fn action(&self, pidx: PIdx<S>) -> &Option<String>
         requires { S.number pidx.0 < length self.now.productions }
-        ensures { production_part (λ x. x.action) self.now (S.number pidx.0) ≡ Some (option_map string_bytes result.now) }
+        ensures { production_part (λ x. x.action) self.now (S.number pidx.0)
+            ≡ Some (option_map string_bytes result.now) }
     {
         &self.prods[usize::from(pidx)].action
     }
@@ -273,7 +279,8 @@ impl<S: Storage> YaccGrammar<S> {
     /// The productions of a rule: each of its own once, and no other.
     pub fn rule_to_prods(&self, ridx: RIdx<S>) -> &[PIdx<S>]
         requires { S.number ridx.0 < length self.now.rules }
-        ensures value { rule_part (λ x. x.productions) self.now (S.number ridx.0) ≡ Some (map (λ p. S.number p.0) result.now) }
+        ensures value { rule_part (λ x. x.productions) self.now (S.number ridx.0)
+            ≡ Some (map (λ p. S.number p.0) result.now) }
         ensures within { All (λ p. S.number p.0 < length self.now.productions) result.now }
         ensures own { (p owner : ℕ) → production_part (λ x. x.rule) self.now p ≡ Some owner
             → times p (map (λ p. S.number p.0) result.now) ≡ (if S.number ridx.0 == owner then 1 else 0) }
@@ -310,7 +317,8 @@ impl<S: Storage> YaccGrammar<S> {
     /// The type of what a rule's actions answer.
     pub fn actiontype(&self, ridx: RIdx<S>) -> &Option<String>
         requires { S.number ridx.0 < length self.now.rules }
-        ensures { rule_part (λ x. x.action_type) self.now (S.number ridx.0) ≡ Some (option_map string_bytes result.now) }
+        ensures { rule_part (λ x. x.action_type) self.now (S.number ridx.0)
+            ≡ Some (option_map string_bytes result.now) }
     {
         &self.rules[usize::from(ridx)].actiont
     }
@@ -325,7 +333,8 @@ impl<S: Storage> YaccGrammar<S> {
 
     /// The rule of a name: a rule is found by its own.
     pub fn rule_idx(&self, name: &str) -> Option<RIdx<S>>
-        ensures value { option_map (λ x. S.number x.0) result ≡ position (λ rule. bytes_eq name.now rule.name) self.now.rules }
+        ensures value { option_map (λ x. S.number x.0) result
+            ≡ position (λ rule. bytes_eq name.now rule.name) self.now.rules }
         ensures found { (r : ℕ) → rule_part (λ x. x.name) self.now r ≡ Some name.now
             → option_map (λ x. S.number x.0) result ≡ Some r }
         ensures within { IfSome result (λ ridx. S.number ridx.0 < length self.now.rules) }
@@ -371,7 +380,8 @@ impl<S: Storage> YaccGrammar<S> {
     /// The name of a token. The end token, which is the last, has none, and every other has one.
     pub fn token_name(&self, tidx: TIdx<S>) -> Option<&str>
         requires { S.number tidx.0 < length self.now.tokens }
-        ensures value { token_part (λ x. x.name) self.now (S.number tidx.0) ≡ Some (option_map (λ name. name.now) result) }
+        ensures value { token_part (λ x. x.name) self.now (S.number tidx.0)
+            ≡ Some (option_map (λ name. name.now) result) }
         ensures named { IsSome result ↔ (S.number tidx.0 + 1 < length self.now.tokens) }
     {
         match self.tokens.get_index(usize::from(tidx)) {
@@ -402,10 +412,12 @@ impl<S: Storage> YaccGrammar<S> {
         }
     }
 
-    /// How a token is printed: as its `%epp` says, else by its name. The end token, which is the last, has no such text.
+    /// How a token is printed: as its `%epp` says, else by its name. The end token, which is the last, has no such
+    /// text.
     pub fn token_epp(&self, tidx: TIdx<S>) -> Option<&str>
         requires { S.number tidx.0 < length self.now.tokens }
-        ensures { token_part (λ x. x.printed) self.now (S.number tidx.0) ≡ Some (option_map (λ text. text.now) result) }
+        ensures { token_part (λ x. x.printed) self.now (S.number tidx.0)
+            ≡ Some (option_map (λ text. text.now) result) }
     {
         match self.tokens.get_index(usize::from(tidx)) {
             Some((name, row)) => match &row.printed {
@@ -447,7 +459,8 @@ impl<S: Storage> YaccGrammar<S> {
     /// Want of memory.
     pub fn tokens_map(&self, alloc: Global) -> Result<HashMap<&str, TIdx<S>>, AllocError>
         ensures { IfOk result (λ map. (name : List ℕ)
-            → option_map (λ x. S.number x.0) (get_by (λ key. bytes_eq name key.now) map) ≡ position (has_token_name name) self.now.tokens) }
+            → option_map (λ x. S.number x.0) (get_by (λ key. bytes_eq name key.now) map)
+            ≡ position (has_token_name name) self.now.tokens) }
     {
         tokens_by_name(alloc, &self.tokens)
     }
@@ -501,7 +514,8 @@ impl<S: Storage> YaccGrammar<S> {
     /// A production as text: the rule's name and a colon, and for each symbol a space and the name in double quotes.
     pub fn pp_prod(&self, alloc: Global, pidx: PIdx<S>) -> Result<String, AllocError>
         requires { S.number pidx.0 < length self.now.productions }
-        ensures { IfOk result (λ text. production_part (production_text self.now) self.now (S.number pidx.0) ≡ Some (string_bytes text)) }
+        ensures { IfOk result (λ text. production_part (production_text self.now) self.now (S.number pidx.0)
+            ≡ Some (string_bytes text)) }
     {
         let mut text = String::from_str(alloc, self.rule_name_str(self.prod_to_rule(pidx)))?;
         text.push_str(":")?;

@@ -3,7 +3,9 @@
 ghost use Rattle.std.specs.Prelude.{◌≡◌, IfOk, map, option_map, string_bytes};
 ghost use Rattle.cfgast.specs.Building.{has_entry};
 ghost use Rattle.cfgast.specs.View.{syntax, symbol_view, production_view};
-ghost use Rattle.cfgsyntax.specs.Check.{is_rule, is_token, found, unfit_error, start_error, symbol_error, precedence_error, production_error, printed_error, place_error, rule_error, first_error, check_of};
+ghost use Rattle.cfgsyntax.specs.Check.{is_rule, is_token, found, unfit_error, start_error, symbol_error};
+ghost use Rattle.cfgsyntax.specs.Check.{precedence_error, production_error, printed_error, place_error, rule_error};
+ghost use Rattle.cfgsyntax.specs.Check.{first_error, check_of};
 
 use cfgast::{GrammarAST, Production, Rule, Symbol};
 use cfgbase::Span;

@@ -43,7 +43,8 @@ fn duplicate_errors(
     alloc: Global,
     occurrences: &[Occurrence],
 ) -> Result<Vec<YaccGrammarError>, AllocError>
-    ensures { IfOk result (λ errors. errors.items ≡ map duplicate_error (duplicates (map occurrence_view occurrences.now))) }
+    ensures { IfOk result (λ errors. errors.items
+        ≡ map duplicate_error (duplicates (map occurrence_view occurrences.now))) }
 {
     let mut errors = Vec::new(alloc);
     for (what, places) in duplicates(alloc, occurrences)? {

@@ -4,7 +4,9 @@ ghost use Rattle.std.specs.Prelude.{◌≡◌, ◌≤◌, ℕ, IfOk, IfSome, OnO
 ghost use Rattle.cfgwords.specs.Text.{place, fault_at};
 ghost use Rattle.cfgwords.specs.declared.fault.FaultKind.TheVariants.{NonEmptyProduction};
 ghost use Rattle.cfgsyntax.specs.Builds.{part_view, parts_view};
-ghost use Rattle.cfgsyntax.specs.Rules.{EmptyPart, PrecedencePart, SymbolPart, empty, front_part, front_parts, part_end, may_follow_empty, misplaced_empty, more_parts, no_parts, part, precedence, symbol_part, with_part};
+ghost use Rattle.cfgsyntax.specs.Rules.{EmptyPart, PrecedencePart, SymbolPart, empty, front_part, front_parts};
+ghost use Rattle.cfgsyntax.specs.Rules.{part_end, may_follow_empty, misplaced_empty, more_parts, no_parts, part};
+ghost use Rattle.cfgsyntax.specs.Rules.{precedence, symbol_part, with_part};
 
 use super::reader::{ReadFault, Reader};
 use cfgwords::fault::FaultKind;
@@ -75,7 +77,8 @@ impl<'a> Reader<'a> {
     /// Passes what stands behind `%prec`.
     #[tactic(auto, unfolding(crate::specs::Rules::precedence, cfgast::specs::Building::adds))]
     fn precedence(&mut self) -> Result<Token<'a>, ReadFault>
-        ensures read { Builds (λ token. PrecedencePart (token_view token)) self.old self.new result (precedence self.old.len) }
+        ensures read { Builds (λ token. PrecedencePart (token_view token)) self.old self.new result
+            (precedence self.old.len) }
         ensures after { IfOk result (λ token. place self.old.len self.old.rest.now ≤ token.end) }
     {
         self.blank(true)?;
@@ -108,7 +111,8 @@ impl<'a> Reader<'a> {
         }
     }
 
-    /// Passes the blank behind the `%empty` that begins at `text`, where a symbol stands before it: there it is a fault.
+    /// Passes the blank behind the `%empty` that begins at `text`, where a symbol stands before it: there it is a
+    /// fault.
     #[tactic(auto, unfolding(crate::specs::Rules::misplaced_empty, cfgast::specs::Building::adds))]
     fn misplaced_empty(&mut self, text: &'a str) -> Result<usize, ReadFault>
         ensures read { Builds EmptyPart self.old self.new result (misplaced_empty self.old.len text.now) }
@@ -122,7 +126,8 @@ impl<'a> Reader<'a> {
     #[tactic(auto, unfolding(crate::specs::Rules::front_part, cfgast::specs::Building::adds))]
     fn front_part(&mut self) -> Result<Option<Part<'a>>, ReadFault>
         ensures read { Builds (option_map part_view) self.old self.new result (front_part self.old.len) }
-        ensures after { IfOk result (λ part. IfSome part (λ part. place self.old.len self.old.rest.now ≤ part_end (part_view part))) }
+        ensures after { IfOk result (λ part. IfSome part
+            (λ part. place self.old.len self.old.rest.now ≤ part_end (part_view part))) }
     {
         let text = self.rest;
         if self.accept("%prec") {
@@ -137,8 +142,10 @@ impl<'a> Reader<'a> {
     /// Passes a symbol, if one stands here, and the blank behind it; a quoted token is noted.
     #[tactic(auto, unfolding(crate::specs::Rules::symbol_part, cfgast::specs::Building::adds))]
     fn symbol(&mut self) -> Result<Option<Token<'a>>, ReadFault>
-        ensures read { Builds (option_map (λ token. SymbolPart (token_view token))) self.old self.new result (symbol_part self.old.len) }
-        ensures after { IfOk result (λ symbol. IfSome symbol (λ token. place self.old.len self.old.rest.now ≤ token.end)) }
+        ensures read { Builds (option_map (λ token. SymbolPart (token_view token))) self.old self.new result
+            (symbol_part self.old.len) }
+        ensures after { IfOk result (λ symbol. IfSome symbol
+            (λ token. place self.old.len self.old.rest.now ≤ token.end)) }
     {
         match self.next_token() {
             Some(token) => {
@@ -156,7 +163,8 @@ impl<'a> Reader<'a> {
     #[tactic(auto, unfolding(crate::specs::Rules::part, cfgast::specs::Building::adds))]
     fn later_part(&mut self) -> Result<Option<Part<'a>>, ReadFault>
         ensures read { Builds (option_map part_view) self.old self.new result (part self.old.len) }
-        ensures after { IfOk result (λ part. IfSome part (λ part. place self.old.len self.old.rest.now ≤ part_end (part_view part))) }
+        ensures after { IfOk result (λ part. IfSome part
+            (λ part. place self.old.len self.old.rest.now ≤ part_end (part_view part))) }
     {
         let text = self.rest;
         if self.accept("%prec") {
@@ -184,7 +192,8 @@ impl<'a> Reader<'a> {
     /// Passes the parts of a production from its first symbol on, and adds them to those before.
     pub(super) fn more_parts(&mut self, front: Parts<'a>) -> Result<Parts<'a>, ReadFault>
         ensures read { Builds parts_view self.old self.new result (more_parts self.old.len (parts_view front.entry)) }
-        ensures ends { (start : ℕ) → start ≤ place self.old.len self.old.rest.now → IfSome front.entry.end (λ end. start ≤ end)
+        ensures ends { (start : ℕ) → start ≤ place self.old.len self.old.rest.now
+            → IfSome front.entry.end (λ end. start ≤ end)
             → IfOk result (λ parts. IfSome parts.end (λ end. start ≤ end)) }
         ensures shorter { OnOk result (length self.new.rest.now ≤ length self.old.rest.now) }
     {

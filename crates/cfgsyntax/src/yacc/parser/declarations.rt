@@ -4,7 +4,12 @@ ghost use Rattle.std.specs.Prelude.{◌≡◌, codes};
 ghost use Rattle.std.specs.String.{string_bytes};
 ghost use Rattle.reading.specs.Construct.{expect, goes_on, repeat, while_test};
 ghost use Rattle.cfgast.specs.View.{word_view};
-ghost use Rattle.cfgsyntax.specs.Declarations.{is_listed, separator_fault, listed_token, token_declaration, start_declaration, action_type_declaration, printed_token, printed_form, epp_declaration, expect_declaration, expect_rr_declaration, unused_symbol, expect_unused_declaration, parse_param_declaration, parse_generics_declaration, own_declaration, parser_declaration, expectation, precedence_or, declaration};
+ghost use Rattle.cfgsyntax.specs.Declarations.{is_listed, separator_fault, listed_token, token_declaration};
+ghost use Rattle.cfgsyntax.specs.Declarations.{start_declaration, action_type_declaration, printed_token, printed_form};
+ghost use Rattle.cfgsyntax.specs.Declarations.{epp_declaration, expect_declaration, expect_rr_declaration};
+ghost use Rattle.cfgsyntax.specs.Declarations.{unused_symbol, expect_unused_declaration, parse_param_declaration};
+ghost use Rattle.cfgsyntax.specs.Declarations.{parse_generics_declaration, own_declaration, parser_declaration};
+ghost use Rattle.cfgsyntax.specs.Declarations.{expectation, precedence_or, declaration};
 
 use super::lists::Marking;
 use super::reader::{ReadFault, Reader};
@@ -39,7 +44,8 @@ impl<'a> Reader<'a> {
 
     /// Passes the tokens of a `%token` list.
     fn token_list(&mut self) -> Result<(), ReadFault>
-        ensures { Builds (λ x. x) self.old self.new result (repeat (while_test is_listed (listed_token self.old.len))) }
+        ensures { Builds (λ x. x) self.old self.new result
+            (repeat (while_test is_listed (listed_token self.old.len))) }
     {
         while self.is_listed() {
             self.listed_token()?;
@@ -156,7 +162,8 @@ impl<'a> Reader<'a> {
 
     /// Passes the symbols of an `%expect-unused` list.
     fn unused_list(&mut self) -> Result<(), ReadFault>
-        ensures { Builds (λ x. x) self.old self.new result (repeat (while_test is_listed (unused_symbol self.old.len))) }
+        ensures { Builds (λ x. x) self.old self.new result
+            (repeat (while_test is_listed (unused_symbol self.old.len))) }
     {
         while self.is_listed() {
             self.unused_symbol()?;
@@ -216,7 +223,8 @@ impl<'a> Reader<'a> {
         }
     }
 
-    /// Passes a declaration of what is said of the parser, or one of a kind of files, and tells whether one stands here.
+    /// Passes a declaration of what is said of the parser, or one of a kind of files, and tells whether one stands
+    /// here.
     #[tactic(auto, unfolding(crate::specs::Declarations::parser_declaration, cfgast::specs::Building::adds))]
     fn parser_declaration(&mut self, kind: YaccKind) -> Result<bool, ReadFault>
         ensures { Builds goes_on self.old self.new result (parser_declaration self.old.len kind) }
@@ -232,7 +240,8 @@ impl<'a> Reader<'a> {
         }
     }
 
-    /// Passes a declaration of what is expected, or one that `parser_declaration` passes, and tells whether one stands here.
+    /// Passes a declaration of what is expected, or one that `parser_declaration` passes, and tells whether one stands
+    /// here.
     #[tactic(auto, unfolding(crate::specs::Declarations::expectation, cfgast::specs::Building::adds))]
     fn expectation(&mut self, kind: YaccKind) -> Result<bool, ReadFault>
         ensures { Builds goes_on self.old self.new result (expectation self.old.len kind) }

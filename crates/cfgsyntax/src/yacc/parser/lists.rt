@@ -50,7 +50,8 @@ impl LineList {
     ///
     /// `AllocError` where there is no memory for it.
     fn note(self, tree: &mut AstBuilder, alloc: Global, word: Word<'_>) -> Result<(), AllocError>
-        ensures { OnOk result (syntax_built tree.new ≡ add (syntax_built tree.old) (said self (word_view word.entry))) }
+        ensures { OnOk result (syntax_built tree.new
+            ≡ add (syntax_built tree.old) (said self (word_view word.entry))) }
     {
         match self {
             LineList::Precedence(kind) => tree.declare_precedence(alloc, kind, word),
@@ -63,8 +64,8 @@ impl LineList {
 impl Reader<'_> {
     ghost use Rattle.cfgsyntax.specs.Builds.{Builds};
 
-    /// Passes a token of the list and the blank behind it, and tells whether the list goes on: where the blank stays on its
-    /// line.
+    /// Passes a token of the list and the blank behind it, and tells whether the list goes on: where the blank stays on
+    /// its line.
     #[tactic(auto, unfolding(crate::specs::Declarations::line_token, cfgast::specs::Building::adds))]
     fn line_token(&mut self, list: LineList) -> Result<bool, ReadFault>
         ensures { Builds goes_on self.old self.new result (line_token self.old.len (said list)) }
@@ -116,7 +117,8 @@ impl Reader<'_> {
     /// Passes what follows `%avoid_insert` or `%implicit_tokens`.
     #[tactic(auto, unfolding(crate::specs::Declarations::marking_declaration, cfgast::specs::Building::adds))]
     pub(super) fn marking_declaration(&mut self, marking: Marking) -> Result<(), ReadFault>
-        ensures { Builds (λ x. x) self.old self.new result (marking_declaration self.old.len (begun marking) (marked marking)) }
+        ensures { Builds (λ x. x) self.old self.new result
+            (marking_declaration self.old.len (begun marking) (marked marking)) }
     {
         if self.is_open() {
             self.blank(false)?;

@@ -32,8 +32,8 @@ fn behind_section<'a>(alloc: Global, text: &'a str) -> Result<&'a str, HeaderFau
     Ok(text.split_at(end).1)
 }
 
-/// Reads what is left of a text of `len` bytes as a grammar file of the kind: what was read, and what stopped the reading, if
-/// anything did.
+/// Reads what is left of a text of `len` bytes as a grammar file of the kind: what was read, and what stopped the
+/// reading, if anything did.
 fn read_file(
     alloc: Global,
     kind: YaccKind,
@@ -52,8 +52,8 @@ fn read_file(
     Ok((reader.into_tree(), stop))
 }
 
-/// Reads a text as a grammar file of the kind, behind its section: what was read, and what stopped the reading, if anything
-/// did. Behind a section with errors nothing is read.
+/// Reads a text as a grammar file of the kind, behind its section: what was read, and what stopped the reading, if
+/// anything did. Behind a section with errors nothing is read.
 pub(crate) fn read(
     alloc: Global,
     kind: YaccKind,

@@ -5,7 +5,8 @@ ghost use Rattle.std.specs.String.{string_bytes};
 ghost use Rattle.reading.specs.Construct.{expect};
 ghost use Rattle.reading.specs.Pieces.{strip};
 ghost use Rattle.cfgwords.specs.Text.{place, fault_at};
-ghost use Rattle.cfgsyntax.specs.Here.{is_open, stands, blank_here, line_blank, name_here, token_here, integer_here, line_rest_here, epp_string_here, colon_text_here};
+ghost use Rattle.cfgsyntax.specs.Here.{is_open, stands, blank_here, line_blank, name_here, token_here, integer_here};
+ghost use Rattle.cfgsyntax.specs.Here.{line_rest_here, epp_string_here, colon_text_here};
 
 use cfgast::{AstBuilder, GrammarAST};
 use cfgbase::Span;
@@ -137,7 +138,8 @@ impl<'a> Reader<'a> {
     /// Passes the word, where it stands here.
     pub(super) fn accept(&mut self, word: &str) -> bool
         ensures { MatchBool result
-            ((strip word.now self.old.rest.now ≡ Some self.new.rest.now) × (self.new.len ≡ self.old.len) × (self.new.tree ≡ self.old.tree))
+            ((strip word.now self.old.rest.now ≡ Some self.new.rest.now) × (self.new.len ≡ self.old.len)
+            × (self.new.tree ≡ self.old.tree))
             ((strip word.now self.old.rest.now ≡ None) × (self.new ≡ self.old)) }
     {
         match after_word(self.rest, word) {

@@ -6,7 +6,8 @@ ghost use Rattle.cfgwords.specs.Text.{place};
 ghost use Rattle.cfgast.specs.Items.{Alternative};
 ghost use Rattle.cfgsyntax.specs.Builds.{IsActionHere, parts_view};
 ghost use Rattle.cfgsyntax.specs.Grammar.{file, programs};
-ghost use Rattle.cfgsyntax.specs.Rules.{another, end_fault, end_of, finish, is_grmtools, is_rule_next, production, production_end, rule, rule_body, rule_type};
+ghost use Rattle.cfgsyntax.specs.Rules.{another, end_fault, end_of, finish, is_grmtools, is_rule_next, production};
+ghost use Rattle.cfgsyntax.specs.Rules.{production_end, rule, rule_body, rule_type};
 
 use super::bodies::Parts;
 use super::reader::{ReadFault, Reader};
@@ -50,7 +51,8 @@ impl<'a> Reader<'a> {
     #[tactic(auto, unfolding(crate::specs::Rules::finish, cfgast::specs::Building::adds))]
     fn finish(&mut self, head: RuleHead<'a>, body: Body<'_, 'a>) -> Result<bool, ReadFault>
         ensures { Builds goes_on self.old self.new result
-            (finish self.old.len (is_some (body_view body.entry).action) (Alternative (head_view head.entry) (body_view body.entry))) }
+            (finish self.old.len (is_some (body_view body.entry).action)
+            (Alternative (head_view head.entry) (body_view body.entry))) }
     {
         let follows = self.another(body.action.is_some())?;
         self.tree.add_production(self.alloc, head, body)?;
@@ -83,7 +85,8 @@ impl<'a> Reader<'a> {
     ) -> Result<bool, ReadFault>
         requires here { start ≤ place self.old.len self.old.rest.now }
         requires ends { IfSome parts.now.end (λ end. start ≤ end) }
-        ensures { Builds goes_on self.old self.new result (production_end self.old.len (head_view head.entry) start (parts_view parts.now)) }
+        ensures { Builds goes_on self.old self.new result
+            (production_end self.old.len (head_view head.entry) start (parts_view parts.now)) }
     {
         let behind = self.place();
         let action = self.next_action();
@@ -169,7 +172,8 @@ impl<'a> Reader<'a> {
 
     /// Passes rules up to a second `%%` or the end.
     fn rules(&mut self, kind: YaccKind) -> Result<(), ReadFault>
-        ensures { Builds (λ x. x) self.old self.new result (repeat (while_test is_rule_next (rule self.old.len kind))) }
+        ensures { Builds (λ x. x) self.old self.new result
+            (repeat (while_test is_rule_next (rule self.old.len kind))) }
     {
         while self.is_rule_next() {
             self.rule(kind)?;

@@ -21,7 +21,8 @@ pub(super) fn precedence_of_token(ast: &GrammarAST, name: &str) -> Option<Preced
 
 /// The printed form of a token, where the file says one.
 pub(super) fn printed_form(ast: &GrammarAST, name: &str) -> Result<Option<String>, AllocError>
-    ensures { IfOk result (λ form. option_map_or string_bytes form name.now ≡ printed_form (syntax ast.now) name.now) }
+    ensures { IfOk result (λ form. option_map_or string_bytes form name.now
+        ≡ printed_form (syntax ast.now) name.now) }
 {
     match ast.epp().get(name) {
         Some((_, (form, _))) => Ok(Some(form.clone()?)),

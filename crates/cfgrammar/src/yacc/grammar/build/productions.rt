@@ -1,6 +1,7 @@
 //! The rows of productions.
 
-ghost use Rattle.std.specs.Prelude.{◌≡◌, ◌<◌, ◌≤◌, ◌∷◌, ◌++◌, [], true, All, Some, length, map, option_map, string_bytes, IfOk, OnOk};
+ghost use Rattle.std.specs.Prelude.{◌≡◌, ◌<◌, ◌≤◌, ◌∷◌, ◌++◌, [], true, All, Some, length};
+ghost use Rattle.std.specs.Prelude.{map, option_map, string_bytes, IfOk, OnOk};
 ghost use Rattle.std.specs.List.{zip};
 ghost use Rattle.std.specs.Option.{option_to_list};
 ghost use Rattle.derivation.specs.Grammar.{Rule, Token};
@@ -33,7 +34,8 @@ impl Numbering<'_> {
         requires implicit { AreTokens (file_of self.now) (implicit_in self.now) }
         requires room { LeavesRoom S.MAX (implicit_in self.now) (file_of self.now) }
         ensures { IfOk result (λ rows. map (production_view S.number) rows.items
-            ≡ map (file_production (implicit_in self.now) (file_of self.now)) (zip (file_of self.now).production_rules (file_of self.now).productions)
+            ≡ map (file_production (implicit_in self.now) (file_of self.now))
+            (zip (file_of self.now).production_rules (file_of self.now).productions)
             ++ added_productions (implicit_in self.now) (file_of self.now)) }
     {
         let mut rows = Vec::new(alloc);
@@ -84,7 +86,8 @@ impl Numbering<'_> {
         requires implicit { All (λ name. is_token (file_of self.now) name ≡ true) (names tokens.now.entries) }
         requires room { LeavesRoom S.MAX (Some (names tokens.now.entries)) (file_of self.now) }
         ensures { OnOk result (map (production_view S.number) rows.new.items
-            ≡ map (production_view S.number) rows.old.items ++ added_productions (Some (names tokens.now.entries)) (file_of self.now)) }
+            ≡ map (production_view S.number) rows.old.items
+            ++ added_productions (Some (names tokens.now.entries)) (file_of self.now)) }
     {
         let implicit = Symbol::Rule(RIdx(to_storage(1)));
         let implicit_start = Symbol::Rule(RIdx(to_storage(2)));
@@ -94,7 +97,8 @@ impl Numbering<'_> {
         push_added_row(alloc, rows, 2, Some(implicit), Some(self.start_symbol()))
     }
 
-    /// Puts a production of the rule for implicit tokens behind the rows for each of these: the token, and the rule again.
+    /// Puts a production of the rule for implicit tokens behind the rows for each of these: the token, and the rule
+    /// again.
     fn push_implicit<S: Storage>(
         &self,
         alloc: Global,
@@ -106,7 +110,8 @@ impl Numbering<'_> {
         requires room { LeavesRoom S.MAX (implicit_in self.now) (file_of self.now) }
         ensures { OnOk result (map (production_view S.number) rows.new.items
             ≡ map (production_view S.number) rows.old.items
-            ++ map (λ name. added_production 1 (Token (token_index (file_of self.now) name) ∷ Rule 1 ∷ [])) (names tokens.now.entries)) }
+            ++ map (λ name. added_production 1 (Token (token_index (file_of self.now) name) ∷ Rule 1 ∷ []))
+            (names tokens.now.entries)) }
     {
         for (name, _) in tokens {
             let token = Symbol::Token(self.token_of(name.as_str()));
@@ -150,7 +155,8 @@ fn push_added_row<S: Storage>(
 
 /// The text of a production's action, and its place.
 fn action_parts(production: &Production) -> Result<(Option<String>, Option<Span>), AllocError>
-    ensures text { IfOk result (λ parts. option_map string_bytes parts.0 ≡ option_map (λ action. string_bytes action.0) production.now.action) }
+    ensures text { IfOk result (λ parts. option_map string_bytes parts.0
+        ≡ option_map (λ action. string_bytes action.0) production.now.action) }
     ensures span { IfOk result (λ parts. parts.1 ≡ option_map (λ action. action.1) production.now.action) }
 {
     match &production.action {

@@ -12,8 +12,8 @@ use cfgsyntax::yacc::ast::{Production, Symbol};
 
 impl Numbering<'_> {
     /// Whether the index type counts the rules, tokens and productions of the numbered grammar, and the symbols of each
-    /// production. In an Eco file with implicit tokens three rules stand before the file's, and each token of a production
-    /// counts twice, since a rule stands behind it.
+    /// production. In an Eco file with implicit tokens three rules stand before the file's, and each token of a
+    /// production counts twice, since a rule stands behind it.
     pub(crate) fn fits<S: Storage>(&self) -> bool
         ensures { IsTrue result ↔ LeavesRoom S.MAX (implicit_in self.now) (file_of self.now) }
     {
@@ -39,7 +39,8 @@ impl Numbering<'_> {
     /// Whether it counts the symbols of each of these productions.
     fn all_symbols_fit<S: Storage>(&self, productions: &[Production]) -> bool
         ensures { IsTrue result
-            ↔ All (λ production. length (file_symbols (implicit_in self.now) (file_of self.now) (map symbol_view production.symbols.items)) ≤ S.MAX) productions.now }
+            ↔ All (λ production. length (file_symbols (implicit_in self.now) (file_of self.now)
+            (map symbol_view production.symbols.items)) ≤ S.MAX) productions.now }
     {
         for production in productions {
             if !self.symbols_fit::<S>(&production.symbols) {
@@ -51,7 +52,8 @@ impl Numbering<'_> {
 
     /// Whether it counts these symbols, with the rules behind tokens.
     fn symbols_fit<S: Storage>(&self, symbols: &[Symbol]) -> bool
-        ensures { IsTrue result ↔ (length (file_symbols (implicit_in self.now) (file_of self.now) (map symbol_view symbols.now)) ≤ S.MAX) }
+        ensures { IsTrue result ↔ (length
+            (file_symbols (implicit_in self.now) (file_of self.now) (map symbol_view symbols.now)) ≤ S.MAX) }
     {
         let mut left = S::MAX;
         for symbol in symbols {
@@ -66,7 +68,8 @@ impl Numbering<'_> {
 
     /// How many symbols of the numbered grammar a symbol of the file makes.
     fn width(&self, symbol: &Symbol) -> usize
-        ensures { result ≡ length (spaced (implicit_in self.now) (file_symbol (implicit_in self.now) (file_of self.now) (symbol_view symbol.now))) }
+        ensures { result ≡ length (spaced (implicit_in self.now)
+            (file_symbol (implicit_in self.now) (file_of self.now) (symbol_view symbol.now))) }
     {
         match (symbol, self.implicit) {
             (Symbol::Token(_, _), Some(_)) => 2,

@@ -1,6 +1,7 @@
 //! The rows of rules.
 
-ghost use Rattle.std.specs.Prelude.{◌≡◌, ◌+◌, ◌≤◌, ◌∷◌, ◌++◌, [], false, All, length, map, IfOk, OnOk};
+ghost use Rattle.std.specs.Prelude.{◌≡◌, ◌+◌, ◌≤◌, ◌∷◌, ◌++◌, [], false, All, length, map};
+ghost use Rattle.std.specs.Prelude.{IfOk, OnOk};
 ghost use Rattle.std.specs.List.{list_any, range_with_len};
 ghost use Rattle.std.specs.Str.{bytes_eq};
 ghost use Rattle.cfgast.specs.View.{rule_view as plain_rule};
@@ -33,7 +34,8 @@ impl Numbering<'_> {
         requires sound { IsSound (file_of self.now) [] }
         requires room { LeavesRoom S.MAX (implicit_in self.now) (file_of self.now) }
         ensures { IfOk result (λ rows. map (rule_view S.number) rows.entries
-            ≡ added_rules (implicit_in self.now) (length (file_of self.now).productions) ++ map file_rule (file_of self.now).rules) }
+            ≡ added_rules (implicit_in self.now) (length (file_of self.now).productions)
+            ++ map file_rule (file_of self.now).rules) }
     {
         let mut rows = self.added_rule_rows(alloc)?;
         for (name, rule) in self.ast.rules() {

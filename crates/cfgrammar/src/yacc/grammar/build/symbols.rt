@@ -1,10 +1,12 @@
 //! The symbols of productions, by their indices.
 
-ghost use Rattle.std.specs.Prelude.{◌≡◌, ◌+◌, ◌≤◌, ◌++◌, ◌∷◌, [], true, All, None, map, IfOk, OnOk};
+ghost use Rattle.std.specs.Prelude.{◌≡◌, ◌+◌, ◌≤◌, ◌++◌, ◌∷◌, [], true, All, None, map, IfOk};
+ghost use Rattle.std.specs.Prelude.{OnOk};
 ghost use Rattle.cfgast.specs.View.{symbol_view};
 ghost use Rattle.cfgsyntax.specs.Check.{is_rule, is_token, symbol_error};
 ghost use Rattle.cfgrammar.specs.Fits.{LeavesRoom};
-ghost use Rattle.cfgrammar.specs.Numbered.{rule_index, rules_before, token_index, file_symbol, file_symbols, spaced, start_symbols};
+ghost use Rattle.cfgrammar.specs.Numbered.{rule_index, rules_before, token_index, file_symbol, file_symbols, spaced};
+ghost use Rattle.cfgrammar.specs.Numbered.{start_symbols};
 ghost use Rattle.cfgrammar.specs.Resolved.{IsResolved};
 ghost use Rattle.cfgrammar.specs.View.{file_of, implicit_in};
 ghost use Rattle.cfganalysis.specs.Symbols.{sym_of};
@@ -15,13 +17,15 @@ use cfgsyntax::yacc::ast;
 use std::alloc::{AllocError, Global};
 
 impl Numbering<'_> {
-    /// The symbols of a production of the file. Behind each token stands the rule for implicit tokens, where there are some.
+    /// The symbols of a production of the file. Behind each token stands the rule for implicit tokens, where there are
+    /// some.
     pub(super) fn numbered_symbols<S: Storage>(
         &self,
         alloc: Global,
         symbols: &[ast::Symbol],
     ) -> Result<Vec<Symbol<S>>, AllocError>
-        requires known { All (λ symbol. symbol_error (file_of self.now) symbol ≡ None) (map symbol_view symbols.now) }
+        requires known { All (λ symbol. symbol_error (file_of self.now) symbol ≡ None)
+            (map symbol_view symbols.now) }
         requires room { LeavesRoom S.MAX (implicit_in self.now) (file_of self.now) }
         ensures { IfOk result (λ numbered. map (sym_of S.number) numbered.items
             ≡ file_symbols (implicit_in self.now) (file_of self.now) (map symbol_view symbols.now)) }
@@ -43,7 +47,8 @@ impl Numbering<'_> {
         requires room { LeavesRoom S.MAX (implicit_in self.now) (file_of self.now) }
         ensures { OnOk result (map (sym_of S.number) numbered.new.items
             ≡ map (sym_of S.number) numbered.old.items
-            ++ spaced (implicit_in self.now) (file_symbol (implicit_in self.now) (file_of self.now) (symbol_view symbol.now))) }
+            ++ spaced (implicit_in self.now)
+            (file_symbol (implicit_in self.now) (file_of self.now) (symbol_view symbol.now))) }
     {
         match symbol {
             ast::Symbol::Rule(name, _) => {
