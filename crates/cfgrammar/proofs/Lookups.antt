@@ -12,7 +12,7 @@ use Rattle.cfgrammar.specs.Shown.{has_token_name}
 use Rattle.cfgrammar.specs.View.{names, rule_view, token_view}
 use Rattle.cfgrammar.specs.declared.yacc.grammar.rows.RuleRow.{RuleRow}
 use Rattle.cfgrammar.specs.declared.yacc.grammar.rows.TokenRow.{TokenRow}
-use Rattle.cfgsyntax.specs.Check.{is_rule, is_token}
+use Rattle.cfgcheck.specs.Check.{is_rule, is_token}
 
 -- the test by which a text is looked up among keys
 abbrev pub is_key : List ℕ → String Global → Bool

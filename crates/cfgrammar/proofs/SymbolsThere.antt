@@ -9,7 +9,7 @@ use Rattle.derivation.specs.Grammar.{Sym, Rule, Token, Grammar, IsSymbolOf}
 use Rattle.cfgast.specs.Syntax as file
 use Rattle.cfgast.specs.Syntax.{Syntax, Production, Symbol, RuleSymbol, TokenSymbol}
 use Rattle.lemmas.proofs.Places.{found-position}
-use Rattle.cfgsyntax.specs.Check.{is_rule, is_token, symbol_error}
+use Rattle.cfgcheck.specs.Check.{is_rule, is_token, symbol_error}
 use Rattle.cfgerrors.specs.Errors.{GrammarError, UnknownRuleRef, UnknownToken, error_at}
 use Rattle.cfgsyntax.specs.Sound.{IsSound}
 use Rattle.cfgrammar.specs.Numbered.{NumberedProduction, rules_before, rule_index, token_index, file_symbol, file_symbols, spaced, start_symbols, added_production, added_productions}

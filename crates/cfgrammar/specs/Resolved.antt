@@ -2,7 +2,7 @@
 use Rattle.std.specs.Prelude.{◌≡◌, ℕ, List, Option, true, All, IfSome, Some, None}
 use Rattle.cfgwords.specs.Words.{Word}
 use Rattle.cfgast.specs.Syntax.{Syntax, Production}
-use Rattle.cfgsyntax.specs.Check.{is_rule, is_token, symbol_error}
+use Rattle.cfgcheck.specs.Check.{is_rule, is_token, symbol_error}
 
 -- the symbols name rules and tokens of the syntax
 abbrev pub Resolves : Syntax → Production → Type 0

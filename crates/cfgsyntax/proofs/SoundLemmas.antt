@@ -4,7 +4,7 @@ use Rattle.std.specs.Option.{option_to_list, option_or}
 use Rattle.cfgast.specs.Syntax.{Syntax, syntax_of}
 use Rattle.cfgheader.specs.declared.kind.YaccKind.{YaccKind}
 use Rattle.cfgerrors.specs.Errors.{GrammarError, InvalidStartRule, error_at}
-use Rattle.cfgsyntax.specs.Check.{is_rule, first_error, start_error, rule_error, printed_error, symbol_error, check_of}
+use Rattle.cfgcheck.specs.Check.{is_rule, first_error, start_error, rule_error, printed_error, symbol_error, check_of}
 use Rattle.cfgsyntax.specs.Faults.{all_errors, errors_of}
 use Rattle.cfgsyntax.specs.Reads.{Stop, Reads, HasOneReading}
 use Rattle.cfgast.specs.Items.{Item}

@@ -12,7 +12,7 @@ use Rattle.cfgast.specs.Occurrences.{Duplicate, duplicates}
 use Rattle.cfgast.specs.Syntax.{Syntax, syntax_of}
 use Rattle.cfgerrors.specs.Errors.{ErrorKind, GrammarError, Nameless, error_at, header_error}
 use Rattle.cfgerrors.specs.declared.error.YaccGrammarErrorKind.TheVariants as kinds
-use Rattle.cfgsyntax.specs.Check.{check_of}
+use Rattle.cfgcheck.specs.Check.{check_of}
 use Rattle.cfgsyntax.specs.Reads.{Stop, InSection, InFile}
 
 abbrev pub kind_of : FaultKind → ErrorKind

@@ -1,5 +1,4 @@
 pub mod Builds
-pub mod Check
 pub mod Declarations
 pub mod Faults
 pub mod Grammar

@@ -6,7 +6,7 @@ use Rattle.cfgwords.specs.declared.bytes.ByteClass.TheVariants as bytes
 use Rattle.cfgwords.specs.Bytes.{holds}
 use Rattle.cfgast.specs.Syntax.{Syntax}
 use Rattle.cfgast.specs.WellFormed.{IsWellFormed}
-use Rattle.cfgsyntax.specs.Check.{check_of}
+use Rattle.cfgcheck.specs.Check.{check_of}
 use Rattle.cfgerrors.specs.Errors.{GrammarError}
 
 pub record IsSound (syntax : Syntax) (errors : List GrammarError) : Type 0 where

@@ -5,7 +5,7 @@ use Rattle.cfgast.specs.Syntax.{Syntax}
 use Rattle.cfgast.specs.Writing.{started_at}
 use Rattle.cfgerrors.specs.Errors.{InvalidStartRule}
 use Rattle.cfgerrors.specs.Texts.{error_text}
-use Rattle.cfgsyntax.specs.Check.{is_rule}
+use Rattle.cfgcheck.specs.Check.{is_rule}
 use Rattle.cfgsyntax.specs.Parsed.{Parsed}
 use Rattle.cfgsyntax.specs.declared.yacc.ast.start.StartFault.{StartFault}
 use Rattle.cfgsyntax.specs.declared.yacc.ast.start.StartFault.TheVariants as faults

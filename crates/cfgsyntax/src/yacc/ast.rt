@@ -1,6 +1,5 @@
 //! The syntax of a Yacc file, and whether it is valid.
 
-mod check;
 mod errors;
 mod named;
 mod start;
@@ -11,7 +10,7 @@ ghost use Rattle.cfgast.specs.Items.{Item};
 ghost use Rattle.cfgast.specs.Syntax.{syntax_of};
 ghost use Rattle.cfgast.specs.View.{syntax, named_view};
 ghost use Rattle.cfgheader.specs.Named.{HasOneNaming, Names, Naming};
-ghost use Rattle.cfgsyntax.specs.Check.{is_rule};
+ghost use Rattle.cfgcheck.specs.Check.{is_rule};
 ghost use Rattle.cfgsyntax.specs.Faults.{errors_of};
 ghost use Rattle.cfgwords.specs.Places.{IsPiece, IsWithin};
 ghost use Rattle.cfgsyntax.specs.OfItself.{AnswersNaming};
@@ -23,9 +22,9 @@ ghost use Rattle.cfgsyntax.specs.Starts.{restarted, IsStartFault};
 use crate::yacc::parser::read;
 use cfgast::clone_with_start;
 pub use cfgast::{GrammarAST, Production, Rule, Settings, Symbol};
+use cfgcheck::is_rule;
 use cfgerrors::{YaccGrammarError, YaccGrammarErrorKind, YaccGrammarResult};
 use cfgheader::YaccKind;
-use check::is_rule;
 use errors::errors_found;
 use named::named_kind;
 pub use start::{ASTModificationError, StartFault};

@@ -8,11 +8,11 @@ ghost use Rattle.cfgerrors.specs.Errors.{kind_view, header_error};
 ghost use Rattle.cfgsyntax.specs.Builds.{stop_view};
 ghost use Rattle.cfgsyntax.specs.Faults.{repeated_kind, duplicate_error, stop_errors, all_errors};
 
-use super::check::check;
 use crate::yacc::parser::{Stopped, error_of};
 use cfgast::duplicates::duplicates;
 use cfgast::{GrammarAST, Occurrence, UniqueKind};
 use cfgbase::Span;
+use cfgcheck::check;
 use cfgerrors::YaccGrammarErrorKind::{
     DuplicateActiontypeDeclaration, DuplicateAvoidInsertDeclaration, DuplicateEPP,
     DuplicateExpectDeclaration, DuplicateExpectRRDeclaration, DuplicateImplicitTokensDeclaration,

@@ -3,7 +3,7 @@
 ghost use Rattle.std.specs.Prelude.{◌≡◌, ◌+◌, ◌≤◌, ◌++◌, ◌∷◌, [], true, All, None, map, IfOk};
 ghost use Rattle.std.specs.Prelude.{OnOk};
 ghost use Rattle.cfgast.specs.View.{symbol_view};
-ghost use Rattle.cfgsyntax.specs.Check.{is_rule, is_token, symbol_error};
+ghost use Rattle.cfgcheck.specs.Check.{is_rule, is_token, symbol_error};
 ghost use Rattle.cfgrammar.specs.Fits.{LeavesRoom};
 ghost use Rattle.cfgrammar.specs.Numbered.{rule_index, rules_before, token_index, file_symbol, file_symbols, spaced};
 ghost use Rattle.cfgrammar.specs.Numbered.{start_symbols};

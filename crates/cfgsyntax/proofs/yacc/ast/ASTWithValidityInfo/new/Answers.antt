@@ -1,6 +1,6 @@
 use Rattle.std.proofs.Common.{All, option_map, sym, subst}
 use Rattle.cfgsyntax.specs.Builds.{stop_view}
-use Rattle.cfgsyntax.specs.Check.{check_of}
+use Rattle.cfgcheck.specs.Check.{check_of}
 use Rattle.cfgast.specs.WellFormed.{IsWellFormed}
 use Rattle.cfgast.proofs.WellFormedLemmas.{syntax_of-IsWellFormed}
 use Rattle.cfgwords.proofs.NameStarts.{begins_as_name}

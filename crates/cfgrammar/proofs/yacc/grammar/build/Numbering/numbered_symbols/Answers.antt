@@ -2,7 +2,7 @@ use Rattle.std.proofs.Common.{◌≡◌, ◌++◌, None, arith, sym, ap, subst, 
 use Rattle.std.proofs.lemmas.List.{get_or-map, length-map}
 use Rattle.cfgast.specs.Syntax.{Symbol}
 use Rattle.cfgast.specs.View.{symbol_view}
-use Rattle.cfgsyntax.specs.Check.{symbol_error}
+use Rattle.cfgcheck.specs.Check.{symbol_error}
 use Rattle.cfgrammar.specs.Numbered.{file_symbol, spaced}
 use Rattle.cfgrammar.specs.View.{file_of, implicit_in}
 use Rattle.cfgrammar.proofs.Symbols.{more_symbols}

@@ -1,6 +1,6 @@
 use Rattle.std.proofs.Common.{◌≡◌, None, All, map, sym, subst}
 use Rattle.cfgast.specs.View.{symbol_view}
-use Rattle.cfgsyntax.specs.Check.{symbol_error}
+use Rattle.cfgcheck.specs.Check.{symbol_error}
 use Rattle.cfgrammar.specs.View.{file_of}
 use Rattle.cfgrammar.proofs.yacc.grammar.build.Numbering.production_row.Goals as goal
 

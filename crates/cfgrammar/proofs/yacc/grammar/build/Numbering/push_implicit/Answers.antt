@@ -2,7 +2,7 @@ use Rattle.std.proofs.Common.{◌≡◌, true, ◌∷◌, ◌++◌, [], map, Bor
 use Rattle.std.proofs.lemmas.Iterator.Consumers.{YieldsList-end}
 use Rattle.cfgbase.specs.declared.span.Span.{Span}
 use Rattle.derivation.specs.Grammar.{Rule, Token}
-use Rattle.cfgsyntax.specs.Check.{is_token}
+use Rattle.cfgcheck.specs.Check.{is_token}
 use Rattle.cfgrammar.specs.Numbered.{added_production, token_index}
 use Rattle.cfgrammar.specs.View.{file_of, production_view}
 use Rattle.lemmas.proofs.Roads.{item_holds, more_shown}

@@ -1,7 +1,7 @@
 use Rattle.std.proofs.Common.{◌≡◌, drop}
 use Rattle.cfgast.specs.View.{syntax}
-use Rattle.cfgsyntax.specs.Check.{first_error, place_error}
-use Rattle.cfgsyntax.proofs.yacc.ast.check.check_rule.Given as goal
+use Rattle.cfgcheck.specs.Check.{first_error, place_error}
+use Rattle.cfgcheck.proofs.validation.check_rule.Given as goal
 
 abbrev pub invariant-loop-place : goal.invariant-loop-place
 invariant-loop-place l =

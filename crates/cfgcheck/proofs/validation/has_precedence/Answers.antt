@@ -1,7 +1,7 @@
 use Rattle.std.proofs.Common.{sym, ap, ◌∙◌}
 use Rattle.cfgast.specs.Building.{has_entry}
 use Rattle.cfgast.proofs.Views.{has_entry-entries}
-use Rattle.cfgsyntax.proofs.yacc.ast.check.has_precedence.Goals as goal
+use Rattle.cfgcheck.proofs.validation.has_precedence.Goals as goal
 
 pub returns : goal.returns
 returns c =

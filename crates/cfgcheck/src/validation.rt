@@ -3,9 +3,9 @@
 ghost use Rattle.std.specs.Prelude.{◌≡◌, IfOk, map, option_map, string_bytes};
 ghost use Rattle.cfgast.specs.Building.{has_entry};
 ghost use Rattle.cfgast.specs.View.{syntax, symbol_view, production_view};
-ghost use Rattle.cfgsyntax.specs.Check.{is_rule, is_token, found, unfit_error, start_error, symbol_error};
-ghost use Rattle.cfgsyntax.specs.Check.{precedence_error, production_error, printed_error, place_error, rule_error};
-ghost use Rattle.cfgsyntax.specs.Check.{first_error, check_of};
+ghost use Rattle.cfgcheck.specs.Check.{is_rule, is_token, found, unfit_error, start_error, symbol_error};
+ghost use Rattle.cfgcheck.specs.Check.{precedence_error, production_error, printed_error, place_error, rule_error};
+ghost use Rattle.cfgcheck.specs.Check.{first_error, check_of};
 
 use cfgast::{GrammarAST, Production, Rule, Symbol};
 use cfgbase::Span;
@@ -17,17 +17,29 @@ use std::alloc::{AllocError, Global};
 
 /// What a check finds wrong. It borrows the name, so that to look for it takes no memory.
 #[derive(Drop)]
-pub(super) enum Unfit<'a> {
+pub enum Unfit<'a> {
+    /// No rule is the start.
     NoStart,
+    /// The start, whose name and place these are, is no rule.
     Start(&'a str, Span),
+    /// No rule has the name that stands at this place.
     Rule(&'a str, Span),
+    /// No token has the name that stands at this place, or, where the place is empty and at the text's front, the name
+    /// that a `%prec` gives.
     Token(&'a str, Span),
+    /// The token of a `%prec` has no precedence.
     Precedence(&'a str),
+    /// The key of an `%epp`, with its place, is no token.
     PrintedForm(&'a str, Span),
 }
 
 impl Unfit<'_> {
-    pub(super) fn error(self, alloc: Global) -> Result<YaccGrammarError, AllocError>
+    /// The error that tells it.
+    ///
+    /// # Errors
+    ///
+    /// Want of memory.
+    pub fn error(self, alloc: Global) -> Result<YaccGrammarError, AllocError>
         ensures { IfOk result (λ error. error ≡ unfit_error self.entry) }
     {
         let (kind, span) = match self {
@@ -45,7 +57,8 @@ impl Unfit<'_> {
     }
 }
 
-pub(super) fn is_rule(ast: &GrammarAST, name: &str) -> bool
+/// Whether a rule of the tree has the name.
+pub fn is_rule(ast: &GrammarAST, name: &str) -> bool
     ensures { result ≡ is_rule (syntax ast.now) name.now }
 {
     ast.get_rule(name).is_some()
@@ -151,9 +164,15 @@ fn check_printed_forms(ast: &GrammarAST) -> Result<(), Unfit<'_>>
     Ok(())
 }
 
-/// The first check that the syntax fails, if it fails one.
+/// Validates a tree: that its start is a rule; rule by rule and production by production, that the token of a `%prec` is
+/// a token and has a precedence, and that what each symbol names is there; that each key of `%epp` is a token; and that
+/// what each symbol of `%expect-unused` names is there. It takes no memory.
+///
+/// # Errors
+///
+/// The first check that the syntax fails.
 #[tactic(auto, unfolding(crate::specs::Check::check_of))]
-pub(super) fn check(ast: &GrammarAST) -> Result<(), Unfit<'_>>
+pub fn check(ast: &GrammarAST) -> Result<(), Unfit<'_>>
     ensures { found result ≡ check_of (syntax ast.now) }
 {
     check_start(ast)?;

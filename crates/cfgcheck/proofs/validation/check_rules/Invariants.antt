@@ -1,7 +1,7 @@
 use Rattle.std.proofs.Common.{◌≡◌, map}
 use Rattle.cfgast.specs.View.{syntax, rule_entry}
-use Rattle.cfgsyntax.specs.Check.{first_error, rule_error}
-use Rattle.cfgsyntax.proofs.yacc.ast.check.check_rules.Given as goal
+use Rattle.cfgcheck.specs.Check.{first_error, rule_error}
+use Rattle.cfgcheck.proofs.validation.check_rules.Given as goal
 
 abbrev pub invariant-loop-rule : goal.invariant-loop-rule
 invariant-loop-rule l =

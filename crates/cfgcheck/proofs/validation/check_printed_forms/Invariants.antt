@@ -1,7 +1,7 @@
 use Rattle.std.proofs.Common.{◌≡◌, map}
 use Rattle.cfgast.specs.View.{syntax, printed_entry}
-use Rattle.cfgsyntax.specs.Check.{first_error, printed_error}
-use Rattle.cfgsyntax.proofs.yacc.ast.check.check_printed_forms.Given as goal
+use Rattle.cfgcheck.specs.Check.{first_error, printed_error}
+use Rattle.cfgcheck.proofs.validation.check_printed_forms.Given as goal
 
 abbrev pub invariant-loop-name : goal.invariant-loop-name
 invariant-loop-name l =

@@ -1,7 +1,7 @@
 use Rattle.std.proofs.Common.{◌≡◌, map, drop}
 use Rattle.cfgast.specs.View.{syntax, symbol_view}
-use Rattle.cfgsyntax.specs.Check.{first_error, symbol_error}
-use Rattle.cfgsyntax.proofs.yacc.ast.check.check_symbols.Given as goal
+use Rattle.cfgcheck.specs.Check.{first_error, symbol_error}
+use Rattle.cfgcheck.proofs.validation.check_symbols.Given as goal
 
 abbrev pub invariant-loop-symbol : goal.invariant-loop-symbol
 invariant-loop-symbol l =

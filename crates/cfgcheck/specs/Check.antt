@@ -9,8 +9,8 @@ use Rattle.cfgwords.specs.Words.{Word}
 use Rattle.cfgbase.specs.declared.span.Span.{Span}
 use Rattle.cfgast.specs.Building.{has_entry}
 use Rattle.cfgast.specs.Syntax.{Syntax, Rule, Production, Symbol, RuleSymbol, TokenSymbol}
-use Rattle.cfgsyntax.specs.declared.yacc.ast.check.Unfit.{Unfit}
-use Rattle.cfgsyntax.specs.declared.yacc.ast.check.Unfit.TheVariants as unfit
+use Rattle.cfgcheck.specs.declared.validation.Unfit.{Unfit}
+use Rattle.cfgcheck.specs.declared.validation.Unfit.TheVariants as unfit
 use Rattle.cfgerrors.specs.declared.error.YaccGrammarErrorKind.TheVariants.{NoStartRule}
 use Rattle.cfgerrors.specs.Errors.{GrammarError, InvalidStartRule, UnknownRuleRef, UnknownToken, NoPrecForToken, UnknownEPP, Nameless, error_at}
 
