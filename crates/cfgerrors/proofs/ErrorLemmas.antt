@@ -8,10 +8,10 @@ use Rattle.cfgbase.specs.declared.span.Span.{Span}
 use Rattle.cfgbase.specs.declared.span.SpansKind.{SpansKind}
 use Rattle.cfgbase.specs.declared.span.SpansKind.TheVariants.{DuplicationError, Error}
 use Rattle.cfgbase.specs.contracts.span.SpansKindPartialEq.TheImpl.{ghosts as spanskinds}
-use Rattle.cfgheader.specs.declared.error.HeaderErrorKind.{HeaderErrorKind}
-use Rattle.cfgheader.specs.contracts.error.HeaderErrorKindPartialEq.TheImpl.{ghosts as header_kinds}
-use Rattle.cfgheader.specs.Errors.{error_kind_view, same_error_kind}
-use Rattle.cfgheader.proofs.ErrorLemmas.{eq_error_kind, error_kind_view-eq}
+use Rattle.cfgerrors.specs.declared.header.HeaderErrorKind.{HeaderErrorKind}
+use Rattle.cfgerrors.specs.contracts.header.HeaderErrorKindPartialEq.TheImpl.{ghosts as header_kinds}
+use Rattle.cfgerrors.specs.HeaderErrors.{error_kind_view, same_error_kind}
+use Rattle.cfgerrors.proofs.HeaderErrorLemmas.{eq_error_kind, error_kind_view-eq}
 use Rattle.cfgerrors.specs.declared.error.YaccGrammarErrorKind.{YaccGrammarErrorKind}
 use Rattle.cfgerrors.specs.declared.error.YaccGrammarErrorKind.TheVariants as rust
 use Rattle.cfgerrors.specs.contracts.error.YaccGrammarErrorKindPartialEq.TheImpl.{ghosts as kinds}

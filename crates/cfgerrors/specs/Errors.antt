@@ -9,7 +9,7 @@ use lib.Pointwise.{pointwise}
 use Rattle.cfgbase.specs.declared.span.Span.{Span}
 use Rattle.cfgbase.specs.declared.span.SpansKind.{SpansKind}
 use Rattle.cfgbase.specs.declared.span.SpansKind.TheVariants.{DuplicationError, Error}
-use Rattle.cfgheader.specs.Errors.{ShownErrorKind, ShownError, error_kind_view, told, spanskind_of as header_spanskind}
+use Rattle.cfgerrors.specs.HeaderErrors.{ShownErrorKind, ShownError, error_kind_view, told, spanskind_of as header_spanskind}
 use Rattle.cfgerrors.specs.declared.error.YaccGrammarErrorKind.{YaccGrammarErrorKind}
 use Rattle.cfgerrors.specs.declared.error.YaccGrammarErrorKind.TheVariants as rust
 use Rattle.cfgerrors.specs.contracts.error.YaccGrammarErrorKindPartialEq.TheImpl.{ghosts as kinds}

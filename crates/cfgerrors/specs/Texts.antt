@@ -1,7 +1,7 @@
 -- What `{}` prints of an error, of a fault and of a warning, in bytes.
 use Rattle.std.specs.Prelude.{ℕ, List, [], ◌++◌, codes, encode_utf8}
 use Rattle.std.specs.List.{join_by}
-use Rattle.cfgheader.specs.Texts.{kind_text}
+use Rattle.cfgerrors.specs.HeaderTexts.{kind_text}
 use Rattle.cfgerrors.specs.Errors.{ErrorKind, InvalidStartRule, UnknownRuleRef, UnknownToken, NoPrecForToken, UnknownEPP, Header, Nameless}
 use Rattle.cfgerrors.specs.declared.error.YaccFault.{YaccFault}
 use Rattle.cfgerrors.specs.declared.error.YaccFault.TheVariants.{Errors, OutOfMemory}

@@ -3,14 +3,14 @@
 ghost use Rattle.std.specs.Prelude.{◌≡◌, ◌↔◌, ◌++◌, IsTrue, IfOk, Some};
 ghost use Rattle.std.specs.Fmt.{WritesOnOk, WritesStyledOnOk};
 ghost use Rattle.std.specs.Cmp.{partial_equiv_from_equiv};
-ghost use Rattle.cfgheader.specs.Errors.{error_view};
+ghost use Rattle.cfgerrors.specs.HeaderErrors.{error_view};
 ghost use Rattle.cfgerrors.specs.Errors.{error_at, header_error, kind_view, same_error, same_error-equivalence};
 ghost use Rattle.cfgerrors.specs.Errors.{spanskind_of};
 ghost use Rattle.cfgerrors.specs.Texts.{error_text, fault_text};
 ghost use Rattle.cfgerrors.specs.declared.error.YaccFault.TheVariants.{OutOfMemory};
 
+use crate::header::{HeaderError, HeaderErrorKind};
 use cfgbase::{Span, Spanned, SpansKind};
-use cfgheader::{HeaderError, HeaderErrorKind};
 use std::alloc::{AllocError, AllocFailed, Global};
 use std::error::Error;
 use std::fmt;

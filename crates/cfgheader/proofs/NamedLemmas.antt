@@ -16,9 +16,9 @@ use Rattle.cfgheader.specs.declared.section.header_fault.HeaderFault.TheVariants
 use Rattle.cfgheader.specs.declared.value.HeaderValue.{HeaderValue}
 use Rattle.cfgheader.specs.Values.{ShownHeaderValue, ShownValue, header_value_view}
 use Rattle.std.proofs.lemmas.List.Elements.{same_from_all_zip}
-use Rattle.cfgheader.specs.declared.error.HeaderError.{HeaderError}
+use Rattle.cfgerrors.specs.declared.header.HeaderError.{HeaderError}
 use Rattle.cfgheader.specs.declared.fault.KindFault.TheVariants as kind_faults
-use Rattle.cfgheader.specs.Errors.{ShownError, error_view}
+use Rattle.cfgerrors.specs.HeaderErrors.{ShownError, error_view}
 use Rattle.cfgheader.specs.Kinds.{Refuses, kind_of_value}
 use Rattle.cfgheader.specs.SectionGrammar.{Entry, Fault}
 use Rattle.cfgheader.specs.SectionErrors.{duplicate_errors, section_errors}

@@ -7,7 +7,7 @@ use Rattle.std.proofs.lemmas.List.Elements.{All-nil, All-cons}
 use Rattle.cfgbase.specs.declared.span.Span.{Span}
 use Rattle.cfgwords.specs.Places.{IsPiece}
 use Rattle.cfgheader.specs.declared.kind.YaccKind.{YaccKind}
-use Rattle.cfgheader.specs.Errors.{ShownError}
+use Rattle.cfgerrors.specs.HeaderErrors.{ShownError}
 use Rattle.cfgheader.specs.Values.{ShownHeaderValue}
 use Rattle.cfgheader.specs.Kinds.{kind_of_value}
 use Rattle.cfgheader.specs.SectionGrammar.{Entry}

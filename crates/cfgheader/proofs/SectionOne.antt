@@ -9,7 +9,7 @@ use Rattle.reading.proofs.Agree.{agree}
 use Rattle.cfgheader.specs.SectionGrammar.{Entry, Fault, section}
 use Rattle.cfgheader.specs.SectionReads.{IsSection, HasOneSection, end_of, unless_errors, section_answer, section_of, IsHeaderOf, IsSectionAnswer, errors_view}
 use Rattle.cfgheader.specs.SectionErrors.{section_errors}
-use Rattle.cfgheader.specs.declared.error.HeaderError.{HeaderError}
+use Rattle.cfgerrors.specs.declared.header.HeaderError.{HeaderError}
 use Rattle.cfgheader.specs.declared.section.fault.Fault.{Fault as CodeFault}
 use Rattle.cfgheader.specs.declared.section.header_fault.HeaderFault.TheVariants as faults
 use Rattle.cfgheader.specs.declared.value.HeaderValue.{HeaderValue}

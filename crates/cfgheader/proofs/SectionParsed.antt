@@ -8,7 +8,7 @@ use Rattle.cfgmarks.specs.declared.markmap.MarkMap.{MarkMap}
 use Rattle.cfgheader.specs.declared.value.HeaderValue.{HeaderValue}
 use Rattle.cfgheader.specs.declared.section.header_fault.HeaderFault.{HeaderFault}
 use Rattle.cfgheader.specs.declared.section.header_fault.HeaderFault.TheVariants as faults
-use Rattle.cfgheader.specs.Errors.{ShownError}
+use Rattle.cfgerrors.specs.HeaderErrors.{ShownError}
 use Rattle.cfgheader.specs.SectionGrammar.{Entry}
 use Rattle.cfgheader.specs.SectionReads.{section_of, IsHeaderOf, IsSectionAnswer, errors_view}
 

@@ -13,7 +13,7 @@ use Rattle.cfgwords.specs.Places.{IsPiece}
 use Rattle.cfgbase.specs.declared.span.Span.{Span}
 use Rattle.cfgwords.proofs.Cuts.{IsCut, cut_here}
 use Rattle.cfgwords.proofs.WordPlaces.{IsReached, reached_here, reached_on}
-use Rattle.cfgheader.specs.Errors.{ShownError}
+use Rattle.cfgerrors.specs.HeaderErrors.{ShownError}
 use Rattle.cfgheader.specs.SectionErrors.{places_of, is_first_repeat, repeated, duplicate_error, duplicate_errors, section_errors, stopped_by}
 use Rattle.cfgheader.specs.SectionGrammar.{Entry, Fault, section}
 use Rattle.cfgheader.specs.SectionPlaces.{IsErrorAt}

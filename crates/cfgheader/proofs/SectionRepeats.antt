@@ -15,9 +15,9 @@ use Rattle.lemmas.proofs.Fronts.{with_fronts-push}
 use Rattle.cfgbase.specs.declared.span.Span.{Span}
 use Rattle.cfgheader.specs.SectionGrammar.{Entry}
 use Rattle.cfgheader.specs.SectionErrors.{places_of, is_first_repeat, repeated, duplicate_error, duplicate_errors}
-use Rattle.cfgheader.specs.declared.error.HeaderError.{HeaderError}
-use Rattle.cfgheader.specs.declared.error.HeaderErrorKind.TheVariants as kinds
-use Rattle.cfgheader.specs.Errors.{DuplicateEntry, error_view}
+use Rattle.cfgerrors.specs.declared.header.HeaderError.{HeaderError}
+use Rattle.cfgerrors.specs.declared.header.HeaderErrorKind.TheVariants as kinds
+use Rattle.cfgerrors.specs.HeaderErrors.{DuplicateEntry, error_view}
 use Rattle.cfgheader.specs.SectionReads.{errors_view}
 use Rattle.cfgheader.specs.declared.section.entry.Entry.{Entry as CodeEntry}
 use Rattle.cfgheader.specs.SectionSteps.{entry_view, spans_at, duplicate_at}

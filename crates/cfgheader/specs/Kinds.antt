@@ -3,7 +3,7 @@ use Rattle.std.specs.Prelude.{◌≡◌, ℕ, Bool, List, [], ◌∷◌, ◌++�
 use Rattle.std.specs.List.{AllZip, filter_map}
 use Rattle.std.specs.Str.{bytes_eq}
 use Rattle.cfgbase.specs.Locations.{Origin, InWords}
-use Rattle.cfgheader.specs.Errors.{InvalidEntry, error_kind_view}
+use Rattle.cfgerrors.specs.HeaderErrors.{InvalidEntry, error_kind_view}
 use Rattle.cfgheader.specs.Values.{Placed, ShownNamespaced, ShownValue, Given, Unitary, Constructor, value_place}
 use Rattle.cfgheader.specs.declared.kind.YaccKind.{YaccKind}
 use Rattle.cfgheader.specs.declared.kind.YaccKind.TheVariants.{Original, Grmtools, Eco}

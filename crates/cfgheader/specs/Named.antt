@@ -4,7 +4,7 @@ use Rattle.cfgbase.specs.declared.span.Span.{Span}
 use Rattle.cfgheader.specs.declared.kind.YaccKind.{YaccKind}
 use Rattle.cfgheader.specs.declared.section.header_fault.HeaderFault.{HeaderFault}
 use Rattle.cfgheader.specs.declared.section.header_fault.HeaderFault.TheVariants as faults
-use Rattle.cfgheader.specs.Errors.{InvalidEntry, ShownError}
+use Rattle.cfgerrors.specs.HeaderErrors.{InvalidEntry, ShownError}
 use Rattle.cfgheader.specs.Kinds.{kind_of_value}
 use Rattle.cfgheader.specs.SectionGrammar.{Entry, Fault}
 use Rattle.cfgheader.specs.SectionReads.{IsSection, section_answer, given, errors_view}

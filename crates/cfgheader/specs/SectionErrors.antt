@@ -4,7 +4,7 @@ use Rattle.std.specs.List.{filter}
 use Rattle.std.specs.Str.{bytes_eq}
 use Rattle.lemmas.specs.Lists.{with_fronts}
 use Rattle.cfgbase.specs.declared.span.Span.{Span}
-use Rattle.cfgheader.specs.Errors.{DuplicateEntry, ShownError}
+use Rattle.cfgerrors.specs.HeaderErrors.{DuplicateEntry, ShownError}
 use Rattle.cfgheader.specs.SectionGrammar.{Entry}
 
 -- the places of a key, in order

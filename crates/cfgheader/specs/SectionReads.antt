@@ -12,12 +12,12 @@ use Rattle.cfgmarks.specs.declared.markmap.marked.Marked.{Marked}
 use Rattle.cfgmarks.specs.declared.markmap.MarkMap.{MarkMap}
 use Rattle.cfgmarks.specs.Marks.{marks, unmarked, entry_at}
 use Rattle.cfgwords.specs.Text.{place}
-use Rattle.cfgheader.specs.declared.error.HeaderError.{HeaderError}
+use Rattle.cfgerrors.specs.declared.header.HeaderError.{HeaderError}
 use Rattle.cfgheader.specs.declared.section.header_fault.HeaderFault.{HeaderFault}
 use Rattle.cfgheader.specs.declared.section.header_fault.HeaderFault.TheVariants as faults
 use Rattle.cfgheader.specs.declared.value.HeaderValue.{HeaderValue}
 use Rattle.cfgheader.specs.declared.value.Value.{Value}
-use Rattle.cfgheader.specs.Errors.{ShownError, error_view}
+use Rattle.cfgerrors.specs.HeaderErrors.{ShownError, error_view}
 use Rattle.cfgheader.specs.Values.{ShownHeaderValue, header_value_view, value_view}
 use Rattle.cfgheader.specs.SectionGrammar.{Entry, Fault, entry, section}
 use Rattle.cfgheader.specs.SectionErrors.{section_errors}

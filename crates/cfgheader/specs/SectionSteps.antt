@@ -14,7 +14,7 @@ use Rattle.cfgheader.specs.declared.section.reader.Reader.{Reader}
 use Rattle.cfgheader.specs.declared.section.fault.Fault.{Fault as CodeFault}
 use Rattle.cfgheader.specs.declared.section.fault.ReadFault.{ReadFault}
 use Rattle.cfgheader.specs.declared.section.fault.ReadFault.TheVariants as faults
-use Rattle.cfgheader.specs.Errors.{DuplicateEntry, error_kind_view}
+use Rattle.cfgerrors.specs.HeaderErrors.{DuplicateEntry, error_kind_view}
 use Rattle.cfgheader.specs.Values.{ShownSetting, value_view, setting_view}
 use Rattle.cfgheader.specs.declared.value.Setting.{Setting}
 use Rattle.cfgheader.specs.SectionGrammar.{Entry, Fault}

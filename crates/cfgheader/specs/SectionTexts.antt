@@ -3,8 +3,8 @@ use Rattle.std.specs.Prelude.{ℕ, List, codes}
 use Rattle.std.specs.List.{join_by}
 use Rattle.cfgheader.specs.declared.section.header_fault.HeaderFault.{HeaderFault}
 use Rattle.cfgheader.specs.declared.section.header_fault.HeaderFault.TheVariants.{Errors, OutOfMemory}
-use Rattle.cfgheader.specs.Errors.{error_kind_view}
-use Rattle.cfgheader.specs.Texts.{kind_text}
+use Rattle.cfgerrors.specs.HeaderErrors.{error_kind_view}
+use Rattle.cfgerrors.specs.HeaderTexts.{kind_text}
 
 abbrev pub fault_text : HeaderFault → List ℕ
 fault_text (Errors errors) = join_by (λ error. kind_text (error_kind_view error.kind)) (codes "\n") errors.items

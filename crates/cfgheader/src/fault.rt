@@ -4,7 +4,7 @@ ghost use Rattle.std.specs.Prelude.{◌≡◌, Some};
 ghost use Rattle.cfgheader.specs.Texts.{kind_fault_text};
 ghost use Rattle.cfgheader.specs.declared.fault.KindFault.TheVariants.{OutOfMemory};
 
-use crate::error::HeaderError;
+use cfgerrors::HeaderError;
 use std::alloc::{AllocError, AllocFailed};
 use std::error::Error;
 use std::fmt;

@@ -8,11 +8,11 @@ ghost use Rattle.cfgheader.specs.Values.{namespaced_view, value_view, map_namesp
 ghost use Rattle.cfgheader.specs.Kinds.{Refuses, action_name, from_kind, judged, kind_of_value, name_of_kind};
 ghost use Rattle.cfgheader.specs.Kinds.{original_kind, plain_kind, value_of_kind, wrong_member, wrong_namespace};
 
-use crate::error::{HeaderError, HeaderErrorKind};
 use crate::fault::KindFault;
 use crate::kind::{YaccKind, YaccOriginalActionKind};
 use crate::value::{Namespaced, Setting, Value};
 use cfgbase::Location;
+use cfgerrors::{HeaderError, HeaderErrorKind};
 use std::alloc::{AllocError, Global};
 
 const KIND_NAMESPACE: &str = "yacckind";

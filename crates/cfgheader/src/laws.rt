@@ -1,23 +1,18 @@
-//! What `==` and `clone` of kinds and of errors compare and copy, and that a kind comes back out of its value. Where
+//! What `==` and `clone` of kinds and values compare and copy, and that a kind comes back out of its value. Where
 //! they are derived, a law names the impl, as in `⟦<YaccKind as PartialEq>⟧`, and holds of every value.
 
 ghost use Rattle.std.specs.Prelude.{◌≡◌, ◌≢◌, ◌↔◌, IsTrue, List, [], Ok, Err};
-ghost use Rattle.std.specs.List.{AllZip};
 ghost use Rattle.cfgbase.specs.Locations.{location_view};
 ghost use Rattle.cfgbase.specs.declared.span.Location.{Location};
-ghost use Rattle.cfgheader.specs.Errors.{error_kind_view};
 ghost use Rattle.cfgheader.specs.Kinds.{kind_of_value, value_of_kind};
 ghost use Rattle.cfgheader.specs.Same.{same_header_value, same_namespaced, same_value};
 ghost use Rattle.cfgheader.specs.Values.{ShownValue, header_value_view, map_value, namespaced_view, value_view};
 ghost use Rattle.cfgheader.specs.declared.value.HeaderValue.{HeaderValue};
 ghost use Rattle.cfgheader.specs.declared.value.Namespaced.{Namespaced};
 ghost use Rattle.cfgheader.specs.declared.value.Value.{Value};
-ghost use Rattle.cfgheader.specs.declared.error.HeaderErrorKind.{HeaderErrorKind};
-ghost use Rattle.cfgheader.specs.declared.error.HeaderError.{HeaderError};
 ghost use Rattle.cfgheader.specs.declared.kind.YaccKind.{YaccKind};
 ghost use Rattle.cfgheader.specs.declared.kind.YaccOriginalActionKind.{YaccOriginalActionKind};
 
-use crate::error::{HeaderError, HeaderErrorKind};
 use crate::kind::{YaccKind, YaccOriginalActionKind};
 use crate::value::{HeaderValue, Namespaced, Value};
 
@@ -35,22 +30,6 @@ pub fn action_kinds_are_told_apart()
     ensures clone { (a b : YaccOriginalActionKind) → ⟦<YaccOriginalActionKind as Clone>⟧.is_clone a b
         → b ≡ a }
     ensures cloned { (a : YaccOriginalActionKind) → ⟦<YaccOriginalActionKind as Clone>⟧.is_infallible a }
-{}
-
-/// Kinds of errors are equal exactly where they show the same: the same kind, with the same character and texts where
-/// it holds some. A clone is its source, and takes no memory.
-pub fn error_kinds_are_what_they_show()
-    ensures equal { (a b : HeaderErrorKind) → IsTrue (⟦<HeaderErrorKind as PartialEq>⟧.eq a b)
-        ↔ (error_kind_view a ≡ error_kind_view b) }
-    ensures clone { (a b : HeaderErrorKind) → ⟦<HeaderErrorKind as Clone>⟧.is_clone a b → b ≡ a }
-    ensures cloned { (a : HeaderErrorKind) → ⟦<HeaderErrorKind as Clone>⟧.is_infallible a }
-{}
-
-/// A clone of an error has its kind and clones of its locations, in order.
-pub fn errors_are_cloned<T: Clone>()
-    ensures kind { (a b : HeaderError T) → ⟦<HeaderError<T> as Clone>⟧.is_clone a b → b.kind ≡ a.kind }
-    ensures locations { (a b : HeaderError T) → ⟦<HeaderError<T> as Clone>⟧.is_clone a b
-        → AllZip T.is_clone a.locations.items b.locations.items }
 {}
 
 /// The value that a kind is put into names that kind, wherever its parts stand.

@@ -1,7 +1,6 @@
-//! The `%grmtools` section of a file: its values, what is wrong with it, and the kinds of Yacc that it may name.
+//! The `%grmtools` section of a file: its reader, its values, and the kinds of Yacc that it may name.
 #![tactic(auto)]
 
-pub mod error;
 pub mod fault;
 pub mod kind;
 mod kinds;
@@ -12,7 +11,7 @@ mod same;
 pub mod section;
 pub mod value;
 
-pub use error::{HeaderError, HeaderErrorKind};
+pub use cfgerrors::{HeaderError, HeaderErrorKind};
 pub use fault::KindFault;
 pub use kind::{YaccKind, YaccOriginalActionKind};
 pub use section::{GrmtoolsSectionParser, HeaderFault};

@@ -1,17 +1,17 @@
 //! The kind of Yacc that a text names.
 
 ghost use Rattle.std.specs.Prelude.{◌≡◌, option_map, IfOk, IfErr, codes};
-ghost use Rattle.cfgheader.specs.Errors.{InvalidEntry, error_view};
+ghost use Rattle.cfgerrors.specs.HeaderErrors.{InvalidEntry, error_view};
 ghost use Rattle.cfgheader.specs.Named.{HasOneNaming, IsNaming, Naming, Names, at_front, kind_given};
 ghost use Rattle.cfgheader.specs.SectionPlaces.{IsFaultAt};
 ghost use Rattle.cfgheader.specs.Values.{header_value_view};
 
-use crate::error::{HeaderError, HeaderErrorKind};
 use crate::fault::KindFault;
 use crate::kind::YaccKind;
 use crate::section::{GrmtoolsSectionParser, HeaderFault};
 use crate::value::HeaderValue;
 use cfgbase::Span;
+use cfgerrors::{HeaderError, HeaderErrorKind};
 use std::alloc::{AllocError, Global};
 
 /// The error of a section that has no key `yacckind`.

@@ -27,7 +27,7 @@ use Rattle.cfgast.specs.Syntax.{Syntax, Rule, Production, entry_name}
 use Rattle.cfgast.specs.View.{span_entry, rule_entry, rule_view as plain_rule, production_view as plain_production}
 use Rattle.cfgast.specs.declared.production.Production as source_production
 use Rattle.cfgast.specs.declared.rule.Rule as source
-use Rattle.cfgsyntax.specs.Sound.{IsSound}
+use Rattle.cfgcheck.specs.Sound.{IsSound}
 use Rattle.cfgrammar.specs.Numbered.{NumberedRule, NumberedToken, NumberedProduction, added_production, token_index, start_name, implicit_name, implicit_start_name, added_rules, file_rule, file_token, precedence_of_token, printed_form, avoids_insert}
 use Rattle.cfgrammar.specs.View.{names, rule_view, token_view}
 use Rattle.cfgrammar.specs.declared.yacc.grammar.rows.RuleRow.{RuleRow}

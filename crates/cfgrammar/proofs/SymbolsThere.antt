@@ -11,7 +11,7 @@ use Rattle.cfgast.specs.Syntax.{Syntax, Production, Symbol, RuleSymbol, TokenSym
 use Rattle.lemmas.proofs.Places.{found-position}
 use Rattle.cfgcheck.specs.Check.{is_rule, is_token, symbol_error}
 use Rattle.cfgerrors.specs.Errors.{GrammarError, UnknownRuleRef, UnknownToken, error_at}
-use Rattle.cfgsyntax.specs.Sound.{IsSound}
+use Rattle.cfgcheck.specs.Sound.{IsSound}
 use Rattle.cfgrammar.specs.Numbered.{NumberedProduction, rules_before, rule_index, token_index, file_symbol, file_symbols, spaced, start_symbols, added_production, added_productions}
 use Rattle.cfgrammar.specs.Resolved.{AreTokens, Resolves}
 use Rattle.cfgrammar.proofs.Added.{All-added}

@@ -7,7 +7,7 @@ use Rattle.cfgwords.specs.Words.{Word}
 use Rattle.cfgast.specs.Syntax.{Syntax, Production}
 use Rattle.cfgcheck.specs.Check.{is_rule, first_error, start_error, symbol_error, precedence_error, printed_error, production_error, place_error, rule_error, check_of}
 use Rattle.cfgerrors.specs.Errors.{GrammarError, InvalidStartRule, error_at}
-use Rattle.cfgsyntax.specs.Sound.{IsSound}
+use Rattle.cfgcheck.specs.Sound.{IsSound}
 use Rattle.cfgrammar.specs.Resolved.{IsResolved}
 use Rattle.cfgrammar.proofs.Places.{listed_somewhere}
 

@@ -13,7 +13,7 @@ use Rattle.cfgast.specs.Syntax.{Syntax}
 use Rattle.lemmas.proofs.Elements.{slice_get_push}
 use Rattle.lemmas.proofs.Passing.{places_from-within}
 use Rattle.lemmas.proofs.Zips.{All-zip}
-use Rattle.cfgsyntax.specs.Sound.{IsSound}
+use Rattle.cfgcheck.specs.Sound.{IsSound}
 use Rattle.cfgrammar.specs.Numbered.{Numbered, NumberedProduction, core, production_core, numbered_by, rules_before, file_production, added_productions, file_token, end_token}
 use Rattle.cfgrammar.specs.WellNumbered.{IsWhole}
 use Rattle.cfgrammar.specs.Shown.{production_part, rule_part, token_part}

@@ -6,7 +6,7 @@ use Rattle.cfgwords.specs.Places.{IsPiece}
 use Rattle.cfgast.specs.Items.{Item}
 use Rattle.cfgast.specs.Syntax.{syntax_of}
 use Rattle.cfgheader.specs.declared.kind.YaccKind.{YaccKind}
-use Rattle.cfgheader.specs.Errors.{ShownError}
+use Rattle.cfgerrors.specs.HeaderErrors.{ShownError}
 use Rattle.cfgheader.specs.Named.{Naming}
 use Rattle.cfgheader.specs.SectionPlaces.{IsErrorAt}
 use Rattle.cfgerrors.specs.Errors.{GrammarError, header_error}

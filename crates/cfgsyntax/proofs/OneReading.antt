@@ -14,7 +14,7 @@ use Rattle.cfgast.specs.declared.ast.GrammarAST.{GrammarAST}
 use Rattle.std.specs.Prelude.{IfOk}
 use Rattle.cfgsyntax.specs.declared.yacc.parser.read.Stopped.{Stopped}
 use Rattle.cfgheader.specs.declared.kind.YaccKind.{YaccKind}
-use Rattle.cfgheader.specs.Errors.{ShownError}
+use Rattle.cfgerrors.specs.HeaderErrors.{ShownError}
 use Rattle.cfgheader.specs.SectionGrammar.{Entry}
 use Rattle.cfgheader.specs.SectionReads.{section_of}
 use Rattle.cfgheader.proofs.SectionOne.{one_section, section_answered}

@@ -8,6 +8,5 @@ pub mod OfItself
 pub mod Parsed
 pub mod Reads
 pub mod Rules
-pub mod Sound
 pub mod Spans
 pub mod Starts

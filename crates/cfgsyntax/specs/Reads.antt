@@ -7,7 +7,7 @@ use Rattle.cfgbase.specs.declared.span.Span.{Span}
 use Rattle.cfgwords.specs.declared.fault.Fault.{Fault}
 use Rattle.cfgast.specs.Items.{Item}
 use Rattle.cfgheader.specs.declared.kind.YaccKind.{YaccKind}
-use Rattle.cfgheader.specs.Errors.{ShownError}
+use Rattle.cfgerrors.specs.HeaderErrors.{ShownError}
 use Rattle.cfgheader.specs.SectionGrammar.{Entry, Fault as SectionFault}
 use Rattle.cfgheader.specs.SectionReads.{IsSection, section_answer}
 use Rattle.cfgsyntax.specs.Grammar.{file}

@@ -7,12 +7,12 @@ ghost use Rattle.cfgheader.specs.SectionGrammar.{end_fault, negated, value_of, a
 ghost use Rattle.cfgheader.specs.SectionGrammar.{braced, section};
 ghost use Rattle.cfgheader.specs.Values.{placed_view};
 
-use crate::error::HeaderErrorKind;
 use crate::section::entry::Entry;
 use crate::section::fault::{Fault, ReadFault};
 use crate::section::reader::{Reader, unexpected_star};
 use crate::value::Value;
 use cfgbase::Span;
+use cfgerrors::HeaderErrorKind;
 
 /// How many brackets may be open at once.
 const MOST_BRACKETS: usize = 127;

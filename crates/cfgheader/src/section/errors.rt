@@ -7,10 +7,10 @@ ghost use Rattle.cfgheader.specs.SectionErrors.{places_of, repeated, duplicate_e
 ghost use Rattle.cfgheader.specs.SectionReads.{errors_view};
 ghost use Rattle.cfgheader.specs.SectionSteps.{entry_view, end_view, fault_view, spans_at, duplicate_at};
 
-use crate::error::{HeaderError, HeaderErrorKind};
 use crate::section::entry::Entry;
 use crate::section::fault::Fault;
 use cfgbase::Span;
+use cfgerrors::{HeaderError, HeaderErrorKind};
 use std::alloc::{AllocError, Global};
 use std::collections::BTreeMap;
 

@@ -2,8 +2,8 @@
 
 ghost use Rattle.std.specs.Prelude.{◌≡◌};
 
-use crate::error::HeaderErrorKind;
 use cfgbase::Span;
+use cfgerrors::HeaderErrorKind;
 use std::alloc::{AllocError, AllocFailed};
 
 /// What is wrong with a section, and where.

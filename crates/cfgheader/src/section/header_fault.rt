@@ -3,8 +3,8 @@
 ghost use Rattle.std.specs.Prelude.{◌≡◌, Some};
 ghost use Rattle.cfgheader.specs.SectionTexts.{fault_text};
 
-use crate::error::HeaderError;
 use cfgbase::Span;
+use cfgerrors::HeaderError;
 use std::alloc::{AllocError, AllocFailed};
 use std::error::Error;
 use std::fmt;

@@ -6,16 +6,16 @@ ghost use Rattle.std.specs.String.{string_bytes};
 ghost use Rattle.reading.specs.Construct.{expect, goes_on};
 ghost use Rattle.reading.specs.Pieces.{strip};
 ghost use Rattle.cfgwords.specs.Text.{place};
-ghost use Rattle.cfgheader.specs.Errors.{error_kind_view};
+ghost use Rattle.cfgerrors.specs.HeaderErrors.{error_kind_view};
 ghost use Rattle.cfgheader.specs.SectionGrammar.{begins, goes_on_before, unexpected_star, fault_at, wide_character};
 ghost use Rattle.cfgheader.specs.SectionGrammar.{white_character, separator, white, separators, comma, name};
 ghost use Rattle.cfgheader.specs.SectionGrammar.{name_fault};
 ghost use Rattle.cfgheader.specs.Values.{placed_view};
 
-use crate::error::HeaderErrorKind;
 use crate::section::entry::Entry;
 use crate::section::fault::{Fault, ReadFault};
 use cfgbase::Span;
+use cfgerrors::HeaderErrorKind;
 use cfgwords::section::leading_section_name;
 use reading::after_word;
 use std::alloc::{AllocError, Global};

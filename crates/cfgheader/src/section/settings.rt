@@ -5,11 +5,11 @@ ghost use Rattle.cfgheader.specs.SectionGrammar.{number_fault, namespaced, argum
 ghost use Rattle.cfgheader.specs.SectionGrammar.{elements, array, bare_setting, bracketed, setting};
 ghost use Rattle.cfgheader.specs.Values.{namespaced_view, setting_view};
 
-use crate::error::HeaderErrorKind;
 use crate::section::fault::{Fault, ReadFault};
 use crate::section::reader::Reader;
 use crate::value::{Namespaced, Setting};
 use cfgbase::Span;
+use cfgerrors::HeaderErrorKind;
 use cfgwords::bytes::ByteClass;
 use cfgwords::run::{run, starts};
 use cfgwords::section::leading_text;

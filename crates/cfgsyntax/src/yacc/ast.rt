@@ -15,7 +15,7 @@ ghost use Rattle.cfgsyntax.specs.Faults.{errors_of};
 ghost use Rattle.cfgwords.specs.Places.{IsPiece, IsWithin};
 ghost use Rattle.cfgsyntax.specs.OfItself.{AnswersNaming};
 ghost use Rattle.cfgsyntax.specs.Reads.{Reads, HasOneReading, Stop};
-ghost use Rattle.cfgsyntax.specs.Sound.{IsSound};
+ghost use Rattle.cfgcheck.specs.Sound.{IsSound};
 ghost use Rattle.cfgsyntax.specs.Spans.{EachFaultSpan, EachParsedSpan};
 ghost use Rattle.cfgsyntax.specs.Starts.{restarted, IsStartFault};
 
@@ -42,7 +42,7 @@ pub struct ASTWithValidityInfo {
 impl Model for ASTWithValidityInfo {
     ghost use Rattle.cfgast.specs.View.{syntax};
     ghost use Rattle.cfgsyntax.specs.Parsed.{Parsed};
-    ghost use Rattle.cfgsyntax.specs.Sound.{IsSound};
+    ghost use Rattle.cfgcheck.specs.Sound.{IsSound};
 
     ghost Value = { Parsed };
 

@@ -8,7 +8,7 @@ ghost use Rattle.std.specs.Str.{IsUtf8, bytes_eq};
 ghost use Rattle.std.specs.String.{string_bytes};
 ghost use Rattle.cfgwords.specs.Places.{IsPiece, IsWithin};
 ghost use Rattle.cfgast.specs.View.{pair_view, syntax};
-ghost use Rattle.cfgsyntax.specs.Sound.{IsSound};
+ghost use Rattle.cfgcheck.specs.Sound.{IsSound};
 ghost use Rattle.cfgsyntax.specs.Spans.{EachParsedSpan};
 ghost use Rattle.cfgheader.specs.declared.kind.YaccKind.{YaccKind};
 ghost use Rattle.cfgrammar.specs.Answer.{IsAnswer};

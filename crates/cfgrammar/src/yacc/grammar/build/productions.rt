@@ -7,7 +7,7 @@ ghost use Rattle.std.specs.Option.{option_to_list};
 ghost use Rattle.derivation.specs.Grammar.{Rule, Token};
 ghost use Rattle.cfgast.specs.View.{production_view as plain_production};
 ghost use Rattle.cfgcheck.specs.Check.{is_token};
-ghost use Rattle.cfgsyntax.specs.Sound.{IsSound};
+ghost use Rattle.cfgcheck.specs.Sound.{IsSound};
 ghost use Rattle.cfgrammar.specs.Fits.{LeavesRoom};
 ghost use Rattle.cfgrammar.specs.Numbered.{added_production, added_productions, file_production, token_index};
 ghost use Rattle.cfgrammar.specs.Resolved.{AreTokens, IsResolved, Resolves};

@@ -3,10 +3,10 @@ use Rattle.std.proofs.lemmas.Grind.{common_steps}
 use Rattle.std.proofs.Output.{has_written_append, has_written_of_eq, has_written_styled_append, has_written_styled_of_eq}
 use Rattle.std.proofs.lemmas.List.{flat_map_more, take_all}
 use Rattle.std.specs.List.{flat_map, join_by}
-use Rattle.cfgheader.specs.declared.error.HeaderError.{HeaderError}
-use Rattle.cfgheader.specs.Errors.{error_kind_view}
+use Rattle.cfgerrors.specs.declared.header.HeaderError.{HeaderError}
+use Rattle.cfgerrors.specs.HeaderErrors.{error_kind_view}
 use Rattle.cfgbase.specs.declared.span.Span.{Span}
-use Rattle.cfgheader.specs.Texts.{kind_text}
+use Rattle.cfgerrors.specs.HeaderTexts.{kind_text}
 use Rattle.cfgheader.specs.SectionTexts.{fault_text}
 use Rattle.cfgheader.proofs.section.header_fault.HeaderFaultDisplay.fmt.Goals as goal
 

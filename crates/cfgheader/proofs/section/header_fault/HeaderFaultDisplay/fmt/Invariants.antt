@@ -1,8 +1,8 @@
 use Rattle.std.proofs.Common.{◌++◌, take, codes}
 use Rattle.std.specs.Fmt.{HasWritten, HasWrittenStyled, IsFlush, IsPlainFormatter}
 use Rattle.std.specs.List.{flat_map}
-use Rattle.cfgheader.specs.Errors.{error_kind_view}
-use Rattle.cfgheader.specs.Texts.{kind_text}
+use Rattle.cfgerrors.specs.HeaderErrors.{error_kind_view}
+use Rattle.cfgerrors.specs.HeaderTexts.{kind_text}
 use Rattle.cfgheader.proofs.section.header_fault.HeaderFaultDisplay.fmt.Given as goal
 
 -- behind the first error the others so far are written, each behind a line end

@@ -1,6 +1,6 @@
 use Rattle.std.proofs.Common.{[], ◌∷◌, codes, refl, sym, ◌∙◌}
 use Rattle.std.proofs.lemmas.Result.{err_from_is_err_and}
-use Rattle.cfgheader.specs.Errors.{InvalidEntry}
+use Rattle.cfgerrors.specs.HeaderErrors.{InvalidEntry}
 use Rattle.cfgheader.proofs.SectionElements.{elements_start, elements_on, elements_smaller, elements_fail, elements_done, bracketed_refused, bracketed_built}
 use Rattle.cfgheader.proofs.section.reader.Reader.+setting.Goals as goal
 

@@ -1,6 +1,6 @@
 use Rattle.std.proofs.Common.{arith, codes}
 use Rattle.reading.specs.Construct.{expect}
-use Rattle.cfgheader.specs.Errors.{ExpectedToken}
+use Rattle.cfgerrors.specs.HeaderErrors.{ExpectedToken}
 use Rattle.cfgheader.specs.SectionGrammar.{fault_at, white, entries}
 use Rattle.cfgheader.proofs.SectionLoops.{place_on}
 use Rattle.cfgheader.proofs.section.reader.Reader.braced.Goals as goal

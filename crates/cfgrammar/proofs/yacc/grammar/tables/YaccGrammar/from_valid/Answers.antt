@@ -2,7 +2,7 @@ use Rattle.std.proofs.Common.{◌++◌, [], length, map, option_map, sym, subst,
 use Rattle.std.specs.List.{zip}
 use Rattle.cfgast.specs.View.{syntax, production_view}
 use Rattle.cfgast.specs.WellFormed.{IsWellFormed}
-use Rattle.cfgsyntax.specs.Sound.{IsSound}
+use Rattle.cfgcheck.specs.Sound.{IsSound}
 use Rattle.cfgrammar.specs.Fits.{LeavesRoom}
 use Rattle.cfgrammar.specs.Numbered.{added_productions, added_rules, file_production, file_rule, file_token}
 use Rattle.cfgrammar.specs.Resolved.{AreTokens, IsResolved}

@@ -4,10 +4,10 @@ use Rattle.std.specs.Str.{bytes_eq}
 use Rattle.std.proofs.lemmas.Bool.{and_parts, eqb-true, false≢true}
 use Rattle.std.proofs.Math.Bool.{and-true}
 use lib.Pointwise.{bytes_decides}
-use Rattle.cfgheader.specs.declared.error.HeaderErrorKind.{HeaderErrorKind}
-use Rattle.cfgheader.specs.declared.error.HeaderErrorKind.TheVariants as rust
-use Rattle.cfgheader.specs.contracts.error.HeaderErrorKindPartialEq.TheImpl.{ghosts as kinds}
-use Rattle.cfgheader.specs.Errors.{ExpectedToken, UnexpectedToken, InvalidEntry, ConversionError, error_kind_view, same_error_kind, same_error_kind-equivalence}
+use Rattle.cfgerrors.specs.declared.header.HeaderErrorKind.{HeaderErrorKind}
+use Rattle.cfgerrors.specs.declared.header.HeaderErrorKind.TheVariants as rust
+use Rattle.cfgerrors.specs.contracts.header.HeaderErrorKindPartialEq.TheImpl.{ghosts as kinds}
+use Rattle.cfgerrors.specs.HeaderErrors.{ExpectedToken, UnexpectedToken, InvalidEntry, ConversionError, error_kind_view, same_error_kind, same_error_kind-equivalence}
 
 -- the derived `==` compares what callers see
 pub eq_error_kind : (x y : HeaderErrorKind) → kinds.eq x y ≡ same_error_kind (error_kind_view x) (error_kind_view y)

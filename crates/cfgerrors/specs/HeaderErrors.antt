@@ -6,9 +6,9 @@ use Rattle.std.proofs.lemmas.Cmp.{lists_equiv, nat_list_eq_equiv, on_equiv}
 use lib.Pointwise.{pointwise}
 use Rattle.cfgbase.specs.declared.span.SpansKind.{SpansKind}
 use Rattle.cfgbase.specs.declared.span.SpansKind.TheVariants.{DuplicationError, Error}
-use Rattle.cfgheader.specs.declared.error.HeaderErrorKind.{HeaderErrorKind}
-use Rattle.cfgheader.specs.declared.error.HeaderErrorKind.TheVariants as rust
-use Rattle.cfgheader.specs.declared.error.HeaderError.{HeaderError}
+use Rattle.cfgerrors.specs.declared.header.HeaderErrorKind.{HeaderErrorKind}
+use Rattle.cfgerrors.specs.declared.header.HeaderErrorKind.TheVariants as rust
+use Rattle.cfgerrors.specs.declared.header.HeaderError.{HeaderError}
 
 -- what is wrong, with texts as their bytes
 pub data ShownErrorKind : Type 0 where

@@ -1,8 +1,8 @@
 //! What is wrong with a section, and where.
 
 ghost use Rattle.std.specs.Prelude.{◌≡◌, Some};
-ghost use Rattle.cfgheader.specs.Errors.{error_kind_view, spanskind_of};
-ghost use Rattle.cfgheader.specs.Texts.{kind_text};
+ghost use Rattle.cfgerrors.specs.HeaderErrors.{error_kind_view, spanskind_of};
+ghost use Rattle.cfgerrors.specs.HeaderTexts.{kind_text};
 
 use cfgbase::{Span, Spanned, SpansKind};
 use std::error::Error;
@@ -32,7 +32,7 @@ impl fmt::Display for HeaderErrorKind {
 
     ghost styled_output = { λ kind _. Some (kind_text (error_kind_view kind)) };
 
-    #[tactic(auto, unfolding(crate::specs::Texts::kind_text))]
+    #[tactic(auto, unfolding(crate::specs::HeaderTexts::kind_text))]
     fn fmt<W: fmt::Write>(&self, f: &mut fmt::Formatter<W>) -> fmt::Result {
         let mut bytes = [0; 4];
         match self {

@@ -1,8 +1,8 @@
 use Rattle.std.proofs.Common.{◌++◌, codes, refl, sym, ap, ◌∙◌}
 use Rattle.std.proofs.Output.{has_written_styled_append, has_written_styled_of_eq}
-use Rattle.cfgheader.specs.Errors.{error_kind_view}
-use Rattle.cfgheader.specs.Texts.{kind_text}
-use Rattle.cfgheader.proofs.error.HeaderErrorKindDisplay.fmt.Goals as goal
+use Rattle.cfgerrors.specs.HeaderErrors.{error_kind_view}
+use Rattle.cfgerrors.specs.HeaderTexts.{kind_text}
+use Rattle.cfgerrors.proofs.header.HeaderErrorKindDisplay.fmt.Goals as goal
 
 pub returns-in_ok-write_str-in-ExpectedToken-2-clause-styled : goal.returns-in_ok-write_str-in-ExpectedToken-2-clause-styled
 unfolding kind_text

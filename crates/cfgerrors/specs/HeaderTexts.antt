@@ -1,0 +1,12 @@
+-- What `{}` prints of an error in a section, in bytes.
+use Rattle.std.specs.Prelude.{ℕ, List, ◌++◌, codes, encode_utf8}
+use Rattle.cfgerrors.specs.HeaderErrors.{ShownErrorKind, MissingGrmtoolsSection, IllegalName, ExpectedToken, UnexpectedToken, DuplicateEntry, InvalidEntry, ConversionError}
+
+unfoldable pub kind_text : ShownErrorKind → List ℕ
+kind_text MissingGrmtoolsSection = codes "Missing %grmtools section"
+kind_text IllegalName = codes "Illegal name"
+kind_text (ExpectedToken character) = codes "Expected token: '" ++ (encode_utf8 character ++ codes "'")
+kind_text (UnexpectedToken character hint) = codes "Unxpected token: '" ++ (encode_utf8 character ++ (codes "', " ++ (hint ++ codes " ")))
+kind_text DuplicateEntry = codes "Duplicate Entry"
+kind_text (InvalidEntry what) = codes "Invalid entry: '" ++ (what ++ codes "'")
+kind_text (ConversionError wanted cause) = codes "Converting header value to type '" ++ (wanted ++ (codes "': " ++ cause))
