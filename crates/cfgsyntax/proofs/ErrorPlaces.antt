@@ -33,12 +33,12 @@ use Rattle.cfgerrors.specs.Errors.{ErrorKind, GrammarError, header_error, Invali
 use Rattle.cfgcheck.specs.Check.{is_rule, is_token, nowhere, first_error, start_error, symbol_error, precedence_error, production_error, printed_error, place_error, rule_error, check_of}
 use Rattle.cfgsyntax.specs.Faults.{kind_of, error_of, duplicate_error, stop_errors, errors_of}
 use Rattle.cfgwords.specs.Places.{IsPiece, IsWithin, IsWordAt}
-use Rattle.cfgsyntax.specs.Reads.{Stop, InSection, InFile, ReadsFile, ReadsBehind, Reads}
+use Rattle.cfgreader.specs.Reads.{Stop, InSection, InFile, ReadsFile, ReadsBehind, Reads}
 use Rattle.cfgsyntax.specs.Spans.{EachErrorSpan}
-use Rattle.cfgsyntax.proofs.Kept.{IsItemAt}
-use Rattle.cfgsyntax.proofs.KeptRules.{file_kept}
+use Rattle.cfgreader.proofs.Kept.{IsItemAt}
+use Rattle.cfgreader.proofs.KeptRules.{file_kept}
 use Rattle.cfgwords.proofs.WordPlaces.{IsReached}
-use Rattle.cfgsyntax.proofs.SyntaxPlaces.{syntax_at, rules_are_names}
+use Rattle.cfgreader.proofs.SyntaxPlaces.{syntax_at, rules_are_names}
 use Rattle.cfgwords.proofs.NameStarts.{begins_as_name}
 
 -- an error has a span, and its spans are pieces of the text

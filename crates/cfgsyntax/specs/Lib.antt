@@ -1,12 +1,5 @@
-pub mod Builds
-pub mod Declarations
 pub mod Faults
-pub mod Grammar
-pub mod Here
-pub mod Lists
 pub mod OfItself
 pub mod Parsed
-pub mod Reads
-pub mod Rules
 pub mod Spans
 pub mod Starts

@@ -1,6 +1,7 @@
 //! The syntax of a Yacc file, and whether it is valid.
 
 mod errors;
+mod fault;
 mod named;
 mod start;
 
@@ -14,17 +15,17 @@ ghost use Rattle.cfgcheck.specs.Check.{is_rule};
 ghost use Rattle.cfgsyntax.specs.Faults.{errors_of};
 ghost use Rattle.cfgwords.specs.Places.{IsPiece, IsWithin};
 ghost use Rattle.cfgsyntax.specs.OfItself.{AnswersNaming};
-ghost use Rattle.cfgsyntax.specs.Reads.{Reads, HasOneReading, Stop};
+ghost use Rattle.cfgreader.specs.Reads.{Reads, HasOneReading, Stop};
 ghost use Rattle.cfgcheck.specs.Sound.{IsSound};
 ghost use Rattle.cfgsyntax.specs.Spans.{EachFaultSpan, EachParsedSpan};
 ghost use Rattle.cfgsyntax.specs.Starts.{restarted, IsStartFault};
 
-use crate::yacc::parser::read;
 use cfgast::clone_with_start;
 pub use cfgast::{GrammarAST, Production, Rule, Settings, Symbol};
 use cfgcheck::is_rule;
 use cfgerrors::{YaccGrammarError, YaccGrammarErrorKind, YaccGrammarResult};
 use cfgheader::YaccKind;
+use cfgreader::read::read;
 use errors::errors_found;
 use named::named_kind;
 pub use start::{ASTModificationError, StartFault};

@@ -5,10 +5,10 @@ ghost use Rattle.cfgast.specs.Occurrences.{duplicates};
 ghost use Rattle.cfgast.specs.View.{syntax, occurrence_view};
 ghost use Rattle.cfgheader.specs.SectionReads.{errors_view};
 ghost use Rattle.cfgerrors.specs.Errors.{kind_view, header_error};
-ghost use Rattle.cfgsyntax.specs.Builds.{stop_view};
+ghost use Rattle.cfgreader.specs.Builds.{stop_view};
 ghost use Rattle.cfgsyntax.specs.Faults.{repeated_kind, duplicate_error, stop_errors, all_errors};
 
-use crate::yacc::parser::{Stopped, error_of};
+use super::fault::error_of;
 use cfgast::duplicates::duplicates;
 use cfgast::{GrammarAST, Occurrence, UniqueKind};
 use cfgbase::Span;
@@ -20,6 +20,7 @@ use cfgerrors::YaccGrammarErrorKind::{
 };
 use cfgerrors::{YaccGrammarError, YaccGrammarErrorKind};
 use cfgheader::HeaderError;
+use cfgreader::read::Stopped;
 use std::alloc::{AllocError, Global};
 
 /// The kind of error for what is declared more than once.

@@ -1,0 +1,204 @@
+-- What holds of all that rules give, construct by construct, and of all that a whole file gives.
+use Rattle.std.proofs.Common.{◌==◌, ℕ, ◌≤◌, Bool, true, false, List, [], ◌∷◌, fold, length, unwrap_or, Option, Some, None, All, codes, refl, arith}
+use Rattle.std.specs.Prelude.{IfSome}
+use Rattle.std.specs.Str.{IsUtf8, IsCharBoundary}
+use Rattle.std.proofs.lemmas.List.Elements.{All-head, All-nil, All-push, All-tail, All-weaker}
+use Rattle.reading.specs.Construct.{repeat, while_test, Says}
+use Rattle.reading.proofs.Keeps.{Given, keeps, given_passes}
+use Rattle.reading.proofs.Yields.{Yields}
+use Rattle.cfgwords.specs.declared.fault.FaultKind.TheVariants.{IllegalName, IllegalString, IncompleteRule, NonEmptyProduction, ProductionNotTerminated}
+use Rattle.cfgwords.specs.Text.{place}
+use Rattle.cfgwords.specs.Words.{Token, word_at, word_of}
+use Rattle.cfgwords.specs.Places.{IsPiece, IsWordAt}
+use Rattle.cfgwords.proofs.Cuts.{IsCut, place_cut, boundary_cut}
+use Rattle.cfgwords.proofs.NameStarts.{name_begins}
+use Rattle.cfgwords.proofs.WordPlaces.{IsReached, IsTokenBehind, reached, reached_here, reached_on, name_at, token_is_at, word_passed, fault_is_at, blank_is_at, colon_text_is_at, action_is_at}
+use Rattle.cfgast.specs.Items.{Item, RuleHead}
+use Rattle.cfgheader.specs.declared.kind.YaccKind.{YaccKind}
+use Rattle.cfgreader.specs.Here.{Turn}
+use Rattle.cfgreader.specs.Rules.{Part, SymbolPart, PrecedencePart, EmptyPart, Parts, no_parts, with_part, end_of, gather, precedence, empty, misplaced_empty, front_part, symbol_part, part, brace_fault, end_fault, another, finish, production_end, production, rule_type, rule_body, rule}
+use Rattle.cfgreader.specs.Grammar.{programs, file}
+use Rattle.cfgreader.proofs.Kept.{IsNameAt, IsItemAt, IsAt, KeepsPlaces}
+use Rattle.cfgreader.proofs.KeptDeclarations.{declaration_kept, separator_fault_kept}
+
+-- a part ends at a place of the text, behind the one where its production begins
+abbrev IsPartAt : (whole from : List ℕ) → Part → Type 0
+IsPartAt whole from (SymbolPart token) = IsTokenBehind whole from token
+IsPartAt whole from (PrecedencePart token) = IsTokenBehind whole from token
+IsPartAt whole from (EmptyPart end) = (place (length whole) from ≤ end) × IsCharBoundary whole end
+
+record ArePartsAt (whole from : List ℕ) (parts : Parts) : Type 0 where
+  symbols : All (λ token. IsWordAt whole (word_of token)) parts.symbols
+  end : IfSome parts.end (λ end. (place (length whole) from ≤ end) × IsCharBoundary whole end)
+
+module _ (whole : List ℕ) (utf8 : IsUtf8 whole) where
+  abbrev len : ℕ
+  len = length whole
+
+  no_parts_at : (from : List ℕ) → ArePartsAt whole from no_parts
+  no_parts_at from = record { symbols = All-nil (λ token. IsWordAt whole (word_of token)); end = tt }
+
+  with_part_at : (from : List ℕ) (parts : Parts) (part : Part) → ArePartsAt whole from parts → IsPartAt whole from part → ArePartsAt whole from (with_part parts part)
+  with_part_at from parts (SymbolPart token) before at = record {
+    symbols = All-push (λ (token : Token). IsWordAt whole (word_of token)) parts.symbols token before.symbols at.piece;
+    end = (at.behind, at.ends_at);
+  }
+  with_part_at from parts (PrecedencePart token) before at = record { symbols = before.symbols; end = (at.behind, at.ends_at) }
+  with_part_at from parts (EmptyPart end) before at = record { symbols = before.symbols; end = at }
+
+  parts_at : (from : List ℕ) (parts : Parts) (more : List Part) → ArePartsAt whole from parts → All (IsPartAt whole from) more → ArePartsAt whole from (fold with_part parts more)
+  parts_at from parts [] before all = before
+  parts_at from parts (part ∷ more) before all =
+      parts_at from (with_part parts part) more (with_part_at from parts part before (All-head (IsPartAt whole from) part more all)) (All-tail (IsPartAt whole from) part more all)
+
+  -- a part behind a place is behind each place before it
+  part_on : (from text : List ℕ) → IsReached whole from text → (part : Part) → IsPartAt whole text part → IsPartAt whole from part
+  part_on from text t (SymbolPart token) at = record { piece = at.piece; behind = omega (arith, place_cut from text t.further, at.behind); ends_at = at.ends_at }
+  part_on from text t (PrecedencePart token) at = record { piece = at.piece; behind = omega (arith, place_cut from text t.further, at.behind); ends_at = at.ends_at }
+  part_on from text t (EmptyPart end) at = (omega (arith, place_cut from text t.further, at.0), at.1)
+
+  precedence_kept : (from : List ℕ) (Q : Part → Type 0) → ((part : Part) → IsPartAt whole from part → Q part) → KeepsPlaces whole (precedence len) from Q
+  unfolding precedence
+  precedence_kept from Q q = (
+    blank_is_at whole utf8 true from,
+    λ _. (
+      λ text word rest t w.
+          let it = token_is_at whole utf8 from text word rest t w in
+          (it.0, (it.1.piece, (blank_is_at whole utf8 true from, λ _. q (PrecedencePart _) it.1))),
+      fault_is_at whole utf8 IllegalString from,
+    ),
+  )
+
+  empty_kept : (from text : List ℕ) → IsReached whole from text → (Q : Part → Type 0) → ((part : Part) → IsPartAt whole from part → Q part) → KeepsPlaces whole (empty len text) from Q
+  unfolding empty
+  empty_kept from text t Q q = λ behind u. (
+    blank_is_at whole utf8 true behind,
+    λ _. (
+      q (EmptyPart (place len behind)) (omega (arith, place_cut from behind u.further), boundary_cut whole behind utf8 (reached whole utf8 from behind u)),
+      λ _ _. fault_is_at whole utf8 NonEmptyProduction from text t,
+    ),
+  )
+
+  misplaced_empty_kept : (from text : List ℕ) → IsReached whole from text → (Q : Part → Type 0) → KeepsPlaces whole (misplaced_empty len text) from Q
+  unfolding misplaced_empty
+  misplaced_empty_kept from text t Q = (blank_is_at whole utf8 true from, λ _ _ _. fault_is_at whole utf8 NonEmptyProduction from text t)
+
+  -- what a turn of a repetition of parts asks of what passes
+  abbrev KeepsParts : Turn Part → List ℕ → Type 1
+  KeepsParts c from = (Q : Option Part → Type 0) → ((part : Part) → IsPartAt whole from part → Q (Some part)) → Q None → KeepsPlaces whole c from Q
+
+  front_part_kept : (from : List ℕ) → KeepsParts (front_part len) from
+  unfolding front_part
+  front_part_kept from Q q none = λ text t. (
+    word_passed whole utf8 (codes "%prec") refl text,
+    precedence_kept text _ (λ part at. q part (part_on from text t part at)),
+    (
+      word_passed whole utf8 (codes "%empty") refl text,
+      empty_kept text text (reached_here whole utf8 from text t) _ (λ part at. q part (part_on from text t part at)),
+      none,
+    ),
+  )
+
+  symbol_part_kept : (from : List ℕ) → KeepsParts (symbol_part len) from
+  unfolding symbol_part
+  symbol_part_kept from Q q none = (
+    λ text word rest t w.
+        let it = token_is_at whole utf8 from text word rest t w in
+        let here = q (SymbolPart _) it.1 in
+        (it.0, (blank_is_at whole utf8 true from, λ _. ((it.1.piece, here), here))),
+    none,
+  )
+
+  part_kept : (from : List ℕ) → KeepsParts (part len) from
+  unfolding part
+  part_kept from Q q none = λ text t. (
+    word_passed whole utf8 (codes "%prec") refl text,
+    precedence_kept text _ (λ part at. q part (part_on from text t part at)),
+    (
+      word_passed whole utf8 (codes "%empty") refl text,
+      misplaced_empty_kept text text (reached_here whole utf8 from text t) _,
+      symbol_part_kept text Q (λ part at. q part (part_on from text t part at)) none,
+    ),
+  )
+
+  gather_kept : (c : Turn Part) (from : List ℕ) (before : Parts) → KeepsParts c from → ArePartsAt whole from before
+      → (Q : Parts → Type 0) → ((parts : Parts) → ArePartsAt whole from parts → Q parts) → KeepsPlaces whole (gather c before) from Q
+  unfolding gather
+  gather_kept c from before kept at Q q = (
+    kept (λ _. Unit {0}) (λ _ _. tt) tt,
+    λ parts givens. q _ (parts_at from before parts at (All-weaker (λ part. Given (IsReached whole) c from (Some part)) (IsPartAt whole from)
+        (λ part. given_passes (IsReached whole) (IsItemAt whole) (IsAt whole) (reached_here whole utf8) (reached_on whole utf8) c from (λ o. IfSome o (IsPartAt whole from)) (kept (λ o. IfSome o (IsPartAt whole from)) (λ part at. at) tt) (Some part)) parts givens)),
+  )
+
+  end_fault_kept : (has_action : Bool) (from text : List ℕ) → IsReached whole from text → IsAt whole (end_fault len has_action text)
+  end_fault_kept true from text t = fault_is_at whole utf8 ProductionNotTerminated from text t
+  end_fault_kept false from [] t = fault_is_at whole utf8 IncompleteRule from [] t
+  end_fault_kept false from (b ∷ text) t = fault_is_at whole utf8 (brace_fault (b == 123)) from (b ∷ text) t
+
+  finish_kept : (from : List ℕ) (has_action : Bool) (production : Item) → IsItemAt whole production → KeepsPlaces whole (finish len has_action production) from (λ _. Unit {0})
+  unfolding finish another
+  finish_kept from has_action production p =
+      search (word_passed whole utf8 (codes "|") refl, word_passed whole utf8 (codes ";") refl, blank_is_at whole utf8, end_fault_kept has_action, p)
+
+  -- from where a production begins to a place behind it, and to where its last part ends
+  piece_to : (from text : List ℕ) → IsCut whole from → IsReached whole from text → IsPiece whole (record { start = place (length whole) from; end = place (length whole) text })
+  piece_to from text cut t = record {
+    ordered = omega (arith, place_cut from text t.further);
+    begins_at = boundary_cut whole from utf8 cut;
+    ends_at = boundary_cut whole text utf8 (reached whole utf8 from text t);
+  }
+
+  parts_piece : (from text : List ℕ) (parts : Parts) → IsCut whole from → IsReached whole from text → ArePartsAt whole from parts
+      → IsPiece whole (record { start = place (length whole) from; end = end_of parts (place (length whole) text) })
+  parts_piece from text parts cut t at = go parts.end at.end
+    where
+      go : (o : Option ℕ) → IfSome o (λ end. (place (length whole) from ≤ end) × IsCharBoundary whole end)
+          → IsPiece whole (record { start = place (length whole) from; end = unwrap_or o (place (length whole) text) })
+      go None h = piece_to from text cut t
+      go (Some end) h = record { ordered = h.0; begins_at = boundary_cut whole from utf8 cut; ends_at = h.1 }
+
+  production_end_kept : (from : List ℕ) (head : RuleHead) (parts : Parts) → IsCut whole from → IsNameAt whole head.name → ArePartsAt whole from parts
+      → KeepsPlaces whole (production_end len head (place len from) parts) from (λ _. Unit {0})
+  unfolding production_end
+  production_end_kept from head parts cut n at = λ behind u. (
+    λ text word rest t w.
+        let it = action_is_at whole utf8 behind text word rest t w in
+        (it.0, (blank_is_at whole utf8 true behind, λ _. finish_kept behind true _ (n, at.symbols, it.1, piece_to from behind cut u))),
+    finish_kept behind false _ (n, at.symbols, tt, parts_piece from behind parts cut u at),
+  )
+
+  production_kept : (from : List ℕ) (head : RuleHead) → IsNameAt whole head.name → KeepsPlaces whole (production len head) from (λ _. Unit {0})
+  unfolding production
+  production_kept from head n = λ text t.
+      gather_kept (front_part len) text no_parts (front_part_kept text) (no_parts_at text) _
+      (λ front front_at. gather_kept (part len) text front (part_kept text) front_at _
+      (λ parts at. production_end_kept text head parts (reached whole utf8 from text t) n at))
+
+  rule_type_kept : (from : List ℕ) (Q : Option (List ℕ) → Type 0) → ((o : Option (List ℕ)) → Q o) → KeepsPlaces whole (rule_type len) from Q
+  unfolding rule_type
+  rule_type_kept from Q q = search (blank_is_at whole utf8, word_passed whole utf8 (codes "->") refl, fault_is_at whole utf8, colon_text_is_at whole utf8, q) depth 9
+
+  rule_body_kept : (from : List ℕ) (head : RuleHead) → IsNameAt whole head.name → (Q : Unit {0} → Type 0) → Q tt → KeepsPlaces whole (rule_body len head) from Q
+  unfolding rule_body repeat
+  rule_body_kept from head n Q q = search (blank_is_at whole utf8, word_passed whole utf8 (codes ":") refl, fault_is_at whole utf8, production_kept, n, q) depth 9
+
+  rule_kept : (from : List ℕ) (kind : YaccKind) (Q : Unit {0} → Type 0) → Q tt → KeepsPlaces whole (rule len kind) from Q
+  unfolding rule
+  rule_kept from kind Q q = (
+    λ text word rest t w.
+        let it = name_at whole utf8 from text word rest t w in
+        let name : IsNameAt whole (word_at len text word rest) = (it.1, name_begins text word rest w) in
+        (it.0, (it.1, (rule_type_kept from _ (λ action_type. (name, rule_body_kept from _ name Q q)), (name, rule_body_kept from _ name Q q)))),
+    fault_is_at whole utf8 IllegalName from,
+  )
+
+  programs_kept : (from : List ℕ) (Q : Unit {0} → Type 0) → Q tt → KeepsPlaces whole (programs len) from Q
+  unfolding programs
+  programs_kept from Q q = (word_passed whole utf8 (codes "%%") refl from, (blank_is_at whole utf8 true from, λ _ _ _. (tt, q)), q)
+
+  file_keeps : (from : List ℕ) (kind : YaccKind) → KeepsPlaces whole (file kind len) from (λ _. Unit {0})
+  unfolding file while_test repeat
+  file_keeps from kind = search (word_passed whole utf8 (codes "%%") refl, blank_is_at whole utf8, separator_fault_kept whole utf8, declaration_kept whole utf8, rule_kept, programs_kept) depth 8
+
+  pub file_kept : (from : List ℕ) (kind : YaccKind) → Yields (IsReached whole from) (IsItemAt whole) (IsAt whole) (λ _. Unit {0}) (Says (file kind len))
+  file_kept from kind = keeps (IsReached whole) (IsItemAt whole) (IsAt whole) (reached_here whole utf8) (reached_on whole utf8) (file kind len) from (λ _. Unit {0}) (file_keeps from kind)

@@ -1,0 +1,107 @@
+-- What a step of the reader does, told by what reading gives there.
+use Rattle.std.specs.Prelude.{◌≡◌, ℕ, Bool, false, List, map, Option, Some, None, option_map, Result, Ok, Err}
+use denote.Ref.{Bor}
+use Rattle.cfgwords.specs.declared.fault.FaultKind.{FaultKind}
+use Rattle.cfgbase.specs.declared.span.Span.{Span}
+use Rattle.cfgwords.specs.Actions.{action_at, action_of}
+use Rattle.cfgwords.specs.Text.{fault_at}
+use Rattle.cfgwords.specs.Blank.{part_of, front_of}
+use Rattle.reading.specs.Leaves.{Gives, ValueOf, Leaves}
+use Rattle.cfgwords.specs.declared.fault.Fault.{Fault}
+use Rattle.cfgwords.specs.Words.{TokenText, name_of, token_of, word_at, token_at}
+use Rattle.cfgwords.specs.declared.words.Word.{Word as CodeWord}
+use Rattle.cfgwords.specs.declared.words.Token.{Token as CodeToken}
+use Rattle.cfgast.specs.Items.{Item}
+use Rattle.cfgast.specs.Building.{adds}
+use Rattle.cfgast.specs.Syntax.{syntax_of}
+use Rattle.cfgast.specs.View.{syntax, syntax_built, word_view, token_view}
+use Rattle.cfgast.specs.declared.ast.GrammarAST.{GrammarAST}
+use Rattle.cfgheader.specs.declared.kind.YaccKind.{YaccKind}
+use Rattle.cfgheader.specs.declared.section.header_fault.HeaderFault.{HeaderFault}
+use Rattle.cfgheader.specs.declared.section.header_fault.HeaderFault.TheVariants as header
+use Rattle.cfgheader.specs.SectionGrammar.{Entry}
+use Rattle.cfgheader.specs.SectionReads.{section_of, errors_view}
+use Rattle.reading.specs.Construct.{Construct, computes}
+use Rattle.reading.specs.Read.{stop_of}
+use Rattle.cfgreader.specs.Grammar.{file}
+use Rattle.cfgreader.specs.Reads as reads
+use Rattle.cfgreader.specs.declared.read.Stopped.{Stopped}
+use Rattle.cfgreader.specs.declared.read.Stopped.TheVariants as stops
+use Rattle.cfgreader.specs.declared.bodies.Part.{Part as CodePart}
+use Rattle.cfgreader.specs.declared.bodies.Part.TheVariants as code_parts
+use Rattle.cfgreader.specs.declared.bodies.Parts.{Parts as CodeParts}
+use Rattle.cfgreader.specs.declared.reader.Reader.{Reader}
+use Rattle.cfgreader.specs.declared.reader.ReadFault.{ReadFault}
+use Rattle.cfgreader.specs.declared.reader.ReadFault.TheVariants as errors
+use Rattle.cfgreader.specs.Rules.{Part, Parts, SymbolPart, PrecedencePart, EmptyPart}
+
+-- the tree has grown by the items
+abbrev pub Grows : Reader → Reader → List Item → Type 0
+Grows old new items = syntax_built new.tree ≡ adds (syntax_built old.tree) items
+
+abbrev pub Fails : {l : Leaves} {G : Gives} → Reader → Reader → ReadFault → Construct Item Fault l G → Type 0
+Fails old new errors.OutOfMemory c = Unit {0}
+Fails old new (errors.Fault fault) c = ((computes c old.rest.now).outcome ≡ Err fault) × Grows old new (computes c old.rest.now).items
+
+-- What a step returned, seen by view, is what reading the construct gives, and the tree has grown by the items that were
+-- read, unless memory ran out.
+abbrev pub Builds : {l : Leaves} {G : Gives} {X : Type 0} → (X → ValueOf G) → Reader → Reader → Result X ReadFault → Construct Item Fault l G → Type 0
+Builds view old new (Ok x) c =
+    ((computes c old.rest.now).outcome ≡ Ok (view x, new.rest.now)) × (new.len ≡ old.len) × Grows old new (computes c old.rest.now).items
+Builds view old new (Err e) c = Fails old new e c
+
+-- whether a part of a blank stands here, and what is left behind it
+abbrev pub IsPartHere : Bool → Reader → Result (Option (Bor (List ℕ))) ReadFault → Type 0
+IsPartHere lines reader (Ok part) = part_of lines (front_of reader.rest.now) ≡ Ok (option_map (λ rest. rest.now) part)
+IsPartHere lines reader (Err errors.OutOfMemory) = ⊥
+IsPartHere lines reader (Err (errors.Fault fault)) = (kind : FaultKind) × (part_of lines (front_of reader.rest.now) ≡ Err kind) × (fault ≡ fault_at reader.len kind reader.rest.now)
+
+abbrev pub text_view : CodeToken → TokenText
+text_view token = record { name = token.name.now; quoted = token.quoted }
+
+-- whether a name stands here, and what is left behind it
+abbrev pub IsNameHere : Reader → Reader → Option CodeWord → Type 0
+IsNameHere old new (Some word) = (name_of old.rest.now ≡ Some (word.name.now, new.rest.now))
+    × (word_at old.len old.rest.now word.name.now new.rest.now ≡ word_view word) × (new.len ≡ old.len) × (new.tree ≡ old.tree)
+IsNameHere old new None = (name_of old.rest.now ≡ None) × (new ≡ old)
+
+-- whether a token stands here, and what is left behind it
+abbrev pub IsTokenHere : Reader → Reader → Option CodeToken → Type 0
+IsTokenHere old new (Some token) = (token_of old.rest.now ≡ Some (text_view token, new.rest.now))
+    × (token_at old.len old.rest.now (text_view token) new.rest.now ≡ token_view token) × (new.len ≡ old.len) × (new.tree ≡ old.tree)
+IsTokenHere old new None = (token_of old.rest.now ≡ None) × (new ≡ old)
+
+-- a part of a production, and what was read of one
+abbrev pub part_view : CodePart → Part
+part_view (code_parts.Symbol token) = SymbolPart (token_view token)
+part_view (code_parts.Precedence token) = PrecedencePart (token_view token)
+part_view (code_parts.Empty end) = EmptyPart end
+
+abbrev pub parts_view : CodeParts → Parts
+parts_view parts = record {
+  symbols = map token_view parts.symbols.items;
+  precedence = option_map (λ name. name.now) parts.precedence;
+  end = parts.end;
+}
+
+-- whether an action stands here, and what is left behind it
+abbrev pub IsActionHere : Reader → Reader → Option (Bor (List ℕ) × Span) → Type 0
+IsActionHere old new (Some action) = (action_of old.rest.now ≡ Some (action.0.now, new.rest.now))
+    × (action_at old.len old.rest.now action.0.now new.rest.now ≡ (action.0.now, action.1)) × (new.len ≡ old.len) × (new.tree ≡ old.tree)
+IsActionHere old new None = (action_of old.rest.now ≡ None) × (new ≡ old)
+
+-- what stopped a reading
+abbrev pub stop_view : Stopped → reads.Stop
+stop_view (stops.Section errors) = reads.InSection (errors_view errors.items)
+stop_view (stops.File fault) = reads.InFile fault
+
+-- what is left behind the section of a text, or the errors of that
+abbrev pub IsBehindSection : List ℕ → Result (Bor (List ℕ)) HeaderFault → Type 0
+IsBehindSection text (Ok rest) = (entries : List Entry) × (section_of false text ≡ Ok (entries, rest.now))
+IsBehindSection text (Err (header.Errors errors)) = section_of false text ≡ Err (errors_view errors.items)
+IsBehindSection text (Err header.OutOfMemory) = Unit {0}
+
+-- the tree of a file, and what stopped its reading
+abbrev pub IsFile : YaccKind → ℕ → List ℕ → GrammarAST × Option Stopped → Type 0
+IsFile kind len rest (tree, stop) = (syntax tree ≡ syntax_of (computes (file kind len) rest).items)
+    × (option_map stop_view stop ≡ option_map reads.InFile (stop_of (computes (file kind len) rest).outcome))

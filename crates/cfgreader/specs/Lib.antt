@@ -1,0 +1,7 @@
+pub mod Builds
+pub mod Declarations
+pub mod Grammar
+pub mod Here
+pub mod Lists
+pub mod Reads
+pub mod Rules

@@ -1,0 +1,188 @@
+-- Rules, construct by construct: what stands behind the first `%%`. `do` is sequence.
+use Rattle.std.specs.Prelude.{ℕ, Bool, true, false, ◌==◌, ◌||◌, ◌&&◌, not, Option, Some, None, List, [], ◌∷◌, ◌++◌, fold, unwrap_or, codes}
+use Rattle.reading.specs.Pieces.{starts}
+use Rattle.reading.specs.Construct.{◌>>=◌, ◌>>◌, then, case_of, choice, here, again, goes_on, ends, many, repeat, word_or, gives, emits, fails, expect}
+use Rattle.cfgbase.specs.declared.span.Span.{Span}
+use Rattle.cfgwords.specs.declared.fault.Fault.{Fault}
+use Rattle.cfgwords.specs.declared.fault.FaultKind.{FaultKind}
+use Rattle.cfgwords.specs.declared.fault.FaultKind.TheVariants.{IllegalString, IncompleteAction, IncompleteRule, MissingColon, MissingRightArrow, NonEmptyProduction, ProductionNotTerminated}
+use Rattle.cfgwords.specs.Text.{place, fault_at}
+use Rattle.cfgwords.specs.Words.{Token, word_of}
+use Rattle.cfgwords.specs.Actions.{IsAction, action_of, action_at}
+use Rattle.cfgwords.proofs.ActionFinder.{action_finder, action_shorter}
+use Rattle.cfgast.specs.Items.{Item, RuleHead, Body, RuleBegun, RuleNamed, TokenQuoted, PrecedenceUsed, Alternative}
+use Rattle.cfgheader.specs.declared.kind.YaccKind.{YaccKind}
+use Rattle.cfgheader.specs.declared.kind.YaccKind.TheVariants.{Grmtools}
+use Rattle.cfgreader.specs.Here.{Strict, Lax, Turn, is_open, stands, blank_here, name_here, token_or, token_here, colon_text_here}
+
+-- a part of a production: a symbol, the token behind a `%prec`, or an `%empty`, by the place where it ends
+pub data Part : Type 0 where
+  SymbolPart : Token → Part
+  PrecedencePart : Token → Part
+  EmptyPart : ℕ → Part
+
+abbrev pub part_end : Part → ℕ
+part_end (SymbolPart token) = token.end
+part_end (PrecedencePart token) = token.end
+part_end (EmptyPart end) = end
+
+-- what was read of a production: its symbols, the token behind its last `%prec`, and the place where its last part ends
+pub record Parts : Type 0 where
+  pub symbols : List Token
+  pub precedence : Option (List ℕ)
+  pub end : Option ℕ
+
+abbrev pub no_parts : Parts
+no_parts = record { symbols = []; precedence = None; end = None }
+
+abbrev pub with_part : Parts → Part → Parts
+with_part parts (SymbolPart token) = record parts { symbols = parts.symbols ++ token ∷ []; end = Some token.end }
+with_part parts (PrecedencePart token) = record parts { precedence = Some token.name; end = Some token.end }
+with_part parts (EmptyPart end) = record parts { end = Some end }
+
+-- where a production without an action ends: behind its last part, or at the place behind it where it is bare
+abbrev pub end_of : Parts → ℕ → ℕ
+end_of parts place = unwrap_or parts.end place
+
+abbrev pub body_of : Parts → Option (List ℕ × Span) → Span → Body
+body_of parts action span = record { symbols = parts.symbols; precedence = parts.precedence; action = action; span = span }
+
+-- what may stand behind an `%empty`: `|`, `;`, an action or a `%prec`
+abbrev pub may_follow_empty : List ℕ → Bool
+may_follow_empty text = starts (λ b. b == 124 || b == 59 || b == 123) text || stands (codes "%prec") text
+
+-- what is wrong where neither a part nor an action stands: an open brace has none that balances it
+abbrev pub brace_fault : Bool → FaultKind
+brace_fault true = IncompleteAction
+brace_fault false = IllegalString
+
+abbrev pub is_grmtools : YaccKind → Bool
+is_grmtools Grmtools = true
+is_grmtools _ = false
+
+-- rules go on to the second `%%`, or to the end
+abbrev pub is_rule_next : List ℕ → Bool
+is_rule_next text = is_open text && not (stands (codes "%%") text)
+
+-- a row of parts, behind those that were read before
+unfoldable pub gather : Turn Part → Parts → Lax Parts
+gather c before = do
+  ps ← many c
+  gives (fold with_part before ps)
+
+-- len is the whole text's length
+module _ (len : ℕ) where
+  -- a quoted use of a token names it
+  abbrev pub quoted_use : Token → Lax (Unit {0})
+  quoted_use token = choice (λ _. token.quoted) (emits (TokenQuoted (word_of token))) (gives tt)
+
+  -- what stands behind `%prec`
+  unfoldable pub precedence : Strict Part
+  precedence = do
+    blank_here len true
+    token ← token_here len
+    emits (PrecedenceUsed (word_of token))
+    blank_here len true
+    gives (PrecedencePart token)
+
+  -- what stands behind the `%empty` that begins at text, where no symbol stands before it
+  unfoldable pub empty : List ℕ → Lax Part
+  empty text = here (λ behind. do
+    blank_here len true
+    choice may_follow_empty (gives (EmptyPart (place len behind))) (fails (λ _. fault_at len NonEmptyProduction text)))
+
+  -- and where one does
+  unfoldable pub misplaced_empty : List ℕ → Strict Part
+  misplaced_empty text = do
+    blank_here len true
+    fails (λ _. fault_at len NonEmptyProduction text)
+
+  -- a part before the first symbol
+  unfoldable pub front_part : Turn Part
+  front_part = here (λ text.
+      case_of (codes "%prec") (then precedence again)
+      (case_of (codes "%empty") (then (empty text) again)
+      ends))
+
+  -- a symbol, if one stands here
+  unfoldable pub symbol_part : Turn Part
+  symbol_part = token_or len (λ token. do
+    blank_here len true
+    quoted_use token
+    again (SymbolPart token))
+      ends
+
+  -- a part from the first symbol on
+  unfoldable pub part : Turn Part
+  part = here (λ text.
+      case_of (codes "%prec") (then precedence again)
+      (case_of (codes "%empty") (then (misplaced_empty text) again)
+      symbol_part))
+
+  -- the parts before the first symbol, and those from there on
+  abbrev pub front_parts : Lax Parts
+  front_parts = gather front_part no_parts
+
+  abbrev pub more_parts : Parts → Lax Parts
+  more_parts front = gather part front
+
+  -- where `|` or `;` must stand: behind an action, and elsewhere in a body
+  abbrev pub end_fault : Bool → List ℕ → Fault
+  end_fault true text = fault_at len ProductionNotTerminated text
+  end_fault false [] = fault_at len IncompleteRule []
+  end_fault false (b ∷ text) = fault_at len (brace_fault (b == 123)) (b ∷ text)
+
+  -- whether another production follows: `|` stands before one, and `;` ends a rule
+  unfoldable pub another : Bool → Strict Bool
+  another has_action =
+      case_of (codes "|") (gives true)
+      (case_of (codes ";") (gives false)
+      (fails (end_fault has_action)))
+
+  -- what stands behind a production; there it counts as read
+  unfoldable pub finish : Bool → Item → Turn (Unit {0})
+  finish has_action production = do
+    follows ← another has_action
+    emits production
+    blank_here len true
+    gives (goes_on follows)
+
+  -- the end of a production that begins at text: its action, if it has one, and what ends it
+  unfoldable pub production_end : RuleHead → ℕ → Parts → Turn (Unit {0})
+  production_end head start parts = here (λ behind.
+      word_or IsAction action_of action_finder action_shorter (action_at len)
+      (λ action. do
+        blank_here len true
+        finish true (Alternative head (body_of parts (Some action) (record { start = start; end = place len behind }))))
+      (finish false (Alternative head (body_of parts None (record { start = start; end = end_of parts (place len behind) })))))
+
+  unfoldable pub production : RuleHead → Turn (Unit {0})
+  production head = here (λ text. do
+    front ← front_parts
+    parts ← more_parts front
+    production_end head (place len text) parts)
+
+  -- what stands between a rule's name and its colon in a Grmtools file
+  unfoldable pub rule_type : Strict (Option (List ℕ))
+  rule_type = do
+    blank_here len true
+    expect (codes "->") (fault_at len MissingRightArrow)
+    blank_here len true
+    action_type ← colon_text_here len
+    gives (Some action_type)
+
+  -- what stands behind a rule's name, or behind its type
+  unfoldable pub rule_body : RuleHead → Strict (Unit {0})
+  rule_body head = do
+    blank_here len true
+    expect (codes ":") (fault_at len MissingColon)
+    blank_here len true
+    repeat (production head)
+
+  unfoldable pub rule : YaccKind → Strict (Unit {0})
+  rule kind = do
+    name ← name_here len
+    emits (RuleBegun name)
+    action_type ← choice (λ _. is_grmtools kind) rule_type (gives None)
+    emits (RuleNamed (record { name = name; action_type = action_type }))
+    rule_body (record { name = name; action_type = action_type })

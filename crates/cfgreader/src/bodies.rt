@@ -1,0 +1,206 @@
+//! The parts of a production: its symbols, `%prec` and `%empty`.
+
+ghost use Rattle.std.specs.Prelude.{◌≡◌, ◌≤◌, ℕ, IfOk, IfSome, OnOk, length, option_map};
+ghost use Rattle.cfgwords.specs.Text.{place, fault_at};
+ghost use Rattle.cfgwords.specs.declared.fault.FaultKind.TheVariants.{NonEmptyProduction};
+ghost use Rattle.cfgreader.specs.Builds.{part_view, parts_view};
+ghost use Rattle.cfgreader.specs.Rules.{EmptyPart, PrecedencePart, SymbolPart, empty, front_part, front_parts};
+ghost use Rattle.cfgreader.specs.Rules.{part_end, may_follow_empty, misplaced_empty, more_parts, no_parts, part};
+ghost use Rattle.cfgreader.specs.Rules.{precedence, symbol_part, with_part};
+
+use super::reader::{ReadFault, Reader};
+use cfgwords::fault::FaultKind;
+use cfgwords::words::Token;
+use std::alloc::{AllocError, Global};
+
+/// A part of a production.
+#[derive(Clone, Copy, Debug)]
+pub(super) enum Part<'a> {
+    /// A symbol.
+    Symbol(Token<'a>),
+    /// The token behind a `%prec`.
+    Precedence(Token<'a>),
+    /// An `%empty`, and the offset in bytes where it ends.
+    Empty(usize),
+}
+
+/// What was read of a production.
+#[derive(Drop)]
+pub(super) struct Parts<'a> {
+    /// Its symbols, in order.
+    pub(super) symbols: Vec<Token<'a>>,
+    /// The name of the token behind its last `%prec`.
+    pub(super) precedence: Option<&'a str>,
+    /// The offset in bytes where its last part ends.
+    pub(super) end: Option<usize>,
+}
+
+impl<'a> Parts<'a> {
+    /// No part.
+    pub(super) fn none(alloc: Global) -> Self
+        ensures { parts_view result ≡ no_parts }
+    {
+        Parts {
+            symbols: Vec::new(alloc),
+            precedence: None,
+            end: None,
+        }
+    }
+
+    /// Adds a part.
+    ///
+    /// # Errors
+    ///
+    /// Want of memory.
+    fn add(&mut self, part: Part<'a>) -> Result<(), AllocError>
+        ensures { OnOk result (parts_view self.new ≡ with_part (parts_view self.old) (part_view part.entry)) }
+    {
+        match part {
+            Part::Symbol(token) => {
+                self.end = Some(token.end);
+                self.symbols.push(token)?;
+            }
+            Part::Precedence(token) => {
+                self.end = Some(token.end);
+                self.precedence = Some(token.name);
+            }
+            Part::Empty(end) => self.end = Some(end),
+        }
+        Ok(())
+    }
+}
+
+impl<'a> Reader<'a> {
+    ghost use Rattle.cfgreader.specs.Builds.{Builds};
+    ghost use Rattle.cfgast.specs.View.{token_view};
+
+    /// Passes what stands behind `%prec`.
+    #[tactic(auto, unfolding(crate::specs::Rules::precedence, cfgast::specs::Building::adds))]
+    fn precedence(&mut self) -> Result<Token<'a>, ReadFault>
+        ensures read { Builds (λ token. PrecedencePart (token_view token)) self.old self.new result
+            (precedence self.old.len) }
+        ensures after { IfOk result (λ token. place self.old.len self.old.rest.now ≤ token.end) }
+    {
+        self.blank(true)?;
+        let token = self.token()?;
+        self.tree.use_precedence(self.alloc, token.word())?;
+        self.blank(true)?;
+        Ok(token)
+    }
+
+    /// Whether a `|`, a `;`, an action or a `%prec` stands here.
+    fn may_follow_empty(&self) -> bool
+        ensures { result ≡ may_follow_empty self.now.rest.now }
+    {
+        matches!(self.rest.as_bytes(), [b'|' | b';' | b'{', ..]) || self.stands("%prec")
+    }
+
+    /// Passes the blank behind the `%empty` that begins at `text`, where no symbol stands before it, and answers where
+    /// the `%empty` ends.
+    #[tactic(auto, unfolding(crate::specs::Rules::empty, cfgast::specs::Building::adds))]
+    fn empty(&mut self, text: &'a str) -> Result<usize, ReadFault>
+        ensures read { Builds EmptyPart self.old self.new result (empty self.old.len text.now) }
+        ensures after { IfOk result (λ end. end ≡ place self.old.len self.old.rest.now) }
+    {
+        let end = self.place();
+        self.blank(true)?;
+        if self.may_follow_empty() {
+            Ok(end)
+        } else {
+            Err(self.fault_at(FaultKind::NonEmptyProduction, text))
+        }
+    }
+
+    /// Passes the blank behind the `%empty` that begins at `text`, where a symbol stands before it: there it is a
+    /// fault.
+    #[tactic(auto, unfolding(crate::specs::Rules::misplaced_empty, cfgast::specs::Building::adds))]
+    fn misplaced_empty(&mut self, text: &'a str) -> Result<usize, ReadFault>
+        ensures read { Builds EmptyPart self.old self.new result (misplaced_empty self.old.len text.now) }
+        ensures after { IfOk result (λ end. place self.old.len self.old.rest.now ≤ end) }
+    {
+        self.blank(true)?;
+        Err(self.fault_at(FaultKind::NonEmptyProduction, text))
+    }
+
+    /// Passes a part of a production before its first symbol, if one stands here.
+    #[tactic(auto, unfolding(crate::specs::Rules::front_part, cfgast::specs::Building::adds))]
+    fn front_part(&mut self) -> Result<Option<Part<'a>>, ReadFault>
+        ensures read { Builds (option_map part_view) self.old self.new result (front_part self.old.len) }
+        ensures after { IfOk result (λ part. IfSome part
+            (λ part. place self.old.len self.old.rest.now ≤ part_end (part_view part))) }
+    {
+        let text = self.rest;
+        if self.accept("%prec") {
+            Ok(Some(Part::Precedence(self.precedence()?)))
+        } else if self.accept("%empty") {
+            Ok(Some(Part::Empty(self.empty(text)?)))
+        } else {
+            Ok(None)
+        }
+    }
+
+    /// Passes a symbol, if one stands here, and the blank behind it; a quoted token is noted.
+    #[tactic(auto, unfolding(crate::specs::Rules::symbol_part, cfgast::specs::Building::adds))]
+    fn symbol(&mut self) -> Result<Option<Token<'a>>, ReadFault>
+        ensures read { Builds (option_map (λ token. SymbolPart (token_view token))) self.old self.new result
+            (symbol_part self.old.len) }
+        ensures after { IfOk result (λ symbol. IfSome symbol
+            (λ token. place self.old.len self.old.rest.now ≤ token.end)) }
+    {
+        match self.next_token() {
+            Some(token) => {
+                self.blank(true)?;
+                if token.quoted {
+                    self.tree.quote_token(self.alloc, token.word())?;
+                }
+                Ok(Some(token))
+            }
+            None => Ok(None),
+        }
+    }
+
+    /// Passes a part of a production from its first symbol on, if one stands here.
+    #[tactic(auto, unfolding(crate::specs::Rules::part, cfgast::specs::Building::adds))]
+    fn later_part(&mut self) -> Result<Option<Part<'a>>, ReadFault>
+        ensures read { Builds (option_map part_view) self.old self.new result (part self.old.len) }
+        ensures after { IfOk result (λ part. IfSome part
+            (λ part. place self.old.len self.old.rest.now ≤ part_end (part_view part))) }
+    {
+        let text = self.rest;
+        if self.accept("%prec") {
+            Ok(Some(Part::Precedence(self.precedence()?)))
+        } else if self.accept("%empty") {
+            Ok(Some(Part::Empty(self.misplaced_empty(text)?)))
+        } else {
+            Ok(self.symbol()?.map(Part::Symbol))
+        }
+    }
+
+    /// Passes the parts of a production before its first symbol.
+    pub(super) fn front_parts(&mut self) -> Result<Parts<'a>, ReadFault>
+        ensures read { Builds parts_view self.old self.new result (front_parts self.old.len) }
+        ensures ends { IfOk result (λ parts. IfSome parts.end (λ end. place self.old.len self.old.rest.now ≤ end)) }
+        ensures shorter { OnOk result (length self.new.rest.now ≤ length self.old.rest.now) }
+    {
+        let mut parts = Parts::none(self.alloc);
+        while let Some(part) = self.front_part()? {
+            parts.add(part)?;
+        }
+        Ok(parts)
+    }
+
+    /// Passes the parts of a production from its first symbol on, and adds them to those before.
+    pub(super) fn more_parts(&mut self, front: Parts<'a>) -> Result<Parts<'a>, ReadFault>
+        ensures read { Builds parts_view self.old self.new result (more_parts self.old.len (parts_view front.entry)) }
+        ensures ends { (start : ℕ) → start ≤ place self.old.len self.old.rest.now
+            → IfSome front.entry.end (λ end. start ≤ end)
+            → IfOk result (λ parts. IfSome parts.end (λ end. start ≤ end)) }
+        ensures shorter { OnOk result (length self.new.rest.now ≤ length self.old.rest.now) }
+    {
+        let mut parts = front;
+        while let Some(part) = self.later_part()? {
+            parts.add(part)?;
+        }
+        Ok(parts)
+    }
+}

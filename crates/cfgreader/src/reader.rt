@@ -1,0 +1,308 @@
+//! The reader: a place in the text, and the tree of what was read so far.
+
+ghost use Rattle.std.specs.Prelude.{◌≡◌, ◌≤◌, length, [], Some, None, Ok, MatchBool, IfOk, IfSome};
+ghost use Rattle.std.specs.String.{string_bytes};
+ghost use Rattle.reading.specs.Construct.{expect};
+ghost use Rattle.reading.specs.Pieces.{strip};
+ghost use Rattle.cfgwords.specs.Text.{place, fault_at};
+ghost use Rattle.cfgreader.specs.Here.{is_open, stands, blank_here, line_blank, name_here, token_here, integer_here};
+ghost use Rattle.cfgreader.specs.Here.{line_rest_here, epp_string_here, colon_text_here};
+
+use cfgast::{AstBuilder, GrammarAST};
+use cfgbase::Span;
+use cfgwords::blank::{Front, passes_line_end};
+use cfgwords::bytes::ByteClass;
+use cfgwords::colon_text::text_to_colon;
+use cfgwords::fault::{Fault, FaultKind};
+use cfgwords::run::run;
+use cfgwords::strings::{leading_string, unescaped};
+use cfgwords::words::{Token, Word, leading_integer, leading_name, leading_token};
+use reading::after_word;
+use std::alloc::{AllocError, AllocFailed, Global};
+
+/// Why a reader stopped.
+#[derive(Drop)]
+pub(crate) enum ReadFault {
+    OutOfMemory,
+    Fault(Fault),
+}
+
+impl From<Fault> for ReadFault {
+    ghost use Rattle.cfgreader.specs.declared.reader.ReadFault.TheVariants as errors;
+
+    ghost from_gives = { λ fault e. e ≡ errors.Fault fault };
+
+    fn from(fault: Fault) -> ReadFault {
+        ReadFault::Fault(fault)
+    }
+}
+
+impl From<AllocError> for ReadFault {
+    ghost use Rattle.cfgreader.specs.declared.reader.ReadFault.TheVariants.{OutOfMemory};
+
+    ghost from_gives = { λ _ e. e ≡ OutOfMemory };
+
+    fn from(_error: AllocError) -> ReadFault {
+        ReadFault::OutOfMemory
+    }
+}
+
+impl<T: Drop> From<AllocFailed<T>> for ReadFault {
+    ghost use Rattle.cfgreader.specs.declared.reader.ReadFault.TheVariants.{OutOfMemory};
+
+    ghost from_gives = { λ _ e. e ≡ OutOfMemory };
+
+    fn from(_error: AllocFailed<T>) -> ReadFault {
+        ReadFault::OutOfMemory
+    }
+}
+
+/// Reads a text of `len` bytes from its front: `rest` is left of it, and `tree` holds what was read.
+#[derive(Drop)]
+pub(crate) struct Reader<'a> {
+    pub(crate) alloc: Global,
+    pub(crate) len: usize,
+    pub(crate) rest: &'a str,
+    pub(crate) tree: AstBuilder,
+    ghost within: { length rest.now ≤ len },
+}
+
+impl<'a> Reader<'a> {
+    ghost use Rattle.cfgreader.specs.Builds.{Builds, Grows, IsPartHere, IsNameHere, IsTokenHere};
+    ghost use Rattle.cfgast.specs.View.{syntax, syntax_built, word_view, token_view};
+    ghost use Rattle.cfgast.specs.Syntax.{syntax_of};
+
+    /// At the front of what is left of a text of `len` bytes, with nothing read.
+    pub(super) fn new(alloc: Global, len: usize, rest: &'a str) -> Self
+        requires { length rest.now ≤ len }
+        ensures place { (result.rest.now ≡ rest.now) × (result.len ≡ len) }
+        ensures tree { syntax_built result.tree ≡ syntax_of [] }
+    {
+        Reader {
+            alloc,
+            len,
+            rest,
+            tree: AstBuilder::new(alloc),
+        }
+    }
+
+    /// The tree of what was read.
+    pub(super) fn into_tree(self) -> GrammarAST
+        ensures { syntax result ≡ syntax_built self.entry.tree }
+    {
+        self.tree.finish()
+    }
+
+    /// The offset of what is left, in bytes.
+    pub(super) fn place(&self) -> usize
+        ensures { result ≡ place self.now.len self.now.rest.now }
+    {
+        self.len - self.rest.len()
+    }
+
+    /// A fault at the place where `text` is left.
+    pub(super) fn fault_at(&self, kind: FaultKind, text: &str) -> ReadFault
+        ensures { result ≡ ReadFault.Fault (fault_at self.now.len kind text.now) }
+    {
+        let place = self.len.saturating_sub(text.len());
+        ReadFault::Fault(Fault {
+            kind,
+            span: Span::new(place, place),
+        })
+    }
+
+    /// A fault right here.
+    pub(super) fn fault(&self, kind: FaultKind) -> ReadFault
+        ensures { result ≡ ReadFault.Fault (fault_at self.now.len kind self.now.rest.now) }
+    {
+        self.fault_at(kind, self.rest)
+    }
+
+    /// Whether the text goes on here.
+    pub(super) fn is_open(&self) -> bool
+        ensures { result ≡ is_open self.now.rest.now }
+    {
+        match self.rest.as_bytes() {
+            [] => false,
+            [_, ..] => true,
+        }
+    }
+
+    /// Whether the word stands here.
+    pub(super) fn stands(&self, word: &str) -> bool
+        ensures { result ≡ stands word.now self.now.rest.now }
+    {
+        after_word(self.rest, word).is_some()
+    }
+
+    /// Passes the word, where it stands here.
+    pub(super) fn accept(&mut self, word: &str) -> bool
+        ensures { MatchBool result
+            ((strip word.now self.old.rest.now ≡ Some self.new.rest.now) × (self.new.len ≡ self.old.len)
+            × (self.new.tree ≡ self.old.tree))
+            ((strip word.now self.old.rest.now ≡ None) × (self.new ≡ self.old)) }
+    {
+        match after_word(self.rest, word) {
+            Some(rest) => {
+                self.rest = rest;
+                true
+            }
+            None => false,
+        }
+    }
+
+    /// Passes the word that must stand here; where another thing does, there is a fault of the kind.
+    #[tactic(auto, unfolding(cfgast::specs::Building::adds))]
+    pub(super) fn expect(&mut self, word: &str, kind: FaultKind) -> Result<(), ReadFault>
+        ensures { Builds (λ x. x) self.old self.new result (expect word.now (fault_at self.old.len kind)) }
+    {
+        if self.accept(word) {
+            Ok(())
+        } else {
+            Err(self.fault(kind))
+        }
+    }
+
+    /// The next part of a blank: what is left behind it, or None where the blank ends here.
+    fn blank_part(&self, lines: bool) -> Result<Option<&'a str>, ReadFault>
+        ensures { IsPartHere lines self.now result }
+    {
+        match Front::of(self.rest).part(lines) {
+            Ok(part) => Ok(part),
+            Err(kind) => Err(self.fault(kind)),
+        }
+    }
+
+    /// Passes the blank that begins here; where `lines` is false, it may not pass a line's end.
+    pub(super) fn blank(&mut self, lines: bool) -> Result<(), ReadFault>
+        ensures { Builds (λ x. x) self.old self.new result (blank_here self.old.len lines) }
+    {
+        while let Some(rest) = self.blank_part(lines)? {
+            self.rest = rest;
+        }
+        Ok(())
+    }
+
+    /// Passes the blank that begins here, and tells whether it stays on its line.
+    #[tactic(auto, unfolding(crate::specs::Here::line_blank, cfgast::specs::Building::adds))]
+    pub(super) fn line_blank(&mut self) -> Result<bool, ReadFault>
+        ensures { Builds (λ x. x) self.old self.new result (line_blank self.old.len) }
+    {
+        let text = self.rest;
+        self.blank(true)?;
+        Ok(!passes_line_end(text, self.rest))
+    }
+
+    /// Passes the name that stands here, if one does.
+    pub(super) fn next_name(&mut self) -> Option<Word<'a>>
+        ensures { IsNameHere self.old self.new result }
+    {
+        match leading_name(self.rest) {
+            Some((name, rest)) => {
+                let start = self.place();
+                self.rest = rest;
+                let span = Span::new(start, start + name.len());
+                Some(Word { name, span })
+            }
+            None => None,
+        }
+    }
+
+    /// Passes the name that must stand here.
+    #[tactic(auto, unfolding(cfgast::specs::Building::adds))]
+    pub(super) fn name(&mut self) -> Result<Word<'a>, ReadFault>
+        ensures { Builds word_view self.old self.new result (name_here self.old.len) }
+    {
+        match self.next_name() {
+            Some(name) => Ok(name),
+            None => Err(self.fault(FaultKind::IllegalName)),
+        }
+    }
+
+    /// Passes the integer that must stand here, and answers it with its place.
+    #[tactic(auto, unfolding(cfgast::specs::Building::adds))]
+    pub(super) fn integer(&mut self) -> Result<(usize, Span), ReadFault>
+        ensures { Builds (λ x. x) self.old self.new result (integer_here self.old.len) }
+    {
+        match leading_integer(self.rest) {
+            Some((number, rest)) => {
+                let start = self.place();
+                self.rest = rest;
+                Ok((number, Span::new(start, self.place())))
+            }
+            None => Err(self.fault(FaultKind::IllegalInteger)),
+        }
+    }
+
+    /// Passes the rest of the line.
+    #[tactic(auto, unfolding(cfgast::specs::Building::adds))]
+    pub(super) fn line_rest(&mut self) -> &'a str
+        ensures { Builds (λ x. x.now) self.old self.new (Ok result) (line_rest_here self.old.len) }
+    {
+        let (line, rest) = run(self.rest, ByteClass::Line);
+        self.rest = rest;
+        line
+    }
+
+    /// Passes the string of an `%epp`, which must stand here, and answers its value.
+    #[tactic(auto, unfolding(cfgwords::specs::Strings::epp_string, cfgast::specs::Building::adds))]
+    pub(super) fn epp_string(&mut self) -> Result<String, ReadFault>
+        ensures { Builds string_bytes self.old self.new result (epp_string_here self.old.len) }
+    {
+        match leading_string(self.rest) {
+            Ok((inside, rest)) => {
+                let value = unescaped(self.alloc, inside)?;
+                self.rest = rest;
+                Ok(value)
+            }
+            Err(left) => Err(self.fault_at(FaultKind::InvalidString, left)),
+        }
+    }
+
+    /// Passes the text up to a single colon, which must stand behind it, and answers it trimmed.
+    #[tactic(auto, unfolding(cfgwords::specs::ColonText::colon_text, cfgast::specs::Building::adds))]
+    pub(super) fn colon_text(&mut self) -> Result<&'a str, ReadFault>
+        ensures { Builds (λ x. x.now) self.old self.new result (colon_text_here self.old.len) }
+    {
+        match text_to_colon(self.rest) {
+            Some((text, rest)) => {
+                self.rest = rest;
+                Ok(text)
+            }
+            None => Err(self.fault_at(FaultKind::ReachedEOL, "")),
+        }
+    }
+
+    /// Passes the token that stands here, if one does.
+    pub(super) fn next_token(&mut self) -> Option<Token<'a>>
+        ensures read { IsTokenHere self.old self.new result }
+        ensures after { IfSome result (λ token. place self.old.len self.old.rest.now ≤ token.end) }
+    {
+        match leading_token(self.rest) {
+            Some((name, quoted, rest)) => {
+                let place = self.place();
+                let start = if quoted { place + 1 } else { place };
+                self.rest = rest;
+                Some(Token {
+                    name,
+                    span: Span::new(start, start + name.len()),
+                    quoted,
+                    end: self.place(),
+                })
+            }
+            None => None,
+        }
+    }
+
+    /// Passes the token that must stand here.
+    #[tactic(auto, unfolding(cfgast::specs::Building::adds))]
+    pub(super) fn token(&mut self) -> Result<Token<'a>, ReadFault>
+        ensures read { Builds token_view self.old self.new result (token_here self.old.len) }
+        ensures after { IfOk result (λ token. place self.old.len self.old.rest.now ≤ token.end) }
+    {
+        match self.next_token() {
+            Some(token) => Ok(token),
+            None => Err(self.fault(FaultKind::IllegalString)),
+        }
+    }
+}

@@ -1,0 +1,208 @@
+//! Rules: what stands behind the first `%%`.
+
+ghost use Rattle.std.specs.Prelude.{◌≡◌, ◌≤◌, IfSome, Some, is_some};
+ghost use Rattle.reading.specs.Construct.{goes_on, repeat, while_test};
+ghost use Rattle.cfgwords.specs.Text.{place};
+ghost use Rattle.cfgast.specs.Items.{Alternative};
+ghost use Rattle.cfgreader.specs.Builds.{IsActionHere, parts_view};
+ghost use Rattle.cfgreader.specs.Grammar.{file, programs};
+ghost use Rattle.cfgreader.specs.Rules.{another, end_fault, end_of, finish, is_grmtools, is_rule_next, production};
+ghost use Rattle.cfgreader.specs.Rules.{production_end, rule, rule_body, rule_type};
+
+use super::bodies::Parts;
+use super::reader::{ReadFault, Reader};
+use cfgast::{Body, RuleHead};
+use cfgbase::Span;
+use cfgheader::YaccKind;
+use cfgwords::actions::leading_action;
+use cfgwords::fault::FaultKind;
+
+impl<'a> Reader<'a> {
+    ghost use Rattle.cfgreader.specs.Builds.{Builds};
+    ghost use Rattle.cfgast.specs.View.{head_view, body_view};
+
+    /// The fault where `|` or `;` must stand: behind an action, or elsewhere in a body.
+    fn end_fault(&self, has_action: bool) -> ReadFault
+        ensures { result ≡ ReadFault.Fault (end_fault self.now.len has_action self.now.rest.now) }
+    {
+        match self.rest.as_bytes() {
+            _ if has_action => self.fault(FaultKind::ProductionNotTerminated),
+            [] => self.fault(FaultKind::IncompleteRule),
+            [b'{', ..] => self.fault(FaultKind::IncompleteAction),
+            _ => self.fault(FaultKind::IllegalString),
+        }
+    }
+
+    /// Passes the `|` before another production, or the `;` that ends a rule, and tells whether it was `|`.
+    #[tactic(auto, unfolding(crate::specs::Rules::another, cfgast::specs::Building::adds))]
+    fn another(&mut self, has_action: bool) -> Result<bool, ReadFault>
+        ensures { Builds (λ x. x) self.old self.new result (another self.old.len has_action) }
+    {
+        if self.accept("|") {
+            Ok(true)
+        } else if self.accept(";") {
+            Ok(false)
+        } else {
+            Err(self.end_fault(has_action))
+        }
+    }
+
+    /// Notes the production that ends here, and tells whether another one follows.
+    #[tactic(auto, unfolding(crate::specs::Rules::finish, cfgast::specs::Building::adds))]
+    fn finish(&mut self, head: RuleHead<'a>, body: Body<'_, 'a>) -> Result<bool, ReadFault>
+        ensures { Builds goes_on self.old self.new result
+            (finish self.old.len (is_some (body_view body.entry).action)
+            (Alternative (head_view head.entry) (body_view body.entry))) }
+    {
+        let follows = self.another(body.action.is_some())?;
+        self.tree.add_production(self.alloc, head, body)?;
+        self.blank(true)?;
+        Ok(follows)
+    }
+
+    /// Passes the action that stands here, if one does, and answers its trimmed text.
+    fn next_action(&mut self) -> Option<(&'a str, Span)>
+        ensures { IsActionHere self.old self.new result }
+    {
+        match leading_action(self.rest) {
+            Some((action, rest)) => {
+                let start = self.place() + 1;
+                self.rest = rest;
+                Some((action, Span::new(start, start + action.len())))
+            }
+            None => None,
+        }
+    }
+
+    /// Passes the end of the production that begins at `start` and has these parts: its action, if it has one, and what
+    /// ends it. It tells whether another production follows.
+    #[tactic(auto, unfolding(crate::specs::Rules::production_end, cfgast::specs::Building::adds))]
+    fn production_end(
+        &mut self,
+        head: RuleHead<'a>,
+        start: usize,
+        parts: &Parts<'a>,
+    ) -> Result<bool, ReadFault>
+        requires here { start ≤ place self.old.len self.old.rest.now }
+        requires ends { IfSome parts.now.end (λ end. start ≤ end) }
+        ensures { Builds goes_on self.old self.new result
+            (production_end self.old.len (head_view head.entry) start (parts_view parts.now)) }
+    {
+        let behind = self.place();
+        let action = self.next_action();
+        let end = match action {
+            Some(_) => behind,
+            None => parts.end.unwrap_or(behind),
+        };
+        if action.is_some() {
+            self.blank(true)?;
+        }
+        let body = Body {
+            symbols: &parts.symbols,
+            precedence: parts.precedence,
+            action,
+            span: Span::new(start, end),
+        };
+        self.finish(head, body)
+    }
+
+    /// Passes a production of the rule and what ends it, and tells whether another one follows.
+    #[tactic(auto, unfolding(crate::specs::Rules::production, cfgast::specs::Building::adds))]
+    fn production(&mut self, head: RuleHead<'a>) -> Result<bool, ReadFault>
+        ensures { Builds goes_on self.old self.new result (production self.old.len (head_view head.entry)) }
+    {
+        let start = self.place();
+        let front = self.front_parts()?;
+        let parts = self.more_parts(front)?;
+        self.production_end(head, start, &parts)
+    }
+
+    /// Passes the productions of a rule.
+    fn productions(&mut self, head: RuleHead<'a>) -> Result<(), ReadFault>
+        ensures { Builds (λ x. x) self.old self.new result (repeat (production self.old.len (head_view head.entry))) }
+    {
+        while self.production(head)? {}
+        Ok(())
+    }
+
+    /// Passes what stands between a rule's name and its colon in a Grmtools file, and answers the type.
+    #[tactic(auto, unfolding(crate::specs::Rules::rule_type, cfgast::specs::Building::adds))]
+    fn rule_type(&mut self) -> Result<&'a str, ReadFault>
+        ensures { Builds (λ x. Some x.now) self.old self.new result (rule_type self.old.len) }
+    {
+        self.blank(true)?;
+        self.expect("->", FaultKind::MissingRightArrow)?;
+        self.blank(true)?;
+        self.colon_text()
+    }
+
+    /// Passes what stands behind a rule's name, or behind its type.
+    #[tactic(auto, unfolding(crate::specs::Rules::rule_body, cfgast::specs::Building::adds))]
+    fn rule_body(&mut self, head: RuleHead<'a>) -> Result<(), ReadFault>
+        ensures { Builds (λ x. x) self.old self.new result (rule_body self.old.len (head_view head.entry)) }
+    {
+        self.blank(true)?;
+        self.expect(":", FaultKind::MissingColon)?;
+        self.blank(true)?;
+        self.productions(head)
+    }
+
+    /// Passes a rule and the blank behind it.
+    #[tactic(auto, unfolding(crate::specs::Rules::rule, cfgast::specs::Building::adds))]
+    fn rule(&mut self, kind: YaccKind) -> Result<(), ReadFault>
+        ensures { Builds (λ x. x) self.old self.new result (rule self.old.len kind) }
+    {
+        let name = self.name()?;
+        self.tree.begin_rule(self.alloc, name)?;
+        let action_type = match kind {
+            YaccKind::Grmtools => Some(self.rule_type()?),
+            _ => None,
+        };
+        let head = RuleHead { name, action_type };
+        self.tree.name_rule(self.alloc, head)?;
+        self.rule_body(head)
+    }
+
+    /// Whether a rule must stand here: neither the text's end nor a second `%%` does.
+    fn is_rule_next(&self) -> bool
+        ensures { result ≡ is_rule_next self.now.rest.now }
+    {
+        !self.rest.is_empty() && !self.stands("%%")
+    }
+
+    /// Passes rules up to a second `%%` or the end.
+    fn rules(&mut self, kind: YaccKind) -> Result<(), ReadFault>
+        ensures { Builds (λ x. x) self.old self.new result
+            (repeat (while_test is_rule_next (rule self.old.len kind))) }
+    {
+        while self.is_rule_next() {
+            self.rule(kind)?;
+        }
+        Ok(())
+    }
+
+    /// Passes the second `%%`, if it stands here, and notes the programs behind it.
+    #[tactic(auto, unfolding(crate::specs::Grammar::programs, cfgast::specs::Building::adds))]
+    fn programs(&mut self) -> Result<(), ReadFault>
+        ensures { Builds (λ x. x) self.old self.new result (programs self.old.len) }
+    {
+        if self.accept("%%") {
+            self.blank(true)?;
+            self.tree.give_programs(self.alloc, self.rest)?;
+        }
+        Ok(())
+    }
+
+    /// Passes a whole file.
+    #[tactic(auto, unfolding(crate::specs::Grammar::file, cfgast::specs::Building::adds))]
+    pub(super) fn file(&mut self, kind: YaccKind) -> Result<(), ReadFault>
+        ensures { Builds (λ x. x) self.old self.new result (file kind self.old.len) }
+    {
+        self.blank(true)?;
+        self.declarations(kind)?;
+        self.separator()?;
+        self.blank(true)?;
+        self.rules(kind)?;
+        self.programs()
+    }
+}
