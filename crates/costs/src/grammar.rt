@@ -5,32 +5,16 @@ ghost use Rattle.cfgrammar.specs.Numbered.{core};
 
 use crate::{asked, certificate, rules};
 use cfgrammar::TIdx;
-use cfgrammar::yacc::parser::YaccFault;
 use cfgrammar::yacc::sentences::SentenceGenerator;
-use cfgrammar::yacc::{YaccGrammar, YaccKind, YaccOriginalActionKind};
+use cfgrammar::yacc::{YaccFault, YaccGrammar, YaccKind, YaccOriginalActionKind};
 use rows::row::Row;
 use rows::{pen, text};
 use std::alloc::{AllocError, Global};
-
-/// The kind that a row names; that of the rows that name none is `Original(GenericParseTree)`.
-fn kind_of(row: &Row<'_>) -> YaccKind {
-    match row.first("kind") {
-        Some("grmtools") => YaccKind::Grmtools,
-        Some("eco") => YaccKind::Eco,
-        Some("original-noaction") => YaccKind::Original(YaccOriginalActionKind::NoAction),
-        Some("original-useraction") => YaccKind::Original(YaccOriginalActionKind::UserAction),
-        _ => YaccKind::Original(YaccOriginalActionKind::GenericParseTree),
-    }
-}
+use trees::read::kind_of;
 
 /// Writes a row's text, where the row isn't brief, and what is answered of its costs.
-pub(crate) fn tell(
-    out: &mut String,
-    alloc: Global,
-    row: &Row<'_>,
-    text: &str,
-) -> Result<(), AllocError> {
-    let kind = kind_of(row);
+pub fn tell(out: &mut String, alloc: Global, row: &Row<'_>, text: &str) -> Result<(), AllocError> {
+    let kind = kind_of(row).unwrap_or(YaccKind::Original(YaccOriginalActionKind::GenericParseTree));
     writeln!(out, "text of {} bytes, {kind:?}", text.len())?;
     if row.first("show") != Some("brief") {
         text::write_text(out, text)?;

@@ -1,5 +1,6 @@
 //! Pieces of what is written.
 
+use cfgbase::Span;
 use std::alloc::AllocError;
 
 /// Writes a text and a number.
@@ -13,8 +14,7 @@ pub fn numbers(
     (before, first): (&str, usize),
     (between, second): (&str, usize),
 ) -> Result<(), AllocError> {
-    number(out, before, first)?;
-    number(out, between, second)
+    write!(out, "{before}{first}{between}{second}")
 }
 
 /// Writes a text and a name in double quotes.
@@ -24,6 +24,10 @@ pub fn name(out: &mut String, before: &str, name: &str) -> Result<(), AllocError
 
 /// Writes a text and whether something is so.
 pub fn flag(out: &mut String, before: &str, flag: bool) -> Result<(), AllocError> {
-    out.push_str(before)?;
-    out.push_str(if flag { "true" } else { "false" })
+    write!(out, "{before}{flag}")
+}
+
+/// Writes a space and the bytes of a span.
+pub fn span(out: &mut String, span: Span) -> Result<(), AllocError> {
+    write!(out, " ({},{})", span.start(), span.end())
 }

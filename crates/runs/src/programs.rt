@@ -13,7 +13,7 @@ use std::rt::Files;
 
 /// Runs the program over a runtime that has the row's words, its text as standard input, and the files of the folder,
 /// and writes the status, what was written to the two outputs, and what was read.
-pub(crate) fn tell<R: Files + AllocGlobal>(
+pub fn tell<R: Files + AllocGlobal>(
     out: &mut String,
     rt: &R,
     row: &Row<'_>,

@@ -21,12 +21,7 @@ impl Source for OneFile {
 
 /// Runs the program on the row's words, where its file holds the text or what the row says in place of it, and writes
 /// the status, what was written to the two outputs, and how many faults these had.
-pub(crate) fn tell(
-    out: &mut String,
-    alloc: Global,
-    row: &Row<'_>,
-    text: &str,
-) -> Result<(), AllocError> {
+pub fn tell(out: &mut String, alloc: Global, row: &Row<'_>, text: &str) -> Result<(), AllocError> {
     let words = row.first("words").unwrap_or("");
     let mut output = Narrow::of_row(alloc, row, "out");
     let mut errors = Narrow::of_row(alloc, row, "err");

@@ -12,12 +12,7 @@ use std::alloc::{AllocError, Global};
 
 /// Writes what a cache of the text's newlines answers, of the text fed whole; and the ways to feed it in pieces by
 /// which it answers something else.
-pub(crate) fn tell(
-    out: &mut String,
-    alloc: Global,
-    row: &Row<'_>,
-    text: &str,
-) -> Result<(), AllocError> {
+pub fn tell(out: &mut String, alloc: Global, row: &Row<'_>, text: &str) -> Result<(), AllocError> {
     writeln!(out, "text of {} bytes", text.len())?;
     write_text(out, text)?;
     let whole = match NewlineCache::from_str(alloc, text) {

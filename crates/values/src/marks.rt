@@ -43,7 +43,7 @@ impl Key for String {
 
 /// Runs the row's script, over keys of the type that the row names, and writes each call, its answer, and the map after
 /// it.
-pub(crate) fn tell(out: &mut String, alloc: Global, row: &Row<'_>) -> Result<(), AllocError> {
+pub fn tell(out: &mut String, alloc: Global, row: &Row<'_>) -> Result<(), AllocError> {
     match row.first("keys") {
         Some("numbers") => play::<u32>(out, alloc, row),
         _ => play::<String>(out, alloc, row),

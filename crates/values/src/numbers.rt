@@ -7,12 +7,7 @@ use rows::row::{Row, number, numbers};
 use std::alloc::{AllocError, Global};
 
 /// Writes what is answered of each value of the row. The row's text, or else `a script`, is the place that no span is.
-pub(crate) fn tell(
-    out: &mut String,
-    alloc: Global,
-    row: &Row<'_>,
-    text: &str,
-) -> Result<(), AllocError> {
+pub fn tell(out: &mut String, alloc: Global, row: &Row<'_>, text: &str) -> Result<(), AllocError> {
     let script = if text.is_empty() { "a script" } else { text };
     for (word, rest) in &row.lines {
         match *word {

@@ -3,13 +3,12 @@
 
 ghost use Rattle.std.specs.Prelude.{◌<◌, length};
 
-use crate::errors::write_span;
 use crate::grammar::grammar_of;
-use crate::pen;
-use crate::said::write_precedence;
 use cfgrammar::yacc::{Precedence, YaccGrammar, YaccKind};
 use cfgrammar::{PIdx, RIdx, TIdx};
+use rows::pen;
 use std::alloc::{AllocError, Global};
+use trees::said::write_precedence;
 
 /// Writes a line for each rule, production and token of a text's grammar, and one for the whole, where it has one.
 pub(crate) fn write_accessors(
@@ -72,7 +71,7 @@ fn write_production(
     write_text(out, ": action ", grammar.action(pidx))?;
     out.push_str(", action_span")?;
     match grammar.action_span(pidx) {
-        Some(span) => write_span(out, span)?,
+        Some(span) => pen::span(out, span)?,
         None => out.push_str(" none")?,
     }
     write_level(out, ", prod_precedence ", grammar.prod_precedence(pidx))?;

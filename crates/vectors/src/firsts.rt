@@ -2,10 +2,10 @@
 
 ghost use Rattle.std.specs.Prelude.{◌≡◌, ◌<◌, length};
 
-use crate::pen;
 use cfgrammar::yacc::YaccGrammar;
 use cfgrammar::yacc::firsts::YaccFirsts;
 use cfgrammar::{RIdx, Storage, TIdx};
+use rows::pen;
 use std::alloc::{AllocError, Global};
 
 /// Writes the FIRST sets of a grammar.

@@ -2,10 +2,10 @@
 
 ghost use Rattle.std.specs.Prelude.{◌<◌, length};
 
-use crate::pen;
 use cfgrammar::yacc::YaccGrammar;
 use cfgrammar::yacc::follows::YaccFollows;
 use cfgrammar::{RIdx, Storage};
+use rows::pen;
 use std::alloc::{AllocError, Global};
 
 /// Writes each rule's FOLLOW set: the tokens by their indices, and where the two accessors differ.

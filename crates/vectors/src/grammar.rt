@@ -1,47 +1,16 @@
 //! Rows on the texts of grammars.
 
-use crate::row::{Row, numbers};
-use crate::{
-    accessors, cuts, errors, firsts, openings, paths, starts, syntax, tables, text, warnings,
-};
+use crate::{accessors, firsts, openings, paths, starts, tables};
 use cfgrammar::yacc::ast::ASTWithValidityInfo;
-use cfgrammar::yacc::parser::{YaccFault, YaccGrammarError, YaccGrammarResult};
-use cfgrammar::yacc::{YaccGrammar, YaccKind, YaccOriginalActionKind};
+use cfgrammar::yacc::{YaccFault, YaccGrammar, YaccGrammarError, YaccKind};
+use rows::row::{Row, numbers};
+use rows::text;
 use std::alloc::{AllocError, Global};
-
-/// The kind that a row names; that of the rows that name none is `Original(GenericParseTree)`. Where the row says
-/// `section`, the text names its kind.
-fn kind_of(row: &Row<'_>) -> Option<YaccKind> {
-    let kind = match row.first("kind") {
-        Some("section") => return None,
-        Some("grmtools") => YaccKind::Grmtools,
-        Some("eco") => YaccKind::Eco,
-        Some("original-noaction") => YaccKind::Original(YaccOriginalActionKind::NoAction),
-        Some("original-useraction") => YaccKind::Original(YaccOriginalActionKind::UserAction),
-        _ => YaccKind::Original(YaccOriginalActionKind::GenericParseTree),
-    };
-    Some(kind)
-}
-
-/// Reads a text as a kind, or as the one that it names.
-pub(crate) fn parse(
-    alloc: Global,
-    kind: Option<YaccKind>,
-    text: &str,
-) -> YaccGrammarResult<ASTWithValidityInfo> {
-    match kind {
-        Some(kind) => Ok(ASTWithValidityInfo::new(alloc, kind, text)?),
-        None => ASTWithValidityInfo::from_str(alloc, text),
-    }
-}
+use trees::read::{kind_of, parse};
+use trees::{cuts, errors, syntax, warnings};
 
 /// Writes all that is answered of a row's text, or as much as the row asks for.
-pub(crate) fn tell(
-    out: &mut String,
-    alloc: Global,
-    row: &Row<'_>,
-    text: &str,
-) -> Result<(), AllocError> {
+pub fn tell(out: &mut String, alloc: Global, row: &Row<'_>, text: &str) -> Result<(), AllocError> {
     match parse(alloc, kind_of(row), text) {
         Ok(parsed) => tell_parsed(out, alloc, row, text, &parsed),
         Err(YaccFault::Errors(errors)) => tell_refused(out, alloc, row, text, &errors),

@@ -1,10 +1,11 @@
 //! Another start of a syntax.
 
-use crate::row::{Row, number, words};
-use crate::{errors, syntax, tables, warnings};
+use crate::tables;
 use cfgrammar::Span;
 use cfgrammar::yacc::ast::{ASTWithValidityInfo, Rule, StartFault};
+use rows::row::{Row, number, words};
 use std::alloc::{AllocError, Global};
+use trees::{errors, syntax, warnings};
 
 /// Writes what is answered of each other start that the row asks for.
 pub(crate) fn write_starts(

@@ -2,17 +2,17 @@
 
 ghost use Rattle.std.specs.Prelude.{◌<◌, length};
 
-use crate::errors::{write_error_lines, write_span};
 use crate::firsts::{self, write_firsts};
 use crate::follows::{self, write_follows};
-use crate::pen;
-use crate::said::{write_precedence, write_settings};
-use crate::text::push_pictures;
 use cfgrammar::yacc::YaccGrammar;
 use cfgrammar::yacc::ast::ASTWithValidityInfo;
 use cfgrammar::yacc::parser::{YaccFault, YaccGrammarResult};
 use cfgrammar::{PIdx, RIdx, Storage, Symbol, TIdx};
+use rows::pen;
+use rows::text::push_pictures;
 use std::alloc::{AllocError, Global};
+use trees::errors::write_error_lines;
+use trees::said::{write_precedence, write_settings};
 
 /// Writes the tables of a text at every index type, once where they are the same.
 pub(crate) fn write_tables(
@@ -191,7 +191,7 @@ fn write_rule<S: Storage>(
     let name = grammar.rule_name_str(ridx);
     pen::number(out, "    rule ", usize::from(ridx))?;
     pen::name(out, " ", name)?;
-    write_span(out, grammar.rule_name_span(ridx))?;
+    pen::span(out, grammar.rule_name_span(ridx))?;
     write_indices(out, grammar.rule_to_prods(ridx))?;
     if let Some(action_type) = grammar.actiontype(ridx) {
         pen::name(out, ", type ", action_type.as_str())?;
@@ -235,7 +235,7 @@ fn write_place<S: Storage>(
     requires { S.number pidx.0 < length grammar.now.productions }
 {
     pen::number(out, "    production ", usize::from(pidx))?;
-    write_span(out, grammar.prod_span(pidx))?;
+    pen::span(out, grammar.prod_span(pidx))?;
     let rule = usize::from(grammar.prod_to_rule(pidx));
     let len = usize::from(grammar.prod_len(pidx));
     pen::numbers(out, (" of rule ", rule), (", ", len))?;
@@ -257,7 +257,7 @@ fn write_action<S: Storage>(
         pen::name(out, ", action ", action.as_str())?;
     }
     if let Some(span) = grammar.action_span(pidx) {
-        write_span(out, span)?;
+        pen::span(out, span)?;
     }
     out.push('\n')
 }
@@ -293,7 +293,7 @@ fn write_token<S: Storage>(
         pen::name(out, " ", name)?;
     }
     if let Some(span) = grammar.token_span(tidx) {
-        write_span(out, span)?;
+        pen::span(out, span)?;
     }
     write_said(out, grammar, tidx)?;
     out.push('\n')

@@ -1,0 +1,7 @@
+//! Worked rows on sections by themselves: what a text has at its front, and the kinds that values name.
+#![tactic(auto)]
+
+mod held;
+mod section;
+
+pub use section::tell;

@@ -1,0 +1,42 @@
+//! The program of worked rows: it reads rows from the files that its words name, and writes for each row its name and
+//! all that the public calls answer of it. A person reads what it writes beside docs/BEHAVIOUR.md; the merge gate
+//! compares it with what is stored.
+#![tactic(auto)]
+
+use rows::files::{Answers, write_files};
+use rows::row::Row;
+use std::alloc::AllocError;
+use std::io;
+use trees::{kinds, written};
+use values::{lines, marks, numbers};
+
+/// What is answered of rows of all kinds.
+struct All;
+
+impl Answers for All {
+    fn write(
+        &self,
+        out: &mut String,
+        rt: &HostRuntime,
+        row: &Row<'_>,
+        text: &str,
+    ) -> Result<(), AllocError> {
+        match row.tries {
+            "row" => vectors::tell(out, rt.alloc(), row, text),
+            "section" => sections::tell(out, rt.alloc(), row, text),
+            "generator" => costs::tell(out, rt.alloc(), row, text),
+            "lines" => lines::tell(out, rt.alloc(), row, text),
+            "marks" => marks::tell(out, rt.alloc(), row),
+            "values" => numbers::tell(out, rt.alloc(), row, text),
+            "errors" => kinds::tell(out, rt.alloc(), row, text),
+            "tree" => written::tell(out, rt.alloc(), row, text),
+            "run" => runs::runs::tell(out, rt.alloc(), row, text),
+            "program" => runs::programs::tell(out, rt, row, text),
+            _ => writeln!(out, "no such row: {}", row.tries),
+        }
+    }
+}
+
+fn main(rt: HostRuntime) -> io::Result<()> {
+    write_files(&rt, &All)
+}

@@ -1,0 +1,12 @@
+//! Worked rows on trees: what is read of a text, each of its beginnings, its errors and warnings, and calls that write
+//! a tree.
+#![tactic(auto)]
+
+pub mod cuts;
+pub mod errors;
+pub mod kinds;
+pub mod read;
+pub mod said;
+pub mod syntax;
+pub mod warnings;
+pub mod written;

@@ -1,0 +1,32 @@
+//! Texts, read as the kind that a row names.
+
+use cfgsyntax::yacc::ast::ASTWithValidityInfo;
+use cfgsyntax::yacc::{YaccGrammarResult, YaccKind, YaccOriginalActionKind};
+use rows::row::Row;
+use std::alloc::Global;
+
+/// The kind that a row names; that of the rows that name none is `Original(GenericParseTree)`. Where the row says
+/// `section`, the text names its kind.
+pub fn kind_of(row: &Row<'_>) -> Option<YaccKind> {
+    let kind = match row.first("kind") {
+        Some("section") => return None,
+        Some("grmtools") => YaccKind::Grmtools,
+        Some("eco") => YaccKind::Eco,
+        Some("original-noaction") => YaccKind::Original(YaccOriginalActionKind::NoAction),
+        Some("original-useraction") => YaccKind::Original(YaccOriginalActionKind::UserAction),
+        _ => YaccKind::Original(YaccOriginalActionKind::GenericParseTree),
+    };
+    Some(kind)
+}
+
+/// Reads a text as a kind, or as the one that it names.
+pub fn parse(
+    alloc: Global,
+    kind: Option<YaccKind>,
+    text: &str,
+) -> YaccGrammarResult<ASTWithValidityInfo> {
+    match kind {
+        Some(kind) => Ok(ASTWithValidityInfo::new(alloc, kind, text)?),
+        None => ASTWithValidityInfo::from_str(alloc, text),
+    }
+}

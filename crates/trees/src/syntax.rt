@@ -1,0 +1,272 @@
+//! The syntax of a text, by what its readers answer.
+
+use crate::said::{write_precedence, write_settings};
+use cfgast::Precedence;
+use cfgbase::Span;
+use cfgsyntax::yacc::ast::{ASTWithValidityInfo, GrammarAST, Production, Rule, Symbol};
+use indexmap::IndexMap;
+use rows::pen;
+use std::alloc::{AllocError, Global};
+
+/// Writes all that a syntax holds: its start, what the declarations say, and a line for each rule, production and
+/// token. A copy holds the same.
+pub fn write_syntax(
+    out: &mut String,
+    alloc: Global,
+    parsed: &ASTWithValidityInfo,
+) -> Result<(), AllocError> {
+    let shown = syntax_text(alloc, parsed.ast())?;
+    let of_copy = copy_text(alloc, parsed.ast())?;
+    out.push_str("syntax\n")?;
+    out.push_str(shown.as_str())?;
+    if of_copy != shown {
+        out.push_str("    and a copy that isn't the same\n")?;
+    }
+    Ok(())
+}
+
+fn copy_text(alloc: Global, ast: &GrammarAST) -> Result<String, AllocError> {
+    let copy = ast.clone()?;
+    syntax_text(alloc, &copy)
+}
+
+/// Writes how much there is in a syntax.
+pub fn write_lengths(out: &mut String, ast: &GrammarAST) -> Result<(), AllocError> {
+    writeln!(
+        out,
+        "syntax of {} rules, {} productions, {} tokens, {} of them declared",
+        ast.rules().len(),
+        ast.prods().len(),
+        ast.tokens().len(),
+        ast.token_directives().len()
+    )
+}
+
+fn syntax_text(alloc: Global, ast: &GrammarAST) -> Result<String, AllocError> {
+    let mut out = String::new(alloc);
+    if let Some((name, span)) = ast.start() {
+        write_named(&mut out, "    start ", name.as_str(), *span)?;
+        out.push('\n')?;
+    }
+    write_expected(&mut out, "    expect ", ast.expect())?;
+    write_expected(&mut out, "    expect-rr ", ast.expectrr())?;
+    write_settings(
+        &mut out,
+        ast.parse_param(),
+        ast.parse_generics(),
+        ast.programs(),
+    )?;
+    write_said_of_tokens(&mut out, ast)?;
+    write_rules(&mut out, ast)?;
+    write_productions(&mut out, ast)?;
+    write_tokens(&mut out, ast)?;
+    Ok(out)
+}
+
+/// Writes a name and its place.
+fn write_named(out: &mut String, before: &str, name: &str, span: Span) -> Result<(), AllocError> {
+    pen::name(out, before, name)?;
+    pen::span(out, span)
+}
+
+/// Writes how many conflicts are expected, and where the text says so.
+fn write_expected(
+    out: &mut String,
+    word: &str,
+    expected: &Option<(usize, Span)>,
+) -> Result<(), AllocError> {
+    if let Some((number, span)) = expected {
+        pen::number(out, word, *number)?;
+        pen::span(out, *span)?;
+        out.push('\n')?;
+    }
+    Ok(())
+}
+
+/// Writes what the declarations say of single tokens.
+fn write_said_of_tokens(out: &mut String, ast: &GrammarAST) -> Result<(), AllocError> {
+    write_unused(out, ast)?;
+    write_precedences(out, ast)?;
+    write_printed_forms(out, ast)?;
+    write_table(out, "    avoid_insert:", ast.avoid_insert())?;
+    write_table(out, "    implicit_tokens:", ast.implicit_tokens())
+}
+
+/// Writes a line for each symbol that is expected to be unused.
+fn write_unused(out: &mut String, ast: &GrammarAST) -> Result<(), AllocError> {
+    for symbol in ast.expect_unused() {
+        write_unused_symbol(out, symbol)?;
+    }
+    Ok(())
+}
+
+fn write_unused_symbol(out: &mut String, symbol: &Symbol) -> Result<(), AllocError> {
+    out.push_str("    expect-unused")?;
+    write_symbol(out, symbol)?;
+    out.push('\n')
+}
+
+/// Writes a line for each token that has a precedence: its name, the place where it gets it, and the precedence.
+fn write_precedences(out: &mut String, ast: &GrammarAST) -> Result<(), AllocError> {
+    for (name, (precedence, span)) in ast.precs() {
+        write_ranked(out, name.as_str(), *precedence, *span)?;
+    }
+    Ok(())
+}
+
+fn write_ranked(
+    out: &mut String,
+    name: &str,
+    precedence: Precedence,
+    span: Span,
+) -> Result<(), AllocError> {
+    write_named(out, "    precedence ", name, span)?;
+    write_precedence(out, ": ", precedence)?;
+    out.push('\n')
+}
+
+/// Writes a line for each token that has a printed form: its name and its place, and that form and its place.
+fn write_printed_forms(out: &mut String, ast: &GrammarAST) -> Result<(), AllocError> {
+    for (name, (key, printed)) in ast.epp() {
+        write_printed_form(out, name.as_str(), *key, printed)?;
+    }
+    Ok(())
+}
+
+fn write_printed_form(
+    out: &mut String,
+    name: &str,
+    key: Span,
+    printed: &(String, Span),
+) -> Result<(), AllocError> {
+    let (printed, span) = printed;
+    write_named(out, "    epp ", name, key)?;
+    write_named(out, ": ", printed.as_str(), *span)?;
+    out.push('\n')
+}
+
+/// Writes a list of tokens as a line, where there is such a list.
+fn write_table(
+    out: &mut String,
+    word: &str,
+    table: &Option<IndexMap<String, Span>>,
+) -> Result<(), AllocError> {
+    let Some(table) = table else {
+        return Ok(());
+    };
+    out.push_str(word)?;
+    write_entries(out, table)?;
+    out.push('\n')
+}
+
+fn write_entries(out: &mut String, table: &IndexMap<String, Span>) -> Result<(), AllocError> {
+    for (name, span) in table {
+        write_named(out, " ", name.as_str(), *span)?;
+    }
+    Ok(())
+}
+
+/// Writes a line for each rule.
+fn write_rules(out: &mut String, ast: &GrammarAST) -> Result<(), AllocError> {
+    for rule in ast.rules().values() {
+        write_rule(out, ast, rule)?;
+    }
+    Ok(())
+}
+
+/// Writes a line for each production.
+fn write_productions(out: &mut String, ast: &GrammarAST) -> Result<(), AllocError> {
+    for (index, production) in ast.prods().iter().enumerate() {
+        pen::number(out, "    production ", index)?;
+        write_production(out, production)?;
+    }
+    Ok(())
+}
+
+/// Writes a rule: its name, the name's place, and its productions. It is found by its name.
+fn write_rule(out: &mut String, ast: &GrammarAST, rule: &Rule) -> Result<(), AllocError> {
+    let (name, span) = &rule.name;
+    write_named(out, "    rule ", name.as_str(), *span)?;
+    out.push(':')?;
+    write_indices(out, &rule.pidxs)?;
+    write_text(out, ", type ", &rule.actiont)?;
+    if ast.get_rule(name.as_str()) != Some(rule) {
+        out.push_str(", not by its name")?;
+    }
+    out.push('\n')
+}
+
+fn write_indices(out: &mut String, indices: &[usize]) -> Result<(), AllocError> {
+    for index in indices {
+        pen::number(out, " ", *index)?;
+    }
+    Ok(())
+}
+
+/// Writes a text, where it is there.
+fn write_text(out: &mut String, word: &str, text: &Option<String>) -> Result<(), AllocError> {
+    match text {
+        Some(text) => pen::name(out, word, text.as_str()),
+        None => Ok(()),
+    }
+}
+
+/// Writes a production: its place, its symbols with their places, and its precedence and action, where it has some.
+fn write_production(out: &mut String, production: &Production) -> Result<(), AllocError> {
+    pen::span(out, production.prod_span)?;
+    out.push(':')?;
+    write_symbols(out, &production.symbols)?;
+    write_text(out, ", precedence of ", &production.precedence)?;
+    write_action(out, &production.action)?;
+    out.push('\n')
+}
+
+fn write_symbols(out: &mut String, symbols: &[Symbol]) -> Result<(), AllocError> {
+    for symbol in symbols {
+        write_symbol(out, symbol)?;
+    }
+    Ok(())
+}
+
+fn write_action(out: &mut String, action: &Option<(String, Span)>) -> Result<(), AllocError> {
+    match action {
+        Some((action, span)) => write_named(out, ", action ", action.as_str(), *span),
+        None => Ok(()),
+    }
+}
+
+/// Writes a symbol: its kind, its name and the name's place. The name is also what the symbol prints.
+fn write_symbol(out: &mut String, symbol: &Symbol) -> Result<(), AllocError> {
+    let (kind, name, span) = match symbol {
+        Symbol::Rule(name, span) => (" rule", name, *span),
+        Symbol::Token(name, span) => (" token", name, *span),
+    };
+    out.push_str(kind)?;
+    write_named(out, " ", name.as_str(), span)
+}
+
+/// Writes each token: its name, the name's place, and whether a `%token` declares it.
+fn write_tokens(out: &mut String, ast: &GrammarAST) -> Result<(), AllocError> {
+    for (index, (name, span)) in ast.tokens().iter().zip(ast.spans()).enumerate() {
+        write_token(out, ast, index, name.as_str(), *span)?;
+    }
+    Ok(())
+}
+
+fn write_token(
+    out: &mut String,
+    ast: &GrammarAST,
+    index: usize,
+    name: &str,
+    span: Span,
+) -> Result<(), AllocError> {
+    pen::number(out, "    token ", index)?;
+    write_named(out, " ", name, span)?;
+    if ast.token_directives().contains(&index) {
+        out.push_str(" declared")?;
+    }
+    if !ast.has_token(name) {
+        out.push_str(", not by its name")?;
+    }
+    out.push('\n')
+}

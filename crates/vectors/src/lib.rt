@@ -1,0 +1,13 @@
+//! Worked rows on the texts of grammars: all that the public calls answer of a text.
+#![tactic(auto)]
+
+mod accessors;
+mod firsts;
+mod follows;
+mod grammar;
+mod openings;
+mod paths;
+mod starts;
+mod tables;
+
+pub use grammar::tell;
