@@ -3,7 +3,6 @@
 
 pub mod errors;
 pub mod firsts;
-pub mod lines;
 pub mod marks;
 pub mod productions;
 pub mod sections;
