@@ -5,7 +5,7 @@ use Rattle.std.proofs.lemmas.List.{take_all, take_more}
 use Rattle.std.proofs.lemmas.Option.{slice_get_within, get_or_from_slice_get}
 use Rattle.lemmas.proofs.Elements.{element_at}
 use Rattle.std.specs.List.{zip}
-use Rattle.cfgerrors.specs.Warnings.{GrammarWarning}
+use Rattle.cfgwarnings.specs.Warnings.{GrammarWarning}
 use Rattle.cfgast.specs.Unused.{Warned, none, taken, left}
 
 pub take_one : {A : Type 0} (xs : List A) (i : ℕ) (x : A) → slice_get xs i ≡ Some x → take (i + 1) xs ≡ take i xs ++ x ∷ []

@@ -4,8 +4,8 @@ use Rattle.std.specs.List.{zip}
 use Rattle.std.specs.Map.{lookup}
 use Rattle.cfgbase.specs.declared.span.Span.{Span}
 use Rattle.cfgwords.specs.Words.{Word}
-use Rattle.cfgerrors.specs.Warnings.{GrammarWarning, warning_at}
-use Rattle.cfgerrors.specs.declared.warning.YaccGrammarWarningKind.TheVariants.{UnusedRule, UnusedToken}
+use Rattle.cfgwarnings.specs.Warnings.{GrammarWarning, warning_at}
+use Rattle.cfgwarnings.specs.declared.warning.YaccGrammarWarningKind.TheVariants.{UnusedRule, UnusedToken}
 use Rattle.cfgast.specs.Syntax.{Symbol, RuleSymbol, TokenSymbol, Production, Rule, Syntax, entry_name}
 
 -- the name of a rule, or of a token

@@ -1,7 +1,7 @@
 //! Rules and tokens that nothing reaches.
 
 ghost use Rattle.std.specs.Prelude.{◌≡◌, ◌++◌, [], List, map, Contains, IfOk, OnOk};
-ghost use Rattle.cfgerrors.specs.Warnings.{GrammarWarning};
+ghost use Rattle.cfgwarnings.specs.Warnings.{GrammarWarning};
 ghost use Rattle.cfgast.specs.Unused.{RuleName, TokenName, name_of, entry_token, Reached, Expected, AreRuleWarnings};
 ghost use Rattle.cfgast.specs.Unused.{AreTokenWarnings, AreWarnings};
 ghost use Rattle.cfgast.specs.Marks.{AreMarksOf, IsOfStart, Marked, MarksMore, HeldAt, IsKnown};
@@ -10,7 +10,7 @@ ghost use Rattle.cfgast.specs.View.{syntax, symbol_view, span_entry};
 use crate::ast::GrammarAST;
 use crate::symbol::Symbol;
 use cfgbase::Span;
-use cfgerrors::{YaccGrammarWarning, YaccGrammarWarningKind, warning_at};
+use cfgwarnings::{YaccGrammarWarning, YaccGrammarWarningKind, warning_at};
 use indexmap::IndexMap;
 use std::alloc::{AllocError, Global};
 

@@ -1,13 +1,15 @@
 -- Two errors are told apart by `==` exactly where callers see two.
 use Rattle.std.proofs.Common.{◌≡◌, ◌↔◌, ◌∙◌, refl, ap, sym, subst, IsTrue, true, ℕ, List, String, Global, string_bytes, string_eq, ◌==◌, ◌&&◌, rules}
-use Rattle.std.proofs.lemmas.Bool.{and_from, and_parts, eq-eqb, eqb-true, false≢true}
+use Rattle.std.proofs.lemmas.Bool.{and_parts, eqb-true, false≢true}
 use Rattle.std.proofs.Math.Bool.{and-true, and-false}
-use lib.Pointwise.{bytes_decides, pointwise_decides}
+use lib.Pointwise.{bytes_decides}
 use Rattle.lemmas.proofs.Variants.{shows_same}
 use Rattle.cfgbase.specs.declared.span.Span.{Span}
 use Rattle.cfgbase.specs.declared.span.SpansKind.{SpansKind}
 use Rattle.cfgbase.specs.declared.span.SpansKind.TheVariants.{DuplicationError, Error}
 use Rattle.cfgbase.specs.contracts.span.SpansKindPartialEq.TheImpl.{ghosts as spanskinds}
+use Rattle.cfgbase.specs.Spans.{same_spans}
+use Rattle.cfgbase.proofs.SpanLemmas.{same_spans_iff}
 use Rattle.cfgerrors.specs.declared.header.HeaderErrorKind.{HeaderErrorKind}
 use Rattle.cfgerrors.specs.contracts.header.HeaderErrorKindPartialEq.TheImpl.{ghosts as header_kinds}
 use Rattle.cfgerrors.specs.HeaderErrors.{error_kind_view, same_error_kind}
@@ -17,7 +19,7 @@ use Rattle.cfgerrors.specs.declared.error.YaccGrammarErrorKind.TheVariants as ru
 use Rattle.cfgerrors.specs.contracts.error.YaccGrammarErrorKindPartialEq.TheImpl.{ghosts as kinds}
 use Rattle.cfgerrors.specs.contracts.error.YaccGrammarErrorKindClone.TheImpl.{ghosts as clones}
 use Rattle.cfgerrors.specs.contracts.error.YaccGrammarErrorKind.{enum}
-use Rattle.cfgerrors.specs.Errors.{ErrorKind, InvalidStartRule, UnknownRuleRef, UnknownToken, NoPrecForToken, UnknownEPP, Header, Nameless, GrammarError, kind_view, same_error, same_error-equivalence, same_kind, same_kind-equivalence, same_span, same_spans}
+use Rattle.cfgerrors.specs.Errors.{ErrorKind, InvalidStartRule, UnknownRuleRef, UnknownToken, NoPrecForToken, UnknownEPP, Header, Nameless, GrammarError, kind_view, same_error, same_error-equivalence, same_kind, same_kind-equivalence}
 
 same_spanskind : (a b : SpansKind) → spanskinds.eq a b ≡ true → a ≡ b
 same_spanskind DuplicationError DuplicationError h = refl
@@ -80,20 +82,6 @@ kind_view_iff x y =
 -- a clone shows what its source does
 pub clone_kind_view : (x y : YaccGrammarErrorKind) → clones.is_clone x y → kind_view y ≡ kind_view x
 clone_kind_view x y h = search rules
-
-same_span-true : (a b : Span) → same_span a b ≡ true → a ≡ b
-same_span-true a b h =
-    let both = and_parts (a.start == b.start) (a.end == b.end) h in
-    let start = eqb-true a.start b.start both.0 in
-    let end = eqb-true a.end b.end both.1 in
-    λ i. record { start = start i; end = end i }
-
-same_span_iff : (a b : Span) → IsTrue (same_span a b) ↔ (a ≡ b)
-same_span_iff a b =
-    (same_span-true a b, λ e. and_from _ _ (eq-eqb _ _ (ap (λ s. s.start) e)) (eq-eqb _ _ (ap (λ s. s.end) e)))
-
-pub same_spans_iff : (a b : List Span) → IsTrue (same_spans a b) ↔ (a ≡ b)
-same_spans_iff = pointwise_decides same_span_iff
 
 module _ (x y : YaccGrammarErrorKind) (first second : List Span) where
   abbrev left : GrammarError

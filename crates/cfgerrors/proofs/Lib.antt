@@ -1,3 +1,2 @@
 pub mod ErrorLemmas
 pub mod HeaderErrorLemmas
-pub mod WarningLemmas

@@ -1,14 +1,15 @@
 -- An error as plain data: what callers see of a `YaccGrammarError`.
-use Rattle.std.specs.Prelude.{ℕ, Bool, ◌==◌, ◌&&◌, List, [], ◌∷◌, Option, Some, None, string_bytes}
+use Rattle.std.specs.Prelude.{ℕ, Bool, ◌&&◌, List, [], ◌∷◌, Option, Some, None, string_bytes}
 use Rattle.std.specs.Option.{option_eq}
 use Rattle.std.specs.Str.{bytes_eq}
 use Rattle.std.specs.Cmp.{IsEquivalence}
 use Rattle.std.specs.Cmp.Lexicographic.{options_equiv}
-use Rattle.std.proofs.lemmas.Cmp.{and_equiv, lists_equiv, nat_eq_equiv, nat_list_eq_equiv, on_equiv}
+use Rattle.std.proofs.lemmas.Cmp.{and_equiv, lists_equiv, nat_list_eq_equiv, on_equiv}
 use lib.Pointwise.{pointwise}
 use Rattle.cfgbase.specs.declared.span.Span.{Span}
 use Rattle.cfgbase.specs.declared.span.SpansKind.{SpansKind}
 use Rattle.cfgbase.specs.declared.span.SpansKind.TheVariants.{DuplicationError, Error}
+use Rattle.cfgbase.specs.Spans.{same_spans, same_spans-equivalence}
 use Rattle.cfgerrors.specs.HeaderErrors.{ShownErrorKind, ShownError, error_kind_view, told, spanskind_of as header_spanskind}
 use Rattle.cfgerrors.specs.declared.error.YaccGrammarErrorKind.{YaccGrammarErrorKind}
 use Rattle.cfgerrors.specs.declared.error.YaccGrammarErrorKind.TheVariants as rust
@@ -94,16 +95,6 @@ pub same_kind-equivalence : IsEquivalence same_kind
 same_kind-equivalence =
     and_equiv (and_equiv (on_equiv in_section (lists_equiv nat_list_eq_equiv)) (on_equiv named nat_list_eq_equiv))
     (on_equiv nameless (options_equiv laws-law))
-
-abbrev pub same_span : Span → Span → Bool
-same_span a b = (a.start == b.start) && (a.end == b.end)
-
-abbrev pub same_spans : List Span → List Span → Bool
-same_spans = pointwise same_span
-
-pub same_spans-equivalence : IsEquivalence same_spans
-same_spans-equivalence =
-    lists_equiv (and_equiv (on_equiv (λ s. s.start) nat_eq_equiv) (on_equiv (λ s. s.end) nat_eq_equiv))
 
 -- `==` of two errors
 abbrev pub same_error : GrammarError → GrammarError → Bool

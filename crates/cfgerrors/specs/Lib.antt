@@ -2,4 +2,3 @@ pub mod Errors
 pub mod HeaderErrors
 pub mod HeaderTexts
 pub mod Texts
-pub mod Warnings

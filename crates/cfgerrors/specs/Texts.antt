@@ -1,4 +1,4 @@
--- What `{}` prints of an error, of a fault and of a warning, in bytes.
+-- What `{}` prints of an error and of a fault, in bytes.
 use Rattle.std.specs.Prelude.{ℕ, List, [], ◌++◌, codes, encode_utf8}
 use Rattle.std.specs.List.{join_by}
 use Rattle.cfgerrors.specs.HeaderTexts.{kind_text}
@@ -7,8 +7,6 @@ use Rattle.cfgerrors.specs.declared.error.YaccFault.{YaccFault}
 use Rattle.cfgerrors.specs.declared.error.YaccFault.TheVariants.{Errors, OutOfMemory}
 use Rattle.cfgerrors.specs.declared.error.YaccGrammarErrorKind.{YaccGrammarErrorKind}
 use Rattle.cfgerrors.specs.declared.error.YaccGrammarErrorKind.TheVariants as kinds
-use Rattle.cfgerrors.specs.declared.warning.YaccGrammarWarningKind.{YaccGrammarWarningKind}
-use Rattle.cfgerrors.specs.declared.warning.YaccGrammarWarningKind.TheVariants.{UnusedRule, UnusedToken}
 
 -- of a kind that holds no name and stands in no section: those that do stand below
 abbrev pub nameless_text : YaccGrammarErrorKind → List ℕ
@@ -57,7 +55,3 @@ error_text (Nameless kind) = nameless_text kind
 abbrev pub fault_text : YaccFault → List ℕ
 fault_text (Errors errors) = join_by (λ error. error_text error.kind) (codes "\n") errors.items
 fault_text OutOfMemory = codes "out of memory"
-
-abbrev pub warning_text : YaccGrammarWarningKind → List ℕ
-warning_text UnusedRule = codes "Unused rule"
-warning_text UnusedToken = codes "Unused token"

@@ -1,4 +1,4 @@
-//! What `==` and `clone` of errors and of warnings compare and copy. They are derived, so each law names the impl, as
+//! What `==` and `clone` of errors compare and copy. They are derived, so each law names the impl, as
 //! in `⟦<YaccGrammarErrorKind as PartialEq>⟧`, and holds of every value.
 
 ghost use Rattle.std.specs.Prelude.{◌≡◌, ◌↔◌, IsTrue};
@@ -8,11 +8,9 @@ ghost use Rattle.cfgerrors.specs.HeaderErrors.{error_kind_view};
 ghost use Rattle.cfgerrors.specs.declared.error.YaccGrammarErrorKind.{YaccGrammarErrorKind};
 ghost use Rattle.cfgerrors.specs.declared.header.HeaderError.{HeaderError};
 ghost use Rattle.cfgerrors.specs.declared.header.HeaderErrorKind.{HeaderErrorKind};
-ghost use Rattle.cfgerrors.specs.declared.warning.YaccGrammarWarningKind.{YaccGrammarWarningKind};
 
 use crate::error::YaccGrammarErrorKind;
 use crate::header::{HeaderError, HeaderErrorKind};
-use crate::warning::YaccGrammarWarningKind;
 
 /// Kinds of errors are equal exactly where they show the same: the same kind, with the same name or character where it
 /// holds one. A clone shows what its source does.
@@ -21,15 +19,6 @@ pub fn error_kinds_are_what_they_show()
         ↔ (kind_view a ≡ kind_view b) }
     ensures clone { (a b : YaccGrammarErrorKind) → ⟦<YaccGrammarErrorKind as Clone>⟧.is_clone a b
         → kind_view b ≡ kind_view a }
-{}
-
-/// The two kinds of warnings differ, and each is equal to itself. A clone is its source.
-pub fn warning_kinds_are_told_apart()
-    ensures equal { (a b : YaccGrammarWarningKind)
-        → IsTrue (⟦<YaccGrammarWarningKind as PartialEq>⟧.eq a b) ↔ (a ≡ b) }
-    ensures clone { (a b : YaccGrammarWarningKind) → ⟦<YaccGrammarWarningKind as Clone>⟧.is_clone a b
-        → b ≡ a }
-    ensures cloned { (a : YaccGrammarWarningKind) → ⟦<YaccGrammarWarningKind as Clone>⟧.is_infallible a }
 {}
 
 /// Kinds of errors in a section are equal exactly where they show the same: the same kind, with the same character and texts where

@@ -6,9 +6,9 @@ use Rattle.lemmas.proofs.Zips.{All-zip}
 use Rattle.cfgbase.specs.declared.span.Span.{Span}
 use Rattle.cfgast.specs.Syntax.{Syntax, EachSpan}
 use Rattle.cfgast.specs.Unused.{AreWarnings, Warned, none, taken, left, rule_warning, token_warning}
-use Rattle.cfgerrors.specs.Warnings.{GrammarWarning, warning_at}
-use Rattle.cfgerrors.specs.declared.warning.YaccGrammarWarningKind.{YaccGrammarWarningKind}
-use Rattle.cfgerrors.specs.declared.warning.YaccGrammarWarningKind.TheVariants.{UnusedRule, UnusedToken}
+use Rattle.cfgwarnings.specs.Warnings.{GrammarWarning, warning_at}
+use Rattle.cfgwarnings.specs.declared.warning.YaccGrammarWarningKind.{YaccGrammarWarningKind}
+use Rattle.cfgwarnings.specs.declared.warning.YaccGrammarWarningKind.TheVariants.{UnusedRule, UnusedToken}
 use Rattle.cfgtool.specs.Report.{EachWarningSpan}
 
 module _ (P Q : Span → Type 0) where

@@ -9,8 +9,9 @@ use Rattle.cfglines.specs.Lines.{line_number, column}
 use Rattle.cfgast.specs.Syntax.{Syntax}
 use Rattle.cfgast.specs.Unused.{AreWarnings}
 use Rattle.cfgerrors.specs.Errors.{GrammarError}
-use Rattle.cfgerrors.specs.Texts.{error_text, warning_text}
-use Rattle.cfgerrors.specs.Warnings.{GrammarWarning}
+use Rattle.cfgerrors.specs.Texts.{error_text}
+use Rattle.cfgwarnings.specs.Texts.{warning_text}
+use Rattle.cfgwarnings.specs.Warnings.{GrammarWarning}
 use Rattle.cfgrammar.specs.Answer.{IsRefused}
 use Rattle.cfgrammar.specs.Fits.{Fits}
 use Rattle.cfgrammar.specs.GrammarOf.{HoldsOfItself, HoldsOfReading}

@@ -2,7 +2,7 @@ use Rattle.std.proofs.Common.{[], ◌∷◌, ◌++◌, ◌≡◌, ◌<◌, ◌�
 use Rattle.std.proofs.lemmas.List.{length-map, get_or_default}
 use Rattle.std.proofs.lemmas.Option.{slice_get_read, slice_get_past}
 use Rattle.std.specs.List.{zip}
-use Rattle.cfgerrors.specs.Warnings.{GrammarWarning}
+use Rattle.cfgwarnings.specs.Warnings.{GrammarWarning}
 use Rattle.lemmas.proofs.Elements.{element_at}
 use Rattle.cfgast.specs.Unused.{IsUnused, TokenName, token_warning}
 use Rattle.cfgast.specs.View.{syntax}

@@ -1,5 +1,5 @@
 use Rattle.std.proofs.Common.{◌∙◌, sym, ap, Bool, ◌&&◌}
-use Rattle.cfgerrors.specs.Errors.{same_spans}
+use Rattle.cfgbase.specs.Spans.{same_spans}
 use Rattle.cfgerrors.proofs.ErrorLemmas.{eq_kind_view, same_error_iff}
 use Rattle.cfgerrors.proofs.error.YaccGrammarErrorPartialEq.eq.Goals as goal
 

@@ -1,12 +1,12 @@
 -- `==` tells two warnings apart exactly where callers see two.
 use Rattle.std.proofs.Common.{◌≡◌, ◌↔◌, refl, subst, IsTrue, true}
 use Rattle.std.proofs.lemmas.Bool.{false≢true, and_parts}
-use Rattle.cfgerrors.specs.declared.warning.YaccGrammarWarningKind.{YaccGrammarWarningKind}
-use Rattle.cfgerrors.specs.declared.warning.YaccGrammarWarningKind.TheVariants.{UnusedRule, UnusedToken}
-use Rattle.cfgerrors.specs.contracts.warning.YaccGrammarWarningKindPartialEq.TheImpl.{ghosts as kinds}
-use Rattle.cfgerrors.specs.Errors.{same_spans}
-use Rattle.cfgerrors.specs.Warnings.{GrammarWarning, same_warning, same_warning-equivalence}
-use Rattle.cfgerrors.proofs.ErrorLemmas.{same_spans_iff}
+use Rattle.cfgwarnings.specs.declared.warning.YaccGrammarWarningKind.{YaccGrammarWarningKind}
+use Rattle.cfgwarnings.specs.declared.warning.YaccGrammarWarningKind.TheVariants.{UnusedRule, UnusedToken}
+use Rattle.cfgwarnings.specs.contracts.warning.YaccGrammarWarningKindPartialEq.TheImpl.{ghosts as kinds}
+use Rattle.cfgbase.specs.Spans.{same_spans}
+use Rattle.cfgbase.proofs.SpanLemmas.{same_spans_iff}
+use Rattle.cfgwarnings.specs.Warnings.{GrammarWarning, same_warning, same_warning-equivalence}
 
 same_warning_kind-true : (a b : YaccGrammarWarningKind) → kinds.eq a b ≡ true → a ≡ b
 same_warning_kind-true UnusedRule UnusedRule h = refl

@@ -1,7 +1,7 @@
 use Rattle.std.proofs.Common.{rules, ◌≡◌}
-use Rattle.cfgerrors.specs.Warnings.{same_warning}
-use Rattle.cfgerrors.proofs.WarningLemmas.{same_warning_iff}
-use Rattle.cfgerrors.proofs.warning.YaccGrammarWarningPartialEq.eq.Goals as goal
+use Rattle.cfgwarnings.specs.Warnings.{same_warning}
+use Rattle.cfgwarnings.proofs.WarningLemmas.{same_warning_iff}
+use Rattle.cfgwarnings.proofs.warning.YaccGrammarWarningPartialEq.eq.Goals as goal
 
 pub returns-then-eq : goal.returns-then-eq
 returns-then-eq c =

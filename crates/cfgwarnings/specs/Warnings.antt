@@ -3,10 +3,10 @@ use Rattle.std.specs.Prelude.{Bool, ◌&&◌, List, [], ◌∷◌}
 use Rattle.std.specs.Cmp.{IsEquivalence}
 use Rattle.std.proofs.lemmas.Cmp.{and_equiv, on_equiv}
 use Rattle.cfgbase.specs.declared.span.Span.{Span}
-use Rattle.cfgerrors.specs.Errors.{same_spans, same_spans-equivalence}
-use Rattle.cfgerrors.specs.declared.warning.YaccGrammarWarningKind.{YaccGrammarWarningKind}
-use Rattle.cfgerrors.specs.contracts.warning.YaccGrammarWarningKindPartialEq.TheImpl.{ghosts as kinds}
-use Rattle.cfgerrors.specs.contracts.warning.YaccGrammarWarningKindEq.TheImpl.Laws.{laws-law}
+use Rattle.cfgbase.specs.Spans.{same_spans, same_spans-equivalence}
+use Rattle.cfgwarnings.specs.declared.warning.YaccGrammarWarningKind.{YaccGrammarWarningKind}
+use Rattle.cfgwarnings.specs.contracts.warning.YaccGrammarWarningKindPartialEq.TheImpl.{ghosts as kinds}
+use Rattle.cfgwarnings.specs.contracts.warning.YaccGrammarWarningKindEq.TheImpl.Laws.{laws-law}
 
 -- what is odd, and where
 pub record GrammarWarning : Type 0 where

@@ -3,8 +3,8 @@
 ghost use Rattle.std.specs.Prelude.{◌≡◌, ◌↔◌, IsTrue, IfOk, Some};
 ghost use Rattle.std.specs.Cmp.{partial_equiv_from_equiv};
 ghost use Rattle.cfgbase.specs.declared.span.SpansKind.TheVariants.{Error as each_is_a_place};
-ghost use Rattle.cfgerrors.specs.Texts.{warning_text};
-ghost use Rattle.cfgerrors.specs.Warnings.{same_warning, same_warning-equivalence, warning_at};
+ghost use Rattle.cfgwarnings.specs.Texts.{warning_text};
+ghost use Rattle.cfgwarnings.specs.Warnings.{same_warning, same_warning-equivalence, warning_at};
 
 use cfgbase::{Span, Spanned, SpansKind};
 use std::alloc::{AllocError, Global};
@@ -41,7 +41,7 @@ pub struct YaccGrammarWarning {
 }
 
 impl Model for YaccGrammarWarning {
-    ghost use Rattle.cfgerrors.specs.Warnings.{GrammarWarning};
+    ghost use Rattle.cfgwarnings.specs.Warnings.{GrammarWarning};
 
     ghost Value = { GrammarWarning };
 
