@@ -1,5 +1,5 @@
 -- The certificate of least costs: a list of costs, and a list of choices of productions.
-use Rattle.std.specs.Prelude.{◌≡◌, ℕ, ◌<◌, ◌≤◌, List, Option, Some, None, All, length, ◌⊎◌, IfSome, IsSomeAnd, slice_index, slice_index_or}
+use Rattle.std.specs.Prelude.{◌≡◌, ℕ, ◌<◌, ◌≤◌, List, Option, Some, None, All, length, ◌⊎◌, IfSome, IsSomeAnd, slice_index_or}
 use Rattle.cfgindex.specs.declared.idxnewtype.PIdx.{PIdx}
 use Rattle.derivation.specs.Grammar.{Sym, Rule, Token, Grammar, Production}
 use Rattle.cfganalysis.specs.Openings.{nth_production}
