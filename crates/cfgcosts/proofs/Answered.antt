@@ -10,16 +10,18 @@ use Rattle.derivation.proofs.Costs.{least_is_one}
 use Rattle.derivation.proofs.Trees.{trees_from_derivation, derivation_from_trees}
 use Rattle.cfganalysis.specs.Openings.{nth_production}
 use Rattle.cfganalysis.proofs.Settling.{at_place}
-use Rattle.cfgcosts.specs.Sums.{sum_of, symbol_cost}
+use Rattle.cfgsums.specs.Sums.{sum_of, symbol_cost}
 use Rattle.cfgcosts.specs.Numbers.{IsNumberedBelow}
-use Rattle.cfgcosts.specs.Certificate.{IsChosenBelow, rule_cost, rule_choice}
+use Rattle.cfgsums.specs.Lists.{rule_cost}
+use Rattle.cfgcosts.specs.Certificate.{IsChosenBelow, rule_choice}
 use Rattle.cfgcosts.specs.Settled.{AreSettled}
 use Rattle.cfgcosts.specs.declared.errors.CostError.{CostError}
 use Rattle.cfgcosts.specs.declared.errors.CostError.TheVariants.{NoSentence, CostTooLarge}
 use Rattle.cfgcosts.specs.Generator.{HasNone, IsTooDear, AnswersLeast, IsLeastProduction}
-use Rattle.cfgcosts.proofs.Sums.{plus_zero}
-use Rattle.cfgcosts.proofs.TreeSums.{Choice, made_row, reached}
-use Rattle.cfgcosts.proofs.Bounds.{IsAtMostCut, CoversCut, lower_bound_cut, cut_over}
+use Rattle.cfgsums.proofs.Sums.{plus_zero}
+use Rattle.cfgsums.proofs.Made.{made_row, cut_over}
+use Rattle.cfgcosts.proofs.TreeSums.{Choice, reached}
+use Rattle.cfgcosts.proofs.Bounds.{IsAtMostCut, CoversCut, lower_bound_cut}
 use Rattle.cfgcosts.proofs.Certified.{number_of, number, numbered_below}
 
 module _ (g : Grammar) (cost : ℕ → ℕ) (least : List (Option ℕ)) (choices : List (Option (ℕ × ℕ))) (n : ℕ) (state : AreSettled g cost least choices n) where

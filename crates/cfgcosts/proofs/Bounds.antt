@@ -1,11 +1,12 @@
 -- Tables that bound the costs of sentences from below, and tables whose costs are those of sentences.
-use Rattle.std.proofs.Common.{◌≡◌, ℕ, ◌+◌, ◌≤◌, min, List, Option, Some, arith, refl, sym, ap}
+use Rattle.std.proofs.Common.{◌≡◌, ℕ, ◌+◌, ◌≤◌, min, List, Option, Some, arith, refl, sym}
 use Rattle.derivation.specs.Grammar.{Sym}
 use Rattle.derivation.specs.Sentence.{cost_of}
 use Rattle.derivation.specs.Tree.{Yields}
-use Rattle.cfgcosts.specs.Sums.{sum_of, symbol_cost}
-use Rattle.cfgcosts.proofs.Sums.{plus_both}
-use Rattle.cfgcosts.proofs.TreeSums.{GoesUp, GoesOver, sums_by_trees}
+use Rattle.cfgsums.specs.Sums.{sum_of, symbol_cost}
+use Rattle.cfgsums.proofs.Sums.{plus_both}
+use Rattle.cfgsums.proofs.Made.{GoesOver}
+use Rattle.cfgcosts.proofs.TreeSums.{GoesUp, sums_by_trees}
 
 -- a cost that is there, and at most n
 pub record IsAtMost (cost : Option ℕ) (n : ℕ) : Type 0 where
@@ -73,12 +74,4 @@ exactly_over cost least = record {
   none = refl;
   both = λ a b m n e f. omega (arith, e, f);
   token = λ t c e. let same : Some (cost t) ≡ Some c = e in let is : cost t ≡ c = cc in sym is;
-}
-
--- costs in the table that are those of words, both cut down to the limit
-pub cut_over : (cost : ℕ → ℕ) (least : ℕ → Option ℕ) (limit : ℕ) → GoesOver cost (symbol_cost cost least) (λ c n. min c limit ≡ min n limit)
-cut_over cost least limit = record {
-  none = refl;
-  both = λ a b m n e f. omega (arith, e, f);
-  token = λ t c e. let same : Some (cost t) ≡ Some c = e in let is : cost t ≡ c = cc in ap (λ n. min n limit) (sym is);
 }

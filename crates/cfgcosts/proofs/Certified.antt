@@ -5,17 +5,18 @@ use Rattle.std.proofs.lemmas.Bool.{cases_lt}
 use Rattle.std.proofs.lemmas.List.{take_all, get_or_past}
 use Rattle.lemmas.proofs.Elements.{within_from_get_or}
 use Rattle.std.proofs.lemmas.List.Elements.{All-more, All-contains, All-take, All-weaker}
-use Rattle.derivation.specs.Grammar.{Sym, Rule, Token, Grammar, IsGrammar, IsSymbolOf, HasProduction}
+use Rattle.derivation.specs.Grammar.{Sym, Rule, Token, Grammar, HasProduction}
 use Rattle.derivation.specs.Sentence.{Sentence, cost_of, HasSentenceOf}
 use Rattle.derivation.specs.Tree.{Yields, opened}
 use Rattle.derivation.proofs.Trees.{trees_from_derivation, derivation_from_trees}
 use Rattle.derivation.specs.Costs.{Least}
 use Rattle.cfganalysis.specs.Openings.{nth_production}
 use Rattle.cfganalysis.proofs.Settling.{same_production, at_place}
-use Rattle.cfgcosts.specs.Sums.{symbol_cost}
+use Rattle.cfgsums.specs.Sums.{symbol_cost}
 use Rattle.cfgcosts.specs.Numbers.{IsNumberedBelow}
-use Rattle.cfgcosts.specs.Certificate.{IsCovered, IsCoveredInRange, IsChosenBelow, IsListed, IsReached, RestsOn, rule_cost, rule_choice}
-use Rattle.cfgcosts.proofs.Sums.{plus_zero}
+use Rattle.cfgsums.specs.Lists.{rule_cost}
+use Rattle.cfgcosts.specs.Certificate.{IsCovered, IsCoveredInRange, IsChosenBelow, IsReached, RestsOn, rule_choice}
+use Rattle.cfgsums.proofs.Sums.{plus_zero}
 use Rattle.cfgcosts.proofs.TreeSums.{Choice, reached}
 use Rattle.cfgcosts.proofs.Bounds.{IsAtMost, Covers, lower_bound, exactly_over}
 
@@ -134,15 +135,6 @@ module _ (g : Grammar) (costs : List ℕ) (least : List (Option ℕ)) (choices :
   pub reached_from_rests : RestsOn g costs least choices r c choice.0 choice.1 → IsReached g costs least choices r
   reached_from_rests h = subst (λ o. IfSome o (λ c. IsSomeAnd (rule_choice choices r) (λ choice. RestsOn g costs least choices r c choice.0 choice.1))) (sym cost_is)
       (subst (λ o. IsSomeAnd o (λ choice. RestsOn g costs least choices r c choice.0 choice.1)) (sym choice_is) h)
-
--- the symbols of a production have entries in the lists
-pub symbols_listed : (g : Grammar) (n : ℕ) → IsGrammar g → n < length g.productions → All (IsListed g.rules g.tokens) (nth_production g n).symbols
-symbols_listed g n is within = All-weaker (IsSymbolOf g) (IsListed g.rules g.tokens) one (nth_production g n).symbols
-    (is.symbols n (record { rule = 0; symbols = [] }) within)
-  where
-    one : (s : Sym) → IsSymbolOf g s → IsListed g.rules g.tokens s
-    one (Rule r) h = h
-    one (Token t) h = omega (arith, h)
 
 -- a cost that is at most 65535, that a sentence has, and that none goes below, is the least
 pub certified_least : (g : Grammar) (costs : List ℕ) (least : List (Option ℕ)) (choices : List (Option (ℕ × ℕ)))

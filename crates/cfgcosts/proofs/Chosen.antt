@@ -8,8 +8,9 @@ use Rattle.std.proofs.lemmas.List.Elements.{All-weaker}
 use Rattle.lemmas.proofs.Elements.{get_or-set, get_or-replicate_default}
 use Rattle.derivation.specs.Grammar.{Sym, Rule, Token, Grammar}
 use Rattle.cfganalysis.specs.Openings.{nth_production}
-use Rattle.cfgcosts.specs.Sums.{symbol_cost}
-use Rattle.cfgcosts.specs.Certificate.{IsChosenBelow, rule_cost, rule_choice}
+use Rattle.cfgsums.specs.Sums.{symbol_cost}
+use Rattle.cfgsums.specs.Lists.{rule_cost}
+use Rattle.cfgcosts.specs.Certificate.{IsChosenBelow, rule_choice}
 use Rattle.cfgcosts.specs.Open.{IsCutSum}
 use Rattle.cfgcosts.specs.Settled.{unsettled, IsSettledBy, AreChosen}
 use Rattle.cfgcosts.proofs.Gains.{Gains, HasCost, all_have_costs, rule_gained, row_kept}

@@ -2,8 +2,8 @@
 use Rattle.std.proofs.Common.{◌≡◌, ℕ, zero, suc, ◌<◌, ◌≤◌, ◌⊎◌, inl, inr, List, [], ◌∷◌, length, get_or, Option, Some, None, All, arith, sym, ap, ◌∙◌}
 use Rattle.std.proofs.lemmas.List.Elements.{All-nil, All-cons}
 use Rattle.derivation.specs.Grammar.{Sym, Rule, Token}
-use Rattle.cfgcosts.specs.Sums.{sum_of, symbol_cost}
-use Rattle.cfgcosts.proofs.Sums.{plus_parts, plus_both}
+use Rattle.cfgsums.specs.Sums.{sum_of, symbol_cost}
+use Rattle.cfgsums.proofs.Sums.{plus_parts, plus_both}
 
 -- a symbol of a sum has a cost, which is at most the sum
 pub record IsPart (f : Sym → Option ℕ) (s : Sym) (n : ℕ) : Type 0 where

@@ -10,11 +10,12 @@ use Rattle.std.proofs.lemmas.List.Elements.{All-from_get_or}
 use Rattle.derivation.specs.Grammar.{Sym, Rule, Token, HasProduction}
 use Rattle.cfganalysis.specs.Openings.{nth_production}
 use Rattle.cfgcosts.specs.declared.errors.CostError.TheVariants.{NoSentence, CostTooLarge}
-use Rattle.cfgcosts.specs.Sums.{sum_of, symbol_cost}
-use Rattle.cfgcosts.specs.Certificate.{IsCovered, IsReached, IsChosenBelow, RestsOn, choice_of, rule_cost, rule_choice}
+use Rattle.cfgsums.specs.Sums.{sum_of, symbol_cost}
+use Rattle.cfgsums.specs.Lists.{rule_cost}
+use Rattle.cfgcosts.specs.Certificate.{IsCovered, IsReached, IsChosenBelow, RestsOn, choice_of, rule_choice}
 use Rattle.cfgcosts.specs.Generator.{CostTables, IsGenerator, AnswersLeast, IsLeastProduction, up_to_limit, where_some, cost_answer, choice_answer, token_cost}
-use Rattle.cfgcosts.proofs.Sums.{plus_parts, plus_both}
-use Rattle.cfgcosts.proofs.Rows.{item_shown}
+use Rattle.cfgsums.proofs.Sums.{plus_parts, plus_both}
+use Rattle.cfgsums.proofs.Rows.{item_shown}
 use Rattle.cfgcosts.proofs.Gains.{HasCost, all_have_costs, sum_kept}
 use Rattle.cfgcosts.proofs.Answered.{answers_none, answers_cost, answers_dear, least_production}
 

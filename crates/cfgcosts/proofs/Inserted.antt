@@ -13,7 +13,7 @@ use Rattle.std.specs.BTreeSet.{BTreeSet, insert_key}
 use Rattle.std.proofs.lemmas.List.{length-map, set-get_or}
 use Rattle.cfgindex.specs.declared.idxnewtype.TIdx.{TIdx}
 use Rattle.cfgcosts.specs.Minimal.{AddsSentence, dictionary, numbers_of, sentences_of, set_of}
-use Rattle.cfgcosts.proofs.Rows.{item_shown, set_shown}
+use Rattle.cfgsums.proofs.Rows.{item_shown, set_shown}
 
 pub order_shown : {A : Type 0} (cmp : A → A → Ordering) (f : A → ℕ) → ((x y : A) → cmp x y ≡ nat_cmp (f x) (f y)) → (v w : List A) → slice_cmp cmp v w ≡ dictionary (map f v) (map f w)
 order_shown cmp f same [] [] = refl

@@ -12,13 +12,13 @@ use Rattle.derivation.proofs.Trees.{trees_join, trees_from_derivation, derivatio
 use Rattle.derivation.proofs.Costs.{minimal_if_least}
 use Rattle.cfganalysis.specs.Openings.{nth_production}
 use Rattle.cfganalysis.proofs.Settling.{at_place}
-use Rattle.cfgcosts.specs.Sums.{sum_of, symbol_cost}
-use Rattle.cfgcosts.specs.Certificate.{rule_cost}
+use Rattle.cfgsums.specs.Sums.{sum_of, symbol_cost}
+use Rattle.cfgsums.specs.Lists.{rule_cost}
 use Rattle.cfgcosts.specs.Generator.{CostTables, IsGenerator, cost_answer, token_cost}
 use Rattle.cfgcosts.specs.Splits.{Split, done, itself, part}
 use Rattle.cfgcosts.specs.Minimal.{IsLeastSentence, IsTight, HasSentence, HasAllOf, IsNoted, IsMarked, AllNoted, AreLeastSentences}
-use Rattle.cfgcosts.proofs.Sums.{plus_parts, plus_both, plus_zero}
-use Rattle.cfgcosts.proofs.TreeSums.{cost_of-token}
+use Rattle.cfgsums.proofs.Sums.{plus_parts, plus_both, plus_zero}
+use Rattle.cfgsums.proofs.Made.{cost_of-token}
 use Rattle.cfgcosts.proofs.Bounds.{IsAtMost, Covers, lower_bound}
 use Rattle.cfgcosts.proofs.Generated.{answered_some, some_answered, reads_cost}
 use Rattle.cfgcosts.proofs.Lengths.{sentence_length}

@@ -8,7 +8,7 @@ use Rattle.derivation.specs.Grammar.{Sym, Rule, Token, Grammar, IsGrammar, IsSym
 use Rattle.derivation.specs.Sentence.{Sentence, cost_of}
 use Rattle.derivation.specs.Tree.{Yields, empty, token, opened}
 use Rattle.derivation.proofs.Trees.{trees_from_derivation}
-use Rattle.cfgcosts.proofs.TreeSums.{cost_of-token}
+use Rattle.cfgsums.proofs.Made.{cost_of-token}
 
 -- a token costs something
 abbrev IsPaid : (ℕ → ℕ) → Sym → Type 0

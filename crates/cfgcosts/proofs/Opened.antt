@@ -8,7 +8,7 @@ use Rattle.lemmas.proofs.Elements.{get_or-set}
 use Rattle.derivation.specs.Grammar.{Sym, Rule, Grammar}
 use Rattle.cfganalysis.specs.Openings.{nth_production}
 use Rattle.cfgcosts.specs.declared.partial.Partial.{Partial}
-use Rattle.cfgcosts.specs.Sums.{sum_of, symbol_cost}
+use Rattle.cfgsums.specs.Sums.{sum_of, symbol_cost}
 use Rattle.cfgcosts.specs.Open.{IsCutSum, WaitsFor, MovesOn, enters, waits, Phase, queued, held, past, moved, AreOpen, IsAmong, waiting_for}
 use Rattle.cfgcosts.proofs.Gains.{Gains, part_at, rule_kept, rule_gained, row_kept, row_gained}
 

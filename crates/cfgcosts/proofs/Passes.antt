@@ -4,7 +4,7 @@ use Rattle.std.proofs.lemmas.Bool.{or_parts}
 use Rattle.std.proofs.lemmas.List.{take_all, length-map, get_or-map}
 use Rattle.std.proofs.lemmas.List.Elements.{All-nil, All-more, All-cons, All-head}
 use Rattle.cfgcosts.specs.Passes.{Passes}
-use Rattle.cfgcosts.proofs.Rows.{shown_at, shown_within}
+use Rattle.cfgsums.proofs.Rows.{shown_at, shown_within}
 
 -- two steps leave less room if one of them does
 less_room : {X : Type 0} (room : X → ℕ) (old mid new : X) (c d : Bool) → (c ≡ true → room mid < room old) → (c ≡ false → mid ≡ old)

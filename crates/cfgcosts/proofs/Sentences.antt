@@ -13,12 +13,13 @@ use Rattle.derivation.proofs.Costs.{minimal_if_least}
 use Rattle.cfgindex.specs.declared.idxnewtype.PIdx.{PIdx}
 use Rattle.cfganalysis.specs.Openings.{nth_production}
 use Rattle.cfganalysis.proofs.Settling.{at_place}
-use Rattle.cfgcosts.specs.Sums.{sum_of, symbol_cost}
-use Rattle.cfgcosts.specs.Certificate.{IsChosenBelow, rule_cost, rule_choice}
+use Rattle.cfgsums.specs.Sums.{sum_of, symbol_cost}
+use Rattle.cfgsums.specs.Lists.{rule_cost}
+use Rattle.cfgcosts.specs.Certificate.{IsChosenBelow, rule_choice}
 use Rattle.cfgcosts.specs.Generator.{CostTables, IsGenerator, cost_answer, choice_answer, token_cost, where_some}
 use Rattle.cfgcosts.specs.Sentences.{Takes, number_of, symbols_at}
 use Rattle.cfgcosts.specs.Sentences as taken
-use Rattle.cfgcosts.proofs.Sums.{plus_parts, plus_both, plus_zero, sum_of-append}
+use Rattle.cfgsums.proofs.Sums.{plus_parts, plus_both, plus_zero, sum_of-append}
 use Rattle.cfgcosts.proofs.Generated.{answered_some, some_answered, reads_cost}
 use Rattle.cfgcosts.proofs.Lengths.{sentence_length}
 use Rattle.cfgcosts.proofs.Steps.{steps, steps_positive, steps_opened, sum_by-cons}

@@ -7,7 +7,7 @@ use Rattle.lemmas.proofs.Options.{None-from_is_some}
 use Rattle.derivation.specs.Grammar.{Grammar, IsGrammar}
 use Rattle.cfganalysis.specs.Openings.{nth_production}
 use Rattle.cfgcosts.specs.declared.partial.Partial.{Partial}
-use Rattle.cfgcosts.specs.Certificate.{rule_cost}
+use Rattle.cfgsums.specs.Lists.{rule_cost}
 use Rattle.cfgcosts.specs.Open.{IsCutSum, WaitsFor, AreAllOpen, AreWaking, waiting_for}
 use Rattle.cfgcosts.specs.Settled.{AreChosen, HasPopped}
 use Rattle.cfgcosts.proofs.Opened.{top_in, popped_past, settled_open, woken_wait}

@@ -3,7 +3,7 @@ use Rattle.std.proofs.Common.{◌≡◌, ◌↔◌, ℕ, ◌+◌, ◌<◌, ◌�
 use Rattle.std.proofs.lemmas.Bool.{cases_lt}
 use Rattle.std.proofs.lemmas.List.Elements.{All-get_or, Contains-append_left, Contains-push, Contains-push_cases}
 use Rattle.derivation.specs.Grammar.{Sym, Rule}
-use Rattle.cfgcosts.specs.Sums.{sum_of, symbol_cost}
+use Rattle.cfgsums.specs.Sums.{sum_of, symbol_cost}
 use Rattle.cfgcosts.specs.Open.{StopsAt}
 use Rattle.cfgcosts.specs.Generator.{CostTables}
 use Rattle.cfgcosts.specs.Minimal.{AreTightProductions, IsTight, place_of}
@@ -11,7 +11,7 @@ use Rattle.cfgcosts.specs.declared.partial.Partial.{Partial}
 use Rattle.std.specs.List.Sorted.{IsPermutation}
 use Rattle.std.proofs.lemmas.List.{get_or_default}
 use Rattle.std.proofs.lemmas.List.Sorted.{Contains-permutation, IsPermutation-map, IsPermutation-sym}
-use Rattle.cfgcosts.proofs.Rows.{shown_holds}
+use Rattle.cfgsums.proofs.Rows.{shown_holds}
 use Rattle.cfgcosts.proofs.Gains.{HasCost, all_have_costs}
 
 -- where a rule has no cost, the row has none

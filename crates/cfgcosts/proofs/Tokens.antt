@@ -8,10 +8,11 @@ use Rattle.std.proofs.lemmas.Bool.{cases_lt}
 use Rattle.std.proofs.lemmas.List.Elements.{All-head, All-tail}
 use Rattle.derivation.specs.Grammar.{Sym, Rule, Token, IsGrammar, IsSymbolOf}
 use Rattle.cfganalysis.specs.Openings.{nth_production}
-use Rattle.cfgcosts.specs.Sums.{sum_of}
-use Rattle.cfgcosts.specs.Certificate.{IsChosenBelow, rule_cost, rule_choice}
+use Rattle.cfgsums.specs.Sums.{sum_of}
+use Rattle.cfgsums.specs.Lists.{rule_cost}
+use Rattle.cfgcosts.specs.Certificate.{IsChosenBelow, rule_choice}
 use Rattle.cfgcosts.specs.Generator.{CostTables, IsGenerator, token_cost}
-use Rattle.cfgcosts.proofs.Sums.{plus_parts}
+use Rattle.cfgsums.proofs.Sums.{plus_parts}
 use Rattle.cfgcosts.proofs.Steps.{steps, steps_token, steps_opened, sum_by-cons}
 use Rattle.cfgcosts.proofs.Sentences.{cost_by, Opens, opens, choice_below, token_paid}
 

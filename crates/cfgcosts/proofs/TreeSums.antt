@@ -1,26 +1,14 @@
 -- What holds of the sums of productions holds of what sentences cost: a table that is closed under the productions is a
 -- bound, by induction on parse trees, and a well-founded choice of productions reaches the table, by induction on the
 -- numbers of the choice.
-use Rattle.std.proofs.Common.{◌≡◌, ℕ, zero, suc, ◌+◌, ◌<◌, List, [], ◌∷◌, ◌++◌, Option, Some, All, arith, sym, ap, subst, ◌∙◌, append-nil}
+use Rattle.std.proofs.Common.{◌≡◌, ℕ, zero, suc, ◌+◌, ◌<◌, List, [], ◌∷◌, Option, Some, All, arith, sym, ap, subst, ◌∙◌, append-nil}
 use Rattle.std.proofs.lemmas.List.Sums.{sum_by-append}
-use Rattle.std.proofs.lemmas.List.Elements.{All-head, All-tail}
 use Rattle.derivation.specs.Grammar.{Sym, Rule, Token}
 use Rattle.derivation.specs.Sentence.{cost_of}
 use Rattle.derivation.specs.Tree.{Yields, empty, token, opened}
-use Rattle.derivation.proofs.Trees.{trees_join}
-use Rattle.cfgcosts.specs.Sums.{plus, sum_of}
+use Rattle.cfgsums.specs.Sums.{plus, sum_of}
 use Rattle.cfgcosts.specs.Numbers.{IsNumberedBelow}
-use Rattle.cfgcosts.proofs.Sums.{plus_parts}
-
-pub cost_of-token : (cost : ℕ → ℕ) (t : ℕ) (w : List ℕ) → cost_of cost (t ∷ w) ≡ cost t + cost_of cost w
-cost_of-token cost t w = sum_by-append cost (t ∷ []) w ∙ ap (λ n. n + cost_of cost w) (omega arith)
-
-module _ (cost : ℕ → ℕ) (costs : Sym → Option ℕ) where
-  -- a relation of costs in the table and costs of words that goes over to sums
-  pub record GoesOver (R : ℕ → ℕ → Type 0) : Type 0 where
-    pub none : R 0 0
-    pub both : (a b m n : ℕ) → R a m → R b n → R (a + b) (m + n)
-    pub token : (t c : ℕ) → costs (Token t) ≡ Some c → R c (cost t)
+use Rattle.cfgsums.proofs.Made.{GoesOver, Made, cost_of-token, made_row}
 
 module _ (P : ℕ → List Sym → Type 0) (cost : ℕ → ℕ) (costs : Sym → Option ℕ) where
   -- a relation of costs in the table and costs of words that goes over to sums, and from productions to their rules
@@ -50,60 +38,22 @@ module _ (P : ℕ → List Sym → Type 0) (cost : ℕ → ℕ) (costs : Sym →
     pub stands : (n : ℕ) → R sum n → R c n
     pub below : All (IsNumberedBelow number (number r)) symbols
 
-  -- a word that the symbols yield, to whose cost this one stands
-  pub record Made (R : ℕ → ℕ → Type 0) (a : List Sym) (c : ℕ) : Type 0 where
-    pub word : List ℕ
-    pub tree : Yields P a word
-    pub stands : R c (cost_of cost word)
-
   module _ (R : ℕ → ℕ → Type 0) (over : GoesOver cost costs R) where
-    made_both : (a b : List Sym) (c d n : ℕ) → n ≡ c + d → Made R a c → Made R b d → Made R (a ++ b) n
-    made_both a b c d n e h k = record {
-      word = h.word ++ k.word;
-      tree = trees_join P h.tree k.tree;
-      stands = subst (λ m. R m (cost_of cost (h.word ++ k.word))) (sym e)
-          (subst (R (c + d)) (sym (sum_by-append cost h.word k.word))
-          (over.both c d (cost_of cost h.word) (cost_of cost k.word) h.stands k.stands));
-    }
-
-    made_token : (t c : ℕ) → costs (Token t) ≡ Some c → Made R (Token t ∷ []) c
-    made_token t c e = record {
-      word = t ∷ [];
-      tree = token empty;
-      stands = subst (R c) (sym (cost_of-token cost t [] ∙ omega arith)) (over.token t c e);
-    }
-
-    made_rule : (number : ℕ → ℕ) (r c : ℕ) (choice : Choice R number r c) → Made R choice.symbols choice.sum → Made R (Rule r ∷ []) c
+    made_rule : (number : ℕ → ℕ) (r c : ℕ) (choice : Choice R number r c) → Made P cost costs R choice.symbols choice.sum → Made P cost costs R (Rule r ∷ []) c
     made_rule number r c choice h = record {
       word = h.word;
       tree = opened choice.has h.tree empty (sym (append-nil h.word));
       stands = choice.stands (cost_of cost h.word) h.stands;
     }
 
-    -- what a row of symbols costs is the cost of a word of theirs, if so it is of each rule in it
-    pub made_row : (Q : Sym → Type 0) → ((r c : ℕ) → Q (Rule r) → costs (Rule r) ≡ Some c → Made R (Rule r ∷ []) c)
-        → (a : List Sym) (c : ℕ) → All Q a → sum_of costs a ≡ Some c → Made R a c
-    made_row Q made [] c all e =
-        let same : Some 0 ≡ Some c = e in
-        let none : 0 ≡ c = cc in
-        record { word = []; tree = empty; stands = subst (λ n. R n 0) none over.none }
-    made_row Q made (Token t ∷ a) c all e =
-        let p = plus_parts (costs (Token t)) (sum_of costs a) c e in
-        made_both (Token t ∷ []) a p.first p.second c p.whole (made_token t p.first p.first_is)
-        (made_row Q made a p.second (All-tail Q (Token t) a all) p.second_is)
-    made_row Q made (Rule r ∷ a) c all e =
-        let p = plus_parts (costs (Rule r)) (sum_of costs a) c e in
-        made_both (Rule r ∷ []) a p.first p.second c p.whole (made r p.first (All-head Q (Rule r) a all) p.first_is)
-        (made_row Q made a p.second (All-tail Q (Rule r) a all) p.second_is)
-
     module _ (number : ℕ → ℕ) (chosen : (r c : ℕ) → costs (Rule r) ≡ Some c → Choice R number r c) where
-      made_below : (n r c : ℕ) → number r < n → costs (Rule r) ≡ Some c → Made R (Rule r ∷ []) c
+      made_below : (n r c : ℕ) → number r < n → costs (Rule r) ≡ Some c → Made P cost costs R (Rule r ∷ []) c
       made_below zero r c below e = absurd (omega (arith, below))
       made_below (suc n) r c below e =
           let choice = chosen r c e in
-          made_rule number r c choice (made_row (IsNumberedBelow number (number r))
+          made_rule number r c choice (made_row P cost costs R over (IsNumberedBelow number (number r))
           (λ q d h. made_below n q d (omega (arith, below, h))) choice.symbols choice.sum choice.below choice.sum_is)
 
       -- each cost that rests on a choice is that of a sentence
-      pub reached : (r c : ℕ) → costs (Rule r) ≡ Some c → Made R (Rule r ∷ []) c
+      pub reached : (r c : ℕ) → costs (Rule r) ≡ Some c → Made P cost costs R (Rule r ∷ []) c
       reached r c e = made_below (suc (number r)) r c (omega arith) e

@@ -8,10 +8,10 @@ use Rattle.std.proofs.lemmas.List.Elements.{All-get_or}
 use Rattle.derivation.specs.Grammar.{Sym, Rule, Grammar}
 use Rattle.cfganalysis.specs.Openings.{nth_production}
 use Rattle.cfgcosts.specs.declared.partial.Partial.{Partial}
-use Rattle.cfgcosts.specs.Sums.{sum_of, symbol_cost}
-use Rattle.cfgcosts.specs.Certificate.{IsListed}
+use Rattle.cfgsums.specs.Sums.{sum_of, symbol_cost}
+use Rattle.cfgsums.specs.Lists.{IsListed}
 use Rattle.cfgcosts.specs.Open.{IsCutSum, StopsAt, IsPartial, WaitsFor, MovesOn, enters, waits, Phase, queued, held, past, moved, AreOpen, AreAllOpen, AreWaking, IsAmong, count_open, waiting_for}
-use Rattle.cfgcosts.proofs.Sums.{sum_of-append, plus_both, plus_zero}
+use Rattle.cfgsums.proofs.Sums.{sum_of-append, plus_both, plus_zero}
 use Rattle.cfgcosts.proofs.Opened.{contained_cases, moved_on, woken_above}
 
 module _ (cost : ℕ → ℕ) (settled : ℕ → Option ℕ) where

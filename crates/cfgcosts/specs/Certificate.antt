@@ -1,17 +1,9 @@
 -- The certificate of least costs: a list of costs, and a list of choices of productions.
-use Rattle.std.specs.Prelude.{◌≡◌, ℕ, ◌<◌, ◌≤◌, List, Option, Some, None, All, length, ◌⊎◌, IfSome, IsSomeAnd, slice_index, slice_index_or}
+use Rattle.std.specs.Prelude.{◌≡◌, ℕ, ◌<◌, ◌≤◌, List, Option, Some, None, All, length, ◌⊎◌, IfSome, IsSomeAnd, slice_index_or}
 use Rattle.cfgindex.specs.declared.idxnewtype.PIdx.{PIdx}
 use Rattle.derivation.specs.Grammar.{Sym, Rule, Token, Grammar, Production}
 use Rattle.cfganalysis.specs.Openings.{nth_production}
-use Rattle.cfgcosts.specs.Sums.{sum_of, symbol_cost}
-
--- the cost of a rule in the list
-abbrev pub rule_cost : List (Option ℕ) → ℕ → Option ℕ
-rule_cost least r = slice_index_or least r None
-
--- what a row of symbols costs together, by the costs of tokens and the list
-abbrev pub sum_by_lists : List ℕ → List (Option ℕ) → List Sym → Option ℕ
-sum_by_lists costs least symbols = sum_of (symbol_cost (slice_index costs) (rule_cost least)) symbols
+use Rattle.cfgsums.specs.Lists.{rule_cost, sum_by_lists}
 
 -- where the rules of a production all have a cost, its sum is past 65535, or its rule costs at most the sum
 abbrev pub IsCovered : List ℕ → List (Option ℕ) → Production → Type 0
@@ -42,11 +34,6 @@ pub record RestsOn (g : Grammar) (costs : List ℕ) (least : List (Option ℕ)) 
 abbrev pub IsReached : Grammar → List ℕ → List (Option ℕ) → List (Option (ℕ × ℕ)) → ℕ → Type 0
 IsReached g costs least choices r = IfSome (rule_cost least r) (λ c.
     IsSomeAnd (rule_choice choices r) (λ choice. RestsOn g costs least choices r c choice.0 choice.1))
-
--- a symbol that the lists have an entry for
-abbrev pub IsListed : ℕ → ℕ → Sym → Type 0
-IsListed rules tokens (Rule r) = r < rules
-IsListed rules tokens (Token t) = t < tokens
 
 -- a cost that the list holds fits its type
 abbrev pub IsCoveredInRange : List ℕ → List (Option ℕ) → Production → Type 0

@@ -7,7 +7,8 @@ use Rattle.derivation.specs.Costs.{Least, Minimal}
 use Rattle.cfganalysis.specs.Openings.{nth_production}
 use Rattle.cfgcosts.specs.declared.errors.CostError.{CostError}
 use Rattle.cfgcosts.specs.declared.errors.CostError.TheVariants.{NoSentence, CostTooLarge}
-use Rattle.cfgcosts.specs.Certificate.{rule_cost, rule_choice}
+use Rattle.cfgsums.specs.Lists.{rule_cost}
+use Rattle.cfgcosts.specs.Certificate.{rule_choice}
 use Rattle.cfgcosts.specs.Settled.{AreSettled}
 
 -- a grammar, what its tokens cost, and for each rule its least cost, cut down to 65536, and the production chosen for it

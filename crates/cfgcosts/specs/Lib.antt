@@ -1,4 +1,3 @@
-pub mod Sums
 pub mod Numbers
 pub mod Certificate
 pub mod Queue

@@ -10,8 +10,8 @@ use Rattle.cfgindex.specs.declared.idxnewtype.TIdx.{TIdx}
 use Rattle.derivation.specs.Grammar.{Sym, Rule, Token, HasProduction}
 use Rattle.derivation.specs.Sentence.{Sentence, cost_of}
 use Rattle.cfganalysis.specs.Openings.{nth_production}
-use Rattle.cfgcosts.specs.Sums.{sum_of, symbol_cost}
-use Rattle.cfgcosts.specs.Certificate.{rule_cost}
+use Rattle.cfgsums.specs.Sums.{sum_of, symbol_cost}
+use Rattle.cfgsums.specs.Lists.{rule_cost}
 use Rattle.cfgcosts.specs.Generator.{CostTables, cost_answer, token_cost}
 use Rattle.cfgcosts.specs.Splits.{Split}
 use Rattle.cfgcosts.specs.Passes.{Passes}

@@ -7,7 +7,7 @@ use Rattle.std.specs.List.Sorted.{IsPermutation}
 use Rattle.derivation.specs.Grammar.{Sym, Rule, Grammar, IsGrammar}
 use Rattle.cfganalysis.specs.Openings.{nth_production}
 use Rattle.cfgcosts.specs.declared.partial.Partial.{Partial}
-use Rattle.cfgcosts.specs.Sums.{sum_of, symbol_cost}
+use Rattle.cfgsums.specs.Sums.{sum_of, symbol_cost}
 
 -- the elements of a list of the code
 abbrev pub items_of : Vec Partial Global → List Partial

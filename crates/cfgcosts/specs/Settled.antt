@@ -3,8 +3,9 @@ use Rattle.std.specs.Prelude.{◌≡◌, ℕ, ◌+◌, ◌<◌, ◌≤◌, min, 
 use Rattle.std.specs.List.Sorted.{IsPermutation}
 use Rattle.derivation.specs.Grammar.{Grammar}
 use Rattle.cfganalysis.specs.Openings.{nth_production}
-use Rattle.cfgcosts.specs.Sums.{sum_of, symbol_cost}
-use Rattle.cfgcosts.specs.Certificate.{IsChosenBelow, rule_cost, rule_choice}
+use Rattle.cfgsums.specs.Sums.{sum_of, symbol_cost}
+use Rattle.cfgsums.specs.Lists.{rule_cost}
+use Rattle.cfgcosts.specs.Certificate.{IsChosenBelow, rule_choice}
 use Rattle.cfgcosts.specs.declared.partial.Partial.{Partial}
 use Rattle.cfgcosts.specs.Open.{IsCutSum, AreAllOpen}
 

@@ -7,9 +7,10 @@ ghost use Rattle.derivation.specs.Grammar.{IsGrammar, HasProduction};
 ghost use Rattle.derivation.specs.Sentence.{Sentence, HasSentenceOf, cost_of};
 ghost use Rattle.cfganalysis.specs.Openings.{nth_production};
 ghost use Rattle.cfganalysis.specs.Symbols.{sym_of};
-ghost use Rattle.cfgcosts.specs.Certificate.{IsChosenBelow, IsCovered, IsListed, IsReached, RestsOn, choice_of};
-ghost use Rattle.cfgcosts.specs.Certificate.{rule_choice, rule_cost, sum_by_lists};
-ghost use Rattle.cfgcosts.specs.Sums.{symbol_cost};
+ghost use Rattle.cfgsums.specs.Lists.{IsListed, rule_cost, sum_by_lists};
+ghost use Rattle.cfgcosts.specs.Certificate.{IsChosenBelow, IsCovered, IsReached, RestsOn, choice_of};
+ghost use Rattle.cfgcosts.specs.Certificate.{rule_choice};
+ghost use Rattle.cfgsums.specs.Sums.{symbol_cost};
 
 use crate::walk::TOO_LARGE;
 use cfganalysis::Tables;

@@ -6,7 +6,8 @@ ghost use Rattle.std.specs.Result.{result_ok};
 ghost use Rattle.cfgindex.specs.declared.idxnewtype.TIdx.{TIdx};
 ghost use Rattle.derivation.specs.Grammar.{HasProduction};
 ghost use Rattle.derivation.specs.Costs.{Least};
-ghost use Rattle.cfgcosts.specs.Certificate.{IsCovered, IsReached, choice_of, rule_choice, rule_cost};
+ghost use Rattle.cfgsums.specs.Lists.{rule_cost};
+ghost use Rattle.cfgcosts.specs.Certificate.{IsCovered, IsReached, choice_of, rule_choice};
 ghost use Rattle.cfgcosts.specs.Generator.{AnswersLeast, HasNone, IsLeastProduction, IsTooDear, choice_answer};
 ghost use Rattle.cfgcosts.specs.Generator.{cost_answer, token_cost};
 

@@ -5,7 +5,8 @@ ghost use Rattle.std.specs.Prelude.{length, slice_index};
 ghost use Rattle.derivation.specs.Grammar.{Grammar, IsGrammar, HasProduction};
 ghost use Rattle.derivation.specs.Sentence.{Sentence, cost_of};
 ghost use Rattle.derivation.specs.Costs.{Least};
-ghost use Rattle.cfgcosts.specs.Certificate.{IsCovered, IsReached, rule_cost};
+ghost use Rattle.cfgsums.specs.Lists.{rule_cost};
+ghost use Rattle.cfgcosts.specs.Certificate.{IsCovered, IsReached};
 
 /// Lists of costs up to 65535 and of choices that pass both checks show least costs, whoever made them.
 pub fn certificates_show_least()

@@ -4,7 +4,8 @@
 ghost use Rattle.std.specs.Prelude.{◌≡◌, ◌+◌, ◌^◌, ◌<◌, ◌≤◌, [], IfOk, None, OnOk, Some};
 ghost use Rattle.std.specs.Prelude.{length, map, replicate, slice_index, slice_set};
 ghost use Rattle.derivation.specs.Grammar.{IsGrammar};
-ghost use Rattle.cfgcosts.specs.Certificate.{choice_of, rule_cost};
+ghost use Rattle.cfgsums.specs.Lists.{rule_cost};
+ghost use Rattle.cfgcosts.specs.Certificate.{choice_of};
 ghost use Rattle.cfgcosts.specs.Open.{AreAllOpen, AreInput, count_open};
 ghost use Rattle.cfgcosts.specs.Settled.{AreChosen, AreSettled, HasPopped};
 

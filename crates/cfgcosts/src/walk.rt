@@ -4,10 +4,10 @@ ghost use Rattle.std.specs.Prelude.{◌≡◌, ◌+◌, ◌^◌, ◌<◌, ◌≤
 ghost use Rattle.std.specs.Prelude.{Some, length, map, replicate, slice_index, take};
 ghost use Rattle.derivation.specs.Grammar.{Rule};
 ghost use Rattle.cfganalysis.specs.Symbols.{sym_of};
-ghost use Rattle.cfgcosts.specs.Certificate.{IsListed, rule_cost};
+ghost use Rattle.cfgsums.specs.Lists.{IsListed, rule_cost};
 ghost use Rattle.cfgcosts.specs.Open.{AreInput, AreWaking, AreAllOpen, IsCutSum, IsPartial, MovesOn, StopsAt};
 ghost use Rattle.cfgcosts.specs.Open.{count_open};
-ghost use Rattle.cfgcosts.specs.Sums.{symbol_cost};
+ghost use Rattle.cfgsums.specs.Sums.{symbol_cost};
 
 use crate::partial::Partial;
 use crate::queue::Queue;

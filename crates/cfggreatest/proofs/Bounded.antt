@@ -6,7 +6,7 @@ use Rattle.std.proofs.lemmas.List.Sums.{sum_by-append}
 use Rattle.derivation.specs.Grammar.{Sym, Rule}
 use Rattle.derivation.specs.Sentence.{cost_of}
 use Rattle.derivation.specs.Tree.{Yields, empty, token, opened}
-use Rattle.cfgcosts.proofs.TreeSums.{cost_of-token}
+use Rattle.cfgsums.proofs.Made.{cost_of-token}
 use Rattle.cfggreatest.specs.Rows.{are_in, count_positive}
 use Rattle.cfggreatest.specs.Peel.{HasLive, IsBoundBy}
 

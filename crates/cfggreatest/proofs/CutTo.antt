@@ -1,8 +1,8 @@
 -- Sums that are cut down to a limit while they are made.
 use Rattle.std.proofs.Common.{◌≡◌, ℕ, ◌+◌, min, List, [], ◌∷◌, Option, Some, None, option_map, arith, refl, sym, ap, ◌∙◌}
 use Rattle.derivation.specs.Grammar.{Sym}
-use Rattle.cfgcosts.specs.Sums.{plus, sum_of}
-use Rattle.cfgcosts.proofs.Sums.{plus_assoc, zero_plus}
+use Rattle.cfgsums.specs.Sums.{plus, sum_of}
+use Rattle.cfgsums.proofs.Sums.{plus_assoc, zero_plus}
 
 -- the sum of the symbols that were taken, cut down; the rest is still to come
 pub record SumTo (limit : ℕ) (costs : Sym → Option ℕ) (all rest : List Sym) (sum : ℕ) : Type 0 where

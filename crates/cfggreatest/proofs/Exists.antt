@@ -8,8 +8,8 @@ use Rattle.derivation.specs.Sentence.{cost_of, Sentence}
 use Rattle.derivation.specs.Costs.{Greatest}
 use Rattle.derivation.proofs.Trees.{trees_from_derivation, derivation_from_trees}
 use Rattle.cfganalysis.specs.Openings.{nth_production}
-use Rattle.cfgcosts.specs.Certificate.{rule_cost}
-use Rattle.cfgcosts.specs.Sums.{sum_of, symbol_cost}
+use Rattle.cfgsums.specs.Lists.{rule_cost}
+use Rattle.cfgsums.specs.Sums.{sum_of, symbol_cost}
 use Rattle.cfggreatest.specs.Rows.{are_in}
 use Rattle.cfggreatest.specs.Tops.{AreReached, AreTopped, IsAtLeastCut, IsTopped, rank}
 use Rattle.cfggreatest.proofs.Tops.{Betters, none_reached, ranks_small, raised_reached, raised_more, rule_topped}

@@ -7,7 +7,7 @@ use Rattle.cfganalysis.specs.Rounds.{TakesIn}
 use Rattle.cfggreatest.specs.Raise.{HasRaised, Raises}
 use Rattle.cfggreatest.specs.Rows.{in_set}
 use Rattle.cfggreatest.specs.Tops.{AreReached, IsTopped, rank, sum_ranks}
-use Rattle.cfgcosts.specs.Certificate.{rule_cost}
+use Rattle.cfgsums.specs.Lists.{rule_cost}
 use Rattle.cfggreatest.proofs.Exists.{at_least_by_rank}
 use Rattle.cfggreatest.proofs.Tops.{Betters, raised_reached, raised_more}
 

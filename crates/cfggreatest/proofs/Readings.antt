@@ -4,7 +4,7 @@ use Rattle.derivation.specs.Grammar.{Rule, Grammar, IsGrammar, HasProduction}
 use Rattle.derivation.specs.Sentence.{cost_of, Sentence}
 use Rattle.derivation.specs.Costs.{Greatest}
 use Rattle.derivation.proofs.Trees.{trees_from_derivation, derivation_from_trees}
-use Rattle.cfgcosts.specs.Certificate.{rule_cost}
+use Rattle.cfgsums.specs.Lists.{rule_cost}
 use Rattle.cfggreatest.specs.Tops.{AreReached, AreTopped, IsAtLeastCut}
 use Rattle.cfggreatest.specs.Peel.{AreBounded, HasLive}
 use Rattle.cfggreatest.proofs.Bounded.{row_lives}

@@ -5,9 +5,9 @@ use Rattle.std.proofs.lemmas.Bool.{and_parts}
 use Rattle.std.proofs.lemmas.List.Elements.{All-head, All-tail, All-get_or}
 use Rattle.derivation.specs.Grammar.{Sym, Rule, Token, Grammar, IsGrammar, IsSymbolOf, HasProduction}
 use Rattle.cfganalysis.proofs.FirstBits.{all_symbols}
-use Rattle.cfgcosts.specs.Certificate.{rule_cost}
-use Rattle.cfgcosts.specs.Sums.{sum_of, symbol_cost}
-use Rattle.cfgcosts.proofs.Sums.{plus_both}
+use Rattle.cfgsums.specs.Lists.{rule_cost}
+use Rattle.cfgsums.specs.Sums.{sum_of, symbol_cost}
+use Rattle.cfgsums.proofs.Sums.{plus_both}
 use Rattle.cfggreatest.specs.Rows.{are_in, count_positive}
 use Rattle.cfggreatest.specs.Rising.{TokensCost, AtLeast}
 use Rattle.cfggreatest.specs.Tops.{AreReached, AreTopped, has_cost, has_more}

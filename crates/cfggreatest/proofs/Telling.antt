@@ -1,21 +1,18 @@
 -- The words that are told of a rule's greatest cost are true, and true of it alone.
-use Rattle.std.proofs.Common.{◌≡◌, ◌↔◌, ℕ, ◌+◌, ◌<◌, ◌≤◌, inl, inr, All, Bool, true, false, List, [], ◌∷◌, ◌++◌, Option, Some, None, length, get_or, sum_by, refl, sym, ap, subst, ◌∙◌, Result, Ok, Err, arith, below_more}
+use Rattle.std.proofs.Common.{◌≡◌, ◌↔◌, ℕ, ◌+◌, ◌<◌, ◌≤◌, inl, inr, All, Bool, true, false, List, [], ◌∷◌, ◌++◌, Option, Some, None, length, get_or, sum_by, refl, sym, ap, subst, ◌∙◌, arith, below_more}
 use Rattle.std.specs.List.{slice_index}
 use Rattle.std.proofs.lemmas.Bool.{cases_Bool, cases_lt}
-use Rattle.std.proofs.lemmas.List.{get_or_append_left, get_or_default, get_or_past, get_or_push}
+use Rattle.std.proofs.lemmas.List.{get_or_append_left, get_or_past, get_or_push}
 use Rattle.std.proofs.lemmas.List.Sums.{get_or-le-sum_by}
 use Rattle.derivation.specs.Grammar.{Sym, Grammar, IsGrammar, HasProduction}
 use Rattle.derivation.specs.Costs.{Greatest, Unbounded}
 use Rattle.derivation.proofs.Costs.{greatest_is_bound, greatest_is_one}
-use Rattle.cfgcosts.specs.Certificate.{rule_cost}
-use Rattle.cfgcosts.specs.Generator.{CostTables, token_cost}
+use Rattle.cfgsums.specs.Lists.{rule_cost}
 use Rattle.cfggreatest.specs.Rows.{in_set}
 use Rattle.cfggreatest.specs.Tops.{AreReached, AreTopped, live_in, positive_in}
 use Rattle.cfggreatest.specs.Peel.{AreBounded, AreSigns}
 use Rattle.cfggreatest.specs.Stages.{AreFoundBounded, AreOthersUnbounded}
-use Rattle.cfggreatest.specs.Words.{AreReadOff, AreTold, IsReadOff, Means, in_answer}
-use Rattle.cfgcosts.specs.declared.errors.CostError.{CostError}
-use Rattle.cfgcosts.specs.declared.errors.CostError.TheVariants as errors
+use Rattle.cfggreatest.specs.Words.{AreReadOff, AreTold, IsReadOff, Means}
 use Rattle.cfggreatest.specs.declared.greatest.GreatestCost.{GreatestCost}
 use Rattle.cfggreatest.specs.declared.greatest.GreatestCost.TheVariants as told
 use Rattle.cfggreatest.proofs.Signs.{tokens_cost}
@@ -107,37 +104,3 @@ answers_mean g costs signs table bounded answers is tokens positive are found re
       (rest (slice_index costs) are (tokens_cost g costs is tokens positive)) table reached all r (get_or answers r told.NoSentence)
       (read.each r (subst (λ n. r < n) (sym found.rules) lt));
 }
-
--- the word of an answer
-word_of : Result (Option ℕ) CostError → GreatestCost
-word_of (Err errors.NoSentence) = told.NoSentence
-word_of (Err errors.CostTooLarge) = told.TooLarge
-word_of (Ok None) = told.Unbounded
-word_of (Ok (Some c)) = told.Cost c
-
-word_of-in_answer : (s : GreatestCost) → word_of (in_answer s) ≡ s
-unfolding word_of
-word_of-in_answer told.NoSentence = refl
-word_of-in_answer told.Unbounded = refl
-word_of-in_answer (told.Cost c) = refl
-word_of-in_answer told.TooLarge = refl
-
--- an answer is given exactly where its word is true
-pub answered_exactly : (P : ℕ → List Sym → Type 0) (cost : ℕ → ℕ) (r : ℕ) (s t : GreatestCost) (answer : Result (Option ℕ) CostError)
-    → answer ≡ in_answer s → Means P cost r s → (answer ≡ in_answer t) ↔ Means P cost r t
-answered_exactly P cost r s t answer is h =
-    let same = exactly P cost r s t h in (
-      (λ e. same.0 (sym (word_of-in_answer s) ∙ ap word_of (sym is ∙ e) ∙ word_of-in_answer t)),
-      (λ k. is ∙ ap in_answer (same.1 k)),
-    )
-
--- what is told of a rule, as it is read from the table at its place, is answered exactly where it is true
-pub answer_at : (x y : CostTables) → x ≡ y → (answers : List GreatestCost) → AreTold x.grammar (token_cost x) answers → (r place : ℕ) → place ≡ r → r < y.grammar.rules
-    → (entry : GreatestCost) → entry ≡ get_or answers place entry → (answer : Result (Option ℕ) CostError) → answer ≡ in_answer entry
-    → (t : GreatestCost) → (answer ≡ in_answer t) ↔ Means (HasProduction y.grammar) (token_cost y) r t
-answer_at x y same answers are r place here within entry at answer is t =
-    let now = subst (λ (x : CostTables). AreTold x.grammar (token_cost x) answers) same are in
-    let read = subst (λ n. entry ≡ get_or answers n entry) here at in
-    let one = get_or_default answers r told.NoSentence entry (subst (λ n. r < n) (sym now.rules) within) in
-    answered_exactly (HasProduction y.grammar) (token_cost y) r entry t answer is
-    (subst (Means (HasProduction y.grammar) (token_cost y) r) (one ∙ sym read) (now.means r within))

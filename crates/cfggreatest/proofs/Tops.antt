@@ -9,11 +9,10 @@ use Rattle.derivation.specs.Grammar.{Sym, Rule, Grammar, Production, IsGrammar, 
 use Rattle.derivation.specs.Sentence.{cost_of}
 use Rattle.derivation.specs.Tree.{Yields, empty, token, opened}
 use Rattle.cfganalysis.proofs.FirstBits.{owner}
-use Rattle.cfgcosts.specs.Certificate.{rule_cost}
-use Rattle.cfgcosts.specs.Sums.{sum_of, symbol_cost}
-use Rattle.cfgcosts.proofs.Sums.{plus_both, plus_zero}
-use Rattle.cfgcosts.proofs.Bounds.{cut_over}
-use Rattle.cfgcosts.proofs.TreeSums.{made_row, cost_of-token}
+use Rattle.cfgsums.specs.Lists.{rule_cost}
+use Rattle.cfgsums.specs.Sums.{sum_of, symbol_cost}
+use Rattle.cfgsums.proofs.Sums.{plus_both, plus_zero}
+use Rattle.cfgsums.proofs.Made.{cut_over, made_row, cost_of-token}
 use Rattle.cfggreatest.specs.Rows.{are_in}
 use Rattle.cfggreatest.specs.Tops.{AreReached, IsAtLeastCut, Yielded, rank}
 

@@ -1,7 +1,7 @@
 -- What one production raises in a table of costs.
 use Rattle.std.specs.Prelude.{◌≡◌, ℕ, ◌<◌, ◌+◌, min, Bool, true, false, List, Option, Some, slice_set}
 use Rattle.derivation.specs.Grammar.{Sym}
-use Rattle.cfgcosts.specs.Certificate.{rule_cost, sum_by_lists}
+use Rattle.cfgsums.specs.Lists.{rule_cost, sum_by_lists}
 use Rattle.cfggreatest.specs.Tops.{IsAtLeastCut, rank}
 
 -- the sum is above the rule's cost, and the table has it, cut down to the limit, as that cost

@@ -4,8 +4,8 @@ use Rattle.derivation.specs.Grammar.{Sym, Rule, Production, Grammar, HasProducti
 use Rattle.derivation.specs.Sentence.{cost_of}
 use Rattle.derivation.specs.Tree.{Yields}
 use Rattle.cfganalysis.specs.Openings.{nth_production}
-use Rattle.cfgcosts.specs.Certificate.{rule_cost}
-use Rattle.cfgcosts.specs.Sums.{sum_of, symbol_cost}
+use Rattle.cfgsums.specs.Lists.{rule_cost}
+use Rattle.cfgsums.specs.Sums.{sum_of, symbol_cost}
 
 -- a cost that is there, and at least n when n is cut down to the limit
 pub record IsAtLeastCut (limit : ℕ) (cost : Option ℕ) (n : ℕ) : Type 0 where

@@ -1,12 +1,10 @@
 -- What is told of a rule's greatest cost.
-use Rattle.std.specs.Prelude.{◌≡◌, ℕ, ◌<◌, ◌≤◌, Bool, true, false, List, Option, Some, None, Result, Ok, Err, length, slice_index_or}
+use Rattle.std.specs.Prelude.{◌≡◌, ℕ, ◌<◌, ◌≤◌, Bool, true, false, List, Option, Some, None, length, slice_index_or}
 use Rattle.derivation.specs.Grammar.{Sym, Grammar, HasProduction}
 use Rattle.derivation.specs.Sentence.{Sentence}
 use Rattle.derivation.specs.Costs.{Greatest, Unbounded}
-use Rattle.cfgcosts.specs.Certificate.{rule_cost}
+use Rattle.cfgsums.specs.Lists.{rule_cost}
 use Rattle.cfggreatest.specs.Rows.{in_set}
-use Rattle.cfgcosts.specs.declared.errors.CostError.{CostError}
-use Rattle.cfgcosts.specs.declared.errors.CostError.TheVariants as errors
 use Rattle.cfggreatest.specs.declared.greatest.GreatestCost.{GreatestCost}
 use Rattle.cfggreatest.specs.declared.greatest.GreatestCost.TheVariants as told
 
@@ -21,13 +19,6 @@ Means P cost r told.TooLarge = (n : ℕ) × Greatest P cost r n × (65535 < n)
 pub record AreTold (g : Grammar) (cost : ℕ → ℕ) (answers : List GreatestCost) : Type 0 where
   pub rules : length answers ≡ g.rules
   pub means : (r : ℕ) → r < g.rules → Means (HasProduction g) cost r (slice_index_or answers r told.NoSentence)
-
--- the words as an answer: no cost where there is no greatest one
-abbrev pub in_answer : GreatestCost → Result (Option ℕ) CostError
-in_answer told.NoSentence = Err errors.NoSentence
-in_answer told.Unbounded = Ok None
-in_answer (told.Cost c) = Ok (Some c)
-in_answer told.TooLarge = Err errors.CostTooLarge
 
 -- how the words are read off: whether the rule is bounded, and its greatest cost, cut down to 65536
 pub record IsReadOff (bounded : Bool) (top : Option ℕ) (answer : GreatestCost) : Type 0 where

@@ -5,7 +5,7 @@ ghost use Rattle.std.specs.Prelude.{length, slice_index, slice_index_or};
 ghost use Rattle.derivation.specs.Grammar.{HasProduction};
 ghost use Rattle.derivation.specs.Sentence.{Sentence};
 ghost use Rattle.derivation.specs.Costs.{Greatest, Unbounded};
-ghost use Rattle.cfgcosts.specs.Certificate.{rule_cost};
+ghost use Rattle.cfgsums.specs.Lists.{rule_cost};
 ghost use Rattle.cfggreatest.specs.Rows.{in_set};
 ghost use Rattle.cfggreatest.specs.Tops.{AreReached, live_in, positive_in};
 ghost use Rattle.cfggreatest.specs.Peel.{AreSigns};
@@ -110,7 +110,7 @@ fn greatest_by_signs<S: Storage, T: Tables<S>>(
 /// # Errors
 ///
 /// Want of memory.
-pub(crate) fn told_costs<S: Storage, T: Tables<S>>(
+fn told_costs<S: Storage, T: Tables<S>>(
     alloc: Global,
     grm: &T,
     costs: &[u8],
@@ -138,6 +138,7 @@ pub fn greatest_costs<S: Storage, T: Tables<S>>(
 ) -> Result<Vec<GreatestCost>, AllocError>
     requires costs { length costs.now ≡ (T.grammar grm.now).tokens }
     requires positive { All (λ c. 1 ≤ c) costs.now }
+    ensures means { IfOk result (λ x. AreTold (T.grammar grm.now) (slice_index costs.now) x.items) }
     ensures rules { IfOk result (λ x. length x.items ≡ (T.grammar grm.now).rules) }
     ensures no_sentence { IfOk result (λ x. (r : ℕ) → r < (T.grammar grm.now).rules
         → (slice_index_or x.items r told.NoSentence ≡ told.NoSentence)

@@ -5,7 +5,7 @@ ghost use Rattle.std.specs.Prelude.{Some, None, IsTrue, length};
 ghost use Rattle.derivation.specs.Grammar.{Grammar, IsGrammar, HasProduction, Sym};
 ghost use Rattle.derivation.specs.Sentence.{Sentence, cost_of};
 ghost use Rattle.derivation.specs.Costs.{Greatest, Unbounded};
-ghost use Rattle.cfgcosts.specs.Certificate.{rule_cost};
+ghost use Rattle.cfgsums.specs.Lists.{rule_cost};
 ghost use Rattle.cfggreatest.specs.Growth.{GrowsFromSet};
 ghost use Rattle.cfggreatest.specs.Peel.{AreBounded, AreSigns, IsRemoved, Keeps};
 ghost use Rattle.cfggreatest.specs.Tops.{AreReached, AreTopped};

@@ -6,7 +6,7 @@ ghost use Rattle.std.specs.Prelude.{◌≡◌, ℕ, ◌+◌, ◌<◌, ◌≤◌,
 ghost use Rattle.std.specs.Prelude.{length, map};
 ghost use Rattle.derivation.specs.Grammar.{IsGrammar};
 ghost use Rattle.cfganalysis.specs.Symbols.{sym_of};
-ghost use Rattle.cfgcosts.specs.Certificate.{IsListed};
+ghost use Rattle.cfgsums.specs.Lists.{IsListed};
 ghost use Rattle.cfggreatest.specs.Uses.{AreListsBelow};
 ghost use Rattle.cfggreatest.specs.Walk.{IsWalking, unentered};
 

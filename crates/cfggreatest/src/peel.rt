@@ -6,7 +6,7 @@ ghost use Rattle.std.specs.Prelude.{length, map, true};
 ghost use Rattle.derivation.specs.Grammar.{Grammar, IsGrammar};
 ghost use Rattle.cfganalysis.specs.Rounds.{IsSettled, Sweeps};
 ghost use Rattle.cfganalysis.specs.Symbols.{sym_of};
-ghost use Rattle.cfgcosts.specs.Certificate.{IsListed};
+ghost use Rattle.cfgsums.specs.Lists.{IsListed};
 ghost use Rattle.cfggreatest.specs.Rows.{are_in, count_positive, in_set, is_in};
 ghost use Rattle.cfggreatest.specs.Tops.{has_more, live_in, positive_in};
 ghost use Rattle.cfggreatest.specs.Merge.{Adds, Merges};

@@ -2,7 +2,7 @@
 
 ghost use Rattle.std.specs.Prelude.{◌≡◌, ℕ, ◌<◌, All, IfOk, List, OnOk, Option, length, map};
 ghost use Rattle.cfganalysis.specs.Symbols.{sym_of};
-ghost use Rattle.cfgcosts.specs.Certificate.{IsListed};
+ghost use Rattle.cfgsums.specs.Lists.{IsListed};
 ghost use Rattle.cfggreatest.specs.Uses.{AreListsBelow};
 
 use crate::peel::are_live;

@@ -5,11 +5,11 @@ ghost use Rattle.std.specs.Prelude.{length, map};
 ghost use Rattle.cfganalysis.specs.Symbols.{sym_of};
 ghost use Rattle.cfganalysis.specs.Openings.{nth_production};
 ghost use Rattle.derivation.specs.Grammar.{IsSymbolOf};
-ghost use Rattle.cfgcosts.specs.Certificate.{rule_cost};
+ghost use Rattle.cfgsums.specs.Lists.{rule_cost};
 ghost use Rattle.cfgcosts.specs.Generator.{token_cost};
 ghost use Rattle.cfgcosts.specs.Minimal.{AreTightProductions, IsTight, place_of};
 ghost use Rattle.cfgcosts.specs.Open.{IsCutSum};
-ghost use Rattle.cfgcosts.specs.Sums.{sum_of, symbol_cost};
+ghost use Rattle.cfgsums.specs.Sums.{sum_of, symbol_cost};
 
 use crate::generator::SentenceGenerator;
 use crate::partial::Partial;

@@ -1,4 +1,4 @@
 //! What the sentences of rules cost, minimal sentences, and the certificate of least costs.
 
 pub use cfgcosts::{CostError, SentenceError, check_least, check_reached};
-pub use cfggreatest::{SentenceGenerator, min_sentence_over};
+pub use cfgsentences::{SentenceGenerator, min_sentence_over};

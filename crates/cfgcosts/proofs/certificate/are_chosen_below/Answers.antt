@@ -1,7 +1,8 @@
 use Rattle.std.proofs.Common.{map, length, refl, sym, ◌∙◌, true≢false}
 use Rattle.cfganalysis.specs.Symbols.{sym_of}
-use Rattle.cfgcosts.specs.Certificate.{IsListed, IsChosenBelow, choice_of}
-use Rattle.cfgcosts.proofs.Rows.{shown_holds, shown_more, shown_all}
+use Rattle.cfgsums.specs.Lists.{IsListed}
+use Rattle.cfgcosts.specs.Certificate.{IsChosenBelow, choice_of}
+use Rattle.cfgsums.proofs.Rows.{shown_holds, shown_more, shown_all}
 use Rattle.cfgcosts.proofs.certificate.are_chosen_below.Goals as goal
 
 pub is_chosen_below-requires : goal.is_chosen_below-requires

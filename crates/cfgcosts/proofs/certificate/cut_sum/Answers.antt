@@ -1,9 +1,9 @@
 use Rattle.std.proofs.Common.{map, min, ◌+◌, length, subst, sym, ap, ◌∙◌}
 use Rattle.std.specs.List.{slice_index}
 use Rattle.cfganalysis.specs.Symbols.{sym_of}
-use Rattle.cfgcosts.specs.Sums.{symbol_cost}
-use Rattle.cfgcosts.specs.Certificate.{IsListed, rule_cost}
-use Rattle.cfgcosts.proofs.Rows.{next_shown, shown_holds}
+use Rattle.cfgsums.specs.Sums.{symbol_cost}
+use Rattle.cfgsums.specs.Lists.{IsListed, rule_cost}
+use Rattle.cfgsums.proofs.Rows.{next_shown, shown_holds}
 use Rattle.cfgcosts.proofs.Cut.{SumSoFar, sum_one}
 use Rattle.cfgcosts.proofs.certificate.cut_sum.Goals as goal
 

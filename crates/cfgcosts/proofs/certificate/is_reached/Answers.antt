@@ -1,8 +1,10 @@
 use Rattle.std.proofs.Common.{◌≡◌, map, subst, sym, ◌∙◌, List, All, Some, true≢false}
 use Rattle.derivation.specs.Grammar.{Sym}
 use Rattle.cfganalysis.specs.Symbols.{sym_of}
-use Rattle.cfgcosts.specs.Certificate.{IsListed, IsChosenBelow, choice_of, sum_by_lists}
-use Rattle.cfgcosts.proofs.Certified.{symbols_listed, rests_from_reached, reached_from_rests}
+use Rattle.cfgsums.specs.Lists.{IsListed, sum_by_lists}
+use Rattle.cfgcosts.specs.Certificate.{IsChosenBelow, choice_of}
+use Rattle.cfgsums.proofs.Listed.{symbols_listed}
+use Rattle.cfgcosts.proofs.Certified.{rests_from_reached, reached_from_rests}
 use Rattle.cfgcosts.proofs.certificate.is_reached.Goals as goal
 
 pub are_chosen_below-requires : goal.are_chosen_below-requires

@@ -2,7 +2,8 @@ use Rattle.std.proofs.Common.{◌≡◌, ℕ, List, [], None, Option, map, repli
 use Rattle.std.specs.List.{slice_index}
 use Rattle.std.proofs.lemmas.List.{length-replicate}
 use Rattle.std.proofs.lemmas.List.Sorted.{length_permutation}
-use Rattle.cfgcosts.specs.Certificate.{choice_of, rule_cost}
+use Rattle.cfgsums.specs.Lists.{rule_cost}
+use Rattle.cfgcosts.specs.Certificate.{choice_of}
 use Rattle.cfgcosts.specs.Open.{AreAllOpen, AreOpen}
 use Rattle.cfgcosts.proofs.Chosen.{none_chosen_yet}
 use Rattle.cfgcosts.proofs.Opened.{finished}

@@ -1,6 +1,7 @@
 use Rattle.std.proofs.Common.{◌≡◌, map, length}
 use Rattle.std.specs.List.{slice_index}
-use Rattle.cfgcosts.specs.Certificate.{choice_of, rule_cost}
+use Rattle.cfgsums.specs.Lists.{rule_cost}
+use Rattle.cfgcosts.specs.Certificate.{choice_of}
 use Rattle.cfgcosts.specs.Open.{AreAllOpen, AreInput, count_open}
 use Rattle.cfgcosts.specs.Settled.{AreChosen}
 use Rattle.cfgcosts.proofs.settle.settle.Given as goal

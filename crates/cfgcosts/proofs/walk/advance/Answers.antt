@@ -3,9 +3,9 @@ use Rattle.std.proofs.lemmas.Result.{on_ok_weaker}
 use Rattle.std.specs.List.{slice_index}
 use Rattle.derivation.specs.Grammar.{Sym}
 use Rattle.cfganalysis.specs.Openings.{nth_production}
-use Rattle.cfgcosts.specs.Certificate.{rule_cost}
+use Rattle.cfgsums.specs.Lists.{rule_cost}
 use Rattle.cfgcosts.specs.Open.{IsCutSum, StopsAt, MovesOn, enters, waits}
-use Rattle.cfgcosts.proofs.Certified.{symbols_listed}
+use Rattle.cfgsums.proofs.Listed.{symbols_listed}
 use Rattle.cfgcosts.proofs.Walked.{stop_listed, stop_waits}
 use Rattle.cfgcosts.proofs.walk.advance.Goals as goal
 

@@ -1,6 +1,6 @@
 use Rattle.std.proofs.Common.{◌<◌, ◌≤◌, length, arith, refl, ◌∙◌}
 use Rattle.std.specs.List.{slice_index}
-use Rattle.cfgcosts.specs.Certificate.{rule_cost}
+use Rattle.cfgsums.specs.Lists.{rule_cost}
 use Rattle.cfgcosts.proofs.Walked.{start_more, lists_moved, all_open}
 use Rattle.cfgcosts.proofs.walk.start.Goals as goal
 

@@ -2,7 +2,7 @@ use Rattle.std.proofs.Common.{get_or, arith, ◌∙◌}
 use Rattle.std.specs.List.{slice_index}
 use Rattle.std.proofs.lemmas.List.{get_or_default}
 use Rattle.cfgcosts.specs.declared.partial.Partial.{Partial}
-use Rattle.cfgcosts.specs.Certificate.{rule_cost}
+use Rattle.cfgsums.specs.Lists.{rule_cost}
 use Rattle.cfgcosts.proofs.Walked.{wake_more, wake_all, lists_moved, count_moved}
 use Rattle.cfgcosts.proofs.walk.wake.Goals as goal
 

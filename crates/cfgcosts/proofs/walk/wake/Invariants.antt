@@ -1,6 +1,6 @@
 use Rattle.std.proofs.Common.{◌≡◌, ◌+◌, length}
 use Rattle.std.specs.List.{slice_index}
-use Rattle.cfgcosts.specs.Certificate.{rule_cost}
+use Rattle.cfgsums.specs.Lists.{rule_cost}
 use Rattle.cfgcosts.specs.Open.{AreWaking, count_open}
 use Rattle.cfgcosts.proofs.walk.wake.Given as goal
 

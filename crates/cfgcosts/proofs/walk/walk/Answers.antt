@@ -1,8 +1,8 @@
 use Rattle.std.proofs.Common.{◌≡◌, ◌+◌, min, map, length, arith}
 use Rattle.std.specs.List.{slice_index}
 use Rattle.cfganalysis.specs.Symbols.{sym_of}
-use Rattle.cfgcosts.specs.Certificate.{IsListed, rule_cost}
-use Rattle.cfgcosts.proofs.Rows.{shown_at, shown_within, shown_holds}
+use Rattle.cfgsums.specs.Lists.{IsListed, rule_cost}
+use Rattle.cfgsums.proofs.Rows.{shown_at, shown_within, shown_holds}
 use Rattle.cfgcosts.proofs.Walked.{cut_more}
 use Rattle.cfgcosts.proofs.walk.walk.Goals as goal
 

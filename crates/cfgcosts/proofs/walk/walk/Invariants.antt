@@ -1,7 +1,7 @@
 use Rattle.std.proofs.Common.{map, take}
 use Rattle.std.specs.List.{slice_index}
 use Rattle.cfganalysis.specs.Symbols.{sym_of}
-use Rattle.cfgcosts.specs.Certificate.{rule_cost}
+use Rattle.cfgsums.specs.Lists.{rule_cost}
 use Rattle.cfgcosts.specs.Open.{IsCutSum}
 use Rattle.cfgcosts.proofs.walk.walk.Given as goal
 

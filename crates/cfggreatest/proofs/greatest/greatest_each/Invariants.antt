@@ -1,5 +1,5 @@
 use Rattle.std.proofs.Common.{◌≡◌, ℕ, ◌<◌, length, get_or}
-use Rattle.cfgcosts.specs.Certificate.{rule_cost}
+use Rattle.cfgsums.specs.Lists.{rule_cost}
 use Rattle.cfggreatest.specs.Rows.{in_set}
 use Rattle.cfggreatest.specs.Words.{IsReadOff}
 use Rattle.cfggreatest.specs.declared.greatest.GreatestCost.TheVariants as told

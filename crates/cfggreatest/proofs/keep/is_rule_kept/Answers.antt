@@ -7,8 +7,8 @@ use Rattle.cfggreatest.specs.Peel.{Keeps}
 use Rattle.cfggreatest.proofs.Keeping.{places_more, rule_kept}
 use Rattle.cfganalysis.specs.Symbols.{sym_of}
 use Rattle.cfganalysis.proofs.Slices.{mapped_all, mapped_at, mapped_within}
-use Rattle.cfgcosts.specs.Certificate.{IsListed}
-use Rattle.cfgcosts.proofs.Certified.{symbols_listed}
+use Rattle.cfgsums.specs.Lists.{IsListed}
+use Rattle.cfgsums.proofs.Listed.{symbols_listed}
 use Rattle.cfggreatest.proofs.keep.is_rule_kept.Goals as goal
 
 pub prod-requires : goal.prod-requires

@@ -1,8 +1,8 @@
 use Rattle.std.proofs.Common.{◌<◌, ℕ, All, map, length, sym, subst, ap, ◌∙◌, arith}
 use Rattle.cfganalysis.specs.Symbols.{sym_of}
 use Rattle.cfganalysis.proofs.Slices.{mapped_all}
-use Rattle.cfgcosts.specs.Certificate.{IsListed}
-use Rattle.cfgcosts.proofs.Certified.{symbols_listed}
+use Rattle.cfgsums.specs.Lists.{IsListed}
+use Rattle.cfgsums.proofs.Listed.{symbols_listed}
 use Rattle.cfggreatest.proofs.order.reach_from.Goals as goal
 
 pub prod-requires : goal.prod-requires

@@ -1,7 +1,7 @@
 use Rattle.std.proofs.Common.{◌<◌, ℕ, All, map, length, sym, subst}
 use Rattle.cfganalysis.specs.Symbols.{sym_of}
-use Rattle.cfgcosts.specs.Certificate.{IsListed}
-use Rattle.cfgcosts.proofs.Rows.{shown_holds}
+use Rattle.cfgsums.specs.Lists.{IsListed}
+use Rattle.cfgsums.proofs.Rows.{shown_holds}
 use Rattle.cfggreatest.proofs.order.reach_symbols.Goals as goal
 
 pub reach-requires-clause-rule : goal.reach-requires-clause-rule

@@ -1,6 +1,6 @@
 use Rattle.std.proofs.Common.{length}
-use Rattle.cfgcosts.specs.Certificate.{IsListed}
-use Rattle.cfgcosts.proofs.Rows.{shown_holds}
+use Rattle.cfgsums.specs.Lists.{IsListed}
+use Rattle.cfgsums.proofs.Rows.{shown_holds}
 use Rattle.cfggreatest.proofs.peel.are_live.Goals as goal
 
 pub is_live-requires : goal.is_live-requires

@@ -2,8 +2,8 @@ use Rattle.std.proofs.Common.{◌<◌, length, subst, sym, ap, ◌∙◌, All, m
 use Rattle.cfganalysis.specs.Symbols.{sym_of}
 use Rattle.cfganalysis.specs.Openings.{nth_production}
 use Rattle.cfganalysis.proofs.Settling.{at_place, sweep_one}
-use Rattle.cfgcosts.specs.Certificate.{IsListed}
-use Rattle.cfgcosts.proofs.Certified.{symbols_listed}
+use Rattle.cfgsums.specs.Lists.{IsListed}
+use Rattle.cfgsums.proofs.Listed.{symbols_listed}
 use Rattle.cfggreatest.proofs.Removing.{takes_out}
 use Rattle.cfggreatest.proofs.peel.peel_round.Goals as goal
 

@@ -1,9 +1,9 @@
 use Rattle.std.proofs.Common.{map, length, subst, sym, ◌∙◌}
 use Rattle.std.specs.List.{slice_index}
 use Rattle.cfganalysis.specs.Symbols.{sym_of}
-use Rattle.cfgcosts.specs.Sums.{symbol_cost}
-use Rattle.cfgcosts.specs.Certificate.{IsListed, rule_cost}
-use Rattle.cfgcosts.proofs.Rows.{next_shown, shown_holds}
+use Rattle.cfgsums.specs.Sums.{symbol_cost}
+use Rattle.cfgsums.specs.Lists.{IsListed, rule_cost}
+use Rattle.cfgsums.proofs.Rows.{next_shown, shown_holds}
 use Rattle.cfggreatest.proofs.CutTo.{SumTo, sum_to_one}
 use Rattle.cfggreatest.proofs.rounds.top_sum.Goals as goal
 

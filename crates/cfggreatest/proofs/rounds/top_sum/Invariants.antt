@@ -1,8 +1,8 @@
 use Rattle.std.proofs.Common.{map, drop}
 use Rattle.std.specs.List.{slice_index}
 use Rattle.cfganalysis.specs.Symbols.{sym_of}
-use Rattle.cfgcosts.specs.Sums.{symbol_cost}
-use Rattle.cfgcosts.specs.Certificate.{rule_cost}
+use Rattle.cfgsums.specs.Sums.{symbol_cost}
+use Rattle.cfgsums.specs.Lists.{rule_cost}
 use Rattle.cfggreatest.proofs.CutTo.{SumTo}
 use Rattle.cfggreatest.proofs.rounds.top_sum.Given as goal
 

@@ -1,7 +1,7 @@
 use Rattle.std.proofs.Common.{◌<◌, ℕ, All, map, length, sym, subst, ap, ◌∙◌}
 use Rattle.cfganalysis.specs.Symbols.{sym_of}
-use Rattle.cfgcosts.specs.Certificate.{IsListed}
-use Rattle.cfgcosts.proofs.Rows.{shown_holds}
+use Rattle.cfgsums.specs.Lists.{IsListed}
+use Rattle.cfgsums.proofs.Rows.{shown_holds}
 use Rattle.cfggreatest.proofs.uses.add_uses.Goals as goal
 
 pub add_use-requires : goal.add_use-requires

@@ -10,7 +10,7 @@ mod tables;
 
 pub use cfganalysis::{CountedTables, Productions, Tables};
 pub use cfgast::{AssocKind, Precedence};
-pub use cfggreatest::SentenceGenerator;
+pub use cfgsentences::SentenceGenerator;
 pub use iter::{PIdxIter, RIdxIter, TIdxIter};
 pub use tables::YaccGrammar;
 

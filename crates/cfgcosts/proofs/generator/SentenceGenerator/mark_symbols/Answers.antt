@@ -3,7 +3,7 @@ use Rattle.cfganalysis.specs.Symbols.{sym_of}
 use Rattle.cfgcosts.specs.Minimal.{IsNoted, KeepsMarks, count_unmarked}
 use Rattle.cfgcosts.proofs.Marks.{keeps_both}
 use Rattle.cfgcosts.proofs.Passes.{passes_next, passes_end}
-use Rattle.cfgcosts.proofs.Rows.{shown_holds}
+use Rattle.cfgsums.proofs.Rows.{shown_holds}
 use Rattle.cfgcosts.proofs.generator.SentenceGenerator.mark_symbols.Goals as goal
 
 pub mark_symbol-changed-requires-clause-symbol : goal.mark_symbol-changed-requires-clause-symbol

@@ -1,9 +1,9 @@
 use Rattle.std.proofs.Common.{map, sym, ap, ◌∙◌}
 use Rattle.std.specs.List.{slice_index}
 use Rattle.cfganalysis.specs.Symbols.{sym_of}
-use Rattle.cfgcosts.specs.Certificate.{rule_cost}
+use Rattle.cfgsums.specs.Lists.{rule_cost}
 use Rattle.cfgcosts.specs.Generator.{CostTables, token_cost}
-use Rattle.cfgcosts.specs.Sums.{sum_of, symbol_cost}
+use Rattle.cfgsums.specs.Sums.{sum_of, symbol_cost}
 use Rattle.cfgcosts.proofs.Tight.{stops_none}
 use Rattle.cfgcosts.proofs.generator.SentenceGenerator.row_cost.Goals as goal
 

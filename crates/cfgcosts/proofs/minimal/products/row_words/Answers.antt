@@ -4,7 +4,7 @@ use Rattle.derivation.specs.Grammar.{IsSymbolOf}
 use Rattle.cfganalysis.specs.Symbols.{sym_of}
 use Rattle.cfgcosts.specs.Minimal.{numbers_of}
 use Rattle.cfgcosts.proofs.Joins.{AreCut, cut_none, cut_more}
-use Rattle.cfgcosts.proofs.Rows.{shown_holds}
+use Rattle.cfgsums.proofs.Rows.{shown_holds}
 use Rattle.cfgcosts.proofs.minimal.products.row_words.Goals as goal
 
 pub loop-symbol-init : goal.loop-symbol-init

@@ -1,6 +1,6 @@
 use Rattle.std.proofs.Common.{[], ◌∷◌, ◌++◌, slice_set, sym, ap, ◌∙◌}
 use Rattle.cfgcosts.specs.Open.{items_of}
-use Rattle.cfgcosts.proofs.Rows.{item_shown, set_shown}
+use Rattle.cfgsums.proofs.Rows.{item_shown, set_shown}
 use Rattle.cfgcosts.proofs.waiting.Waiting.add.Goals as goal
 
 pub returns : goal.returns

@@ -1,6 +1,6 @@
 use Rattle.std.proofs.Common.{slice_set, ap, ◌∙◌}
 use Rattle.cfgcosts.specs.Open.{items_of}
-use Rattle.cfgcosts.proofs.Rows.{set_shown}
+use Rattle.cfgsums.proofs.Rows.{set_shown}
 use Rattle.cfgcosts.proofs.waiting.Waiting.take.Goals as goal
 
 pub returns-clause-rest : goal.returns-clause-rest

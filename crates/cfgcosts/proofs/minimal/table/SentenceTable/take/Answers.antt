@@ -4,7 +4,7 @@ use Rattle.std.proofs.lemmas.Bool.{cases_lt}
 use Rattle.cfgcosts.specs.Minimal.{dictionary, numbers_of, set_of}
 use Rattle.cfgcosts.proofs.Inserted.{order_shown, sorted_shown}
 use Rattle.cfgcosts.proofs.Popped.{none_left}
-use Rattle.cfgcosts.proofs.Rows.{item_shown}
+use Rattle.cfgsums.proofs.Rows.{item_shown}
 use Rattle.cfgcosts.proofs.minimal.table.SentenceTable.take.Goals as goal
 
 pub returns-clause-order : goal.returns-clause-order

@@ -1,6 +1,6 @@
 use Rattle.cfggreatest.specs.declared.greatest.GreatestCost.TheVariants as told
-use Rattle.cfggreatest.proofs.Telling.{answer_at}
-use Rattle.cfggreatest.proofs.generator.SentenceGenerator.max_sentence_cost.Goals as goal
+use Rattle.cfgsentences.proofs.Answering.{answer_at}
+use Rattle.cfgsentences.proofs.generator.SentenceGenerator.max_sentence_cost.Goals as goal
 
 pub returns-clause-none : goal.returns-clause-none
 returns-clause-none g c = answer_at c.self.inside.least c.args.self.now c.self.view_is c.self.inside.greatest.items c.self.invariant (g.S.Storage.number c.args.rule.0)

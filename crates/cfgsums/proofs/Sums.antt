@@ -1,7 +1,7 @@
 -- Sums of costs, some of which may be missing.
 use Rattle.std.proofs.Common.{◌≡◌, ℕ, ◌+◌, List, [], ◌∷◌, ◌++◌, Option, Some, None, arith, refl, sym, ap, ◌∙◌}
 use Rattle.derivation.specs.Grammar.{Sym}
-use Rattle.cfgcosts.specs.Sums.{plus, sum_of}
+use Rattle.cfgsums.specs.Sums.{plus, sum_of}
 
 -- a sum that is there has its two parts
 pub record PlusParts (a b : Option ℕ) (n : ℕ) : Type 0 where

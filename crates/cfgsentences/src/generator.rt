@@ -8,15 +8,16 @@ ghost use Rattle.derivation.specs.Sentence.{cost_of};
 ghost use Rattle.derivation.specs.Costs.{Greatest, Least, Minimal, Unbounded};
 ghost use Rattle.std.specs.List.Sorted.{IsStrictlySortedBy};
 ghost use Rattle.std.specs.Result.{result_ok};
-ghost use Rattle.cfgcosts.specs.Certificate.{IsCovered, IsReached, choice_of, rule_choice, rule_cost};
+ghost use Rattle.cfgsums.specs.Lists.{rule_cost};
+ghost use Rattle.cfgcosts.specs.Certificate.{IsCovered, IsReached, choice_of, rule_choice};
 ghost use Rattle.cfgcosts.specs.Minimal.{dictionary, numbers_of};
 ghost use Rattle.cfgcosts.specs.Generator.{HasNone, IsLeastProduction, IsTooDear, choice_answer, cost_answer};
 ghost use Rattle.cfgcosts.specs.Generator.{token_cost};
-ghost use Rattle.cfggreatest.specs.Words.{in_answer};
+ghost use Rattle.cfgsentences.specs.Words.{in_answer};
 
-use crate::greatest::{GreatestCost, told_costs};
 use cfganalysis::Tables;
 use cfgcosts::{CostError, SentenceError, SentenceGenerator as LeastCosts};
+use cfggreatest::{GreatestCost, greatest_costs};
 use cfgindex::{PIdx, RIdx, Storage, TIdx};
 use std::alloc::{AllocError, Global};
 use std::marker::Model;
@@ -72,7 +73,7 @@ impl<'a, S: Storage, T: Tables<S>> SentenceGenerator<'a, S, T> {
             → F.post cost t (token_cost x (S.number t.0))) }
     {
         let least = LeastCosts::new(alloc, tables, cost)?;
-        let greatest = told_costs(alloc, tables, least.token_costs())?;
+        let greatest = greatest_costs(alloc, tables, least.token_costs())?;
         Ok(SentenceGenerator { least, greatest })
     }
 

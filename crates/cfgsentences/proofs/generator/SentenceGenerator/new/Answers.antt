@@ -1,4 +1,4 @@
-use Rattle.cfggreatest.proofs.generator.SentenceGenerator.new.Goals as goal
+use Rattle.cfgsentences.proofs.generator.SentenceGenerator.new.Goals as goal
 
 pub returns-clause-costs : goal.returns-clause-costs
 returns-clause-costs g c = c.in_ok-least.ensures.costs

@@ -1,0 +1,4 @@
+pub mod Sums
+pub mod Made
+pub mod Rows
+pub mod Listed
