@@ -3,14 +3,16 @@ use Rattle.std.proofs.Common.{◌≡◌, ℕ, ◌<◌, ◌≤◌, List, [], ◌�
 use Rattle.std.specs.Prelude.{IsErrAnd}
 use Rattle.std.specs.Borrow.{Bor}
 use Rattle.std.specs.Str.{IsUtf8}
-use Rattle.cfgtool.specs.declared.engine.Outcome.{Outcome}
-use Rattle.cfgtool.specs.declared.engine.ReportFault.{ReportFault}
-use Rattle.cfgtool.specs.declared.program.RunFault.{RunFault}
-use Rattle.cfgtool.specs.declared.source.Input.{Input}
-use Rattle.cfgtool.specs.declared.source.Input.TheVariants as input
-use Rattle.cfgtool.specs.declared.words.Command.{Command}
-use Rattle.cfgtool.specs.declared.words.KindArg.{KindArg}
-use Rattle.cfgtool.specs.Run.{Ending, HandlesWords, HandlesNames, HandlesInput, EndsReported, kind_named, command_named, ending_in, ending_of, ending_with}
+use Rattle.cfgshell.specs.declared.outcome.Outcome.{Outcome}
+use Rattle.cfgshell.specs.declared.outcome.ReportFault.{ReportFault}
+use Rattle.cfgshell.specs.declared.faults.RunFault.{RunFault}
+use Rattle.cfgshell.specs.declared.source.Input.{Input}
+use Rattle.cfgshell.specs.declared.source.Input.TheVariants as input
+use Rattle.cfgshell.specs.declared.words.Command.{Command}
+use Rattle.cfgshell.specs.declared.words.KindArg.{KindArg}
+use Rattle.cfgshell.specs.Endings.{Ending, ending_in, ending_of, ending_with}
+use Rattle.cfgshell.specs.Words.{kind_named, command_named}
+use Rattle.cfgtool.specs.Run.{HandlesWords, HandlesNames, HandlesInput, EndsReported}
 
 three_words : (words : List (Bor (List ℕ))) (d : Bor (List ℕ)) → 3 ≤ length words → length words < 4
     → map (λ word. word.now) words ≡ (get_or words 0 d).now ∷ ((get_or words 1 d).now ∷ ((get_or words 2 d).now ∷ []))

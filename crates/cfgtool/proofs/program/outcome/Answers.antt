@@ -1,7 +1,7 @@
 use Rattle.std.proofs.Common.{Ok, Err, refl, sym, subst}
 use Rattle.std.specs.Str.{IsUtf8}
 use Rattle.std.proofs.KnownBytes.{Keeps-refl}
-use Rattle.cfgtool.specs.declared.source.Input.TheVariants.{Bytes}
+use Rattle.cfgshell.specs.declared.source.Input.TheVariants.{Bytes}
 use Rattle.cfgtool.proofs.Handled.{handled, text_handled, ended_with}
 use Rattle.cfgtool.proofs.program.outcome.Goals as goal
 
