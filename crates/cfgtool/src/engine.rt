@@ -18,11 +18,10 @@ use crate::sentence_lines::sentence_lines;
 use cfgrammar::yacc::ast::{ASTWithValidityInfo, GrammarAST};
 use cfgrammar::yacc::parser::YaccFault;
 use cfgrammar::yacc::{YaccGrammar, YaccKind};
+pub use cfgshell::outcome::{Outcome, ReportFault};
 use cfgshell::sink::{Sink, write_whole};
 use cfgshell::words::{Command, KindArg};
 use std::alloc::{AllocError, Global};
-
-pub use cfgshell::outcome::{Outcome, ReportFault};
 
 /// Writes what the command tells of the text's grammar, whose indices have 32 bits, or else the errors of the text,
 /// each as a line.

@@ -10,8 +10,10 @@ pub mod sentence_lines;
 pub mod system;
 pub mod token_sets;
 
-pub use cfgshell::{Command, Counted, Input, KindArg, Outcome, ReportFault, Sink, SinkFault, Source};
-pub use cfgshell::{laws, sink, source, words};
+pub use cfgshell::{
+    Command, Counted, Input, KindArg, Outcome, ReportFault, Sink, SinkFault, Source, laws, sink,
+    source, words,
+};
 pub use engine::report;
 pub use program::run;
 pub use system::{Ended, run_over};
