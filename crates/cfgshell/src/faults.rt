@@ -11,7 +11,7 @@ use std::alloc::AllocError;
 
 /// Why a run told nothing.
 #[derive(Clone, Copy)]
-pub enum RunFault<'a> {
+pub(crate) enum RunFault<'a> {
     /// The words were wrong.
     Usage,
     /// The file of this name could not be read, for another cause than memory.
@@ -26,7 +26,7 @@ pub enum RunFault<'a> {
 
 impl RunFault<'_> {
     /// The status that the program ends with.
-    pub fn status(&self) -> u8
+    pub(crate) fn status(&self) -> u8
         ensures { result ≡ status_of (ending_with self.now) }
     {
         match self {
@@ -62,7 +62,7 @@ impl From<ReportFault> for RunFault<'_> {
 
 /// Why there are no words to run on.
 #[derive(Clone, Copy, Debug, PartialEq, Eq)]
-pub enum WordsFault {
+pub(crate) enum WordsFault {
     /// One of them is not UTF-8.
     NotUtf8,
     /// No memory was left for them.
@@ -78,7 +78,7 @@ impl From<AllocError> for WordsFault {
 }
 
 /// Ends a run that has no words, and answers its status. A line on why is written to `err`, as far as `err` takes it.
-pub fn refuse_words<E: Sink>(fault: WordsFault, err: &mut E) -> u8
+pub(crate) fn refuse_words<E: Sink>(fault: WordsFault, err: &mut E) -> u8
     requires { E.faults_counted err.old < 2 ^ 64 - 1 }
     ensures status { result ≡ status_of (ending_without fault) }
     ensures line { AppendsOrFaults (E.written err.old) (E.written err.new)
@@ -93,7 +93,7 @@ pub fn refuse_words<E: Sink>(fault: WordsFault, err: &mut E) -> u8
 }
 
 /// Writes the line of a fault.
-pub fn tell<E: Sink>(fault: &RunFault<'_>, err: &mut E) -> Result<(), SinkFault>
+pub(crate) fn tell<E: Sink>(fault: &RunFault<'_>, err: &mut E) -> Result<(), SinkFault>
     requires { E.faults_counted err.old < 2 ^ 64 - 1 }
     ensures { AppendsOrFaults (E.written err.old) (E.written err.new)
         (E.faults_counted err.old) (E.faults_counted err.new) (line_of (ending_with fault.now)) }

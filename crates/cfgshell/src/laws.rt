@@ -2,14 +2,12 @@
 //! the impl, as in `⟦<Command as PartialEq>⟧`, and holds of every value.
 
 ghost use Rattle.std.specs.Prelude.{◌≡◌, ◌↔◌, IsTrue};
-ghost use Rattle.cfgshell.specs.declared.faults.WordsFault.{WordsFault};
 ghost use Rattle.cfgshell.specs.declared.outcome.Outcome.{Outcome};
 ghost use Rattle.cfgshell.specs.declared.outcome.ReportFault.{ReportFault};
 ghost use Rattle.cfgshell.specs.declared.sink.SinkFault.{SinkFault};
 ghost use Rattle.cfgshell.specs.declared.words.Command.{Command};
 ghost use Rattle.cfgshell.specs.declared.words.KindArg.{KindArg};
 
-use crate::faults::WordsFault;
 use crate::outcome::{Outcome, ReportFault};
 use crate::sink::SinkFault;
 use crate::words::{Command, KindArg};
@@ -34,11 +32,4 @@ pub fn outcomes_are_told_apart()
     ensures cloned_fault { (a : ReportFault) → ⟦<ReportFault as Clone>⟧.is_infallible a }
     ensures equal_sinks { (a b : SinkFault) → IsTrue (⟦<SinkFault as PartialEq>⟧.eq a b) ↔ (a ≡ b) }
     ensures cloned_sink { (a : SinkFault) → ⟦<SinkFault as Clone>⟧.is_infallible a }
-{}
-
-/// Faults of words are equal exactly where they are the same. A clone is its source, and takes no memory.
-pub fn faults_of_words_are_told_apart()
-    ensures equal { (a b : WordsFault) → IsTrue (⟦<WordsFault as PartialEq>⟧.eq a b) ↔ (a ≡ b) }
-    ensures clone { (a b : WordsFault) → ⟦<WordsFault as Clone>⟧.is_clone a b → b ≡ a }
-    ensures cloned { (a : WordsFault) → ⟦<WordsFault as Clone>⟧.is_infallible a }
 {}

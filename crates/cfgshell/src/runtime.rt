@@ -1,13 +1,56 @@
-//! A runtime as the program sees it: its words, its files and its standard error.
+//! The program over a runtime: its words, its files and its streams.
 
-use crate::faults::WordsFault;
+ghost use Rattle.std.specs.Prelude.{◌≡◌, IfOk};
+ghost use Rattle.cfgshell.specs.Endings.{Ending, status_of};
+
+use crate::faults::{WordsFault, refuse_words};
+use crate::program::{Reporter, run};
+use crate::sink::Counted;
 use crate::source::{self, Source};
 use std::io::{self, Read, Write};
 use std::rt::{Env, Files};
 use std::{env, fs};
 
+/// Runs the program over a runtime, and answers its status: [`run`](crate::run) on the words behind the program's name,
+/// over the runtime's files, its standard input under the name `-`, its standard output and its standard error. Words
+/// that are not UTF-8 are wrong usage.
+pub fn run_over<R: Env + Files + Input + Print + Eprint + AllocGlobal, P: Reporter>(
+    rt: &R,
+    reporter: &P,
+) -> u8
+    ensures { (ending : Ending) × (result ≡ status_of ending) }
+{
+    match run_on_words(rt, reporter) {
+        Ok(status) => status,
+        Err(fault) => refuse_words(fault, &mut Counted::new(ErrorStream { rt })),
+    }
+}
+
+/// Runs the program on its words.
+///
+/// # Errors
+///
+/// Why there are no words; nothing is then read or written.
+fn run_on_words<R: Env + Files + Input + Print + Eprint + AllocGlobal, P: Reporter>(
+    rt: &R,
+    reporter: &P,
+) -> Result<u8, WordsFault>
+    ensures { IfOk result (λ status. (ending : Ending) × (status ≡ status_of ending)) }
+{
+    let words = words(rt)?;
+    let args: Vec<&str> = words.iter().map(|word| word.as_str()).collect(rt.alloc())?;
+    Ok(run(
+        rt.alloc(),
+        reporter,
+        &args,
+        &mut SystemFiles { rt },
+        &mut Counted::new(io::writer(rt)),
+        &mut Counted::new(ErrorStream { rt }),
+    ))
+}
+
 /// The words behind the program's name.
-pub fn words<R: Env + AllocGlobal>(rt: &R) -> Result<Vec<String>, WordsFault> {
+fn words<R: Env + AllocGlobal>(rt: &R) -> Result<Vec<String>, WordsFault> {
     match env::args(rt) {
         Ok(words) => Ok(words.skip(1).collect(rt.alloc())?),
         Err(error) if error.kind() == io::ErrorKind::OutOfMemory => Err(WordsFault::OutOfMemory),
@@ -17,9 +60,8 @@ pub fn words<R: Env + AllocGlobal>(rt: &R) -> Result<Vec<String>, WordsFault> {
 
 /// The files of a runtime, and its standard input under the name `-`.
 #[derive(Drop)]
-pub struct SystemFiles<'a, R> {
-    /// The runtime.
-    pub rt: &'a R,
+struct SystemFiles<'a, R> {
+    rt: &'a R,
 }
 
 impl<R: Files + Input + AllocGlobal> Source for SystemFiles<'_, R> {
@@ -45,9 +87,8 @@ impl<R: Files + Input + AllocGlobal> Source for SystemFiles<'_, R> {
 
 /// Standard error of a runtime. It takes text alone.
 #[derive(Drop)]
-pub struct ErrorStream<'a, R> {
-    /// The runtime.
-    pub rt: &'a R,
+struct ErrorStream<'a, R> {
+    rt: &'a R,
 }
 
 impl<R: Eprint> Write for ErrorStream<'_, R> {

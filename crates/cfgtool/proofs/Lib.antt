@@ -1,4 +1,3 @@
-pub mod Handled
 pub mod OfText
 pub mod SentenceTexts
 pub mod SentenceTokens

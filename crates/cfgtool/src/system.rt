@@ -1,14 +1,11 @@
-//! The program over a runtime: its words, its files and its streams.
+//! The program over a runtime.
 
-ghost use Rattle.std.specs.Prelude.{◌≡◌, IfOk};
+ghost use Rattle.std.specs.Prelude.{◌≡◌};
 ghost use Rattle.std.specs.Process.{exit_status};
 ghost use Rattle.cfgshell.specs.Endings.{Ending, status_of};
 
-use crate::program::run;
-use cfgshell::faults::{WordsFault, refuse_words};
-use cfgshell::runtime::{ErrorStream, SystemFiles, words};
-use cfgshell::sink::Counted;
-use std::io;
+use crate::program::Reports;
+use cfgshell::runtime;
 use std::process::{ExitCode, Termination};
 use std::rt::{Env, Files};
 
@@ -42,30 +39,6 @@ impl Termination for Ended {
 pub fn run_over<R: Env + Files + Input + Print + Eprint + AllocGlobal>(rt: &R) -> Ended
     ensures { (ending : Ending) × (result.status ≡ status_of ending) }
 {
-    let status = match run_on_words(rt) {
-        Ok(status) => status,
-        Err(fault) => refuse_words(fault, &mut Counted::new(ErrorStream { rt })),
-    };
+    let status = runtime::run_over(rt, &Reports);
     Ended { status }
-}
-
-/// Runs the program on its words.
-///
-/// # Errors
-///
-/// Why there are no words; nothing is then read or written.
-fn run_on_words<R: Env + Files + Input + Print + Eprint + AllocGlobal>(
-    rt: &R,
-) -> Result<u8, WordsFault>
-    ensures { IfOk result (λ status. (ending : Ending) × (status ≡ status_of ending)) }
-{
-    let words = words(rt)?;
-    let args: Vec<&str> = words.iter().map(|word| word.as_str()).collect(rt.alloc())?;
-    Ok(run(
-        rt.alloc(),
-        &args,
-        &mut SystemFiles { rt },
-        &mut Counted::new(io::writer(rt)),
-        &mut Counted::new(ErrorStream { rt }),
-    ))
 }
