@@ -1,5 +1,3 @@
-pub mod Beginnings
-pub mod Handled
 pub mod OfText
 pub mod SentenceTexts
 pub mod SentenceTokens

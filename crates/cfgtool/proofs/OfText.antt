@@ -5,10 +5,10 @@ use Rattle.cfgheader.specs.Named.{Naming}
 use Rattle.cfgerrors.specs.Errors.{GrammarError, header_error}
 use Rattle.cfgrammar.specs.GrammarOf.{HoldsOfNaming}
 use Rattle.cfgrammar.specs.Numbered.{Numbered}
-use Rattle.cfgtool.specs.declared.engine.Outcome.{Outcome}
-use Rattle.cfgtool.specs.declared.words.Command.{Command}
-use Rattle.cfgtool.specs.declared.words.KindArg.{KindArg}
-use Rattle.cfgtool.specs.declared.words.KindArg.TheVariants.{Named, Section}
+use Rattle.cfgshell.specs.declared.outcome.Outcome.{Outcome}
+use Rattle.cfgshell.specs.declared.words.Command.{Command}
+use Rattle.cfgshell.specs.declared.words.KindArg.{KindArg}
+use Rattle.cfgshell.specs.declared.words.KindArg.TheVariants.{Named, Section}
 use Rattle.cfgtool.specs.Report.{HoldsOfText, IsReport}
 
 module _ (text : List ℕ) (A B : List GrammarError → Syntax → Numbered → Type 0) (follows : (errors : List GrammarError) (s : Syntax) (g : Numbered) → A errors s g → B errors s g) where

@@ -4,4 +4,3 @@ pub mod FollowLines
 pub mod SentenceLines
 pub mod Report
 pub mod Run
-pub mod Sinks

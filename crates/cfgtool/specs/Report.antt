@@ -17,18 +17,18 @@ use Rattle.cfgrammar.specs.Fits.{Fits}
 use Rattle.cfgrammar.specs.GrammarOf.{HoldsOfItself, HoldsOfReading}
 use Rattle.cfgrammar.specs.Numbered.{Numbered, NumberedProduction}
 use Rattle.cfgrammar.specs.Shown.{production_text}
-use Rattle.cfgtool.specs.declared.engine.Outcome.{Outcome}
-use Rattle.cfgtool.specs.declared.engine.Outcome.TheVariants.{Done, Refused}
-use Rattle.cfgtool.specs.declared.engine.ReportFault.{ReportFault}
-use Rattle.cfgtool.specs.declared.engine.ReportFault.TheVariants as faults
-use Rattle.cfgtool.specs.declared.words.Command.{Command}
-use Rattle.cfgtool.specs.declared.words.Command.TheVariants.{Grammar, Firsts, Follows, Sentences, Warnings}
-use Rattle.cfgtool.specs.declared.words.KindArg.{KindArg}
-use Rattle.cfgtool.specs.declared.words.KindArg.TheVariants.{Named, Section}
+use Rattle.cfgshell.specs.declared.outcome.Outcome.{Outcome}
+use Rattle.cfgshell.specs.declared.outcome.Outcome.TheVariants.{Done, Refused}
+use Rattle.cfgshell.specs.declared.outcome.ReportFault.{ReportFault}
+use Rattle.cfgshell.specs.declared.outcome.ReportFault.TheVariants as faults
+use Rattle.cfgshell.specs.declared.words.Command.{Command}
+use Rattle.cfgshell.specs.declared.words.Command.TheVariants.{Grammar, Firsts, Follows, Sentences, Warnings}
+use Rattle.cfgshell.specs.declared.words.KindArg.{KindArg}
+use Rattle.cfgshell.specs.declared.words.KindArg.TheVariants.{Named, Section}
 use Rattle.cfgtool.specs.FirstLines.{AreFirstLines}
 use Rattle.cfgtool.specs.FollowLines.{AreFollowLines}
 use Rattle.cfgtool.specs.SentenceLines.{AreSentenceLines}
-use Rattle.cfgtool.specs.Sinks.{AppendsBeginning}
+use Rattle.cfgshell.specs.Sinks.{AppendsBeginning}
 
 -- This holds of a text: of its reading as the kind that is asked for, or else as the kind that it names itself.
 abbrev pub HoldsOfText : KindArg → List ℕ → (List GrammarError → Syntax → Numbered → Type 0) → Type 0
@@ -105,14 +105,3 @@ abbrev pub TellsText : KindArg → Command → List ℕ → Option (List ℕ) �
     → Type 0
 TellsText kind command text old new answer =
     HoldsOfText kind text (λ errors s g. Tells command text errors s g old new answer)
-
--- how many faults of its sink a report meets
-abbrev pub faults_met : Result Outcome ReportFault → ℕ
-faults_met (Ok outcome) = 0
-faults_met (Err faults.Write) = 1
-faults_met (Err faults.OutOfMemory) = 0
-
--- what `{}` prints of why a report was not told
-abbrev pub fault_text : ReportFault → List ℕ
-fault_text faults.Write = codes "cannot write"
-fault_text faults.OutOfMemory = codes "out of memory"

@@ -7,68 +7,21 @@ ghost use Rattle.cfgast.specs.View.{syntax};
 ghost use Rattle.cfgsyntax.specs.Spans.{EachParsedSpan};
 ghost use Rattle.cfgrammar.specs.GrammarOf.{HoldsOfItself, HoldsOfReading};
 ghost use Rattle.cfgrammar.specs.Numbered.{numbered};
-ghost use Rattle.cfgtool.specs.Report.{AreLinesOf, HoldsOfText, IsReport, TellsText, fault_text, faults_met};
-ghost use Rattle.cfgtool.specs.declared.engine.ReportFault.TheVariants as variants;
+ghost use Rattle.cfgtool.specs.Report.{AreLinesOf, HoldsOfText, IsReport, TellsText};
+ghost use Rattle.cfgshell.specs.Endings.{faults_met};
+ghost use Rattle.cfgshell.specs.declared.outcome.ReportFault.TheVariants as variants;
 
 use crate::first_lines::first_lines;
 use crate::follow_lines::follow_lines;
 use crate::lines::{error_lines, production_lines, warning_lines};
 use crate::sentence_lines::sentence_lines;
-use crate::sink::{Sink, SinkFault, write_whole};
-use crate::words::{Command, KindArg};
 use cfgrammar::yacc::ast::{ASTWithValidityInfo, GrammarAST};
 use cfgrammar::yacc::parser::YaccFault;
 use cfgrammar::yacc::{YaccGrammar, YaccKind};
+pub use cfgshell::outcome::{Outcome, ReportFault};
+use cfgshell::sink::{Sink, write_whole};
+use cfgshell::words::{Command, KindArg};
 use std::alloc::{AllocError, Global};
-use std::error::Error;
-use std::fmt;
-
-/// How a report ended.
-#[derive(Clone, Copy, Debug, PartialEq, Eq)]
-pub enum Outcome {
-    /// The text is a grammar, and what was asked for is told of it.
-    Done,
-    /// The text has errors, and they are told.
-    Refused,
-}
-
-/// Why a report was not told.
-#[derive(Clone, Copy, Debug, PartialEq, Eq)]
-pub enum ReportFault {
-    /// The sink did not take it whole.
-    Write,
-    /// No memory is left.
-    OutOfMemory,
-}
-
-impl fmt::Display for ReportFault {
-    ghost output = { λ fault. Some (fault_text fault) };
-
-    fn fmt<W: fmt::Write>(&self, f: &mut fmt::Formatter<W>) -> fmt::Result {
-        f.write_str(match self {
-            ReportFault::Write => "cannot write",
-            ReportFault::OutOfMemory => "out of memory",
-        })
-    }
-}
-
-impl Error for ReportFault {}
-
-impl From<AllocError> for ReportFault {
-    ghost from_gives = { λ _ fault. fault ≡ variants.OutOfMemory };
-
-    fn from(_: AllocError) -> Self {
-        ReportFault::OutOfMemory
-    }
-}
-
-impl From<SinkFault> for ReportFault {
-    ghost from_gives = { λ _ fault. fault ≡ variants.Write };
-
-    fn from(_: SinkFault) -> Self {
-        ReportFault::Write
-    }
-}
 
 /// Writes what the command tells of the text's grammar, whose indices have 32 bits, or else the errors of the text,
 /// each as a line.

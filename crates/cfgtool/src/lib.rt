@@ -4,19 +4,16 @@
 pub mod engine;
 pub mod first_lines;
 pub mod follow_lines;
-pub mod laws;
 pub mod lines;
 pub mod program;
 pub mod sentence_lines;
-pub mod sink;
-pub mod source;
 pub mod system;
 pub mod token_sets;
-pub mod words;
 
-pub use engine::{Outcome, ReportFault, report};
+pub use cfgshell::{
+    Command, Counted, Input, KindArg, Outcome, ReportFault, Sink, SinkFault, Source, laws, sink,
+    source, words,
+};
+pub use engine::report;
 pub use program::run;
-pub use sink::{Counted, Sink, SinkFault};
-pub use source::{Input, Source};
 pub use system::{Ended, run_over};
-pub use words::{Command, KindArg};

@@ -1,16 +1,13 @@
-//! The program over a runtime: its words, its files and its streams.
+//! The program over a runtime.
 
-ghost use Rattle.std.specs.Prelude.{◌≡◌, IfOk};
+ghost use Rattle.std.specs.Prelude.{◌≡◌};
 ghost use Rattle.std.specs.Process.{exit_status};
-ghost use Rattle.cfgtool.specs.Run.{Ending, status_of};
+ghost use Rattle.cfgshell.specs.Endings.{Ending, status_of};
 
-use crate::program::{WordsFault, refuse_words, run};
-use crate::sink::Counted;
-use crate::source::{self, Source};
-use std::io::{self, Read, Write};
+use crate::program::Reports;
+use cfgshell::runtime;
 use std::process::{ExitCode, Termination};
 use std::rt::{Env, Files};
-use std::{env, fs};
 
 /// That the program ended, and with which status. Only [`run_over`] makes one, so a `main` that answers one has run it.
 #[derive(Debug, Drop)]
@@ -42,86 +39,6 @@ impl Termination for Ended {
 pub fn run_over<R: Env + Files + Input + Print + Eprint + AllocGlobal>(rt: &R) -> Ended
     ensures { (ending : Ending) × (result.status ≡ status_of ending) }
 {
-    let status = match run_on_words(rt) {
-        Ok(status) => status,
-        Err(fault) => refuse_words(fault, &mut Counted::new(ErrorStream { rt })),
-    };
+    let status = runtime::run_over(rt, &Reports);
     Ended { status }
-}
-
-/// Runs the program on its words.
-///
-/// # Errors
-///
-/// Why there are no words; nothing is then read or written.
-fn run_on_words<R: Env + Files + Input + Print + Eprint + AllocGlobal>(
-    rt: &R,
-) -> Result<u8, WordsFault>
-    ensures { IfOk result (λ status. (ending : Ending) × (status ≡ status_of ending)) }
-{
-    let words = words(rt)?;
-    let args: Vec<&str> = words.iter().map(|word| word.as_str()).collect(rt.alloc())?;
-    Ok(run(
-        rt.alloc(),
-        &args,
-        &mut SystemFiles { rt },
-        &mut Counted::new(io::writer(rt)),
-        &mut Counted::new(ErrorStream { rt }),
-    ))
-}
-
-/// The words behind the program's name.
-fn words<R: Env + AllocGlobal>(rt: &R) -> Result<Vec<String>, WordsFault> {
-    match env::args(rt) {
-        Ok(words) => Ok(words.skip(1).collect(rt.alloc())?),
-        Err(error) if error.kind() == io::ErrorKind::OutOfMemory => Err(WordsFault::OutOfMemory),
-        Err(_) => Err(WordsFault::NotUtf8),
-    }
-}
-
-/// The files of a runtime, and its standard input under the name `-`.
-#[derive(Drop)]
-struct SystemFiles<'a, R> {
-    rt: &'a R,
-}
-
-impl<R: Files + Input + AllocGlobal> Source for SystemFiles<'_, R> {
-    fn fetch(&mut self, name: &str) -> source::Input {
-        let bytes = if name == "-" {
-            let mut bytes = Vec::new(self.rt.alloc());
-            match self.rt.reader().read_to_end(&mut bytes) {
-                Ok(_) => Ok(bytes),
-                Err(error) => Err(error),
-            }
-        } else {
-            fs::read(self.rt, name)
-        };
-        match bytes {
-            Ok(bytes) => source::Input::Bytes(bytes),
-            Err(error) if error.kind() == io::ErrorKind::OutOfMemory => {
-                source::Input::OutOfMemory
-            }
-            Err(_) => source::Input::Unreadable,
-        }
-    }
-}
-
-/// Standard error of a runtime. It takes text alone.
-#[derive(Drop)]
-struct ErrorStream<'a, R> {
-    rt: &'a R,
-}
-
-impl<R: Eprint> Write for ErrorStream<'_, R> {
-    fn write(&mut self, bytes: &[u8]) -> io::Result<usize> {
-        let Ok(text) = std::str::from_utf8(bytes) else {
-            return Err(io::Error::from(io::ErrorKind::InvalidData));
-        };
-        self.rt.eprint(text)?;
-        Ok(bytes.len())
-    }
-
-    fn flush(&mut self) -> io::Result<()> {
-        Ok(())
-    }
 }

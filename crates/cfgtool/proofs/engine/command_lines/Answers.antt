@@ -2,7 +2,7 @@ use Rattle.std.proofs.Common.{◌≡◌, All, IfOk, string_bytes, sym, subst, ap
 use Rattle.std.proofs.lemmas.Result.{IfOk-weaker}
 use Rattle.cfgwords.specs.Places.{IsPiece, IsWithin}
 use Rattle.cfgast.specs.View.{syntax}
-use Rattle.cfgtool.specs.declared.words.Command.{Command}
+use Rattle.cfgshell.specs.declared.words.Command.{Command}
 use Rattle.cfgtool.specs.Report.{AreLinesOf, AreWarningLines, EachWarningSpan, warning_lines}
 use Rattle.cfgtool.proofs.WarningPlaces.{warning_places}
 use Rattle.cfgtool.proofs.engine.command_lines.Goals as goal

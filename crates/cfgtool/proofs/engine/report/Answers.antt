@@ -2,9 +2,9 @@ use Rattle.std.proofs.Common.{Ok, Err, string_bytes, subst}
 use Rattle.std.specs.Io.KnownBytes.{Appends}
 use Rattle.std.proofs.KnownBytes.{Keeps-refl}
 use Rattle.std.proofs.lemmas.Result.{err_from_is_err_and}
-use Rattle.cfgtool.specs.declared.engine.ReportFault.TheVariants as faults
+use Rattle.cfgshell.specs.declared.outcome.ReportFault.TheVariants as faults
 use Rattle.cfgtool.specs.Report.{IsReport, Tells}
-use Rattle.cfgtool.specs.Sinks.{AppendsBeginning}
+use Rattle.cfgshell.specs.Sinks.{AppendsBeginning}
 use Rattle.cfgtool.proofs.OfText.{IsTold, of_text}
 use Rattle.cfgtool.proofs.engine.report.Goals as goal
 

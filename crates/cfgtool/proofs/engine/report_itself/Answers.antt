@@ -4,7 +4,7 @@ use Rattle.cfgwords.specs.Places.{IsPiece}
 use Rattle.cfgerrors.specs.declared.error.YaccFault.TheVariants as faults
 use Rattle.cfgsyntax.specs.Spans.{EachErrorSpan}
 use Rattle.cfgrammar.proofs.OfItself.{parsed_itself, refused_itself, refuses}
-use Rattle.cfgtool.specs.declared.engine.Outcome.TheVariants.{Refused}
+use Rattle.cfgshell.specs.declared.outcome.Outcome.TheVariants.{Refused}
 use Rattle.cfgtool.specs.Report.{IsReport, error_lines, greatest}
 use Rattle.cfgtool.proofs.OfText.{IsTold}
 use Rattle.cfgtool.proofs.engine.report_itself.Goals as goal

@@ -1,8 +1,8 @@
 use Rattle.std.proofs.Common.{inl, refl}
 use Rattle.std.proofs.KnownBytes.{Appends-nil}
-use Rattle.cfgtool.specs.Run.{Told}
-use Rattle.cfgtool.specs.declared.engine.Outcome.TheVariants.{Done, Refused}
-use Rattle.cfgtool.proofs.program.run.Goals as goal
+use Rattle.cfgshell.specs.Endings.{Told}
+use Rattle.cfgshell.specs.declared.outcome.Outcome.TheVariants.{Done, Refused}
+use Rattle.cfgshell.proofs.program.run.Goals as goal
 
 pub returns-in-Ok-Done-clause-ends : goal.returns-in-Ok-Done-clause-ends
 returns-in-Ok-Done-clause-ends g c =

@@ -3,7 +3,7 @@ use lib.Seq.{take-add, take-take}
 use Rattle.std.proofs.lemmas.Bool.Decides.{nat_tests}
 use Rattle.std.specs.Io.KnownBytes.{Appends}
 use Rattle.std.proofs.KnownBytes.{Appends-trans}
-use Rattle.cfgtool.proofs.sink.write_whole.Goals as goal
+use Rattle.cfgshell.proofs.sink.write_whole.Goals as goal
 
 -- a write that takes some bytes counts no fault
 no_fault : (n handed before after : ℕ) → (n ≡ 0 → ⊥) → after ≡ before + (if n == 0 && nat_lt 0 handed then 1 else 0) → after ≡ before

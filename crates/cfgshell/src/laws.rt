@@ -2,13 +2,13 @@
 //! the impl, as in `⟦<Command as PartialEq>⟧`, and holds of every value.
 
 ghost use Rattle.std.specs.Prelude.{◌≡◌, ◌↔◌, IsTrue};
-ghost use Rattle.cfgtool.specs.declared.engine.Outcome.{Outcome};
-ghost use Rattle.cfgtool.specs.declared.engine.ReportFault.{ReportFault};
-ghost use Rattle.cfgtool.specs.declared.sink.SinkFault.{SinkFault};
-ghost use Rattle.cfgtool.specs.declared.words.Command.{Command};
-ghost use Rattle.cfgtool.specs.declared.words.KindArg.{KindArg};
+ghost use Rattle.cfgshell.specs.declared.outcome.Outcome.{Outcome};
+ghost use Rattle.cfgshell.specs.declared.outcome.ReportFault.{ReportFault};
+ghost use Rattle.cfgshell.specs.declared.sink.SinkFault.{SinkFault};
+ghost use Rattle.cfgshell.specs.declared.words.Command.{Command};
+ghost use Rattle.cfgshell.specs.declared.words.KindArg.{KindArg};
 
-use crate::engine::{Outcome, ReportFault};
+use crate::outcome::{Outcome, ReportFault};
 use crate::sink::SinkFault;
 use crate::words::{Command, KindArg};
 

@@ -4,7 +4,7 @@ use Rattle.std.proofs.Common.{inl, inr, ◌≡◌, ℕ, ◌+◌, List, ◌++◌,
 use lib.Seq.{take-append-le, take-append-add}
 use Rattle.std.specs.Io.KnownBytes.{Appends}
 use Rattle.std.proofs.KnownBytes.{Appends-trans}
-use Rattle.cfgtool.specs.Sinks.{AppendsBeginning, AppendsOrFaults}
+use Rattle.cfgshell.specs.Sinks.{AppendsBeginning, AppendsOrFaults}
 
 -- a beginning of the first piece
 pub beginning_of_first : (a b : Option (List ℕ)) (xs ys : List ℕ) → AppendsBeginning a b xs → AppendsBeginning a b (xs ++ ys)

@@ -4,7 +4,7 @@ ghost use Rattle.std.specs.Prelude.{◌≡◌, ℕ, ◌+◌, ◌-◌, ◌^◌, �
 ghost use Rattle.std.specs.Prelude.{OnOk, codes, length};
 ghost use Rattle.std.specs.Io.{WritesAtMost};
 ghost use Rattle.std.specs.Io.KnownBytes.{Appends, WriteAppends};
-ghost use Rattle.cfgtool.specs.Sinks.{AppendsBeginning, faults_of};
+ghost use Rattle.cfgshell.specs.Sinks.{AppendsBeginning, faults_of};
 
 use std::error::Error;
 use std::fmt;
@@ -88,7 +88,7 @@ impl<W: Write> Sink for Counted<W> {
 }
 
 /// Writes all bytes, as many at a time as the sink takes. Where it takes nothing, that is a fault too.
-pub(crate) fn write_whole<W: Sink>(out: &mut W, bytes: &[u8]) -> Result<(), SinkFault>
+pub fn write_whole<W: Sink>(out: &mut W, bytes: &[u8]) -> Result<(), SinkFault>
     requires { W.faults_counted out.old < 2 ^ 64 - 1 }
     ensures ok { OnOk result (Appends (W.written out.old) (W.written out.new) bytes.now) }
     ensures ok_faults { OnOk result (W.faults_counted out.new ≡ W.faults_counted out.old) }

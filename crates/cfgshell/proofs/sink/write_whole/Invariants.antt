@@ -1,7 +1,7 @@
 -- Each turn takes some bytes, and counts no fault.
 use Rattle.std.proofs.Common.{◌≡◌, ◌-◌, ◌≤◌, length, take}
 use Rattle.std.specs.Io.KnownBytes.{Appends}
-use Rattle.cfgtool.proofs.sink.write_whole.Given as goal
+use Rattle.cfgshell.proofs.sink.write_whole.Given as goal
 
 abbrev pub invariant-loop-taken : goal.invariant-loop-taken
 invariant-loop-taken g l = record {

@@ -1,0 +1,80 @@
+-- How a report ends, and a run of the program: with which status, and with which line on standard error.
+use Rattle.std.specs.Prelude.{ℕ, List, [], ◌++◌, Result, Ok, Err, codes}
+use Rattle.cfgshell.specs.declared.faults.RunFault.{RunFault}
+use Rattle.cfgshell.specs.declared.faults.RunFault.TheVariants as why
+use Rattle.cfgshell.specs.declared.faults.WordsFault.{WordsFault}
+use Rattle.cfgshell.specs.declared.faults.WordsFault.TheVariants as words
+use Rattle.cfgshell.specs.declared.outcome.Outcome.{Outcome}
+use Rattle.cfgshell.specs.declared.outcome.Outcome.TheVariants.{Done, Refused}
+use Rattle.cfgshell.specs.declared.outcome.ReportFault.{ReportFault}
+use Rattle.cfgshell.specs.declared.outcome.ReportFault.TheVariants as faults
+
+-- how many faults of its sink a report meets
+abbrev pub faults_met : Result Outcome ReportFault → ℕ
+faults_met (Ok outcome) = 0
+faults_met (Err faults.Write) = 1
+faults_met (Err faults.OutOfMemory) = 0
+
+-- what `{}` prints of why a report was not told
+abbrev pub fault_text : ReportFault → List ℕ
+fault_text faults.Write = codes "cannot write"
+fault_text faults.OutOfMemory = codes "out of memory"
+
+-- how a run ends: with a report, or why there is none
+pub data Ending : Type 0 where
+  Told : Outcome → Ending
+  Usage : Ending
+  Unreadable : List ℕ → Ending
+  NotUtf8 : List ℕ → Ending
+  Unwritten : Ending
+  NoMemory : Ending
+
+abbrev pub status_of : Ending → ℕ
+status_of (Told Done) = 0
+status_of (Told Refused) = 1
+status_of Usage = 2
+status_of (Unreadable file) = 2
+status_of (NotUtf8 file) = 2
+status_of Unwritten = 2
+status_of NoMemory = 3
+
+-- the line on standard error, with FILE as it was given
+abbrev pub line_of : Ending → List ℕ
+line_of (Told outcome) = []
+line_of Usage = codes "usage: cfgtool KIND COMMAND FILE\n"
+line_of (Unreadable file) = codes "cfgtool: cannot read " ++ (file ++ codes "\n")
+line_of (NotUtf8 file) = codes "cfgtool: " ++ (file ++ codes " is not UTF-8\n")
+line_of Unwritten = codes "cfgtool: cannot write\n"
+line_of NoMemory = codes "cfgtool: out of memory\n"
+
+-- how a run ends that told nothing for this reason
+abbrev pub ending_with : RunFault → Ending
+ending_with why.Usage = Usage
+ending_with (why.Unreadable file) = Unreadable file.now
+ending_with (why.NotUtf8 file) = NotUtf8 file.now
+ending_with why.Write = Unwritten
+ending_with why.OutOfMemory = NoMemory
+
+-- how a run ends that has no words, for this reason: words that are no text are wrong usage
+abbrev pub ending_without : WordsFault → Ending
+ending_without words.NotUtf8 = Usage
+ending_without words.OutOfMemory = NoMemory
+
+abbrev pub ending_in : Result Outcome RunFault → Ending
+ending_in (Ok outcome) = Told outcome
+ending_in (Err fault) = ending_with fault
+
+-- how a run ends where this is what its report answers
+abbrev pub ending_of : Result Outcome ReportFault → Ending
+ending_of (Ok outcome) = Told outcome
+ending_of (Err faults.Write) = Unwritten
+ending_of (Err faults.OutOfMemory) = NoMemory
+
+-- how many faults of its output a run that ends so met
+abbrev pub faults_at : Ending → ℕ
+faults_at (Told outcome) = 0
+faults_at Usage = 0
+faults_at (Unreadable file) = 0
+faults_at (NotUtf8 file) = 0
+faults_at Unwritten = 1
+faults_at NoMemory = 0

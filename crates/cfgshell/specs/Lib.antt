@@ -1,0 +1,4 @@
+pub mod Sinks
+pub mod Words
+pub mod Endings
+pub mod Run

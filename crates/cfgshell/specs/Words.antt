@@ -1,0 +1,30 @@
+-- What the words of the program name.
+use Rattle.std.specs.Prelude.{ℕ, List, Option, Some, None, if◌then◌else◌, codes}
+use Rattle.std.specs.Str.{bytes_eq}
+use Rattle.cfgheader.specs.declared.kind.YaccKind.TheVariants.{Original, Grmtools, Eco}
+use Rattle.cfgheader.specs.declared.kind.YaccOriginalActionKind.TheVariants.{NoAction, UserAction, GenericParseTree}
+use Rattle.cfgshell.specs.declared.words.Command.{Command}
+use Rattle.cfgshell.specs.declared.words.Command.TheVariants.{Grammar, Firsts, Follows, Sentences, Warnings}
+use Rattle.cfgshell.specs.declared.words.KindArg.{KindArg}
+use Rattle.cfgshell.specs.declared.words.KindArg.TheVariants.{Named, Section}
+
+-- the kind that a word names
+abbrev pub kind_named : List ℕ → Option KindArg
+kind_named word =
+    if bytes_eq word (codes "original-noaction") then Some (Named (Original NoAction))
+    else if bytes_eq word (codes "original-useraction") then Some (Named (Original UserAction))
+    else if bytes_eq word (codes "original-genericparsetree") then Some (Named (Original GenericParseTree))
+    else if bytes_eq word (codes "grmtools") then Some (Named Grmtools)
+    else if bytes_eq word (codes "eco") then Some (Named Eco)
+    else if bytes_eq word (codes "section") then Some Section
+    else None
+
+-- the command that a word names
+unfoldable pub command_named : List ℕ → Option Command
+command_named word =
+    if bytes_eq word (codes "grammar") then Some Grammar
+    else if bytes_eq word (codes "firsts") then Some Firsts
+    else if bytes_eq word (codes "follows") then Some Follows
+    else if bytes_eq word (codes "sentences") then Some Sentences
+    else if bytes_eq word (codes "warnings") then Some Warnings
+    else None

@@ -1,0 +1,105 @@
+//! Why a run told nothing, and what it then tells.
+
+ghost use Rattle.std.specs.Prelude.{◌≡◌, ◌++◌, ◌+◌, ◌-◌, ◌^◌, ◌<◌, Err};
+ghost use Rattle.cfgshell.specs.Endings.{ending_of, ending_with, ending_without, line_of, status_of};
+ghost use Rattle.cfgshell.specs.Sinks.{AppendsOrFaults};
+ghost use Rattle.cfgshell.specs.declared.faults.WordsFault.TheVariants as words_fault;
+
+use crate::outcome::ReportFault;
+use crate::sink::{Sink, SinkFault, write_whole};
+use std::alloc::AllocError;
+
+/// Why a run told nothing.
+#[derive(Clone, Copy)]
+pub(crate) enum RunFault<'a> {
+    /// The words were wrong.
+    Usage,
+    /// The file of this name could not be read, for another cause than memory.
+    Unreadable(&'a str),
+    /// The file of this name is not UTF-8.
+    NotUtf8(&'a str),
+    /// The output did not take the report whole.
+    Write,
+    /// No memory is left.
+    OutOfMemory,
+}
+
+impl RunFault<'_> {
+    /// The status that the program ends with.
+    pub(crate) fn status(&self) -> u8
+        ensures { result ≡ status_of (ending_with self.now) }
+    {
+        match self {
+            RunFault::Usage | RunFault::Unreadable(_) | RunFault::NotUtf8(_) | RunFault::Write => 2,
+            RunFault::OutOfMemory => 3,
+        }
+    }
+
+    /// The line that tells it, in three parts: the file's name, as it was given, stands in the middle.
+    fn line(&self) -> (&str, &str, &str)
+        ensures { result.0.now ++ (result.1.now ++ result.2.now) ≡ line_of (ending_with self.now) }
+    {
+        match *self {
+            RunFault::Usage => ("usage: cfgtool KIND COMMAND FILE\n", "", ""),
+            RunFault::Unreadable(file) => ("cfgtool: cannot read ", file, "\n"),
+            RunFault::NotUtf8(file) => ("cfgtool: ", file, " is not UTF-8\n"),
+            RunFault::Write => ("cfgtool: cannot write\n", "", ""),
+            RunFault::OutOfMemory => ("cfgtool: out of memory\n", "", ""),
+        }
+    }
+}
+
+impl From<ReportFault> for RunFault<'_> {
+    ghost from_gives = { λ fault made. ending_with made ≡ ending_of (Err fault) };
+
+    fn from(fault: ReportFault) -> Self {
+        match fault {
+            ReportFault::Write => RunFault::Write,
+            ReportFault::OutOfMemory => RunFault::OutOfMemory,
+        }
+    }
+}
+
+/// Why there are no words to run on.
+#[derive(Clone, Copy, Debug, PartialEq, Eq)]
+pub(crate) enum WordsFault {
+    /// One of them is not UTF-8.
+    NotUtf8,
+    /// No memory was left for them.
+    OutOfMemory,
+}
+
+impl From<AllocError> for WordsFault {
+    ghost from_gives = { λ _ fault. fault ≡ words_fault.OutOfMemory };
+
+    fn from(_: AllocError) -> Self {
+        WordsFault::OutOfMemory
+    }
+}
+
+/// Ends a run that has no words, and answers its status. A line on why is written to `err`, as far as `err` takes it.
+pub(crate) fn refuse_words<E: Sink>(fault: WordsFault, err: &mut E) -> u8
+    requires { E.faults_counted err.old < 2 ^ 64 - 1 }
+    ensures status { result ≡ status_of (ending_without fault) }
+    ensures line { AppendsOrFaults (E.written err.old) (E.written err.new)
+        (E.faults_counted err.old) (E.faults_counted err.new) (line_of (ending_without fault)) }
+{
+    let fault = match fault {
+        WordsFault::NotUtf8 => RunFault::Usage,
+        WordsFault::OutOfMemory => RunFault::OutOfMemory,
+    };
+    let _ = tell(&fault, err);
+    fault.status()
+}
+
+/// Writes the line of a fault.
+pub(crate) fn tell<E: Sink>(fault: &RunFault<'_>, err: &mut E) -> Result<(), SinkFault>
+    requires { E.faults_counted err.old < 2 ^ 64 - 1 }
+    ensures { AppendsOrFaults (E.written err.old) (E.written err.new)
+        (E.faults_counted err.old) (E.faults_counted err.new) (line_of (ending_with fault.now)) }
+{
+    let (front, file, back) = fault.line();
+    write_whole(err, front.as_bytes())?;
+    write_whole(err, file.as_bytes())?;
+    write_whole(err, back.as_bytes())
+}
