@@ -12,10 +12,10 @@ use Rattle.cfgerrors.specs.Errors.{GrammarError}
 use Rattle.cfgerrors.specs.Texts.{error_text, warning_text}
 use Rattle.cfgerrors.specs.Warnings.{GrammarWarning}
 use Rattle.cfgrammar.specs.Answer.{IsRefused}
-use Rattle.cfgrammar.specs.Fits.{Fits}
+use Rattle.cfgnumbers.specs.Fits.{Fits}
 use Rattle.cfgrammar.specs.GrammarOf.{HoldsOfItself, HoldsOfReading}
-use Rattle.cfgrammar.specs.Numbered.{Numbered, NumberedProduction}
-use Rattle.cfgrammar.specs.Shown.{production_text}
+use Rattle.cfgnumbers.specs.Numbered.{Numbered, NumberedProduction}
+use Rattle.cfgnumbers.specs.Shown.{production_text}
 use Rattle.cfgtool.specs.declared.engine.Outcome.{Outcome}
 use Rattle.cfgtool.specs.declared.engine.Outcome.TheVariants.{Done, Refused}
 use Rattle.cfgtool.specs.declared.engine.ReportFault.{ReportFault}
