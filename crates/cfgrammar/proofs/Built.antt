@@ -12,18 +12,18 @@ use Rattle.cfgheader.specs.declared.kind.YaccKind.{YaccKind}
 use Rattle.cfgerrors.specs.declared.error.YaccFault.{YaccFault}
 use Rattle.cfgerrors.specs.declared.error.YaccFault.TheVariants as faults
 use Rattle.cfgrammar.specs.Answer.{IsAnswer, IsRefused, IsTooSmall}
-use Rattle.cfgrammar.specs.Fits.{Fits, LeavesRoom}
-use Rattle.cfgrammar.specs.Numbered.{Numbered, numbered, numbered_by, implicit_of, added_rules, file_rule, added_productions, file_production, file_token, end_token}
-use Rattle.cfgrammar.specs.View.{tables, rule_view, production_view, token_view}
-use Rattle.cfgrammar.specs.WellNumbered.{IsWellNumbered}
-use Rattle.cfgrammar.specs.declared.yacc.grammar.rows.RuleRow.{RuleRow}
-use Rattle.cfgrammar.specs.declared.yacc.grammar.rows.ProductionRow.{ProductionRow}
-use Rattle.cfgrammar.specs.declared.yacc.grammar.rows.TokenRow.{TokenRow}
-use Rattle.cfgrammar.proofs.Listed.{listed_once}
-use Rattle.cfgrammar.proofs.Names.{distinct_names}
-use Rattle.cfgrammar.proofs.Places.{implicit_there}
-use Rattle.cfgrammar.proofs.Room.{fits_from_room, room_from_fits}
-use Rattle.cfgrammar.proofs.Whole.{whole}
+use Rattle.cfgnumbers.specs.Fits.{Fits, LeavesRoom}
+use Rattle.cfgnumbers.specs.Numbered.{Numbered, numbered, numbered_by, implicit_of, added_rules, file_rule, added_productions, file_production, file_token, end_token}
+use Rattle.cfgnumbers.specs.View.{tables, rule_view, production_view, token_view}
+use Rattle.cfgnumbers.specs.WellNumbered.{IsWellNumbered}
+use Rattle.cfgnumbers.specs.declared.rows.RuleRow.{RuleRow}
+use Rattle.cfgnumbers.specs.declared.rows.ProductionRow.{ProductionRow}
+use Rattle.cfgnumbers.specs.declared.rows.TokenRow.{TokenRow}
+use Rattle.cfgnumbers.proofs.Listed.{listed_once}
+use Rattle.cfgnumbers.proofs.Names.{distinct_names}
+use Rattle.cfgnumbers.proofs.Places.{implicit_there}
+use Rattle.cfgnumbers.proofs.Room.{fits_from_room, room_from_fits}
+use Rattle.cfgnumbers.proofs.Whole.{whole}
 
 -- what holds of a syntax and of its implicit tokens
 pub of_both : (P : Syntax → Option (List (List ℕ)) → Type 0) (s t : Syntax) (implicit other : Option (List (List ℕ))) → s ≡ t → implicit ≡ other → P t other → P s implicit

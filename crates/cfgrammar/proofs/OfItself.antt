@@ -13,7 +13,7 @@ use Rattle.cfgsyntax.specs.Parsed.{Parsed}
 use Rattle.cfgreader.proofs.OneReading.{one_reading}
 use Rattle.cfgrammar.specs.Answer.{IsAnswer, IsRefused}
 use Rattle.cfgrammar.specs.GrammarOf.{HoldsOfReading, HoldsOfNaming, HoldsOfItself}
-use Rattle.cfgrammar.specs.Numbered.{Numbered, numbered}
+use Rattle.cfgnumbers.specs.Numbered.{Numbered, numbered}
 
 module _ (text : List ℕ) (Holds : List GrammarError → Syntax → Numbered → Type 0) where
   reading_holds : (kind : YaccKind) (parsed : Parsed) → IsParsedAs kind text parsed → Holds parsed.errors parsed.syntax (numbered parsed.kind parsed.syntax)

@@ -8,14 +8,14 @@ use Rattle.cfgindex.specs.declared.idxnewtype.PIdx.{PIdx}
 use Rattle.cfgindex.specs.declared.idxnewtype.RIdx.{RIdx}
 use Rattle.cfgast.specs.declared.settings.Settings.{Settings}
 use Rattle.derivation.specs.Grammar.{Rule, Token}
-use Rattle.cfgrammar.specs.Numbered.{Numbered, NumberedRule, NumberedToken, NumberedProduction}
-use Rattle.cfgrammar.specs.Fits.{Fits}
-use Rattle.cfgrammar.specs.Shown.{rule_part, token_part, production_part, sym_name}
-use Rattle.cfgrammar.specs.View.{rule_view, production_view, tables}
+use Rattle.cfgnumbers.specs.Numbered.{Numbered, NumberedRule, NumberedToken, NumberedProduction}
+use Rattle.cfgnumbers.specs.Fits.{Fits}
+use Rattle.cfgnumbers.specs.Shown.{rule_part, token_part, production_part, sym_name}
+use Rattle.cfgnumbers.specs.View.{rule_view, production_view, tables}
 use Rattle.cfganalysis.specs.Symbols.{sym_of}
-use Rattle.cfgrammar.specs.declared.yacc.grammar.rows.RuleRow.{RuleRow}
-use Rattle.cfgrammar.specs.declared.yacc.grammar.rows.ProductionRow.{ProductionRow}
-use Rattle.cfgrammar.specs.declared.yacc.grammar.rows.TokenRow.{TokenRow}
+use Rattle.cfgnumbers.specs.declared.rows.RuleRow.{RuleRow}
+use Rattle.cfgnumbers.specs.declared.rows.ProductionRow.{ProductionRow}
+use Rattle.cfgnumbers.specs.declared.rows.TokenRow.{TokenRow}
 
 -- the name of a symbol is that of its rule or token
 pub rule_named : (g : Numbered) (r : ℕ) (name : List ℕ) → rule_part (λ rule. rule.name) g r ≡ Some name → sym_name g (Rule r) ≡ name

@@ -16,9 +16,9 @@ use Rattle.cfgerrors.specs.declared.error.YaccFault.{YaccFault}
 use Rattle.cfgerrors.specs.declared.error.YaccFault.TheVariants as faults
 use Rattle.cfgerrors.specs.declared.error.YaccGrammarErrorKind.TheVariants.{StorageTooSmall}
 use Rattle.cfgrammar.specs.Answer.{IsTooSmall}
-use Rattle.cfgrammar.specs.Numbered.{nowhere, implicit_of, numbered, numbered_by, added_rules, file_rule, added_productions, file_production, end_token, file_token}
+use Rattle.cfgnumbers.specs.Numbered.{nowhere, implicit_of, numbered, numbered_by, added_rules, file_rule, added_productions, file_production, end_token, file_token}
 use Rattle.cfgrammar.specs.Spans.{EachGrammarSpan, EachAnswerSpan}
-use Rattle.cfgrammar.proofs.Added.{All-added_rules, All-added_productions}
+use Rattle.cfgnumbers.proofs.Added.{All-added_rules, All-added_productions}
 
 part_span : {A : Type 0} (P : Span → Type 0) (span : A → Span) (o : Option A) → IfSome o (λ x. P (span x)) → IfSome (option_map span o) P
 part_span P span None here = tt

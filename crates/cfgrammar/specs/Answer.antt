@@ -4,8 +4,8 @@ use Rattle.cfgerrors.specs.Errors.{GrammarError, Nameless, error_at}
 use Rattle.cfgerrors.specs.declared.error.YaccGrammarErrorKind.TheVariants.{StorageTooSmall}
 use Rattle.cfgerrors.specs.declared.error.YaccFault.{YaccFault}
 use Rattle.cfgerrors.specs.declared.error.YaccFault.TheVariants as faults
-use Rattle.cfgrammar.specs.Numbered.{Numbered, nowhere}
-use Rattle.cfgrammar.specs.Fits.{Fits}
+use Rattle.cfgnumbers.specs.Numbered.{Numbered, nowhere}
+use Rattle.cfgnumbers.specs.Fits.{Fits}
 
 -- the error that the index type is too small, alone
 abbrev pub too_small : List GrammarError

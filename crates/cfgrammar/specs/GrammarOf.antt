@@ -9,7 +9,7 @@ use Rattle.cfgsyntax.specs.Faults.{errors_of}
 use Rattle.cfgreader.specs.Reads.{HasOneReading, Reads, Stop}
 use Rattle.cfgerrors.specs.declared.error.YaccFault.{YaccFault}
 use Rattle.cfgrammar.specs.Answer.{IsAnswer}
-use Rattle.cfgrammar.specs.Numbered.{Numbered, numbered}
+use Rattle.cfgnumbers.specs.Numbered.{Numbered, numbered}
 
 -- The text has exactly one reading, and this holds of its errors, of its syntax, and of that in numbers.
 abbrev pub HoldsOfReading : YaccKind → List ℕ → (List GrammarError → Syntax → Numbered → Type 0) → Type 0

@@ -1,10 +1,4 @@
 pub mod Answer
 pub mod Counting
-pub mod Fits
 pub mod GrammarOf
-pub mod Numbered
-pub mod Resolved
-pub mod Shown
 pub mod Spans
-pub mod View
-pub mod WellNumbered

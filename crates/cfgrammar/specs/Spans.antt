@@ -5,7 +5,7 @@ use Rattle.cfgast.specs.Syntax.{EachSettingSpan}
 use Rattle.cfgsyntax.specs.Spans.{EachErrorSpan}
 use Rattle.cfgerrors.specs.declared.error.YaccFault.{YaccFault}
 use Rattle.cfgerrors.specs.declared.error.YaccFault.TheVariants as faults
-use Rattle.cfgrammar.specs.Numbered.{Numbered}
+use Rattle.cfgnumbers.specs.Numbered.{Numbered}
 
 -- Q is for the spans of actions.
 pub record EachGrammarSpan (P Q : Span → Type 0) (g : Numbered) : Type 0 where

@@ -4,7 +4,7 @@ use Rattle.cfgast.specs.Syntax.{Syntax}
 use Rattle.cfgheader.specs.Named.{Naming}
 use Rattle.cfgerrors.specs.Errors.{GrammarError, header_error}
 use Rattle.cfgrammar.specs.GrammarOf.{HoldsOfNaming}
-use Rattle.cfgrammar.specs.Numbered.{Numbered}
+use Rattle.cfgnumbers.specs.Numbered.{Numbered}
 use Rattle.cfgshell.specs.declared.outcome.Outcome.{Outcome}
 use Rattle.cfgshell.specs.declared.words.Command.{Command}
 use Rattle.cfgshell.specs.declared.words.KindArg.{KindArg}

@@ -13,10 +13,10 @@ use Rattle.cfgerrors.specs.Texts.{error_text}
 use Rattle.cfgwarnings.specs.Texts.{warning_text}
 use Rattle.cfgwarnings.specs.Warnings.{GrammarWarning}
 use Rattle.cfgrammar.specs.Answer.{IsRefused}
-use Rattle.cfgrammar.specs.Fits.{Fits}
+use Rattle.cfgnumbers.specs.Fits.{Fits}
 use Rattle.cfgrammar.specs.GrammarOf.{HoldsOfItself, HoldsOfReading}
-use Rattle.cfgrammar.specs.Numbered.{Numbered, NumberedProduction}
-use Rattle.cfgrammar.specs.Shown.{production_text}
+use Rattle.cfgnumbers.specs.Numbered.{Numbered, NumberedProduction}
+use Rattle.cfgnumbers.specs.Shown.{production_text}
 use Rattle.cfgshell.specs.declared.outcome.Outcome.{Outcome}
 use Rattle.cfgshell.specs.declared.outcome.Outcome.TheVariants.{Done, Refused}
 use Rattle.cfgshell.specs.declared.outcome.ReportFault.{ReportFault}

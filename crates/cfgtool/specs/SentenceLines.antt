@@ -10,8 +10,8 @@ use Rattle.cfgcosts.specs.Generator.{AnswersLeast, HasNone}
 use Rattle.cfgcosts.specs.Minimal.{dictionary}
 use Rattle.cfgcosts.specs.declared.errors.CostError.{CostError}
 use Rattle.cfgcosts.specs.declared.errors.CostError.TheVariants.{NoSentence, CostTooLarge}
-use Rattle.cfgrammar.specs.Numbered.{Numbered, core}
-use Rattle.cfgrammar.specs.Shown.{rule_part, sym_text}
+use Rattle.cfgnumbers.specs.Numbered.{Numbered, core}
+use Rattle.cfgnumbers.specs.Shown.{rule_part, sym_text}
 
 -- the greatest cost of a rule, where it is at most 65535, or that its sentences cost more than any number, or why neither
 -- is told

@@ -6,7 +6,7 @@ ghost use Rattle.cfgast.specs.Syntax.{EachSpan};
 ghost use Rattle.cfgast.specs.View.{syntax};
 ghost use Rattle.cfgsyntax.specs.Spans.{EachParsedSpan};
 ghost use Rattle.cfgrammar.specs.GrammarOf.{HoldsOfItself, HoldsOfReading};
-ghost use Rattle.cfgrammar.specs.Numbered.{numbered};
+ghost use Rattle.cfgnumbers.specs.Numbered.{numbered};
 ghost use Rattle.cfgtool.specs.Report.{AreLinesOf, HoldsOfText, IsReport, TellsText};
 ghost use Rattle.cfgshell.specs.Endings.{faults_met};
 ghost use Rattle.cfgshell.specs.declared.outcome.ReportFault.TheVariants as variants;

@@ -5,7 +5,7 @@ ghost use Rattle.std.specs.List.{concat};
 ghost use Rattle.derivation.specs.Grammar.{HasProduction};
 ghost use Rattle.cfgcosts.specs.Generator.{token_cost};
 ghost use Rattle.cfgcosts.specs.Minimal.{numbers_of};
-ghost use Rattle.cfgrammar.specs.Numbered.{core};
+ghost use Rattle.cfgnumbers.specs.Numbered.{core};
 ghost use Rattle.cfgtool.specs.SentenceLines.{AreNamed, AreSentenceLines, ListsMinimal, TellsEach, TellsRule};
 ghost use Rattle.cfgtool.specs.SentenceLines.{cost_line, greatest_word, least_word, sentence_line, token_text};
 

@@ -1,7 +1,7 @@
 //! What a row asks for besides: lists for the checkers, and counted openings.
 
 ghost use Rattle.std.specs.Prelude.{◌≡◌};
-ghost use Rattle.cfgrammar.specs.Numbered.{core};
+ghost use Rattle.cfgnumbers.specs.Numbered.{core};
 
 use crate::certificate::Certificate;
 use crate::openings;

@@ -1,7 +1,7 @@
 //! Lists of least costs and of choices, and what the two checkers say of them.
 
 ghost use Rattle.std.specs.Prelude.{◌≡◌, IsTrue, length};
-ghost use Rattle.cfgrammar.specs.Numbered.{core};
+ghost use Rattle.cfgnumbers.specs.Numbered.{core};
 
 use cfgrammar::PIdx;
 use cfgrammar::yacc::YaccGrammar;

@@ -1,7 +1,7 @@
 //! The grammar of a row, and the costs of its tokens.
 
 ghost use Rattle.std.specs.Prelude.{◌≡◌, ◌<◌};
-ghost use Rattle.cfgrammar.specs.Numbered.{core};
+ghost use Rattle.cfgnumbers.specs.Numbered.{core};
 
 use crate::{asked, certificate, rules};
 use cfgrammar::TIdx;

@@ -1,7 +1,7 @@
 //! How often a grammar's productions are opened.
 
 ghost use Rattle.std.specs.Prelude.{◌≡◌};
-ghost use Rattle.cfgrammar.specs.Numbered.{core};
+ghost use Rattle.cfgnumbers.specs.Numbered.{core};
 
 use cfgrammar::yacc::YaccGrammar;
 use cfgrammar::yacc::firsts::firsts_over;

@@ -1,7 +1,7 @@
 //! What sentences of a grammar's rules cost, and those of least cost.
 
 ghost use Rattle.std.specs.Prelude.{◌≡◌, ◌<◌};
-ghost use Rattle.cfgrammar.specs.Numbered.{core};
+ghost use Rattle.cfgnumbers.specs.Numbered.{core};
 
 use cfgrammar::yacc::YaccGrammar;
 use cfgrammar::yacc::sentences::{CostError, SentenceError, SentenceGenerator};

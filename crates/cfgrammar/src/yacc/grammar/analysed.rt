@@ -7,7 +7,7 @@ ghost use Rattle.cfganalysis.specs.Firsts.{AreFirsts};
 ghost use Rattle.cfganalysis.specs.Follows.{AreFollows};
 ghost use Rattle.cfgcosts.specs.Generator.{token_cost};
 ghost use Rattle.cfgindex.specs.declared.idxnewtype.TIdx.{TIdx};
-ghost use Rattle.cfgrammar.specs.Numbered.{core};
+ghost use Rattle.cfgnumbers.specs.Numbered.{core};
 
 use super::tables::YaccGrammar;
 use cfganalysis::{CountedTables, Tables, YaccFirsts, YaccFollows, has_path};

@@ -1,11 +1,8 @@
 //! Grammars in numbers: rules, productions and tokens by their indices.
 
 mod analysed;
-mod build;
 mod fault;
 mod iter;
-mod names;
-mod rows;
 mod tables;
 
 pub use cfganalysis::{CountedTables, Productions, Tables};

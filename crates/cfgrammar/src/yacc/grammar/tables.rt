@@ -13,22 +13,20 @@ ghost use Rattle.cfgsyntax.specs.Spans.{EachParsedSpan};
 ghost use Rattle.cfgheader.specs.declared.kind.YaccKind.{YaccKind};
 ghost use Rattle.cfgrammar.specs.Answer.{IsAnswer};
 ghost use Rattle.cfgrammar.specs.Counting.{YieldsNumbersInOrder};
-ghost use Rattle.cfgrammar.specs.Fits.{LeavesRoom};
+ghost use Rattle.cfgnumbers.specs.Fits.{LeavesRoom};
 ghost use Rattle.cfgrammar.specs.GrammarOf.{IsGrammarOf, IsGrammarOfItself};
-ghost use Rattle.cfgrammar.specs.Numbered.{implicit_of, numbered};
-ghost use Rattle.cfgrammar.specs.Shown.{IsSymbolWithin, has_token_name, production_part, production_text, rule_part};
-ghost use Rattle.cfgrammar.specs.Shown.{token_part};
+ghost use Rattle.cfgnumbers.specs.Numbered.{implicit_of, numbered};
+ghost use Rattle.cfgnumbers.specs.Shown.{IsSymbolWithin, has_token_name, production_part, production_text, rule_part};
+ghost use Rattle.cfgnumbers.specs.Shown.{token_part};
 ghost use Rattle.cfgrammar.specs.Spans.{EachAnswerSpan};
-ghost use Rattle.cfgrammar.specs.WellNumbered.{IsWellNumbered, times};
+ghost use Rattle.cfgnumbers.specs.WellNumbered.{IsWellNumbered, times};
 
-use super::build::Numbering;
 use super::fault::storage_too_small;
 use super::iter::{PIdxIter, RIdxIter, TIdxIter};
-use super::names::tokens_by_name;
-use super::rows::{ProductionRow, RuleRow, TokenRow};
 use cfgast::{Precedence, Settings};
 use cfgbase::Span;
 use cfgindex::{PIdx, RIdx, SIdx, Storage, Symbol, TIdx, to_storage};
+use cfgnumbers::{Numbering, ProductionRow, RuleRow, TokenRow, tokens_by_name};
 use cfgsyntax::yacc::YaccKind;
 use cfgsyntax::yacc::ast::{ASTWithValidityInfo, GrammarAST};
 use cfgsyntax::yacc::parser::{YaccFault, YaccGrammarResult};
@@ -56,9 +54,9 @@ pub struct YaccGrammar<S: Storage> {
 }
 
 impl<S: Storage> Model for YaccGrammar<S> {
-    ghost use Rattle.cfgrammar.specs.Numbered.{Numbered};
-    ghost use Rattle.cfgrammar.specs.View.{tables};
-    ghost use Rattle.cfgrammar.specs.WellNumbered.{IsWellNumbered};
+    ghost use Rattle.cfgnumbers.specs.Numbered.{Numbered};
+    ghost use Rattle.cfgnumbers.specs.View.{tables};
+    ghost use Rattle.cfgnumbers.specs.WellNumbered.{IsWellNumbered};
 
     ghost Value = { Numbered };
 
@@ -164,7 +162,7 @@ impl<S: Storage> YaccGrammar<S> {
     }
 }
 
-#[tactic(auto, unfolding(crate::specs::View::tables))]
+#[tactic(auto, unfolding(cfgnumbers::specs::View::tables))]
 impl<S: Storage> YaccGrammar<S> {
     ghost use Rattle.cfganalysis.specs.Symbols.{sym_of};
 
@@ -466,7 +464,7 @@ impl<S: Storage> YaccGrammar<S> {
     }
 
     /// How many conflicts between shifting and reducing the file expects, where it says so (Bison's `%expect`).
-    #[tactic(auto, unfolding(crate::specs::View::tables))]
+    #[tactic(auto, unfolding(cfgnumbers::specs::View::tables))]
     pub fn expect(&self) -> Option<usize>
         ensures { result ≡ option_map (λ number. number.0) self.now.settings.expect }
     {
@@ -477,7 +475,7 @@ impl<S: Storage> YaccGrammar<S> {
     }
 
     /// How many conflicts between reductions the file expects, where it says so (Bison's `%expect-rr`).
-    #[tactic(auto, unfolding(crate::specs::View::tables))]
+    #[tactic(auto, unfolding(cfgnumbers::specs::View::tables))]
     pub fn expectrr(&self) -> Option<usize>
         ensures { result ≡ option_map (λ number. number.0) self.now.settings.expect_reduce_reduce }
     {
@@ -488,7 +486,7 @@ impl<S: Storage> YaccGrammar<S> {
     }
 
     /// The parser's generic parameters, as the file gives them.
-    #[tactic(auto, unfolding(crate::specs::View::tables))]
+    #[tactic(auto, unfolding(cfgnumbers::specs::View::tables))]
     pub fn parse_generics(&self) -> &Option<String>
         ensures { option_map string_bytes result.now ≡ self.now.settings.parse_generics }
     {
@@ -496,7 +494,7 @@ impl<S: Storage> YaccGrammar<S> {
     }
 
     /// The name and the type of the parser's parameter, as the file gives them.
-    #[tactic(auto, unfolding(crate::specs::View::tables))]
+    #[tactic(auto, unfolding(cfgnumbers::specs::View::tables))]
     pub fn parse_param(&self) -> &Option<(String, String)>
         ensures { option_map pair_view result.now ≡ self.now.settings.parse_param }
     {
@@ -504,7 +502,7 @@ impl<S: Storage> YaccGrammar<S> {
     }
 
     /// The text of the programs part.
-    #[tactic(auto, unfolding(crate::specs::View::tables))]
+    #[tactic(auto, unfolding(cfgnumbers::specs::View::tables))]
     pub fn programs(&self) -> &Option<String>
         ensures { option_map string_bytes result.now ≡ self.now.settings.programs }
     {

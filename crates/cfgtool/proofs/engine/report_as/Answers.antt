@@ -1,6 +1,6 @@
 use Rattle.std.proofs.Common.{IfOk, string_bytes, subst}
 use Rattle.cfgsyntax.specs.Parsed.{Parsed}
-use Rattle.cfgrammar.specs.Numbered.{numbered}
+use Rattle.cfgnumbers.specs.Numbered.{numbered}
 use Rattle.cfgtool.specs.Report.{IsReport}
 use Rattle.cfgtool.proofs.engine.report_as.Goals as goal
 

@@ -3,7 +3,7 @@ use Rattle.cfgwords.specs.Places.{IsPiece, IsWithin}
 use Rattle.cfgast.specs.Syntax.{Syntax, EachSpan}
 use Rattle.cfgast.specs.View.{syntax}
 use Rattle.cfgsyntax.specs.Spans.{EachErrorSpan}
-use Rattle.cfgrammar.specs.Numbered.{Numbered, numbered}
+use Rattle.cfgnumbers.specs.Numbered.{Numbered, numbered}
 use Rattle.cfgtool.specs.Report.{AreLinesOf, error_lines}
 use Rattle.cfgtool.proofs.engine.report_parsed.Goals as goal
 

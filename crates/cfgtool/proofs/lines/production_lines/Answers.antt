@@ -3,7 +3,7 @@ use Rattle.std.specs.List.{flat_map, enumerate_from}
 use Rattle.std.specs.Fmt.{decimal}
 use Rattle.std.proofs.lemmas.List.FromFn.{length-enumerate_from}
 use Rattle.std.specs.declared.ops.Range.{Range}
-use Rattle.cfgrammar.specs.Shown.{production_part, production_text}
+use Rattle.cfgnumbers.specs.Shown.{production_part, production_text}
 use Rattle.std.proofs.lemmas.List.{take_all}
 use Rattle.cfgtool.specs.Report.{production_line}
 use Rattle.cfgtool.proofs.Told.{one_more_production}

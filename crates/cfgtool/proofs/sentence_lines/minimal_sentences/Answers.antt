@@ -3,7 +3,7 @@ use Rattle.derivation.specs.Grammar.{HasProduction}
 use Rattle.derivation.specs.Costs.{Minimal}
 use Rattle.cfgcosts.specs.Generator.{token_cost}
 use Rattle.cfgcosts.specs.Minimal.{numbers_of}
-use Rattle.cfgrammar.specs.Numbered.{core}
+use Rattle.cfgnumbers.specs.Numbered.{core}
 use Rattle.cfgtool.specs.SentenceLines.{AreNamed, ListsMinimal}
 use Rattle.cfgtool.proofs.SentencesListed.{listed, none_there, none_cheap, all_of_none, listed_tokens}
 use Rattle.cfgtool.proofs.sentence_lines.minimal_sentences.Goals as goal

@@ -2,7 +2,7 @@ use Rattle.std.proofs.Common.{◌≡◌, ℕ, List, ◌++◌, map, take, codes, 
 use Rattle.std.specs.List.{concat}
 use Rattle.cfgindex.specs.declared.idxnewtype.TIdx.{TIdx}
 use Rattle.cfgcosts.specs.Minimal.{numbers_of}
-use Rattle.cfgrammar.proofs.Turns.{All-shown, more_joined}
+use Rattle.cfgnumbers.proofs.Turns.{All-shown, more_joined}
 use Rattle.cfgtool.specs.SentenceLines.{AreNamed, sentence_line, token_text}
 use Rattle.cfgtool.proofs.sentence_lines.write_sentences.Goals as goal
 

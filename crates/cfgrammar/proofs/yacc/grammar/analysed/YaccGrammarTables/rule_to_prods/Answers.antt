@@ -1,6 +1,6 @@
 use Rattle.std.proofs.Common.{◌<◌, length}
 use Rattle.std.proofs.lemmas.List.Elements.{All-map}
-use Rattle.cfgrammar.proofs.ListedPlaces.{listed_places}
+use Rattle.cfgnumbers.proofs.ListedPlaces.{listed_places}
 use Rattle.cfgrammar.proofs.yacc.grammar.analysed.YaccGrammarTables.rule_to_prods.Goals as goal
 
 pub returns : goal.returns

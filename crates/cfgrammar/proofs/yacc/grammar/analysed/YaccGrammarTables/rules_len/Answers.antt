@@ -1,6 +1,6 @@
 use Rattle.std.proofs.Common.{◌≤◌, length}
 use Rattle.std.proofs.lemmas.List.Elements.{All-map}
-use Rattle.cfgrammar.specs.Numbered.{production_core}
+use Rattle.cfgnumbers.specs.Numbered.{production_core}
 use Rattle.cfgrammar.proofs.yacc.grammar.analysed.YaccGrammarTables.rules_len.Goals as goal
 
 pub returns-clause-content : goal.returns-clause-content

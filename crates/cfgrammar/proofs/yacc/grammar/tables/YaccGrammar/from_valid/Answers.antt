@@ -3,14 +3,14 @@ use Rattle.std.specs.List.{zip}
 use Rattle.cfgast.specs.View.{syntax, production_view}
 use Rattle.cfgast.specs.WellFormed.{IsWellFormed}
 use Rattle.cfgcheck.specs.Sound.{IsSound}
-use Rattle.cfgrammar.specs.Fits.{LeavesRoom}
-use Rattle.cfgrammar.specs.Numbered.{added_productions, added_rules, file_production, file_rule, file_token}
-use Rattle.cfgrammar.specs.Resolved.{AreTokens, IsResolved}
-use Rattle.cfgrammar.specs.WellNumbered.{IsWellNumbered}
+use Rattle.cfgnumbers.specs.Fits.{LeavesRoom}
+use Rattle.cfgnumbers.specs.Numbered.{added_productions, added_rules, file_production, file_rule, file_token}
+use Rattle.cfgnumbers.specs.Resolved.{AreTokens, IsResolved}
+use Rattle.cfgnumbers.specs.WellNumbered.{IsWellNumbered}
 use Rattle.cfgrammar.proofs.Built.{built, of_both, well_numbered}
-use Rattle.cfgrammar.proofs.Places.{implicit_there}
-use Rattle.cfgrammar.proofs.Turns.{as_long}
-use Rattle.cfgrammar.proofs.Valid.{resolved}
+use Rattle.cfgnumbers.proofs.Places.{implicit_there}
+use Rattle.cfgnumbers.proofs.Turns.{as_long}
+use Rattle.cfgnumbers.proofs.Valid.{resolved}
 use Rattle.cfgrammar.proofs.yacc.grammar.tables.YaccGrammar.from_valid.Goals as goal
 
 pub rule_rows-requires : goal.rule_rows-requires

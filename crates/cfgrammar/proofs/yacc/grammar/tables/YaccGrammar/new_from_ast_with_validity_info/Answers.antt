@@ -2,8 +2,8 @@ use Rattle.std.proofs.Common.{List, Option, ℕ, sym, subst, ◌∙◌, true≢f
 use Rattle.cfgwords.specs.Places.{IsPiece, IsWithin}
 use Rattle.cfgast.specs.Syntax.{Syntax}
 use Rattle.cfgast.specs.View.{syntax}
-use Rattle.cfgrammar.specs.Fits.{LeavesRoom}
-use Rattle.cfgrammar.specs.Numbered.{implicit_of, numbered}
+use Rattle.cfgnumbers.specs.Fits.{LeavesRoom}
+use Rattle.cfgnumbers.specs.Numbered.{implicit_of, numbered}
 use Rattle.cfgrammar.specs.Spans.{EachGrammarSpan}
 use Rattle.cfgrammar.proofs.Built.{too_large, answered, of_both}
 use Rattle.cfgrammar.proofs.Spans.{grammar_spans, nowhere_placed, too_small_spans}

@@ -2,7 +2,7 @@ use Rattle.std.proofs.Common.{List, subst}
 use Rattle.cfgast.specs.Syntax.{syntax_of}
 use Rattle.cfgerrors.specs.Errors.{GrammarError}
 use Rattle.cfgrammar.specs.Answer.{IsAnswer}
-use Rattle.cfgrammar.specs.Numbered.{Numbered, numbered}
+use Rattle.cfgnumbers.specs.Numbered.{Numbered, numbered}
 use Rattle.cfgrammar.proofs.yacc.grammar.tables.YaccGrammar.new_with_storaget.Goals as goal
 
 pub returns-clause-answer : goal.returns-clause-answer

@@ -1,10 +1,10 @@
 use Rattle.std.proofs.Common.{rules, ◌≡◌, ℕ, ◌++◌, map, take, codes, List, [], Bor, Option, option_map, unwrap_or, string_bytes, sym, ap, ◌∙◌, append_assoc}
 use Rattle.std.specs.List.{concat}
-use Rattle.cfgrammar.specs.Shown.{sym_name, sym_text}
+use Rattle.cfgnumbers.specs.Shown.{sym_name, sym_text}
 use Rattle.cfgindex.specs.declared.idxnewtype.Symbol.{Symbol}
 use Rattle.cfganalysis.specs.Symbols.{sym_of}
 use Rattle.cfgrammar.proofs.Shows.{rule_named, token_named}
-use Rattle.cfgrammar.proofs.Turns.{more_joined}
+use Rattle.cfgnumbers.proofs.Turns.{more_joined}
 use Rattle.cfgrammar.proofs.yacc.grammar.tables.YaccGrammar.pp_prod.Goals as goal
 use Rattle.cfgrammar.proofs.yacc.grammar.tables.YaccGrammar.pp_prod.Goals.{in-Rule, in-Token}
 

@@ -1,7 +1,7 @@
 use Rattle.std.proofs.Common.{All, subst, sym}
-use Rattle.cfgrammar.specs.Shown.{IsSymbolWithin}
+use Rattle.cfgnumbers.specs.Shown.{IsSymbolWithin}
 use Rattle.cfgrammar.proofs.Shows.{production_shown}
-use Rattle.cfgrammar.proofs.Within.{refers, symbols_within}
+use Rattle.cfgnumbers.proofs.Within.{refers, symbols_within}
 use Rattle.cfgrammar.proofs.yacc.grammar.tables.YaccGrammar.prod.Goals as goal
 
 pub returns-clause-within : goal.returns-clause-within

@@ -1,5 +1,5 @@
 use Rattle.cfgrammar.proofs.Shows.{production_shown}
-use Rattle.cfgrammar.proofs.Within.{refers}
+use Rattle.cfgnumbers.proofs.Within.{refers}
 use Rattle.cfgrammar.proofs.yacc.grammar.tables.YaccGrammar.prod_to_rule.Goals as goal
 
 pub returns-clause-within : goal.returns-clause-within

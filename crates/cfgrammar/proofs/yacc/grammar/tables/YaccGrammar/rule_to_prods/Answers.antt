@@ -1,8 +1,8 @@
 use Rattle.std.proofs.Common.{map, sym, ap, subst}
 use Rattle.cfgindex.specs.declared.idxnewtype.PIdx.{PIdx}
-use Rattle.cfgrammar.specs.WellNumbered.{ListsEachOnce}
+use Rattle.cfgnumbers.specs.WellNumbered.{ListsEachOnce}
 use Rattle.cfgrammar.proofs.Shows.{rule_shown}
-use Rattle.cfgrammar.proofs.Within.{refers, listed_within}
+use Rattle.cfgnumbers.proofs.Within.{refers, listed_within}
 use Rattle.cfgrammar.proofs.yacc.grammar.tables.YaccGrammar.rule_to_prods.Goals as goal
 
 pub returns-clause-value : goal.returns-clause-value

@@ -1,7 +1,7 @@
 use Rattle.std.proofs.Common.{ap, arith}
-use Rattle.cfgrammar.specs.Numbered.{Numbered}
-use Rattle.cfgrammar.specs.View.{tables}
-use Rattle.cfgrammar.proofs.Within.{refers}
+use Rattle.cfgnumbers.specs.Numbered.{Numbered}
+use Rattle.cfgnumbers.specs.View.{tables}
+use Rattle.cfgnumbers.proofs.Within.{refers}
 use Rattle.cfgrammar.proofs.yacc.grammar.tables.YaccGrammar.start_prod.Goals as goal
 
 pub returns-clause-within : goal.returns-clause-within

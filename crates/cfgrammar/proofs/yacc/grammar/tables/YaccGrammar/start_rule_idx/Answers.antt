@@ -1,5 +1,5 @@
 use Rattle.std.proofs.Common.{arith}
-use Rattle.cfgrammar.proofs.Within.{refers}
+use Rattle.cfgnumbers.proofs.Within.{refers}
 use Rattle.cfgrammar.proofs.yacc.grammar.tables.YaccGrammar.start_rule_idx.Goals as goal
 
 pub returns-clause-within : goal.returns-clause-within

@@ -1,11 +1,11 @@
 use Rattle.std.proofs.Common.{sym, ap, subst, ◌∙◌, position, Some}
-use Rattle.cfgrammar.specs.Numbered.{Numbered}
-use Rattle.cfgrammar.specs.Shown.{has_token_name}
-use Rattle.cfgrammar.specs.View.{tables}
-use Rattle.cfgrammar.specs.WellNumbered.{HasDistinctNames}
-use Rattle.cfgrammar.proofs.Lookups.{token_position}
-use Rattle.cfgrammar.proofs.Names.{token_found}
-use Rattle.cfgrammar.proofs.Within.{position_within}
+use Rattle.cfgnumbers.specs.Numbered.{Numbered}
+use Rattle.cfgnumbers.specs.Shown.{has_token_name}
+use Rattle.cfgnumbers.specs.View.{tables}
+use Rattle.cfgnumbers.specs.WellNumbered.{HasDistinctNames}
+use Rattle.cfgnumbers.proofs.Lookups.{token_position}
+use Rattle.cfgnumbers.proofs.Names.{token_found}
+use Rattle.cfgnumbers.proofs.Within.{position_within}
 use Rattle.cfgrammar.proofs.yacc.grammar.tables.YaccGrammar.token_idx.Goals as goal
 
 pub returns-in-Some-clause-value : goal.returns-in-Some-clause-value

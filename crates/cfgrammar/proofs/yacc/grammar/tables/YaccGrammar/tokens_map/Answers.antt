@@ -1,9 +1,9 @@
 use Rattle.std.proofs.Common.{position, ap, ◌∙◌}
 use Rattle.std.proofs.lemmas.Result.{IfOk-weaker}
-use Rattle.cfgrammar.specs.Numbered.{Numbered}
-use Rattle.cfgrammar.specs.Shown.{has_token_name}
-use Rattle.cfgrammar.specs.View.{tables}
-use Rattle.cfgrammar.proofs.Lookups.{token_named}
+use Rattle.cfgnumbers.specs.Numbered.{Numbered}
+use Rattle.cfgnumbers.specs.Shown.{has_token_name}
+use Rattle.cfgnumbers.specs.View.{tables}
+use Rattle.cfgnumbers.proofs.Lookups.{token_named}
 use Rattle.cfgrammar.proofs.yacc.grammar.tables.YaccGrammar.tokens_map.Goals as goal
 
 pub returns : goal.returns

@@ -1,0 +1,41 @@
+-- What a file says of single tokens, where the code looks it up.
+use Rattle.std.proofs.Common.{◌≡◌, ℕ, List, map, false, is_some, Option, Some, None, option_map, String, Global, string_bytes, bytes_eq, refl, sym, ap, ◌∙◌}
+use Rattle.std.specs.Map.{lookup}
+use Rattle.std.specs.Option.{option_map_or}
+use Rattle.lemmas.proofs.Lookups.{found-lookup, lookup-map}
+use Rattle.lemmas.proofs.Tests.{list_any-map}
+use Rattle.cfgbase.specs.declared.span.Span.{Span}
+use Rattle.cfgast.specs.Building.{has_entry}
+use Rattle.cfgast.specs.Syntax.{Syntax}
+use Rattle.cfgast.specs.View.{precedence_entry, printed_entry, span_entry, text_view}
+use Rattle.cfgast.specs.declared.precedence.Precedence.{Precedence}
+use Rattle.cfgnumbers.specs.Numbered.{precedence_of_token, printed_form, avoids_insert}
+use Rattle.cfgnumbers.proofs.Lookups.{is_key}
+
+module _ (s : Syntax) (name : List ℕ) where
+  pub precedence_found : (es : List (String Global × (Precedence × Span))) → map precedence_entry es ≡ s.tables.precedences
+      → (found : Option (Precedence × Span)) → found ≡ lookup (is_key name) es → option_map (λ said. said.0) found ≡ precedence_of_token s name
+  precedence_found es same found is =
+      ap (option_map (λ (said : Precedence × Span). said.0)) (is ∙ sym (kept (lookup (is_key name) es)) ∙ sym (lookup-map (bytes_eq name) string_bytes (λ (x : Precedence × Span). x) es) ∙ ap (lookup (bytes_eq name)) same)
+    where
+      kept : (o : Option (Precedence × Span)) → option_map (λ x. x) o ≡ o
+      kept None = refl
+      kept (Some x) = refl
+
+  pub printed_found : (es : List (String Global × (Span × (String Global × Span)))) → map printed_entry es ≡ s.tables.printed_forms
+      → (found : Option (Span × (String Global × Span))) → found ≡ lookup (is_key name) es → option_map_or (λ said. string_bytes said.1.0) found name ≡ printed_form s name
+  printed_found es same found is =
+      shown found ∙ ap (λ o. option_map_or (λ said. said.1.0) o name)
+      (ap (option_map form) is ∙ sym (lookup-map (bytes_eq name) string_bytes form es) ∙ ap (lookup (bytes_eq name)) same)
+    where
+      form : Span × (String Global × Span) → Span × (List ℕ × Span)
+      form said = (said.0, text_view said.1)
+
+      shown : (o : Option (Span × (String Global × Span))) → option_map_or (λ said. string_bytes said.1.0) o name ≡ option_map_or (λ said. said.1.0) (option_map form o) name
+      shown None = refl
+      shown (Some said) = refl
+
+  pub avoided : (es : List (String Global × Span)) → Some (map span_entry es) ≡ s.tables.avoid_insert → is_some (lookup (is_key name) es) ≡ avoids_insert s name
+  avoided es same =
+      found-lookup (is_key name) es ∙ sym (list_any-map (λ (entry : List ℕ × Span). bytes_eq name entry.0) span_entry es)
+      ∙ ap (λ table. option_map_or (λ table. has_entry name table) table false) same

@@ -1,0 +1,71 @@
+-- In a syntax that was read without errors, every name is that of something that is there.
+use Rattle.std.proofs.Common.{◌≡◌, ℕ, ◌<◌, Bool, true, false, cond, List, [], ◌∷◌, length, get_or, Option, Some, None, All, refl, sym, ap, ◌∙◌}
+use Rattle.std.specs.Option.{option_or, option_and_then}
+use Rattle.std.proofs.lemmas.List.Elements.{All-nil, All-cons, All-contains}
+use Rattle.std.proofs.lemmas.Option.{slice_get-get_or}
+use Rattle.cfgwords.specs.Words.{Word}
+use Rattle.cfgast.specs.Syntax.{Syntax, Production}
+use Rattle.cfgcheck.specs.Check.{is_rule, first_error, start_error, symbol_error, precedence_error, printed_error, production_error, place_error, rule_error, check_of}
+use Rattle.cfgerrors.specs.Errors.{GrammarError, InvalidStartRule, error_at}
+use Rattle.cfgcheck.specs.Sound.{IsSound}
+use Rattle.cfgnumbers.specs.Resolved.{IsResolved}
+use Rattle.cfgnumbers.proofs.Places.{listed_somewhere}
+
+none_first : (a b : Option GrammarError) → option_or a b ≡ None → a ≡ None
+none_first None b e = refl
+none_first (Some x) b e = e
+
+none_second : (a b : Option GrammarError) → option_or a b ≡ None → b ≡ None
+none_second None b e = e
+none_second (Some x) b e = let no : Some x ≡ None = e in cc
+
+-- no element has an error
+no_errors : {A : Type 0} (f : A → Option GrammarError) (xs : List A) → first_error f xs ≡ None → All (λ x. f x ≡ None) xs
+no_errors f [] e = All-nil (λ x. f x ≡ None)
+no_errors f (x ∷ xs) e = All-cons (λ x. f x ≡ None) x xs (none_first (f x) (first_error f xs) e) (no_errors f xs (none_second (f x) (first_error f xs) e))
+
+-- the start is there, and is a rule
+started : (s : Syntax) (o : Option Word) → start_error s o ≡ None → (word : Word) × (o ≡ Some word) × (is_rule s word.name ≡ true)
+started s None e = let no : Some _ ≡ None = e in cc
+started s (Some word) e = (word, refl, known (is_rule s word.name) refl e)
+  where
+    known : (b : Bool) → is_rule s word.name ≡ b → cond b None (Some (error_at (InvalidStartRule word.name) word.span)) ≡ None → is_rule s word.name ≡ true
+    known true is e = is
+    known false is e = let no : Some (error_at (InvalidStartRule word.name) word.span) ≡ None = e in cc
+
+pub resolved : (s : Syntax) → IsSound s [] → IsResolved s
+unfolding check_of
+resolved s sound = record {
+  start = start.0;
+  starts = start.1;
+  start_is_rule = start.2;
+  symbols = λ i d within.
+      let production = get_or s.productions i d in
+      no_errors (symbol_error s) production.symbols
+      (none_second (precedence_error s production.precedence) (first_error (symbol_error s) production.symbols) (production_ok i d within));
+}
+  where
+    passes : check_of s ≡ None
+    passes = sound.checked refl
+
+    behind_rules : Option GrammarError
+    behind_rules = option_or (first_error (printed_error s) s.tables.printed_forms) (first_error (symbol_error s) s.expect_unused)
+
+    behind_start : Option GrammarError
+    behind_start = option_or (first_error (rule_error s) s.rules) behind_rules
+
+    start : (word : Word) × (s.start ≡ Some word) × (is_rule s word.name ≡ true)
+    start = started s s.start (none_first (start_error s s.start) behind_start passes)
+
+    rules_ok : All (λ rule. rule_error s rule ≡ None) s.rules
+    rules_ok = no_errors (rule_error s) s.rules (none_first (first_error (rule_error s) s.rules) behind_rules
+        (none_second (start_error s s.start) behind_start passes))
+
+    place_ok : (i : ℕ) → i < length s.productions → place_error s i ≡ None
+    place_ok i within =
+        let (rule, at, listed) = listed_somewhere s sound.well_formed i within in
+        let rule_ok : rule_error s rule ≡ None = All-contains (λ rule. rule_error s rule ≡ None) s.rules rule rules_ok at in
+        All-contains (λ place. place_error s place ≡ None) rule.1.productions i (no_errors (place_error s) rule.1.productions rule_ok) listed
+
+    production_ok : (i : ℕ) (d : Production) → i < length s.productions → production_error s (get_or s.productions i d) ≡ None
+    production_ok i d within = sym (ap (option_and_then (production_error s)) (slice_get-get_or s.productions i d within)) ∙ place_ok i within

@@ -1,0 +1,26 @@
+use Rattle.std.proofs.Common.{◌≡◌, ◌++◌, None, arith, sym, ap, subst, ◌∙◌}
+use Rattle.std.proofs.lemmas.List.{get_or-map, length-map}
+use Rattle.cfgast.specs.Syntax.{Symbol}
+use Rattle.cfgast.specs.View.{symbol_view}
+use Rattle.cfgcheck.specs.Check.{symbol_error}
+use Rattle.cfgnumbers.specs.Numbered.{file_symbol, spaced}
+use Rattle.cfgnumbers.specs.View.{file_of, implicit_in}
+use Rattle.cfgnumbers.proofs.Symbols.{more_symbols}
+use Rattle.cfgnumbers.proofs.numbering.Numbering.numbered_symbols.Goals as goal
+
+pub push_symbol-requires-clause-known : goal.push_symbol-requires-clause-known
+push_symbol-requires-clause-known g c =
+    let symbols = c.args.symbols.now in
+    let symbol = c.symbol-item.result in
+    let place = c.loop-symbol.symbol-index in
+    let is = get_or-map symbol_view symbols place symbol (symbol_view symbol) c.loop-symbol-test.true ∙ ap symbol_view (sym c.symbol-item.is) in
+    subst (λ (shown : Symbol). symbol_error (file_of c.args.self.now) shown ≡ None) is
+    (c.requires.known place (symbol_view symbol) (omega (arith, c.loop-symbol-test.true, length-map symbols symbol_view)))
+
+pub loop-symbol-preserved : goal.loop-symbol-preserved
+loop-symbol-preserved g c =
+    let s = file_of c.args.self.now in
+    let implicit = implicit_in c.args.self.now in
+    c.in_ok-push_symbol.ensures
+    ∙ ap (λ front. front ++ spaced implicit (file_symbol implicit s (symbol_view c.symbol-item.result))) c.loop-symbol.invariant
+    ∙ more_symbols implicit s c.args.symbols.now c.loop-symbol.symbol-index c.symbol-item.result c.loop-symbol-test.true c.symbol-item.is

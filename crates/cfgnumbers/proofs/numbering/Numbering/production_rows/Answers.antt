@@ -1,0 +1,54 @@
+use Rattle.std.proofs.Common.{ℕ, ◌<◌, ◌∷◌, ◌++◌, [], length, map, option_map, sym, ap, ◌∙◌}
+use Rattle.std.specs.List.{zip}
+use Rattle.std.specs.Iterator.Adapters.{zip_first, zip_second}
+use Rattle.std.specs.Slice.Iter.{iter_rest}
+use Rattle.std.proofs.lemmas.Iterator.Consumers.{YieldsList-end}
+use Rattle.cfgast.specs.Syntax.{Production}
+use Rattle.cfgnumbers.specs.Numbered.{added_production, added_productions, file_production, start_symbols}
+use Rattle.cfgnumbers.specs.Resolved.{Resolves}
+use Rattle.cfgnumbers.specs.View.{names, file_of, implicit_in, production_view}
+use Rattle.lemmas.proofs.Roads.{item_holds, more_shown, pushed_shown}
+use Rattle.cfgnumbers.proofs.Rows.{production_seen, productions_road}
+use Rattle.lemmas.proofs.Zips.{All-zip}
+use Rattle.cfgnumbers.proofs.numbering.Numbering.production_rows.Goals as goal
+use Rattle.cfgnumbers.proofs.numbering.Numbering.production_rows.Goals.{in-Some-implicit+in_ok-push_added-in-Some-implicit, in-None-implicit+in_ok-push_added_row-in-None-implicit}
+
+pub production_row-requires : goal.production_row-requires
+production_row-requires g c =
+    let s = file_of c.args.self.now in
+    let from = c.into_iter-rule-iterator.ensures.into_iter_gives in
+    let road = productions_road s c.into_iter-rule-iterator.result c.prods.result.now c.prods.ensures
+    (ap (λ it. iter_rest (zip_first it)) from ∙ ap iter_rest c.zip-rule-items.ensures.first ∙ c.iter.ensures.rest ∙ c.prods_rules.ensures)
+    (ap (λ it. iter_rest (zip_second it)) from ∙ c.zip-rule-items.ensures.second.0) in
+    let known = item_holds road c.loop-rule.yielded c.loop-rule.rule-iterator c.loop-rule.yielded_by _ c.next.new.self (c.in-Some.rule, c.in-Some.production) c.in-Some.is c.next.ensures.steps
+    (λ (pair : ℕ × Production). (pair.0 < length s.rules) × Resolves s pair.1)
+    (All-zip (λ r. r < length s.rules) (Resolves s) s.production_rules s.productions c.requires.sound.well_formed.production_rules_within c.requires.resolved.symbols) in
+    record { rule = known.0; resolved = known.1; room = c.requires.room }
+
+pub loop-rule-preserved : goal.loop-rule-preserved
+loop-rule-preserved g c =
+    pushed_shown (production_view g.S.Storage.number) c.loop-rule.rows.items c.push.new.self.items c.in_ok-production_row.field-0 c.in_ok-push.ensures.items
+    ∙ (λ i. c.loop-rule.invariant i ++ c.in_ok-production_row.ensures i ∷ [])
+    ∙ more_shown (file_production (implicit_in c.args.self.now) (file_of c.args.self.now)) production_seen c.loop-rule.yielded (c.in-Some.rule, c.in-Some.production)
+
+pub returns : goal.returns
+returns g c =
+    let s = file_of c.args.self.now in
+    let implicit = implicit_in c.args.self.now in
+    let from = c.into_iter-rule-iterator.ensures.into_iter_gives in
+    let road = productions_road s c.into_iter-rule-iterator.result c.prods.result.now c.prods.ensures
+    (ap (λ it. iter_rest (zip_first it)) from ∙ ap iter_rest c.zip-rule-items.ensures.first ∙ c.iter.ensures.rest ∙ c.prods_rules.ensures)
+    (ap (λ it. iter_rest (zip_second it)) from ∙ c.zip-rule-items.ensures.second.0) in
+    let all = YieldsList-end road c.loop-rule.yielded c.loop-rule.rule-iterator c.loop-rule.yielded_by _ c.next.new.self c.in-None.is c.next.ensures.steps in
+    let file_rows = c.loop-rule.invariant ∙ ap (map (file_production implicit s)) all.0 in
+    elim c.match-self.branch [
+      | in-Some-implicit+in_ok-push_added-in-Some-implicit w ↦
+          ap (λ rows. map (production_view g.S.Storage.number) rows.items) w.rows-is ∙ w.in_ok-push_added-in-Some-implicit.ensures
+          ∙ (λ i. file_rows i ++ added_productions (option_map (λ table. names table.now.entries) (sym w.in-Some-implicit.is i)) s)
+      | in-None-implicit+in_ok-push_added_row-in-None-implicit w ↦
+          let symbols = sym w.start_symbol.ensures ∙ ap (λ table. start_symbols (option_map (λ table. names table.now.entries) table) s) w.in-None-implicit.is in
+          ap (λ rows. map (production_view g.S.Storage.number) rows.items) w.rows-is ∙ w.in_ok-push_added_row-in-None-implicit.ensures
+          ∙ (λ i. file_rows i ++ added_production 0 (symbols i) ∷ [])
+          ∙ ap (λ table. map (file_production implicit s) (zip s.production_rules s.productions) ++ added_productions (option_map (λ table. names table.now.entries) table) s)
+          (sym w.in-None-implicit.is)
+    ]

@@ -1,0 +1,9 @@
+use Rattle.std.proofs.Common.{◌≡◌, ◌++◌, map}
+use Rattle.cfgnumbers.specs.View.{file_of, production_view}
+use Rattle.cfgnumbers.proofs.Rows.{implicit_row, name_seen}
+use Rattle.cfgnumbers.proofs.numbering.Numbering.push_implicit.Given as goal
+
+abbrev pub invariant-loop-name : goal.invariant-loop-name
+invariant-loop-name g l =
+    map (production_view g.S.Storage.number) l.rows.items
+    ≡ map (production_view g.S.Storage.number) l.initial.rows.items ++ map (implicit_row (file_of l.self)) (map name_seen l.yielded)

@@ -1,0 +1,11 @@
+use Rattle.std.proofs.Common.{◌∷◌, ◌++◌, [], sym, ◌∙◌}
+use Rattle.cfgindex.specs.declared.idxnewtype.PIdx.{PIdx}
+use Rattle.lemmas.proofs.Roads.{pushed_shown}
+use Rattle.cfgnumbers.proofs.Rows.{range-push}
+use Rattle.cfgnumbers.proofs.numbering.rules.places_in_order.Goals as goal
+
+pub loop-place-preserved : goal.loop-place-preserved
+loop-place-preserved g c =
+    pushed_shown (λ (p : PIdx g.row.S.Denot). g.S.Storage.number p.0) c.loop-place.prods.items c.push.new.self.items (record { 0 = c.to_storage.result }) c.in_ok-push.ensures.items
+    ∙ (λ i. c.loop-place.invariant i ++ c.to_storage.ensures i ∷ [])
+    ∙ sym (range-push c.args.first c.loop-place.place)

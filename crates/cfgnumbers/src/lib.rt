@@ -1,0 +1,11 @@
+//! The numbering of a syntax that passed validation: the rows of its grammar's tables, and whether an index type counts
+//! them.
+#![tactic(auto)]
+
+mod names;
+pub mod numbering;
+pub mod rows;
+
+pub use names::tokens_by_name;
+pub use numbering::Numbering;
+pub use rows::{ProductionRow, RuleRow, TokenRow};

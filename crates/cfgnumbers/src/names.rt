@@ -1,0 +1,34 @@
+//! The tokens of a grammar, by their names.
+
+ghost use Rattle.std.specs.Prelude.{◌≡◌, ◌≤◌, ℕ, List, length, position, option_map, IfOk};
+ghost use Rattle.std.specs.HashMap.{get_by};
+ghost use Rattle.std.specs.Str.{bytes_eq};
+ghost use Rattle.cfgnumbers.specs.View.{names};
+
+use crate::rows::TokenRow;
+use cfgindex::{Storage, TIdx, to_storage};
+use indexmap::IndexMap;
+use std::alloc::{AllocError, Global};
+use std::collections::HashMap;
+
+/// The tokens of these rows, under their names.
+///
+/// # Errors
+///
+/// Want of memory.
+pub fn tokens_by_name<S: Storage>(
+    alloc: Global,
+    rows: &IndexMap<String, TokenRow>,
+) -> Result<HashMap<&str, TIdx<S>>, AllocError>
+    requires { length rows.now.entries ≤ S.MAX }
+    ensures { IfOk result (λ map. (name : List ℕ)
+        → option_map (λ x. S.number x.0) (get_by (λ key. bytes_eq name key.now) map)
+        ≡ position (bytes_eq name) (names rows.now.entries)) }
+{
+    let mut map = HashMap::with_capacity(alloc, rows.len())?;
+    for place in 0..rows.len() {
+        let (name, _) = rows.get_index(place).unwrap();
+        map.insert(name.as_str(), TIdx(to_storage(place)))?;
+    }
+    Ok(map)
+}

@@ -1,0 +1,170 @@
+//! The rows of productions.
+
+ghost use Rattle.std.specs.Prelude.{◌≡◌, ◌<◌, ◌≤◌, ◌∷◌, ◌++◌, [], true, All, Some, length};
+ghost use Rattle.std.specs.Prelude.{map, option_map, string_bytes, IfOk, OnOk};
+ghost use Rattle.std.specs.List.{zip};
+ghost use Rattle.std.specs.Option.{option_to_list};
+ghost use Rattle.derivation.specs.Grammar.{Rule, Token};
+ghost use Rattle.cfgast.specs.View.{production_view as plain_production};
+ghost use Rattle.cfgcheck.specs.Check.{is_token};
+ghost use Rattle.cfgcheck.specs.Sound.{IsSound};
+ghost use Rattle.cfgnumbers.specs.Fits.{LeavesRoom};
+ghost use Rattle.cfgnumbers.specs.Numbered.{added_production, added_productions, file_production, token_index};
+ghost use Rattle.cfgnumbers.specs.Resolved.{AreTokens, IsResolved, Resolves};
+ghost use Rattle.cfgnumbers.specs.View.{names, file_of, implicit_in, production_view};
+ghost use Rattle.cfganalysis.specs.Symbols.{sym_of};
+
+use super::Numbering;
+use super::marks::precedence_of;
+use crate::rows::ProductionRow;
+use cfgast::Production;
+use cfgbase::Span;
+use cfgindex::{RIdx, Storage, Symbol, to_storage};
+use indexmap::IndexMap;
+use std::alloc::{AllocError, Global};
+
+impl Numbering<'_> {
+    /// The productions: the file's, and then those that are added.
+    ///
+    /// # Errors
+    ///
+    /// Want of memory.
+    pub fn production_rows<S: Storage>(
+        &self,
+        alloc: Global,
+    ) -> Result<Vec<ProductionRow<S>>, AllocError>
+        requires sound { IsSound (file_of self.now) [] }
+        requires resolved { IsResolved (file_of self.now) }
+        requires implicit { AreTokens (file_of self.now) (implicit_in self.now) }
+        requires room { LeavesRoom S.MAX (implicit_in self.now) (file_of self.now) }
+        ensures { IfOk result (λ rows. map (production_view S.number) rows.items
+            ≡ map (file_production (implicit_in self.now) (file_of self.now))
+            (zip (file_of self.now).production_rules (file_of self.now).productions)
+            ++ added_productions (implicit_in self.now) (file_of self.now)) }
+    {
+        let mut rows = Vec::new(alloc);
+        for (rule, production) in self.ast.prods_rules().iter().zip(self.ast.prods()) {
+            rows.push(self.production_row(alloc, *rule, production)?)?;
+        }
+        match self.implicit {
+            Some(tokens) => self.push_added(alloc, &mut rows, tokens)?,
+            None => push_added_row(alloc, &mut rows, 0, None, Some(self.start_symbol()))?,
+        }
+        Ok(rows)
+    }
+
+    /// A production of the file, of the rule at this place.
+    fn production_row<S: Storage>(
+        &self,
+        alloc: Global,
+        rule: usize,
+        production: &Production,
+    ) -> Result<ProductionRow<S>, AllocError>
+        requires rule { rule < length (file_of self.now).rules }
+        requires resolved { Resolves (file_of self.now) (plain_production production.now) }
+        requires room { LeavesRoom S.MAX (implicit_in self.now) (file_of self.now) }
+        ensures { IfOk result (λ row. production_view S.number row
+            ≡ file_production (implicit_in self.now) (file_of self.now) (rule, plain_production production.now)) }
+    {
+        let symbols = self.numbered_symbols(alloc, &production.symbols)?;
+        let (action, action_span) = action_parts(production)?;
+        Ok(ProductionRow {
+            rule: self.rule_at(rule),
+            symbols,
+            span: production.prod_span,
+            precedence: precedence_of(self.ast, production),
+            action,
+            action_span,
+        })
+    }
+
+    /// Puts the productions that are added to a file with implicit tokens behind the rows.
+    fn push_added<S: Storage>(
+        &self,
+        alloc: Global,
+        rows: &mut Vec<ProductionRow<S>>,
+        tokens: &IndexMap<String, Span>,
+    ) -> Result<(), AllocError>
+        requires own { implicit_in self.now ≡ Some (names tokens.now.entries) }
+        requires resolved { IsResolved (file_of self.now) }
+        requires implicit { All (λ name. is_token (file_of self.now) name ≡ true) (names tokens.now.entries) }
+        requires room { LeavesRoom S.MAX (Some (names tokens.now.entries)) (file_of self.now) }
+        ensures { OnOk result (map (production_view S.number) rows.new.items
+            ≡ map (production_view S.number) rows.old.items
+            ++ added_productions (Some (names tokens.now.entries)) (file_of self.now)) }
+    {
+        let implicit = Symbol::Rule(RIdx(to_storage(1)));
+        let implicit_start = Symbol::Rule(RIdx(to_storage(2)));
+        push_added_row(alloc, rows, 0, None, Some(implicit_start))?;
+        self.push_implicit(alloc, rows, tokens)?;
+        push_added_row(alloc, rows, 1, None, None)?;
+        push_added_row(alloc, rows, 2, Some(implicit), Some(self.start_symbol()))
+    }
+
+    /// Puts a production of the rule for implicit tokens behind the rows for each of these: the token, and the rule
+    /// again.
+    fn push_implicit<S: Storage>(
+        &self,
+        alloc: Global,
+        rows: &mut Vec<ProductionRow<S>>,
+        tokens: &IndexMap<String, Span>,
+    ) -> Result<(), AllocError>
+        requires implicit { All (λ name. is_token (file_of self.now) name ≡ true) (names tokens.now.entries) }
+        requires rule { 1 ≤ S.MAX }
+        requires room { LeavesRoom S.MAX (implicit_in self.now) (file_of self.now) }
+        ensures { OnOk result (map (production_view S.number) rows.new.items
+            ≡ map (production_view S.number) rows.old.items
+            ++ map (λ name. added_production 1 (Token (token_index (file_of self.now) name) ∷ Rule 1 ∷ []))
+            (names tokens.now.entries)) }
+    {
+        for (name, _) in tokens {
+            let token = Symbol::Token(self.token_of(name.as_str()));
+            let again = Symbol::Rule(RIdx(to_storage(1)));
+            push_added_row(alloc, rows, 1, Some(token), Some(again))?;
+        }
+        Ok(())
+    }
+}
+
+/// Puts a production that the file doesn't have behind the rows. It has these symbols, two at most.
+fn push_added_row<S: Storage>(
+    alloc: Global,
+    rows: &mut Vec<ProductionRow<S>>,
+    rule: usize,
+    first: Option<Symbol<S>>,
+    second: Option<Symbol<S>>,
+) -> Result<(), AllocError>
+    requires { rule ≤ S.MAX }
+    ensures { OnOk result (map (production_view S.number) rows.new.items
+        ≡ map (production_view S.number) rows.old.items
+        ++ added_production rule (map (sym_of S.number) (option_to_list first ++ option_to_list second)) ∷ []) }
+{
+    let mut symbols = Vec::new(alloc);
+    if let Some(symbol) = first {
+        symbols.push(symbol)?;
+    }
+    if let Some(symbol) = second {
+        symbols.push(symbol)?;
+    }
+    rows.push(ProductionRow {
+        rule: RIdx(to_storage(rule)),
+        symbols,
+        span: Span::new(0, 0),
+        precedence: None,
+        action: None,
+        action_span: None,
+    })?;
+    Ok(())
+}
+
+/// The text of a production's action, and its place.
+fn action_parts(production: &Production) -> Result<(Option<String>, Option<Span>), AllocError>
+    ensures text { IfOk result (λ parts. option_map string_bytes parts.0
+        ≡ option_map (λ action. string_bytes action.0) production.now.action) }
+    ensures span { IfOk result (λ parts. parts.1 ≡ option_map (λ action. action.1) production.now.action) }
+{
+    match &production.action {
+        Some((text, span)) => Ok((Some(text.clone()?), Some(*span))),
+        None => Ok((None, None)),
+    }
+}

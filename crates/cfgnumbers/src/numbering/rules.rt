@@ -1,0 +1,143 @@
+//! The rows of rules.
+
+ghost use Rattle.std.specs.Prelude.{◌≡◌, ◌+◌, ◌≤◌, ◌∷◌, ◌++◌, [], false, All, length, map};
+ghost use Rattle.std.specs.Prelude.{IfOk, OnOk};
+ghost use Rattle.std.specs.List.{list_any, range_with_len};
+ghost use Rattle.std.specs.Str.{bytes_eq};
+ghost use Rattle.cfgast.specs.View.{rule_view as plain_rule};
+ghost use Rattle.cfgcheck.specs.Sound.{IsSound};
+ghost use Rattle.cfgnumbers.specs.Fits.{LeavesRoom};
+ghost use Rattle.cfgnumbers.specs.Numbered.{added_rule, added_rules, file_rule};
+ghost use Rattle.cfgnumbers.specs.View.{names, file_of, implicit_in, rule_view};
+
+use super::Numbering;
+use crate::rows::RuleRow;
+use cfgast::Rule;
+use cfgbase::Span;
+use cfgindex::{PIdx, Storage, to_storage};
+use indexmap::IndexMap;
+use std::alloc::{AllocError, Global};
+
+// The names of the added rules, which cannot be those of a file's.
+const START_RULE: &str = "^";
+
+const IMPLICIT_RULE: &str = "~";
+
+const IMPLICIT_START_RULE: &str = "^~";
+
+impl Numbering<'_> {
+    /// The rules: those that are added, and then the file's.
+    ///
+    /// # Errors
+    ///
+    /// Want of memory.
+    pub fn rule_rows<S: Storage>(
+        &self,
+        alloc: Global,
+    ) -> Result<IndexMap<String, RuleRow<S>>, AllocError>
+        requires sound { IsSound (file_of self.now) [] }
+        requires room { LeavesRoom S.MAX (implicit_in self.now) (file_of self.now) }
+        ensures { IfOk result (λ rows. map (rule_view S.number) rows.entries
+            ≡ added_rules (implicit_in self.now) (length (file_of self.now).productions)
+            ++ map file_rule (file_of self.now).rules) }
+    {
+        let mut rows = self.added_rule_rows(alloc)?;
+        for (name, rule) in self.ast.rules() {
+            put_rule(alloc, &mut rows, name.as_str(), rule)?;
+        }
+        Ok(rows)
+    }
+
+    /// The rules that are added. Their productions stand behind those of the file.
+    fn added_rule_rows<S: Storage>(
+        &self,
+        alloc: Global,
+    ) -> Result<IndexMap<String, RuleRow<S>>, AllocError>
+        requires room { LeavesRoom S.MAX (implicit_in self.now) (file_of self.now) }
+        ensures { IfOk result (λ rows. map (rule_view S.number) rows.entries
+            ≡ added_rules (implicit_in self.now) (length (file_of self.now).productions)) }
+    {
+        let first = self.ast.prods().len();
+        let mut rows = IndexMap::new(alloc);
+        put_added_rule(alloc, &mut rows, START_RULE, first, 1)?;
+        if let Some(tokens) = self.implicit {
+            let count = tokens.len();
+            put_added_rule(alloc, &mut rows, IMPLICIT_RULE, first + 1, count + 1)?;
+            put_added_rule(alloc, &mut rows, IMPLICIT_START_RULE, first + count + 2, 1)?;
+        }
+        Ok(rows)
+    }
+}
+
+/// Puts a rule that the file doesn't have behind the rows. It has so many productions, from the first on.
+fn put_added_rule<S: Storage>(
+    alloc: Global,
+    rows: &mut IndexMap<String, RuleRow<S>>,
+    name: &str,
+    first: usize,
+    count: usize,
+) -> Result<(), AllocError>
+    requires new { list_any (bytes_eq name.now) (names rows.old.entries) ≡ false }
+    requires places { first + count ≤ S.MAX }
+    ensures { OnOk result (map (rule_view S.number) rows.new.entries
+        ≡ map (rule_view S.number) rows.old.entries ++ added_rule name.now (range_with_len first count) ∷ []) }
+{
+    let row = RuleRow {
+        span: Span::new(0, 0),
+        prods: places_in_order(alloc, first, count)?,
+        actiont: None,
+    };
+    rows.insert(String::from_str(alloc, name)?, row)?;
+    Ok(())
+}
+
+/// So many productions in order, from the first on.
+fn places_in_order<S: Storage>(
+    alloc: Global,
+    first: usize,
+    count: usize,
+) -> Result<Vec<PIdx<S>>, AllocError>
+    requires { first + count ≤ S.MAX }
+    ensures { IfOk result (λ prods. map (λ p. S.number p.0) prods.items ≡ range_with_len first count) }
+{
+    let mut prods = Vec::with_capacity(alloc, count)?;
+    for place in 0..count {
+        prove!(first <= S::MAX);
+        prods.push(PIdx(to_storage(first + place)))?;
+    }
+    Ok(prods)
+}
+
+/// Puts a rule of the file behind the rows.
+fn put_rule<S: Storage>(
+    alloc: Global,
+    rows: &mut IndexMap<String, RuleRow<S>>,
+    name: &str,
+    rule: &Rule,
+) -> Result<(), AllocError>
+    requires new { list_any (bytes_eq name.now) (names rows.old.entries) ≡ false }
+    requires places { All (λ place. place ≤ S.MAX) rule.now.pidxs.items }
+    ensures { OnOk result (map (rule_view S.number) rows.new.entries
+        ≡ map (rule_view S.number) rows.old.entries ++ file_rule (name.now, plain_rule rule.now) ∷ []) }
+{
+    let (_, span) = &rule.name;
+    let row = RuleRow {
+        span: *span,
+        prods: stored_places(alloc, &rule.pidxs)?,
+        actiont: rule.actiont.clone()?,
+    };
+    rows.insert(String::from_str(alloc, name)?, row)?;
+    Ok(())
+}
+
+/// The productions at these places, as indices.
+fn stored_places<S: Storage>(alloc: Global, places: &[usize]) -> Result<Vec<PIdx<S>>, AllocError>
+    requires { All (λ place. place ≤ S.MAX) places.now }
+    ensures { IfOk result (λ prods. map (λ p. S.number p.0) prods.items ≡ places.now) }
+{
+    let mut prods = Vec::with_capacity(alloc, places.len())?;
+    for place in places {
+        prods.push(PIdx(to_storage(*place)))?;
+    }
+    Ok(prods)
+}

@@ -1,0 +1,103 @@
+//! The symbols of productions, by their indices.
+
+ghost use Rattle.std.specs.Prelude.{◌≡◌, ◌+◌, ◌≤◌, ◌++◌, ◌∷◌, [], true, All, None, map, IfOk};
+ghost use Rattle.std.specs.Prelude.{OnOk};
+ghost use Rattle.cfgast.specs.View.{symbol_view};
+ghost use Rattle.cfgcheck.specs.Check.{is_rule, is_token, symbol_error};
+ghost use Rattle.cfgnumbers.specs.Fits.{LeavesRoom};
+ghost use Rattle.cfgnumbers.specs.Numbered.{rule_index, rules_before, token_index, file_symbol, file_symbols, spaced};
+ghost use Rattle.cfgnumbers.specs.Numbered.{start_symbols};
+ghost use Rattle.cfgnumbers.specs.Resolved.{IsResolved};
+ghost use Rattle.cfgnumbers.specs.View.{file_of, implicit_in};
+ghost use Rattle.cfganalysis.specs.Symbols.{sym_of};
+
+use super::Numbering;
+use cfgindex::{RIdx, Storage, Symbol, TIdx, to_storage};
+use std::alloc::{AllocError, Global};
+
+impl Numbering<'_> {
+    /// The symbols of a production of the file. Behind each token stands the rule for implicit tokens, where there are
+    /// some.
+    pub(super) fn numbered_symbols<S: Storage>(
+        &self,
+        alloc: Global,
+        symbols: &[cfgast::Symbol],
+    ) -> Result<Vec<Symbol<S>>, AllocError>
+        requires known { All (λ symbol. symbol_error (file_of self.now) symbol ≡ None)
+            (map symbol_view symbols.now) }
+        requires room { LeavesRoom S.MAX (implicit_in self.now) (file_of self.now) }
+        ensures { IfOk result (λ numbered. map (sym_of S.number) numbered.items
+            ≡ file_symbols (implicit_in self.now) (file_of self.now) (map symbol_view symbols.now)) }
+    {
+        let mut numbered = Vec::with_capacity(alloc, symbols.len())?;
+        for symbol in symbols {
+            self.push_symbol(&mut numbered, symbol)?;
+        }
+        Ok(numbered)
+    }
+
+    /// Puts a symbol of the file behind those that are numbered.
+    fn push_symbol<S: Storage>(
+        &self,
+        numbered: &mut Vec<Symbol<S>>,
+        symbol: &cfgast::Symbol,
+    ) -> Result<(), AllocError>
+        requires known { symbol_error (file_of self.now) (symbol_view symbol.now) ≡ None }
+        requires room { LeavesRoom S.MAX (implicit_in self.now) (file_of self.now) }
+        ensures { OnOk result (map (sym_of S.number) numbered.new.items
+            ≡ map (sym_of S.number) numbered.old.items
+            ++ spaced (implicit_in self.now)
+            (file_symbol (implicit_in self.now) (file_of self.now) (symbol_view symbol.now))) }
+    {
+        match symbol {
+            cfgast::Symbol::Rule(name, _) => {
+                numbered.push(Symbol::Rule(self.rule_of(name.as_str())))?;
+            }
+            cfgast::Symbol::Token(name, _) => {
+                numbered.push(Symbol::Token(self.token_of(name.as_str())))?;
+                if let Some(rule) = self.implicit_rule() {
+                    numbered.push(Symbol::Rule(rule))?;
+                }
+            }
+        }
+        Ok(())
+    }
+
+    /// The rule that the file starts from.
+    pub(super) fn start_symbol<S: Storage>(&self) -> Symbol<S>
+        requires resolved { IsResolved (file_of self.now) }
+        requires room { LeavesRoom S.MAX (implicit_in self.now) (file_of self.now) }
+        ensures { start_symbols (implicit_in self.now) (file_of self.now) ≡ sym_of S.number result ∷ [] }
+    {
+        let (name, _) = self.ast.start().as_ref().unwrap();
+        Symbol::Rule(self.rule_of(name.as_str()))
+    }
+
+    /// The rule of this name.
+    fn rule_of<S: Storage>(&self, name: &str) -> RIdx<S>
+        requires known { is_rule (file_of self.now) name.now ≡ true }
+        requires room { LeavesRoom S.MAX (implicit_in self.now) (file_of self.now) }
+        ensures { S.number result.0 ≡ rule_index (implicit_in self.now) (file_of self.now) name.now }
+    {
+        self.rule_at(self.ast.rules().get_index_of(name).unwrap())
+    }
+
+    /// The rule at this place of the file.
+    pub(super) fn rule_at<S: Storage>(&self, place: usize) -> RIdx<S>
+        requires { rules_before (implicit_in self.now) + place ≤ S.MAX }
+        ensures { S.number result.0 ≡ rules_before (implicit_in self.now) + place }
+    {
+        prove!(place <= S::MAX);
+        RIdx(to_storage(self.rules_before() + place))
+    }
+
+    /// The token of this name.
+    pub(super) fn token_of<S: Storage>(&self, name: &str) -> TIdx<S>
+        requires known { is_token (file_of self.now) name.now ≡ true }
+        requires room { LeavesRoom S.MAX (implicit_in self.now) (file_of self.now) }
+        ensures { S.number result.0 ≡ token_index (file_of self.now) name.now }
+    {
+        let place = self.ast.tokens().get_index_of(name).unwrap();
+        TIdx(to_storage(place))
+    }
+}

@@ -1,0 +1,35 @@
+//! The rows of a grammar's tables.
+
+use cfgast::Precedence;
+use cfgbase::Span;
+use cfgindex::{PIdx, RIdx, Symbol};
+
+/// A rule, which stands under its name.
+#[derive(Drop)]
+pub struct RuleRow<S> {
+    pub span: Span,
+    pub prods: Vec<PIdx<S>>,
+    pub actiont: Option<String>,
+}
+
+/// A production.
+#[derive(Drop)]
+pub struct ProductionRow<S> {
+    pub rule: RIdx<S>,
+    pub symbols: Vec<Symbol<S>>,
+    pub span: Span,
+    pub precedence: Option<Precedence>,
+    pub action: Option<String>,
+    pub action_span: Option<Span>,
+}
+
+/// A token that has a name, under which it stands.
+#[derive(Drop)]
+pub struct TokenRow {
+    pub span: Span,
+    pub precedence: Option<Precedence>,
+    /// What a `%epp` says of it. A token without one prints its name.
+    pub printed: Option<String>,
+    /// Whether a `%avoid_insert` list has it.
+    pub avoid_insert: bool,
+}

@@ -1,5 +1,0 @@
-use Rattle.std.proofs.Common.{arith}
-use Rattle.cfgrammar.proofs.yacc.grammar.build.Numbering.rule_at.Goals as goal
-
-pub returns : goal.returns
-returns g c = omega (arith, c.to_storage.ensures)

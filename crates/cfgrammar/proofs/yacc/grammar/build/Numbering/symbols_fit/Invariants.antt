@@ -1,9 +1,0 @@
-use Rattle.std.proofs.Common.{◌≡◌, ◌+◌, length, map, take}
-use Rattle.cfgast.specs.View.{symbol_view}
-use Rattle.cfgrammar.specs.Numbered.{file_symbols}
-use Rattle.cfgrammar.specs.View.{file_of, implicit_in}
-use Rattle.cfgrammar.proofs.yacc.grammar.build.Numbering.symbols_fit.Given as goal
-
-abbrev pub invariant-loop-symbol : goal.invariant-loop-symbol
-invariant-loop-symbol g l =
-    l.left + length (file_symbols (implicit_in l.self) (file_of l.self) (map symbol_view (take l.symbol-index l.symbols))) ≡ g.S.Storage.MAX

@@ -1,9 +1,0 @@
-use Rattle.std.proofs.Common.{◌≡◌, ℕ, List, option_map, position, take}
-use Rattle.std.specs.HashMap.{get_by}
-use Rattle.std.specs.Str.{bytes_eq}
-use Rattle.cfgrammar.specs.View.{names}
-use Rattle.cfgrammar.proofs.yacc.grammar.names.tokens_by_name.Given as goal
-
-abbrev pub invariant-loop-place : goal.invariant-loop-place
-invariant-loop-place g l = (name : List ℕ)
-    → option_map (λ x. g.S.Storage.number x.0) (get_by (λ key. bytes_eq name key.now) l.map) ≡ position (bytes_eq name) (take l.place (names l.rows.entries))
