@@ -11,5 +11,6 @@ pub mod Joins
 pub mod Slices
 pub mod FollowVisits
 pub mod Gathering
+pub mod Fitting
 pub mod FollowBits
 pub mod Searching

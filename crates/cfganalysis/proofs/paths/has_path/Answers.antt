@@ -1,6 +1,6 @@
 use Rattle.std.proofs.Common.{◌≡◌, ℕ, Bool, false, List, get_or, sym, ap, ◌∙◌, subst, Contains}
 use Rattle.std.proofs.lemmas.List.Elements.{Contains-push}
-use Rattle.cfganalysis.proofs.Searching.{search_begins, waiting_within, search_goes_on, search_ends}
+use Rattle.cfganalysis.proofs.Searching.{search_begins, waiting_within, search_goes_on, less_to_do, search_ends}
 use Rattle.cfganalysis.proofs.paths.has_path.Goals as goal
 
 pub loop-rule-init : goal.loop-rule-init
@@ -13,6 +13,9 @@ reach_from-requires-in-Some-clause-rule g c =
 
 pub loop-rule-preserved : goal.loop-rule-preserved
 loop-rule-preserved g c = search_goes_on _ _ _ _ _ _ c.loop-rule.invariant c.in-Some.ensures.rules c.in-Some.ensures.waiting c.in_ok-reach_from-2.ensures
+
+pub loop-rule-smaller : goal.loop-rule-smaller
+loop-rule-smaller g c = less_to_do (g.T.Tables.grammar c.args.tables.now) (g.S.Storage.number c.args.from.0) _ _ _ _ _ c.in-Some.ensures.rules c.in-Some.ensures.waiting c.in_ok-reach_from-2.ensures
 
 -- the answer is the bit
 is_bit : {b : Bool} {old new : List Bool} (n : ℕ) → b ≡ get_or new n false → new ≡ old → b ≡ get_or old n false

@@ -1,0 +1,20 @@
+-- Numbers of openings fit, since rules, tokens and productions are counted by an index type.
+use Rattle.std.proofs.Common.{◌≡◌, ℕ, ◌+◌, ◌*◌, ◌<◌, ◌≤◌, length, arith}
+use Rattle.std.proofs.lemmas.Nat.{mul-le}
+use Rattle.derivation.specs.Grammar.{Grammar}
+use Rattle.cfganalysis.specs.Openings.{most_openings, most_openings_all}
+
+pub openings_fit : (g : Grammar) (rules tokens most : ℕ) → rules ≡ g.rules → tokens ≡ g.tokens → rules ≤ most → tokens ≤ most → most < 4294967296
+    → most_openings g < 18446744073709551615
+openings_fit g rules tokens most e f h k lt =
+    let m : g.rules * (g.tokens + 1) ≤ 4294967295 * 4294967296 = mul-le g.rules (g.tokens + 1) 4294967295 4294967296 (omega arith) (omega arith) in
+    omega arith
+
+product_fits : (n m most : ℕ) → n ≤ most → most < 4294967296 → m < 18446744073709551615 → n * m < 340282366920938463463374607431768211455
+product_fits n m most h lt k =
+    let p : n * m ≤ 4294967295 * 18446744073709551615 = mul-le n m 4294967295 18446744073709551615 (omega arith) (omega arith) in
+    omega arith
+
+pub all_openings_fit : (g : Grammar) (places most : ℕ) → places ≡ length g.productions → places ≤ most → most < 4294967296
+    → most_openings g < 18446744073709551615 → most_openings_all g < 340282366920938463463374607431768211455
+all_openings_fit g places most e h lt k = product_fits (length g.productions) (most_openings g) most (omega arith) lt k
