@@ -41,8 +41,8 @@ pub trait Reporter {
         ensures faults { W.faults_counted out.new ≡ W.faults_counted out.old + faults_met result };
 }
 
-/// Runs the program on the words after its name, and answers its status. What its report tells is written to `out`, and a line
-/// on what went wrong to `err`, as far as `err` takes it. Words that are wrong leave `source` as it was.
+/// Runs the program on the words after its name, and answers its status. What its report tells is written to `out`,
+/// and a line on what went wrong to `err`, as far as `err` takes it. Words that are wrong leave `source` as it was.
 pub fn run<P: Reporter, S: Source, O: Sink, E: Sink>(
     alloc: Global,
     reporter: &P,
