@@ -6,7 +6,7 @@ use Rattle.derivation.specs.Grammar.{Sym, Rule}
 use Rattle.cfgast.specs.Syntax.{Syntax}
 use Rattle.cfgnumbers.specs.Fits.{productions_behind}
 use Rattle.cfgnumbers.specs.Numbered.{NumberedRule, NumberedProduction, rules_before, start_symbols, start_name, implicit_name, implicit_start_name, added_rule, added_rules, added_production, added_productions}
-use Rattle.cfgnumbers.proofs.Rows.{added_names, implicit_row}
+use Rattle.cfgnumbers.proofs.RowLemmas.{added_names, implicit_row}
 
 pub added_rules_len : (implicit : Option (List (List ℕ))) (n : ℕ) → length (added_rules implicit n) ≡ rules_before implicit
 added_rules_len None n = refl

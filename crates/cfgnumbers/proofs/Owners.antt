@@ -11,7 +11,7 @@ use Rattle.cfgast.specs.WellFormed.{IsWellFormed}
 use Rattle.cfgnumbers.specs.Numbered.{NumberedProduction, rules_before, file_production, added_productions, numbered_by}
 use Rattle.cfgnumbers.specs.Shown.{production_part}
 use Rattle.cfgnumbers.proofs.Added.{behind_implicit}
-use Rattle.cfgnumbers.proofs.Rows.{implicit_row}
+use Rattle.cfgnumbers.proofs.RowLemmas.{implicit_row}
 use Rattle.cfgnumbers.proofs.Within.{unmapped}
 
 abbrev owner_of : NumberedProduction → ℕ

@@ -21,7 +21,7 @@ use Rattle.cfgnumbers.specs.Resolved.{AreTokens, Resolves}
 use Rattle.cfgnumbers.proofs.Lengths.{rules_len, tokens_len}
 use Rattle.cfgnumbers.proofs.Owners.{owners, owners_are, owners_within, start_owner}
 use Rattle.cfgnumbers.proofs.OwnPlaces.{lists_are}
-use Rattle.cfgnumbers.proofs.Rows.{name_shown}
+use Rattle.cfgnumbers.proofs.RowLemmas.{name_shown}
 use Rattle.cfgnumbers.proofs.SymbolsThere.{file_there, added_there}
 use Rattle.cfgnumbers.proofs.Valid.{resolved}
 

@@ -20,7 +20,7 @@ use Rattle.cfgnumbers.specs.declared.rows.RuleRow.{RuleRow}
 use Rattle.cfgnumbers.specs.declared.rows.ProductionRow.{ProductionRow}
 use Rattle.cfgnumbers.specs.declared.rows.TokenRow.{TokenRow}
 use Rattle.cfgnumbers.proofs.Listed.{listed_once}
-use Rattle.cfgnumbers.proofs.Names.{distinct_names}
+use Rattle.cfgnumbers.proofs.DistinctNames.{distinct_names}
 use Rattle.cfgnumbers.proofs.Places.{implicit_there}
 use Rattle.cfgnumbers.proofs.Room.{fits_from_room, room_from_fits}
 use Rattle.cfgnumbers.proofs.Whole.{whole}

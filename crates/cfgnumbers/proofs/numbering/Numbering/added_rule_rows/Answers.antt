@@ -5,7 +5,7 @@ use Rattle.std.proofs.lemmas.List.{length-map}
 use Rattle.cfgast.specs.View.{production_view}
 use Rattle.cfgnumbers.specs.Numbered.{added_rule, added_rules, start_name, implicit_name, implicit_start_name}
 use Rattle.cfgnumbers.specs.View.{names, file_of, rule_view}
-use Rattle.cfgnumbers.proofs.Rows.{names_of_rows}
+use Rattle.cfgnumbers.proofs.RowLemmas.{names_of_rows}
 use Rattle.cfgnumbers.proofs.Turns.{as_long}
 use Rattle.cfgnumbers.proofs.numbering.Numbering.added_rule_rows.Goals as goal
 use Rattle.cfgnumbers.proofs.numbering.Numbering.added_rule_rows.Goals.{in-Some+in_ok-put_added_rule-2+in_ok-put_added_rule-3, in_default}

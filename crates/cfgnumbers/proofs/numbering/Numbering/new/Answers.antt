@@ -4,7 +4,7 @@ use Rattle.cfgast.specs.View.{syntax, span_entry}
 use Rattle.cfgheader.specs.declared.kind.YaccKind.{YaccKind}
 use Rattle.cfgnumbers.specs.Numbered.{implicit_of}
 use Rattle.cfgnumbers.specs.View.{names}
-use Rattle.cfgnumbers.proofs.Rows.{names_shown}
+use Rattle.cfgnumbers.proofs.RowLemmas.{names_shown}
 use Rattle.cfgnumbers.proofs.numbering.Numbering.new.Goals as goal
 use Rattle.cfgnumbers.proofs.numbering.Numbering.new.Goals.{in-Eco, in-Original}
 

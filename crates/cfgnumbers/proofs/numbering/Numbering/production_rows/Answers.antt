@@ -8,7 +8,7 @@ use Rattle.cfgnumbers.specs.Numbered.{added_production, added_productions, file_
 use Rattle.cfgnumbers.specs.Resolved.{Resolves}
 use Rattle.cfgnumbers.specs.View.{names, file_of, implicit_in, production_view}
 use Rattle.lemmas.proofs.Roads.{item_holds, more_shown, pushed_shown}
-use Rattle.cfgnumbers.proofs.Rows.{production_seen, productions_road}
+use Rattle.cfgnumbers.proofs.RowLemmas.{production_seen, productions_road}
 use Rattle.lemmas.proofs.Zips.{All-zip}
 use Rattle.cfgnumbers.proofs.numbering.Numbering.production_rows.Goals as goal
 use Rattle.cfgnumbers.proofs.numbering.Numbering.production_rows.Goals.{in-Some-implicit+in_ok-push_added-in-Some-implicit, in-None-implicit+in_ok-push_added_row-in-None-implicit}

@@ -6,7 +6,7 @@ use Rattle.cfgcheck.specs.Check.{is_token}
 use Rattle.cfgnumbers.specs.Numbered.{added_production, token_index}
 use Rattle.cfgnumbers.specs.View.{file_of, production_view}
 use Rattle.lemmas.proofs.Roads.{item_holds, more_shown}
-use Rattle.cfgnumbers.proofs.Rows.{implicit_row, name_seen, names_road}
+use Rattle.cfgnumbers.proofs.RowLemmas.{implicit_row, name_seen, names_road}
 use Rattle.cfgnumbers.proofs.numbering.Numbering.push_implicit.Goals as goal
 
 pub token_of-requires-clause-known : goal.token_of-requires-clause-known

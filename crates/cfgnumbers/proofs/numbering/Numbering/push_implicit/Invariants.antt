@@ -1,6 +1,6 @@
 use Rattle.std.proofs.Common.{◌≡◌, ◌++◌, map}
 use Rattle.cfgnumbers.specs.View.{file_of, production_view}
-use Rattle.cfgnumbers.proofs.Rows.{implicit_row, name_seen}
+use Rattle.cfgnumbers.proofs.RowLemmas.{implicit_row, name_seen}
 use Rattle.cfgnumbers.proofs.numbering.Numbering.push_implicit.Given as goal
 
 abbrev pub invariant-loop-name : goal.invariant-loop-name

@@ -9,7 +9,7 @@ use Rattle.cfgbase.specs.declared.span.Span.{Span}
 use Rattle.cfgnumbers.specs.Numbered.{file_token}
 use Rattle.cfgnumbers.specs.View.{file_of}
 use Rattle.lemmas.proofs.Roads.{more_shown, name_is_new}
-use Rattle.cfgnumbers.proofs.Rows.{token_names_shown, token_seen, tokens_road}
+use Rattle.cfgnumbers.proofs.RowLemmas.{token_names_shown, token_seen, tokens_road}
 use Rattle.cfgnumbers.proofs.numbering.Numbering.token_rows.Goals as goal
 
 pub put_token-requires : goal.put_token-requires

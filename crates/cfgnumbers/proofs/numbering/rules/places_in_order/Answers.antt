@@ -1,7 +1,7 @@
 use Rattle.std.proofs.Common.{◌∷◌, ◌++◌, [], sym, ◌∙◌}
 use Rattle.cfgindex.specs.declared.idxnewtype.PIdx.{PIdx}
 use Rattle.lemmas.proofs.Roads.{pushed_shown}
-use Rattle.cfgnumbers.proofs.Rows.{range-push}
+use Rattle.cfgnumbers.proofs.RowLemmas.{range-push}
 use Rattle.cfgnumbers.proofs.numbering.rules.places_in_order.Goals as goal
 
 pub loop-place-preserved : goal.loop-place-preserved

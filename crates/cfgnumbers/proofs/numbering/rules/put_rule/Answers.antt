@@ -1,5 +1,5 @@
 use Rattle.std.proofs.Common.{rules, ◌≡◌, option_map, string_bytes, refl, ◌∙◌}
-use Rattle.cfgnumbers.proofs.Rows.{rule_put}
+use Rattle.cfgnumbers.proofs.RowLemmas.{rule_put}
 use Rattle.cfgnumbers.proofs.numbering.rules.put_rule.Goals as goal
 
 pub returns : goal.returns

@@ -4,7 +4,7 @@ use Rattle.cfgnumbers.specs.Numbered.{Numbered, NumberedRule}
 use Rattle.cfgnumbers.specs.View.{tables}
 use Rattle.cfgnumbers.specs.WellNumbered.{HasDistinctNames}
 use Rattle.cfgnumbers.proofs.Lookups.{rule_position}
-use Rattle.cfgnumbers.proofs.Names.{rule_found}
+use Rattle.cfgnumbers.proofs.DistinctNames.{rule_found}
 use Rattle.cfgnumbers.proofs.Within.{position_within}
 use Rattle.cfgrammar.proofs.yacc.grammar.tables.YaccGrammar.rule_idx.Goals as goal
 

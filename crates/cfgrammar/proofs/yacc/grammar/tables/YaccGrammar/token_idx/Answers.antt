@@ -4,7 +4,7 @@ use Rattle.cfgnumbers.specs.Shown.{has_token_name}
 use Rattle.cfgnumbers.specs.View.{tables}
 use Rattle.cfgnumbers.specs.WellNumbered.{HasDistinctNames}
 use Rattle.cfgnumbers.proofs.Lookups.{token_position}
-use Rattle.cfgnumbers.proofs.Names.{token_found}
+use Rattle.cfgnumbers.proofs.DistinctNames.{token_found}
 use Rattle.cfgnumbers.proofs.Within.{position_within}
 use Rattle.cfgrammar.proofs.yacc.grammar.tables.YaccGrammar.token_idx.Goals as goal
 

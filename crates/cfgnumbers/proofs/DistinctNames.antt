@@ -18,7 +18,7 @@ use Rattle.cfgnumbers.specs.Numbered.{Numbered, NumberedRule, NumberedToken, num
 use Rattle.cfgnumbers.specs.Shown.{rule_part, token_part, has_token_name}
 use Rattle.cfgnumbers.specs.WellNumbered.{HasDistinctNames}
 use Rattle.cfgnumbers.proofs.Added.{added_names_are}
-use Rattle.cfgnumbers.proofs.Rows.{rule_names, rule_names-distinct, name_shown}
+use Rattle.cfgnumbers.proofs.RowLemmas.{rule_names, rule_names-distinct, name_shown}
 use Rattle.cfgnumbers.proofs.Within.{part_within}
 
 -- what holds of the names of all tokens holds of one's
