@@ -6,6 +6,7 @@ ghost use Rattle.cfgast.specs.View.{production_view, rule_view, named_view, rule
 ghost use Rattle.cfgast.specs.View.{precedence_entry, printed_entry, span_entry, pair_view, symbol_view};
 ghost use Rattle.cfgast.specs.View.{occurrence_view};
 
+use crate::copies::{both, three};
 use crate::occurrence::Occurrence;
 use crate::precedence::Precedence;
 use crate::production::Production;
@@ -202,10 +203,7 @@ impl GrammarAST {
             (λ copy. map production_view copy.1.items ≡ (syntax self.now).productions) }
         ensures production_rules { IfOk result (λ copy. copy.2.items ≡ (syntax self.now).production_rules) }
     {
-        let production_rules = self.prods_rules.clone()?;
-        let productions = self.prods.clone()?;
-        let rules = self.rules.clone()?;
-        Ok((rules, productions, production_rules))
+        three(&self.rules, &self.prods, &self.prods_rules)
     }
 
     // Copies of the symbols that are expected to be unused, and of the occurrences.
@@ -215,9 +213,7 @@ impl GrammarAST {
         ensures occurrences { IfOk result
             (λ copy. map occurrence_view copy.1.items ≡ (syntax self.now).occurrences) }
     {
-        let occurrences = self.occurrences.clone()?;
-        let expect_unused = self.expect_unused.clone()?;
-        Ok((expect_unused, occurrences))
+        both(&self.expect_unused, &self.occurrences)
     }
 
     // Copies of what the file says of its grammar as a whole and of single tokens.
@@ -225,9 +221,7 @@ impl GrammarAST {
         ensures settings { IfOk result (λ copy. settings_view copy.0 ≡ (syntax self.now).settings) }
         ensures tables { IfOk result (λ copy. tables_view copy.1 ≡ (syntax self.now).tables) }
     {
-        let tables = self.tables.clone()?;
-        let settings = self.settings.clone()?;
-        Ok((settings, tables))
+        both(&self.settings, &self.tables)
     }
 
     // Copies of the tokens, of their spans, and of the directives.
@@ -236,10 +230,7 @@ impl GrammarAST {
         ensures spans { IfOk result (λ copy. copy.1.items ≡ (syntax self.now).spans) }
         ensures token_directives { IfOk result (λ copy. copy.2.keys ≡ (syntax self.now).token_directives) }
     {
-        let token_directives = self.token_directives.clone()?;
-        let spans = self.spans.clone()?;
-        let tokens = self.tokens.clone()?;
-        Ok((tokens, spans, token_directives))
+        three(&self.tokens, &self.spans, &self.token_directives)
     }
 }
 
