@@ -6,7 +6,7 @@ ghost use Rattle.cfgast.specs.View.{production_view, rule_view, named_view, rule
 ghost use Rattle.cfgast.specs.View.{precedence_entry, printed_entry, span_entry, pair_view, symbol_view};
 ghost use Rattle.cfgast.specs.View.{occurrence_view};
 
-use crate::copies::{both, three};
+use crate::copies::{all, both, three};
 use crate::occurrence::Occurrence;
 use crate::precedence::Precedence;
 use crate::production::Production;
@@ -206,14 +206,17 @@ impl GrammarAST {
         three(&self.rules, &self.prods, &self.prods_rules)
     }
 
-    // Copies of the symbols that are expected to be unused, and of the occurrences.
-    fn clone_lists(&self) -> Result<(Vec<Symbol>, Vec<Occurrence>), AllocError>
+    // Copies of the start, of the symbols that are expected to be unused, and of the occurrences.
+    fn clone_lists(
+        &self,
+    ) -> Result<(Option<(String, Span)>, Vec<Symbol>, Vec<Occurrence>), AllocError>
+        ensures start { IfOk result (λ copy. option_map named_view copy.0 ≡ (syntax self.now).start) }
         ensures expect_unused { IfOk result
-            (λ copy. map symbol_view copy.0.items ≡ (syntax self.now).expect_unused) }
+            (λ copy. map symbol_view copy.1.items ≡ (syntax self.now).expect_unused) }
         ensures occurrences { IfOk result
-            (λ copy. map occurrence_view copy.1.items ≡ (syntax self.now).occurrences) }
+            (λ copy. map occurrence_view copy.2.items ≡ (syntax self.now).occurrences) }
     {
-        both(&self.expect_unused, &self.occurrences)
+        three(&self.start, &self.expect_unused, &self.occurrences)
     }
 
     // Copies of what the file says of its grammar as a whole and of single tokens.
@@ -240,11 +243,16 @@ impl Clone for GrammarAST {
     ghost is_clone = { λ ast copy. syntax copy ≡ syntax ast };
 
     fn clone(&self) -> Result<GrammarAST, AllocError> {
-        let start = self.start.clone()?;
-        let (settings, tables) = self.clone_settings()?;
-        let (expect_unused, occurrences) = self.clone_lists()?;
-        let (tokens, spans, token_directives) = self.clone_tokens()?;
-        let (rules, prods, prods_rules) = self.clone_rules()?;
+        let (settings, lists, tokens, rules) = all(
+            self.clone_settings(),
+            self.clone_lists(),
+            self.clone_tokens(),
+            self.clone_rules(),
+        )?;
+        let (settings, tables) = settings;
+        let (start, expect_unused, occurrences) = lists;
+        let (tokens, spans, token_directives) = tokens;
+        let (rules, prods, prods_rules) = rules;
         Ok(GrammarAST {
             start,
             rules,

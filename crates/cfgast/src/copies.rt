@@ -1,6 +1,6 @@
 //! Copies of several values. Where there is no memory for one of them, none is left.
 
-ghost use Rattle.std.specs.Prelude.{IfOk};
+ghost use Rattle.std.specs.Prelude.{◌≡◌, IfOk, Ok};
 
 use std::alloc::AllocError;
 
@@ -28,4 +28,17 @@ pub(crate) fn three<A: Clone, B: Clone, C: Clone>(
     let second = y.clone()?;
     let third = z.clone()?;
     Ok((first, second, third))
+}
+
+// What all of them gave, or a refusal. A caller that asks for its copies before it looks at any has one way out, on
+// which it owns nothing.
+pub(crate) fn all<A: Drop, B: Drop, C: Drop, D: Drop>(
+    a: Result<A, AllocError>,
+    b: Result<B, AllocError>,
+    c: Result<C, AllocError>,
+    d: Result<D, AllocError>,
+) -> Result<(A, B, C, D), AllocError>
+    ensures { IfOk result (λ all. (a ≡ Ok all.0) × (b ≡ Ok all.1) × (c ≡ Ok all.2) × (d ≡ Ok all.3)) }
+{
+    Ok((a?, b?, c?, d?))
 }
