@@ -6,6 +6,7 @@ ghost use Rattle.cfgast.specs.View.{production_view, rule_view, named_view, rule
 ghost use Rattle.cfgast.specs.View.{precedence_entry, printed_entry, span_entry, pair_view, symbol_view};
 ghost use Rattle.cfgast.specs.View.{occurrence_view};
 
+use crate::copies::{all, both, three};
 use crate::occurrence::Occurrence;
 use crate::precedence::Precedence;
 use crate::production::Production;
@@ -202,22 +203,20 @@ impl GrammarAST {
             (λ copy. map production_view copy.1.items ≡ (syntax self.now).productions) }
         ensures production_rules { IfOk result (λ copy. copy.2.items ≡ (syntax self.now).production_rules) }
     {
-        let production_rules = self.prods_rules.clone()?;
-        let productions = self.prods.clone()?;
-        let rules = self.rules.clone()?;
-        Ok((rules, productions, production_rules))
+        three(&self.rules, &self.prods, &self.prods_rules)
     }
 
-    // Copies of the symbols that are expected to be unused, and of the occurrences.
-    fn clone_lists(&self) -> Result<(Vec<Symbol>, Vec<Occurrence>), AllocError>
+    // Copies of the start, of the symbols that are expected to be unused, and of the occurrences.
+    fn clone_lists(
+        &self,
+    ) -> Result<(Option<(String, Span)>, Vec<Symbol>, Vec<Occurrence>), AllocError>
+        ensures start { IfOk result (λ copy. option_map named_view copy.0 ≡ (syntax self.now).start) }
         ensures expect_unused { IfOk result
-            (λ copy. map symbol_view copy.0.items ≡ (syntax self.now).expect_unused) }
+            (λ copy. map symbol_view copy.1.items ≡ (syntax self.now).expect_unused) }
         ensures occurrences { IfOk result
-            (λ copy. map occurrence_view copy.1.items ≡ (syntax self.now).occurrences) }
+            (λ copy. map occurrence_view copy.2.items ≡ (syntax self.now).occurrences) }
     {
-        let occurrences = self.occurrences.clone()?;
-        let expect_unused = self.expect_unused.clone()?;
-        Ok((expect_unused, occurrences))
+        three(&self.start, &self.expect_unused, &self.occurrences)
     }
 
     // Copies of what the file says of its grammar as a whole and of single tokens.
@@ -225,9 +224,7 @@ impl GrammarAST {
         ensures settings { IfOk result (λ copy. settings_view copy.0 ≡ (syntax self.now).settings) }
         ensures tables { IfOk result (λ copy. tables_view copy.1 ≡ (syntax self.now).tables) }
     {
-        let tables = self.tables.clone()?;
-        let settings = self.settings.clone()?;
-        Ok((settings, tables))
+        both(&self.settings, &self.tables)
     }
 
     // Copies of the tokens, of their spans, and of the directives.
@@ -236,10 +233,7 @@ impl GrammarAST {
         ensures spans { IfOk result (λ copy. copy.1.items ≡ (syntax self.now).spans) }
         ensures token_directives { IfOk result (λ copy. copy.2.keys ≡ (syntax self.now).token_directives) }
     {
-        let token_directives = self.token_directives.clone()?;
-        let spans = self.spans.clone()?;
-        let tokens = self.tokens.clone()?;
-        Ok((tokens, spans, token_directives))
+        three(&self.tokens, &self.spans, &self.token_directives)
     }
 }
 
@@ -249,11 +243,16 @@ impl Clone for GrammarAST {
     ghost is_clone = { λ ast copy. syntax copy ≡ syntax ast };
 
     fn clone(&self) -> Result<GrammarAST, AllocError> {
-        let start = self.start.clone()?;
-        let (settings, tables) = self.clone_settings()?;
-        let (expect_unused, occurrences) = self.clone_lists()?;
-        let (tokens, spans, token_directives) = self.clone_tokens()?;
-        let (rules, prods, prods_rules) = self.clone_rules()?;
+        let (settings, lists, tokens, rules) = all(
+            self.clone_settings(),
+            self.clone_lists(),
+            self.clone_tokens(),
+            self.clone_rules(),
+        )?;
+        let (settings, tables) = settings;
+        let (start, expect_unused, occurrences) = lists;
+        let (tokens, spans, token_directives) = tokens;
+        let (rules, prods, prods_rules) = rules;
         Ok(GrammarAST {
             start,
             rules,

@@ -4,6 +4,7 @@ ghost use Rattle.std.specs.Prelude.{◌≡◌, [], map, option_map, string_bytes
 ghost use Rattle.cfgast.specs.Building.{with_entry, with_marked};
 ghost use Rattle.cfgast.specs.View.{span_entry, word_view};
 
+use crate::copies::{both, three};
 use crate::precedence::{AssocKind, Precedence};
 use cfgbase::Span;
 use cfgwords::words::Word;
@@ -50,11 +51,8 @@ impl Clone for Tables {
     ghost is_clone = { λ tables copy. tables_view copy ≡ tables_view tables };
 
     fn clone(&self) -> Result<Tables, AllocError> {
-        let levels = self.levels.clone()?;
-        let implicit_tokens = self.implicit_tokens.clone()?;
-        let avoid_insert = self.avoid_insert.clone()?;
-        let epp = self.epp.clone()?;
-        let precs = self.precs.clone()?;
+        let (avoid_insert, implicit_tokens) = both(&self.avoid_insert, &self.implicit_tokens)?;
+        let (precs, epp, levels) = three(&self.precs, &self.epp, &self.levels)?;
         Ok(Tables {
             precs,
             epp,

@@ -1,29 +1,38 @@
-use Rattle.std.proofs.Common.{rules, ◌≡◌, option_map}
-use Rattle.lemmas.proofs.Copies.{option_map-copies}
-use Rattle.cfgast.specs.View.{syntax, named_view}
+use Rattle.std.proofs.Common.{◌≡◌, Result, Ok, IfOk, subst}
+use Rattle.cfgast.specs.View.{syntax}
 use Rattle.cfgast.proofs.ast.GrammarASTClone.clone.Goals as goal
+
+-- what holds of an answer holds of what it gave
+given : {A E : Type 0} (P : A → Type 0) (result : Result A E) (x : A) → result ≡ Ok x → IfOk result P → P x
+given P result x is holds = subst (λ r. IfOk r P) is holds
 
 pub returns : goal.returns
 unfolding syntax
 returns c =
-    let old = c.args.self.now in
-    let start : option_map named_view c.in_ok-start.start ≡ option_map named_view old.start = option_map-copies _ named_view (λ x y h. search rules) _ _ c.in_ok-start.ensures.cases in
-    let said = c.in_ok-settings.ensures in
-    let lists = c.in_ok-expect_unused.ensures in
-    let tokens = c.in_ok-tokens.ensures in
-    let copied = c.in_ok-rules.ensures in
+    let got = c.in_ok-settings.ensures in
+    let settings = given _ c.clone_settings.result _ got.0 c.clone_settings.ensures.settings in
+    let tables = given _ c.clone_settings.result _ got.0 c.clone_settings.ensures.tables in
+    let start = given _ c.clone_lists.result _ got.1 c.clone_lists.ensures.start in
+    let expect_unused = given _ c.clone_lists.result _ got.1 c.clone_lists.ensures.expect_unused in
+    let occurrences = given _ c.clone_lists.result _ got.1 c.clone_lists.ensures.occurrences in
+    let tokens = given _ c.clone_tokens.result _ got.2 c.clone_tokens.ensures.tokens in
+    let spans = given _ c.clone_tokens.result _ got.2 c.clone_tokens.ensures.spans in
+    let token_directives = given _ c.clone_tokens.result _ got.2 c.clone_tokens.ensures.token_directives in
+    let rules = given _ c.clone_rules.result _ got.3 c.clone_rules.ensures.rules in
+    let productions = given _ c.clone_rules.result _ got.3 c.clone_rules.ensures.productions in
+    let production_rules = given _ c.clone_rules.result _ got.3 c.clone_rules.ensures.production_rules in
     record {
       cases = λ i. record {
         start = start i;
-        rules = copied.rules i;
-        productions = copied.productions i;
-        production_rules = copied.production_rules i;
-        tokens = tokens.tokens i;
-        spans = tokens.spans i;
-        token_directives = tokens.token_directives i;
-        tables = said.tables i;
-        settings = said.settings i;
-        expect_unused = lists.expect_unused i;
-        occurrences = lists.occurrences i;
+        rules = rules i;
+        productions = productions i;
+        production_rules = production_rules i;
+        tokens = tokens i;
+        spans = spans i;
+        token_directives = token_directives i;
+        tables = tables i;
+        settings = settings i;
+        expect_unused = expect_unused i;
+        occurrences = occurrences i;
       };
     }
