@@ -3,3 +3,4 @@ pub mod Counted
 pub mod OfItself
 pub mod Shows
 pub mod Spans
+pub mod Tokens
