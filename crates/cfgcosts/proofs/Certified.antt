@@ -5,7 +5,7 @@ use Rattle.std.proofs.lemmas.Bool.{cases_lt}
 use Rattle.std.proofs.lemmas.List.{take_all, get_or_past}
 use Rattle.lemmas.proofs.Elements.{within_from_get_or}
 use Rattle.std.proofs.lemmas.List.Elements.{All-more, All-contains, All-take, All-weaker}
-use Rattle.derivation.specs.Grammar.{Sym, Rule, Token, Grammar, HasProduction}
+use Rattle.derivation.specs.Grammar.{Sym, Rule, Token, Grammar, IsGrammar, HasProduction}
 use Rattle.derivation.specs.Sentence.{Sentence, cost_of, HasSentenceOf}
 use Rattle.derivation.specs.Tree.{Yields, opened}
 use Rattle.derivation.proofs.Trees.{trees_from_derivation, derivation_from_trees}
@@ -14,8 +14,9 @@ use Rattle.cfganalysis.specs.Openings.{nth_production}
 use Rattle.cfganalysis.proofs.Settling.{same_production, at_place}
 use Rattle.cfgsums.specs.Sums.{symbol_cost}
 use Rattle.cfgcosts.specs.Numbers.{IsNumberedBelow}
-use Rattle.cfgsums.specs.Lists.{rule_cost}
+use Rattle.cfgsums.specs.Lists.{IsListed, rule_cost}
 use Rattle.cfgcosts.specs.Certificate.{IsCovered, IsCoveredInRange, IsChosenBelow, IsReached, RestsOn, rule_choice}
+use Rattle.cfgsums.proofs.Listed.{symbols_listed}
 use Rattle.cfgsums.proofs.Sums.{plus_zero}
 use Rattle.cfgcosts.proofs.TreeSums.{Choice, reached}
 use Rattle.cfgcosts.proofs.Bounds.{IsAtMost, Covers, lower_bound, exactly_over}
@@ -28,6 +29,12 @@ module _ (g : Grammar) (costs : List ℕ) (least : List (Option ℕ)) where
       → All (IsCoveredInRange costs least) (take (n + 1) g.productions)
   covered_more n place rule symbols within at owner holds all here = All-more (IsCoveredInRange costs least) g.productions n _ within all
       (subst (IsCoveredInRange costs least) (same_production _ (nth_production g place) owner holds ∙ ap (nth_production g) at) here)
+
+  -- one of them, as it is read
+  pub covered_here : (n rule : ℕ) (symbols : List Sym) → n < length g.productions → rule ≡ (nth_production g n).rule → symbols ≡ (nth_production g n).symbols
+      → All (IsCovered costs least) g.productions → IsCovered costs least (record { rule = rule; symbols = symbols })
+  covered_here n rule symbols within owner holds all =
+      subst (IsCovered costs least) (sym (same_production _ (nth_production g n) owner holds)) (all n (record { rule = 0; symbols = [] }) within)
 
   module _ (n : ℕ) (past : length g.productions ≤ n) (all : All (IsCoveredInRange costs least) (take n g.productions)) where
     every : All (IsCoveredInRange costs least) g.productions
@@ -135,6 +142,23 @@ module _ (g : Grammar) (costs : List ℕ) (least : List (Option ℕ)) (choices :
   pub reached_from_rests : RestsOn g costs least choices r c choice.0 choice.1 → IsReached g costs least choices r
   reached_from_rests h = subst (λ o. IfSome o (λ c. IsSomeAnd (rule_choice choices r) (λ choice. RestsOn g costs least choices r c choice.0 choice.1))) (sym cost_is)
       (subst (λ o. IsSomeAnd o (λ choice. RestsOn g costs least choices r c choice.0 choice.1)) (sym choice_is) h)
+
+-- the symbols of a production are in lists that are as long as the grammar has rules and tokens
+pub production_listed : (g : Grammar) (p rules tokens : ℕ) (symbols : List Sym) → IsGrammar g → p < length g.productions → rules ≡ g.rules → tokens ≡ g.tokens
+    → symbols ≡ (nth_production g p).symbols → All (IsListed rules tokens) symbols
+production_listed g p rules tokens symbols is within same_rules same_tokens shown = subst (All (IsListed rules tokens)) (sym shown)
+    (subst (λ n. All (IsListed n tokens) (nth_production g p).symbols) (sym same_rules)
+    (subst (λ n. All (IsListed g.rules n) (nth_production g p).symbols) (sym same_tokens) (symbols_listed g p is within)))
+
+module _ (g : Grammar) (costs : List ℕ) (least : List (Option ℕ)) (choices : List (Option (ℕ × ℕ))) (r : ℕ) where
+  -- a rule with no cost needs no choice
+  pub reached_none : rule_cost least r ≡ None → IsReached g costs least choices r
+  reached_none e = subst (λ o. IfSome o (λ c. IsSomeAnd (rule_choice choices r) (λ choice. RestsOn g costs least choices r c choice.0 choice.1))) (sym e) tt
+
+  -- a rule with a cost needs one
+  pub reached_not : (c : ℕ) → rule_cost least r ≡ Some c → rule_choice choices r ≡ None → IsReached g costs least choices r → ⊥
+  reached_not c cost_is choice_is h = subst (λ o. IsSomeAnd o (λ choice. RestsOn g costs least choices r c choice.0 choice.1)) choice_is
+      (subst (λ o. IfSome o (λ c. IsSomeAnd (rule_choice choices r) (λ choice. RestsOn g costs least choices r c choice.0 choice.1))) cost_is h)
 
 -- a cost that is at most 65535, that a sentence has, and that none goes below, is the least
 pub certified_least : (g : Grammar) (costs : List ℕ) (least : List (Option ℕ)) (choices : List (Option (ℕ × ℕ)))

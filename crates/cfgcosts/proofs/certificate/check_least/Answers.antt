@@ -1,6 +1,36 @@
-use Rattle.std.proofs.Common.{refl, ◌<◌, ◌≤◌, length, arith}
-use Rattle.cfgcosts.proofs.Certified.{covered_more, covered_all, certified_bound}
+use Rattle.std.proofs.Common.{refl, sym, ◌∙◌, true≢false, ◌<◌, ◌≤◌, length, arith}
+use Rattle.cfgcosts.proofs.Certified.{covered_more, covered_all, covered_here, certified_bound, production_listed}
+use Rattle.cfgcosts.proofs.Settles.{owner_within}
 use Rattle.cfgcosts.proofs.certificate.check_least.Goals as goal
+
+pub is_covered-requires-clause-rule : goal.is_covered-requires-clause-rule
+is_covered-requires-clause-rule g c =
+    let grammar = g.T.Tables.grammar c.args.grm.now in
+    let place : g.S.Storage.number c.to_storage.result < length grammar.productions =
+    omega (arith, c.loop-number-test.true, c.to_usize-prods_len.ensures.value, c.prods_len.ensures, c.to_storage.ensures) in
+    let below = owner_within grammar (g.S.Storage.number c.to_storage.result) c.rules_len.ensures.content place in
+    omega (arith, c.prod_to_rule.ensures, below, c.requires.least)
+
+pub is_covered-requires-clause-symbols : goal.is_covered-requires-clause-symbols
+is_covered-requires-clause-symbols g c =
+    let grammar = g.T.Tables.grammar c.args.grm.now in
+    let place : g.S.Storage.number c.to_storage.result < length grammar.productions =
+    omega (arith, c.loop-number-test.true, c.to_usize-prods_len.ensures.value, c.prods_len.ensures, c.to_storage.ensures) in
+    production_listed grammar (g.S.Storage.number c.to_storage.result) (length c.args.least.now) (length c.args.costs.now) _ c.rules_len.ensures.content place
+    c.requires.least c.requires.costs c.prod.ensures
+
+pub returns-then-not-is_covered-clause-exact : goal.returns-then-not-is_covered-clause-exact
+returns-then-not-is_covered-clause-exact g c =
+    let grammar = g.T.Tables.grammar c.args.grm.now in
+    let place : g.S.Storage.number c.to_storage.result < length grammar.productions =
+    omega (arith, c.loop-number-test.true, c.to_usize-prods_len.ensures.value, c.prods_len.ensures, c.to_storage.ensures) in (
+      (λ h. absurd (true≢false (sym h))),
+      (λ all. sym c.if-not-is_covered.true ∙ c.is_covered.ensures.exact.1
+          (covered_here grammar c.args.costs.now c.args.least.now (g.S.Storage.number c.to_storage.result) _ _ place c.prod_to_rule.ensures c.prod.ensures all)),
+    )
+
+pub returns-then-not-is_covered-clause-bound : goal.returns-then-not-is_covered-clause-bound
+returns-then-not-is_covered-clause-bound g c = λ h. absurd (true≢false (sym h))
 
 pub loop-number-preserved : goal.loop-number-preserved
 loop-number-preserved g c =
