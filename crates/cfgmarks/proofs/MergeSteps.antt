@@ -1,21 +1,22 @@
 -- Merging one key after another is merging all keys.
-use Rattle.std.proofs.Common.{◌≡◌, true, false, cond, if◌then◌else◌, Option, None, Some, List, [], ◌∷◌, ◌++◌, refl, sym, ap, ◌∙◌, subst, append_assoc}
+use Rattle.std.proofs.Common.{◌≡◌, true, false, cond, if◌then◌else◌, Option, None, Some, is_some, List, [], ◌∷◌, ◌++◌, refl, sym, ap, ◌∙◌, subst, append_assoc}
 use Rattle.std.specs.declared.cmp.Ordering.{Ordering}
 use Rattle.std.specs.declared.cmp.Ordering.TheVariants.{Equal}
-use Rattle.std.specs.Ordering.{is_lt}
-use Rattle.std.specs.Cmp.{IsTotalOrder, eq_by_cmp_equiv, Equal-is}
+use Rattle.std.specs.Ordering.{is_eq, is_lt}
+use Rattle.std.specs.Cmp.{IsTotalOrder, eq_by_cmp_equiv, tied_itself, Equal-is}
 use Rattle.std.specs.List.Sorted.{IsStrictlySortedBy}
-use Rattle.std.specs.Map.{keys_of, lookup}
+use Rattle.std.specs.Map.{keys_of, lookup, lookup_key}
 use Rattle.std.specs.BTreeMap.{is_at}
 use Rattle.cfgmarks.specs.declared.markmap.behavior.MergeBehavior.{MergeBehavior}
 use Rattle.cfgmarks.specs.declared.markmap.marked.Marked.{Marked}
 use Rattle.cfgmarks.specs.declared.markmap.fault.MergeFault.{MergeFault}
-use Rattle.cfgmarks.specs.Marks.{Marks, entry_at}
+use Rattle.cfgmarks.specs.Marks.{Marks, entry_at, stored_at}
 use Rattle.std.specs.Option.{ForSome}
 use Rattle.cfgmarks.specs.Merging.{wanted, CallableOnWanted, MergedAt, Merged}
 use Rattle.cfgmarks.specs.MergeFaults.{MergesKey, IsFaultAt, StopsAt}
-use Rattle.lemmas.proofs.Lookups.{lookup_after_none, lookup_before_none}
+use Rattle.lemmas.proofs.Lookups.{found-lookup_key, lookup_after_none, lookup_before_none}
 use Rattle.lemmas.proofs.Entries.{lookup_congr, lookup_before, none_before, found_here}
+use Rattle.cfgmarks.proofs.StoredKeys.{lookup_key-append, option_or_absent}
 
 module _ {K U V : Type 0} (cmp : K → K → Ordering) (total : IsTotalOrder cmp) (converts : U → V → Type 0) where
   -- the entries so far are merged
@@ -47,6 +48,13 @@ module _ {K U V : Type 0} (cmp : K → K → Ordering) (total : IsTotalOrder cmp
     -- the walk's entry is the key's
     theirs_here : entry_at cmp theirs k ≡ Some x
     theirs_here = ap (lookup (is_at (cmp k))) at_key.given ∙ found_here cmp total done rest k x at_key.ordered
+
+    -- and the key is stored there
+    stored_here : stored_at cmp theirs k ≡ Some k
+    stored_here =
+        let absent : is_some (lookup_key (is_at (cmp k)) done) ≡ false = found-lookup_key (is_at (cmp k)) done ∙ ap is_some (none_before cmp total done rest k x at_key.ordered) in
+        let here : lookup_key (is_at (cmp k)) ((k, x) ∷ rest) ≡ Some k = ap (λ b. cond b (Some k) (lookup_key (is_at (cmp k)) rest)) (ap is_eq (tied_itself total k)) in
+        ap (lookup_key (is_at (cmp k))) at_key.given ∙ lookup_key-append (is_at (cmp k)) done ((k, x) ∷ rest) ∙ option_or_absent _ _ absent ∙ here
 
     pub one_more : theirs.entries ≡ (done ++ (k, x) ∷ []) ++ rest
     one_more = at_key.given ∙ sym (append_assoc done ((k, x) ∷ []) rest)
@@ -84,6 +92,7 @@ module _ {K U V : Type 0} (cmp : K → K → Ordering) (total : IsTotalOrder cmp
         subst (StopsAt converts refuses cmp mine theirs fault) (sym same) (
           k,
           x,
+          stored_here,
           theirs_here,
           subst (λ b. IsFaultAt converts refuses b k (entry_at cmp mine k) x fault) at_key.so_far.0
               (subst (λ m. IsFaultAt converts refuses now.behavior k m x fault) still_mine fault_here),

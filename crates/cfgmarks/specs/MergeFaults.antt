@@ -29,10 +29,10 @@ module _ {U V E : Type 0} (converts : U → V → Type 0) (refuses : U → E →
   IsFaultAt default k mine theirs (Convert key e) = (key ≡ k) × IsSomeAnd (wanted default mine theirs) (λ u. refuses u e)
   IsFaultAt default k mine theirs OutOfMemory = WantsMemory default mine theirs
 
-  -- merging stops at the fault: exactly the keys of theirs below its own are merged
+  -- merging stops at the fault: its key is one of theirs, and exactly the keys of theirs below it are merged
   abbrev pub StopsAt : {K : Type 0} → (K → K → Ordering) → Marks K V → Marks K U → MergeFault K V E → Marks K V → Type 0
-  StopsAt {K} cmp mine theirs fault now = (k : K) × (x : Marked U) × (entry_at cmp theirs k ≡ Some x) × IsFaultAt mine.behavior k (entry_at cmp mine k) x fault
-      × Merged cmp converts mine theirs k now
+  StopsAt {K} cmp mine theirs fault now = (k : K) × (x : Marked U) × (stored_at cmp theirs k ≡ Some k) × (entry_at cmp theirs k ≡ Some x)
+      × IsFaultAt mine.behavior k (entry_at cmp mine k) x fault × Merged cmp converts mine theirs k now
 
 -- the key's entry is merged, and all others stay
 abbrev pub MergesKey : {K U V : Type 0} → (K → K → Ordering) → (U → V → Type 0) → K → Marked U → Marks K V → Marks K V → Type 0
