@@ -1,6 +1,6 @@
-//! Laws of greatest costs, which hold of every grammar.
+//! Laws of greatest costs, which hold of every grammar, and of the words for them.
 
-ghost use Rattle.std.specs.Prelude.{◌≡◌, ℕ, ◌<◌, ◌≤◌, ◌⊎◌, Bool, true, false, List, Option};
+ghost use Rattle.std.specs.Prelude.{◌≡◌, ◌↔◌, ℕ, ◌<◌, ◌≤◌, ◌⊎◌, Bool, true, false, List, Option};
 ghost use Rattle.std.specs.Prelude.{Some, None, IsTrue, length};
 ghost use Rattle.derivation.specs.Grammar.{Grammar, IsGrammar, HasProduction, Sym};
 ghost use Rattle.derivation.specs.Sentence.{Sentence, cost_of};
@@ -9,6 +9,9 @@ ghost use Rattle.cfgsums.specs.Lists.{rule_cost};
 ghost use Rattle.cfggreatest.specs.Growth.{GrowsFromSet};
 ghost use Rattle.cfggreatest.specs.Peel.{AreBounded, AreSigns, IsRemoved, Keeps};
 ghost use Rattle.cfggreatest.specs.Tops.{AreReached, AreTopped};
+ghost use Rattle.cfggreatest.specs.declared.greatest.GreatestCost.{GreatestCost};
+
+use crate::greatest::GreatestCost;
 
 /// Rules with sentences, each of which grows from one of them, have sentences that cost more than any number.
 pub fn sets_that_grow_are_unbounded()
@@ -66,4 +69,12 @@ pub fn topped_tables_show_greatest()
         → AreReached g cost limit table → AreTopped g cost limit set table → (r : ℕ) → set r ≡ true
         → (c : ℕ) → rule_cost table r ≡ Some c → limit ≤ c
         → (n : ℕ) × Greatest (HasProduction g) cost r n × (limit ≤ n) }
+{}
+
+/// Words for greatest costs are equal exactly where they are the same, with the same cost where they hold one. A clone is
+/// its source, and takes no memory.
+pub fn greatest_costs_are_told_apart()
+    ensures equal { (a b : GreatestCost) → IsTrue (⟦<GreatestCost as PartialEq>⟧.eq a b) ↔ (a ≡ b) }
+    ensures clone { (a b : GreatestCost) → ⟦<GreatestCost as Clone>⟧.is_clone a b → b ≡ a }
+    ensures cloned { (a : GreatestCost) → ⟦<GreatestCost as Clone>⟧.is_infallible a }
 {}

@@ -1,6 +1,7 @@
-//! Laws of blanks and words: what the functions of specs/ find is just what its relations say.
+//! Laws of blanks and words: what the functions of specs/ find is just what its relations say; and what `==` and `clone` of
+//! this crate's types compare and copy.
 
-ghost use Rattle.std.specs.Prelude.{◌≡◌, ℕ, Bool, List};
+ghost use Rattle.std.specs.Prelude.{◌≡◌, ◌↔◌, ℕ, Bool, List, IsTrue};
 ghost use Rattle.reading.specs.Graph.{IsGraph};
 ghost use Rattle.cfgwords.specs.Blank.{IsFront, front_of, Blank, blank};
 ghost use Rattle.cfgwords.specs.Strings.{EppString, epp_string};
@@ -9,6 +10,14 @@ ghost use Rattle.cfgwords.specs.Actions.{IsAction, action_of};
 ghost use Rattle.cfgwords.specs.SectionWords.{IsName as IsSectionName, name_of as section_name_of, IsText, text_of};
 ghost use Rattle.cfgwords.specs.Words.{IsName, name_of, IsIdentifier, identifier_of, IsQuoted, quoted_of, TokenText};
 ghost use Rattle.cfgwords.specs.Words.{IsToken, token_of, IsInteger, integer_of, LineRest, line_rest};
+ghost use Rattle.cfgwords.specs.declared.bytes.ByteClass.{ByteClass};
+ghost use Rattle.cfgwords.specs.declared.fault.Fault.{Fault};
+ghost use Rattle.cfgwords.specs.declared.fault.FaultKind.{FaultKind};
+ghost use Rattle.cfgwords.specs.declared.passed.Passed.{Passed};
+
+use crate::bytes::ByteClass;
+use crate::fault::{Fault, FaultKind};
+use crate::passed::Passed;
 
 /// What stands at the front of a text is one thing, the one that `Front::of` tells.
 #[tactic(auto, using(crate::proofs::Blanks::front_graph))]
@@ -100,4 +109,33 @@ pub fn section_names_found()
 pub fn texts_found()
     ensures sound { (text word rest : List ℕ) → text_of text ≡ Some (word, rest) → IsText text word rest }
     ensures only { (text word rest : List ℕ) → IsText text word rest → text_of text ≡ Some (word, rest) }
+{}
+
+/// Classes of bytes are equal exactly where they are the same. A clone is its source, and takes no memory.
+pub fn byte_classes_are_told_apart()
+    ensures equal { (a b : ByteClass) → IsTrue (⟦<ByteClass as PartialEq>⟧.eq a b) ↔ (a ≡ b) }
+    ensures clone { (a b : ByteClass) → ⟦<ByteClass as Clone>⟧.is_clone a b → b ≡ a }
+    ensures cloned { (a : ByteClass) → ⟦<ByteClass as Clone>⟧.is_infallible a }
+{}
+
+/// What is passed is equal exactly where it is the same, up to the same quote in a string. A clone is its source, and takes
+/// no memory.
+pub fn passed_are_told_apart()
+    ensures equal { (a b : Passed) → IsTrue (⟦<Passed as PartialEq>⟧.eq a b) ↔ (a ≡ b) }
+    ensures clone { (a b : Passed) → ⟦<Passed as Clone>⟧.is_clone a b → b ≡ a }
+    ensures cloned { (a : Passed) → ⟦<Passed as Clone>⟧.is_infallible a }
+{}
+
+/// Kinds of faults are equal exactly where they are the same. A clone is its source, and takes no memory.
+pub fn fault_kinds_are_told_apart()
+    ensures equal { (a b : FaultKind) → IsTrue (⟦<FaultKind as PartialEq>⟧.eq a b) ↔ (a ≡ b) }
+    ensures clone { (a b : FaultKind) → ⟦<FaultKind as Clone>⟧.is_clone a b → b ≡ a }
+    ensures cloned { (a : FaultKind) → ⟦<FaultKind as Clone>⟧.is_infallible a }
+{}
+
+/// Faults are equal exactly where kind and span are the same. A clone is its source, and takes no memory.
+pub fn faults_are_told_apart()
+    ensures equal { (a b : Fault) → IsTrue (⟦<Fault as PartialEq>⟧.eq a b) ↔ (a ≡ b) }
+    ensures clone { (a b : Fault) → ⟦<Fault as Clone>⟧.is_clone a b → b ≡ a }
+    ensures cloned { (a : Fault) → ⟦<Fault as Clone>⟧.is_infallible a }
 {}
