@@ -6,6 +6,7 @@ use Rattle.std.proofs.lemmas.Str.{IsUtf8-drop}
 use Rattle.std.proofs.lemmas.List.Elements.{All-nil, All-cons}
 use Rattle.cfgbase.specs.declared.span.Span.{Span}
 use Rattle.reading.specs.Construct.{computes}
+use Rattle.reading.specs.Read.{Read}
 use Rattle.reading.proofs.Agree.{agree}
 use Rattle.reading.proofs.Keeps.{keeps}
 use Rattle.reading.proofs.Yields.{EndsIn}
@@ -19,14 +20,20 @@ use Rattle.cfgheader.specs.declared.value.HeaderValue.{HeaderValue}
 use Rattle.cfgheader.specs.declared.value.Value.{Value}
 use Rattle.cfgheader.specs.SectionGrammar.{Entry, Fault, entry}
 use Rattle.cfgheader.specs.SectionPlaces.{IsErrorAt, IsFaultAt}
-use Rattle.cfgheader.specs.SectionReads.{section_of, IsSectionAnswer, entry_at_front, IsEntryAnswer}
+use Rattle.cfgheader.specs.SectionReads.{AnswersEntry, AnswersSection, IsEntryAnswer}
 use Rattle.cfgheader.proofs.SectionKept.{IsEntryAt, entry_kept}
 use Rattle.cfgheader.proofs.SectionParsed.{parsed}
 use Rattle.cfgheader.proofs.SectionPlaces.{IsSectionAt, section_at}
 
+-- what is answered by the plain program is told by each reading
+pub by_entry_readings : (len : ℕ) (text : List ℕ) (result : Result (String Global × Span × Value Span × ℕ) HeaderFault)
+    → IsEntryAnswer len result (computes (entry len) text).outcome → AnswersEntry len text result
+by_entry_readings len text result answer read says =
+    subst (λ (r : Read Entry Fault Entry). IsEntryAnswer len result r.outcome) ((agree (entry len)).only text read says) answer
+
 module _ (text : List ℕ) (utf8 : IsUtf8 text) where
   pub section_end : (required : Bool) (result : Result (MarkMap (String Global) (HeaderValue Span) × ℕ) HeaderFault)
-      → IsSectionAnswer (length text) result (section_of required text) → IfOk result (λ x. IsCharBoundary text x.1)
+      → AnswersSection required text result → IfOk result (λ x. IsCharBoundary text x.1)
   section_end required (Ok (header, end)) answer =
       let (entries, rest, is, holds, ends) = parsed required text (Ok (header, end)) answer in
       let cut : IsCut text rest = (subst (IsSectionAt text) is (section_at required text utf8)).0 in
@@ -34,7 +41,7 @@ module _ (text : List ℕ) (utf8 : IsUtf8 text) where
   section_end required (Err fault) answer = tt
 
   pub section_fault : (required : Bool) (result : Result (MarkMap (String Global) (HeaderValue Span) × ℕ) HeaderFault)
-      → IsSectionAnswer (length text) result (section_of required text) → IfErr result (IsFaultAt text)
+      → AnswersSection required text result → IfErr result (IsFaultAt text)
   section_fault required (Ok answered) answer = tt
   section_fault required (Err (faults.Errors errors)) answer = subst (IsSectionAt text) (parsed required text (Err (faults.Errors errors)) answer) (section_at required text utf8)
   section_fault required (Err faults.OutOfMemory) answer = tt
@@ -43,7 +50,7 @@ module _ (text : List ℕ) (utf8 : IsUtf8 text) where
     abbrev IsEntryEnd : Result (Entry × List ℕ) Fault → Type 0
     IsEntryEnd = EndsIn (IsReached text (drop i text)) (IsErrorAt text) (IsEntryAt text)
 
-    entry_read : IsEntryEnd (entry_at_front (length text) (drop i text))
+    entry_read : IsEntryEnd (computes (entry (length text)) (drop i text)).outcome
     entry_read =
         let rest : List ℕ = drop i text in
         let cut : IsCut text rest = record { piece = take i text; whole = sym (take-append-drop i text); utf8 = λ u. IsUtf8-drop text i u at } in
@@ -68,10 +75,10 @@ module _ (text : List ℕ) (utf8 : IsUtf8 text) where
     refused (Err (faults.Errors errors)) (Err fault) answer end =
         subst (All (IsErrorAt text)) (sym answer) (All-cons (IsErrorAt text) fault [] end (All-nil (IsErrorAt text)))
 
-    pub entry_placed : (result : Result (String Global × Span × Value Span × ℕ) HeaderFault) → IsEntryAnswer (length text) result (entry_at_front (length text) (drop i text))
+    pub entry_placed : (result : Result (String Global × Span × Value Span × ℕ) HeaderFault) → AnswersEntry (length text) (drop i text) result
         → IfOk result (λ x. IsPiece text x.1 × IsCharBoundary text x.3)
-    entry_placed result answer = placed result _ answer entry_read
+    entry_placed result answers = placed result _ (answers _ ((agree (entry (length text))).sound (drop i text))) entry_read
 
-    pub entry_refused : (result : Result (String Global × Span × Value Span × ℕ) HeaderFault) → IsEntryAnswer (length text) result (entry_at_front (length text) (drop i text))
+    pub entry_refused : (result : Result (String Global × Span × Value Span × ℕ) HeaderFault) → AnswersEntry (length text) (drop i text) result
         → IfErr result (IsFaultAt text)
-    entry_refused result answer = refused result _ answer entry_read
+    entry_refused result answers = refused result _ (answers _ ((agree (entry (length text))).sound (drop i text))) entry_read

@@ -7,10 +7,11 @@ use Rattle.reading.specs.Construct.{computes}
 use Rattle.reading.specs.Read.{Read}
 use Rattle.reading.proofs.Agree.{agree}
 use Rattle.cfgheader.specs.SectionGrammar.{Entry, Fault, section}
-use Rattle.cfgheader.specs.SectionReads.{IsSection, HasOneSection, end_of, unless_errors, section_answer, section_of, IsHeaderOf, IsSectionAnswer, errors_view}
+use Rattle.cfgheader.specs.SectionReads.{IsSection, HasOneSection, end_of, unless_errors, section_answer, section_of, IsHeaderOf, IsSectionAnswer, AnswersSection, errors_view}
 use Rattle.cfgheader.specs.SectionErrors.{section_errors}
 use Rattle.cfgerrors.specs.declared.header.HeaderError.{HeaderError}
 use Rattle.cfgheader.specs.declared.section.fault.Fault.{Fault as CodeFault}
+use Rattle.cfgheader.specs.declared.section.header_fault.HeaderFault.{HeaderFault}
 use Rattle.cfgheader.specs.declared.section.header_fault.HeaderFault.TheVariants as faults
 use Rattle.cfgheader.specs.declared.value.HeaderValue.{HeaderValue}
 use Rattle.cfgheader.specs.declared.section.entry.Entry.{Entry as CodeEntry}
@@ -43,6 +44,18 @@ pub section_answered : (required : Bool) (text : List ℕ) (entries : List Entry
     → section_of required text ≡ section_answer entries end
 unfolding section_of
 section_answered required text entries end is = let same = section_is required text entries end is in ap₂ section_answer same.0 same.1
+
+-- what is answered by the plain program is told by each reading
+pub by_readings : (required : Bool) (text : List ℕ) (result : Result (MarkMap (String Global) (HeaderValue Span) × ℕ) HeaderFault)
+    → IsSectionAnswer (length text) result (section_of required text) → AnswersSection required text result
+by_readings required text result answer entries end is = subst (IsSectionAnswer (length text) result) (section_answered required text entries end is) answer
+
+-- and what is told by each reading, by the plain program
+pub by_program : (required : Bool) (text : List ℕ) (result : Result (MarkMap (String Global) (HeaderValue Span) × ℕ) HeaderFault)
+    → AnswersSection required text result → IsSectionAnswer (length text) result (section_of required text)
+by_program required text result answers =
+    let one = one_section required text in
+    subst (IsSectionAnswer (length text) result) (sym (section_answered required text one.entries one.end one.is)) (answers one.entries one.end one.is)
 
 -- what a reader that had noted nothing has noted
 pub noted_from_none : (before items : List Entry) → before ≡ [] → noted before items ≡ items

@@ -10,7 +10,8 @@ use Rattle.cfgheader.specs.declared.section.header_fault.HeaderFault.{HeaderFaul
 use Rattle.cfgheader.specs.declared.section.header_fault.HeaderFault.TheVariants as faults
 use Rattle.cfgerrors.specs.HeaderErrors.{ShownError}
 use Rattle.cfgheader.specs.SectionGrammar.{Entry}
-use Rattle.cfgheader.specs.SectionReads.{section_of, IsHeaderOf, IsSectionAnswer, errors_view}
+use Rattle.cfgheader.specs.SectionReads.{section_of, IsHeaderOf, IsSectionAnswer, AnswersSection, errors_view}
+use Rattle.cfgheader.proofs.SectionOne.{by_program}
 
 abbrev pub IsParsed : Bool → List ℕ → Result (MarkMap (String Global) (HeaderValue Span) × ℕ) HeaderFault → Type 0
 IsParsed required text (Ok (header, end)) = (entries : List Entry) × (rest : List ℕ)
@@ -28,5 +29,5 @@ parsed_by required text (Err (faults.Errors errors)) (Ok answer) e h = absurd h
 parsed_by required text (Err (faults.Errors errors)) (Err expected) e h = e ∙ ap Err (sym h)
 
 pub parsed : (required : Bool) (text : List ℕ) (result : Result (MarkMap (String Global) (HeaderValue Span) × ℕ) HeaderFault)
-    → IsSectionAnswer (length text) result (section_of required text) → IsParsed required text result
-parsed required text result h = parsed_by required text result (section_of required text) refl h
+    → AnswersSection required text result → IsParsed required text result
+parsed required text result answers = parsed_by required text result (section_of required text) refl (by_program required text result answers)

@@ -84,9 +84,10 @@ IsSectionAnswer len (Err faults.OutOfMemory) expected = Unit {0}
 IsSectionAnswer len (Err (faults.Errors errors)) (Ok expected) = ⊥
 IsSectionAnswer len (Err (faults.Errors errors)) (Err expected) = errors_view errors.items ≡ expected
 
--- what reading an entry gives
-abbrev pub entry_at_front : ℕ → List ℕ → Result (Entry × List ℕ) Fault
-entry_at_front len text = (computes (entry len) text).outcome
+-- What is answered of the section of a text is told by each of its readings, of which there is just one.
+abbrev pub AnswersSection : Bool → List ℕ → Result (MarkMap (String Global) (HeaderValue Span) × ℕ) HeaderFault → Type 0
+AnswersSection required text result = (entries : List Entry) (end : Result (List ℕ) Fault) → IsSection required text entries end
+    → IsSectionAnswer (length text) result (section_answer entries end)
 
 -- What is answered of one entry: its key, the key's place, its value, and the offset behind it and the white space there.
 abbrev pub IsEntryAnswer : ℕ → Result (String Global × Span × Value Span × ℕ) HeaderFault → Result (Entry × List ℕ) Fault → Type 0
@@ -96,3 +97,8 @@ IsEntryAnswer len (Ok answer) (Err fault) = ⊥
 IsEntryAnswer len (Err faults.OutOfMemory) expected = Unit {0}
 IsEntryAnswer len (Err (faults.Errors errors)) (Ok expected) = ⊥
 IsEntryAnswer len (Err (faults.Errors errors)) (Err fault) = errors_view errors.items ≡ fault ∷ []
+
+-- What is answered of the entry at the front of what is left of a text of len bytes is told by each of its readings, of which there is
+-- just one.
+abbrev pub AnswersEntry : ℕ → List ℕ → Result (String Global × Span × Value Span × ℕ) HeaderFault → Type 0
+AnswersEntry len text result = (read : Read Entry Fault Entry) → Says (entry len) text read → IsEntryAnswer len result read.outcome

@@ -15,8 +15,7 @@ ghost use Rattle.std.specs.Prelude.{◌≡◌, length, drop, IfOk, IfErr};
 ghost use Rattle.std.specs.Str.{IsCharBoundary};
 ghost use Rattle.cfgwords.specs.Places.{IsPiece};
 ghost use Rattle.cfgheader.specs.SectionPlaces.{IsFaultAt};
-ghost use Rattle.cfgheader.specs.SectionReads.{HasOneSection, IsSectionAnswer, IsEntryAnswer, section_of};
-ghost use Rattle.cfgheader.specs.SectionReads.{entry_at_front};
+ghost use Rattle.cfgheader.specs.SectionReads.{AnswersEntry, AnswersSection, HasOneSection};
 
 use crate::value::{Header, Value};
 use cfgbase::Span;
@@ -24,7 +23,9 @@ use errors::{error_of, errors_found};
 use fault::ReadFault;
 use header::header_of;
 pub use header_fault::HeaderFault;
-pub use laws::{section_answers_its_reading, section_errors_are_at_places, section_is_graph};
+pub use laws::{
+    entry_is_graph, section_answers_its_reading, section_errors_are_at_places, section_is_graph,
+};
 use read::read;
 use reader::Reader;
 use std::alloc::Global;
@@ -57,8 +58,7 @@ impl<'a> GrmtoolsSectionParser<'a> {
     /// then the one that stopped the reading, if there is one; at least one. Or want of memory.
     pub fn parse(&self, alloc: Global) -> Result<(Header<Span>, usize), HeaderFault>
         ensures one { HasOneSection self.now.required self.now.src.now }
-        ensures answer { IsSectionAnswer (length self.now.src.now) result
-            (section_of self.now.required self.now.src.now) }
+        ensures answer { AnswersSection self.now.required self.now.src.now result }
         ensures end { IfOk result (λ x. IsCharBoundary self.now.src.now x.1) }
         ensures fault_places { IfErr result (IsFaultAt self.now.src.now) }
     {
@@ -87,8 +87,7 @@ impl<'a> GrmtoolsSectionParser<'a> {
         i: usize,
     ) -> Result<(String, Span, Value<Span>, usize), HeaderFault>
         requires { IsCharBoundary self.now.src.now i }
-        ensures answer { IsEntryAnswer (length self.now.src.now) result
-            (entry_at_front (length self.now.src.now) (drop i self.now.src.now)) }
+        ensures answer { AnswersEntry (length self.now.src.now) (drop i self.now.src.now) result }
         ensures places { IfOk result (λ x. IsPiece self.now.src.now x.1 × IsCharBoundary self.now.src.now x.3) }
         ensures fault_places { IfErr result (IsFaultAt self.now.src.now) }
     {
@@ -103,7 +102,7 @@ fn entry_at(
     i: usize,
 ) -> Result<(String, Span, Value<Span>, usize), HeaderFault>
     requires { IsCharBoundary text.now i }
-    ensures answer { IsEntryAnswer (length text.now) result (entry_at_front (length text.now) (drop i text.now)) }
+    ensures answer { AnswersEntry (length text.now) (drop i text.now) result }
     ensures places { IfOk result (λ x. IsPiece text.now x.1 × IsCharBoundary text.now x.3) }
     ensures fault_places { IfErr result (IsFaultAt text.now) }
 {

@@ -4,7 +4,7 @@ ghost use Rattle.std.specs.Prelude.{◌≡◌, ◌<◌, ℕ, Bool, List, length,
 ghost use Rattle.cfgheader.specs.SectionPlaces.{IsErrorAt};
 ghost use Rattle.reading.specs.Graph.{IsGraph};
 ghost use Rattle.reading.specs.Construct.{Says, computes};
-ghost use Rattle.cfgheader.specs.SectionGrammar.{Entry, Fault, section};
+ghost use Rattle.cfgheader.specs.SectionGrammar.{Entry, Fault, entry, section};
 ghost use Rattle.cfgheader.specs.SectionReads.{IsSection, section_of, section_answer};
 
 /// The plain program `section`, a function on lists of bytes, reads just what the grammar relates a text to: so every
@@ -13,6 +13,13 @@ ghost use Rattle.cfgheader.specs.SectionReads.{IsSection, section_of, section_an
 pub fn section_is_graph()
     ensures { (len : ℕ) (required : Bool)
         → IsGraph (Says (section len required)) (computes (section len required)) }
+{}
+
+/// The plain program `entry` reads just what the grammar relates a text to: so every text has a reading of an entry at its
+/// front, and only one.
+#[tactic(auto, using(reading::proofs::Agree::agree))]
+pub fn entry_is_graph()
+    ensures { (len : ℕ) → IsGraph (Says (entry len)) (computes (entry len)) }
 {}
 
 /// What is answered of a text, `section_of`, is told by the one reading of its section.

@@ -1,10 +1,11 @@
-use Rattle.std.proofs.Common.{Ok, Err, rules}
+use Rattle.std.proofs.Common.{Ok, Err, length, drop, rules}
 use Rattle.cfgheader.specs.declared.section.header_fault.HeaderFault.TheVariants as faults
-use Rattle.cfgheader.proofs.SectionAnswers.{entry_placed, entry_refused}
+use Rattle.cfgheader.proofs.SectionAnswers.{by_entry_readings, entry_placed, entry_refused}
 use Rattle.cfgheader.proofs.section.entry_at.Goals as goal
 
 pub returns-in-Ok-clause-answer : goal.returns-in-Ok-clause-answer
-returns-in-Ok-clause-answer c = search rules
+returns-in-Ok-clause-answer c =
+    by_entry_readings (length c.args.text.now) (drop c.args.i c.args.text.now) (Ok (c.in-Ok.entry.key, c.in-Ok.entry.key_span, c.in-Ok.entry.value, c.place.result)) (search rules)
 
 pub returns-in-Ok-clause-places : goal.returns-in-Ok-clause-places
 returns-in-Ok-clause-places c =
@@ -12,7 +13,7 @@ returns-in-Ok-clause-places c =
     (Ok (c.in-Ok.entry.key, c.in-Ok.entry.key_span, c.in-Ok.entry.value, c.place.result)) (returns-in-Ok-clause-answer c)
 
 pub returns-clause-answer : goal.returns-clause-answer
-returns-clause-answer c = search rules
+returns-clause-answer c = by_entry_readings (length c.args.text.now) (drop c.args.i c.args.text.now) (Err (faults.Errors c.push.new.self)) (search rules)
 
 pub returns-clause-fault_places : goal.returns-clause-fault_places
 returns-clause-fault_places c =

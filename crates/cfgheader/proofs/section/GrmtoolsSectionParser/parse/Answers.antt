@@ -4,7 +4,7 @@ use Rattle.cfgheader.specs.SectionErrors.{section_errors}
 use Rattle.cfgheader.specs.SectionSteps.{entry_view, end_view}
 use Rattle.cfgheader.specs.declared.section.header_fault.HeaderFault.TheVariants as faults
 use Rattle.cfgheader.proofs.SectionAnswers.{section_end, section_fault}
-use Rattle.cfgheader.proofs.SectionOne.{answer_is, stopped_answer, repeated_answer}
+use Rattle.cfgheader.proofs.SectionOne.{answer_is, by_readings, stopped_answer, repeated_answer}
 use Rattle.cfgheader.proofs.section.GrmtoolsSectionParser.parse.Goals as goal
 
 pub returns-in_default-clause-answer : goal.returns-in_default-clause-answer
@@ -12,14 +12,14 @@ returns-in_default-clause-answer c =
     let parser = c.args.self.now in
     let read = c.in_ok-entries in
     let found = c.in_ok-errors.ensures ∙ ap (λ es. section_errors (map entry_view es) (end_view read.end)) c.as_slice.ensures.value in
-    stopped_answer parser.required parser.src.now read.entries.items read.end c.in_ok-errors.errors read.ensures.entries read.ensures.end found c.in_default.field-0 c.in_default.is
+    by_readings parser.required parser.src.now (Err (faults.Errors c.in_ok-errors.errors)) (stopped_answer parser.required parser.src.now read.entries.items read.end c.in_ok-errors.errors read.ensures.entries read.ensures.end found c.in_default.field-0 c.in_default.is)
 
 pub returns-then-not-is_empty-clause-answer : goal.returns-then-not-is_empty-clause-answer
 returns-then-not-is_empty-clause-answer c =
     let parser = c.args.self.now in
     let read = c.in_ok-entries in
     let found = c.in_ok-errors.ensures ∙ ap (λ es. section_errors (map entry_view es) (end_view read.end)) c.as_slice.ensures.value in
-    repeated_answer parser.required parser.src.now read.entries.items read.end c.in_ok-errors.errors read.ensures.entries read.ensures.end found c.in-Ok.rest c.in-Ok.is (λ none. grind (arith, common_steps, none))
+    by_readings parser.required parser.src.now (Err (faults.Errors c.in_ok-errors.errors)) (repeated_answer parser.required parser.src.now read.entries.items read.end c.in_ok-errors.errors read.ensures.entries read.ensures.end found c.in-Ok.rest c.in-Ok.is (λ none. grind (arith, common_steps, none)))
 
 pub returns-clause-answer : goal.returns-clause-answer
 returns-clause-answer c =
@@ -27,7 +27,7 @@ returns-clause-answer c =
     let read = c.in_ok-entries in
     let found = c.in_ok-errors.ensures ∙ ap (λ es. section_errors (map entry_view es) (end_view read.end)) c.as_slice.ensures.value in
     let none : c.in_ok-errors.errors.items ≡ [] = first_of (search rules, grind (arith, common_steps)) in
-    answer_is parser.required parser.src.now read.entries.items read.end c.in_ok-errors.errors read.ensures.entries read.ensures.end found c.in-Ok.rest c.in-Ok.is none c.in_ok-header.header c.saturating_sub.result c.in_ok-header.ensures (first_of (search rules, grind (arith, common_steps)))
+    by_readings parser.required parser.src.now (Ok (c.in_ok-header.header, c.saturating_sub.result)) (answer_is parser.required parser.src.now read.entries.items read.end c.in_ok-errors.errors read.ensures.entries read.ensures.end found c.in-Ok.rest c.in-Ok.is none c.in_ok-header.header c.saturating_sub.result c.in_ok-header.ensures (first_of (search rules, grind (arith, common_steps))))
 
 pub returns-clause-end : goal.returns-clause-end
 returns-clause-end c =
