@@ -85,8 +85,8 @@ impl NewlineCache {
         Ok(cache)
     }
 
-    /// The cache of the pieces joined. A text that is too long is refused at the first piece that makes it so, and no
-    /// piece behind that one is taken. Only a newline takes memory.
+    /// The cache of the pieces joined. A text that is too long is refused at the first piece that makes it so. Only a
+    /// newline takes memory.
     pub fn from_pieces<'a, I: Iterator<Item = &'a str> + Drop>(
         alloc: Global,
         pieces: I,
