@@ -1,5 +1,5 @@
-//! What `==`, `clone` and `hash` of the tree's types compare, copy and feed. They are derived, so each law names the impl, as in
-//! `⟦<Symbol as PartialEq>⟧`, and holds of every value.
+//! What `==`, `clone` and `hash` of the tree's types compare, copy and feed. They are derived, so each law names the
+//! impl, as in `⟦<Symbol as PartialEq>⟧`, and holds of every value.
 
 ghost use Rattle.std.specs.Prelude.{◌≡◌, ◌↔◌, IsTrue};
 ghost use Rattle.cfgast.specs.View.{symbol_view, production_view, rule_view, unique_view};
@@ -34,8 +34,8 @@ pub fn rules_are_what_they_show()
     ensures { (a b : Rule) → IsTrue (⟦<Rule as PartialEq>⟧.eq a b) ↔ (rule_view a ≡ rule_view b) }
 {}
 
-/// Precedences are equal exactly where level and kind are the same, and kinds exactly where they are the same. A clone is
-/// its source, and takes no memory.
+/// Precedences are equal exactly where level and kind are the same, and kinds exactly where they are the same. A clone
+/// is its source, and takes no memory.
 pub fn precedences_are_what_they_are()
     ensures precedences { (a b : Precedence) → IsTrue (⟦<Precedence as PartialEq>⟧.eq a b) ↔ (a ≡ b) }
     ensures kinds { (a b : AssocKind) → IsTrue (⟦<AssocKind as PartialEq>⟧.eq a b) ↔ (a ≡ b) }
@@ -45,16 +45,16 @@ pub fn precedences_are_what_they_are()
     ensures kind_cloned { (a : AssocKind) → ⟦<AssocKind as Clone>⟧.is_infallible a }
 {}
 
-/// What a file may declare only once is equal exactly where it shows the same: the same kind, of the token of the same name or
-/// of the grammar as a whole. A hash of two that are equal is fed the same.
+/// What a file may declare only once is equal exactly where it shows the same: the same kind, of the token of the same
+/// name or of the grammar as a whole. A hash of two that are equal is fed the same.
 pub fn unique_are_what_they_show()
     ensures equal { (a b : Unique) → IsTrue (⟦<Unique as PartialEq>⟧.eq a b) ↔ (unique_view a ≡ unique_view b) }
     ensures hash { (a b : Unique) → unique_view a ≡ unique_view b
         → ⟦<Unique as Hash>⟧.hash_input a ≡ ⟦<Unique as Hash>⟧.hash_input b }
 {}
 
-/// Kinds of what a file may declare only once are equal exactly where they are the same. A clone is its source, and takes no
-/// memory.
+/// Kinds of what a file may declare only once are equal exactly where they are the same. A clone is its source, and takes
+/// no memory.
 pub fn unique_kinds_are_told_apart()
     ensures equal { (a b : UniqueKind) → IsTrue (⟦<UniqueKind as PartialEq>⟧.eq a b) ↔ (a ≡ b) }
     ensures clone { (a b : UniqueKind) → ⟦<UniqueKind as Clone>⟧.is_clone a b → b ≡ a }

@@ -33,7 +33,7 @@ use std::alloc::{AllocError, Global};
 use std::marker::Model;
 
 /// The syntax of a Yacc file, of whatever was read of it, and the errors of the file.
-#[derive(Drop)]
+#[derive(Debug, Drop)]
 pub struct ASTWithValidityInfo {
     kind: YaccKind,
     ast: GrammarAST,
