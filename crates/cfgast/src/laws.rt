@@ -53,8 +53,8 @@ pub fn unique_are_what_they_show()
         → ⟦<Unique as Hash>⟧.hash_input a ≡ ⟦<Unique as Hash>⟧.hash_input b }
 {}
 
-/// Kinds of what a file may declare only once are equal exactly where they are the same. A clone is its source, and takes
-/// no memory.
+/// Kinds of what a file may declare only once are equal exactly where they are the same. A clone is its source, and
+/// takes no memory.
 pub fn unique_kinds_are_told_apart()
     ensures equal { (a b : UniqueKind) → IsTrue (⟦<UniqueKind as PartialEq>⟧.eq a b) ↔ (a ≡ b) }
     ensures clone { (a b : UniqueKind) → ⟦<UniqueKind as Clone>⟧.is_clone a b → b ≡ a }

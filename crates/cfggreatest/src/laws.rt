@@ -71,8 +71,8 @@ pub fn topped_tables_show_greatest()
         → (n : ℕ) × Greatest (HasProduction g) cost r n × (limit ≤ n) }
 {}
 
-/// Words for greatest costs are equal exactly where they are the same, with the same cost where they hold one. A clone is
-/// its source, and takes no memory.
+/// Words for greatest costs are equal exactly where they are the same, with the same cost where they hold one. A clone
+/// is its source, and takes no memory.
 pub fn greatest_costs_are_told_apart()
     ensures equal { (a b : GreatestCost) → IsTrue (⟦<GreatestCost as PartialEq>⟧.eq a b) ↔ (a ≡ b) }
     ensures clone { (a b : GreatestCost) → ⟦<GreatestCost as Clone>⟧.is_clone a b → b ≡ a }

@@ -1,5 +1,5 @@
-//! Laws of blanks and words: what the functions of specs/ find is just what its relations say; and what `==` and `clone` of
-//! this crate's types compare and copy.
+//! Laws of blanks and words: what the functions of specs/ find is just what its relations say; and what `==` and
+//! `clone` of this crate's types compare and copy.
 
 ghost use Rattle.std.specs.Prelude.{◌≡◌, ◌↔◌, ℕ, Bool, List, IsTrue};
 ghost use Rattle.reading.specs.Graph.{IsGraph};
@@ -118,8 +118,8 @@ pub fn byte_classes_are_told_apart()
     ensures cloned { (a : ByteClass) → ⟦<ByteClass as Clone>⟧.is_infallible a }
 {}
 
-/// What is passed is equal exactly where it is the same, up to the same quote in a string. A clone is its source, and takes
-/// no memory.
+/// What is passed is equal exactly where it is the same, up to the same quote in a string. A clone is its source, and
+/// takes no memory.
 pub fn passed_are_told_apart()
     ensures equal { (a b : Passed) → IsTrue (⟦<Passed as PartialEq>⟧.eq a b) ↔ (a ≡ b) }
     ensures clone { (a b : Passed) → ⟦<Passed as Clone>⟧.is_clone a b → b ≡ a }

@@ -15,8 +15,8 @@ pub fn section_is_graph()
         → IsGraph (Says (section len required)) (computes (section len required)) }
 {}
 
-/// The plain program `entry` reads just what the grammar relates a text to: so every text has a reading of an entry at its
-/// front, and only one.
+/// The plain program `entry` reads just what the grammar relates a text to: so every text has a reading of an entry at
+/// its front, and only one.
 #[tactic(auto, using(reading::proofs::Agree::agree))]
 pub fn entry_is_graph()
     ensures { (len : ℕ) → IsGraph (Says (entry len)) (computes (entry len)) }
