@@ -25,9 +25,9 @@ fn token_costs<S: Storage, F: Fn(TIdx<S>) -> u8>(
     tokens_len: usize,
     cost: F,
 ) -> Result<Vec<u8>, AllocError>
-    requires callable { F.IsAlwaysCallable cost }
+    requires callable { (t : TIdx S) → S.number t.0 < tokens_len → F.pre cost t }
     requires fits { tokens_len ≤ S.MAX }
-    requires positive { (t : TIdx S) (c : ℕ) → F.post cost t c → 0 < c }
+    requires positive { (t : TIdx S) (c : ℕ) → S.number t.0 < tokens_len → F.post cost t c → 0 < c }
     ensures positive { IfOk result (λ costs. All (λ c. 0 < c) costs.items) }
     ensures len { IfOk result (λ costs. length costs.items ≡ tokens_len) }
     ensures costs { IfOk result (λ costs. (t : TIdx S) → S.number t.0 < tokens_len
@@ -83,8 +83,9 @@ impl<'a, S: Storage, T: Tables<S>> SentenceGenerator<'a, S, T> {
         tables: &'a T,
         cost: F,
     ) -> Result<Self, AllocError>
-        requires callable { F.IsAlwaysCallable cost }
-        requires positive { (t : TIdx S) (c : ℕ) → F.post cost t c → 0 < c }
+        requires callable { (t : TIdx S) → S.number t.0 < (T.grammar tables.now).tokens → F.pre cost t }
+        requires positive { (t : TIdx S) (c : ℕ) → S.number t.0 < (T.grammar tables.now).tokens
+            → F.post cost t c → 0 < c }
         ensures grammar { IfOk result (λ x. x.grammar ≡ T.grammar tables.now) }
         ensures tokens { IfOk result (λ x. length x.costs ≡ (T.grammar tables.now).tokens) }
         ensures positive { IfOk result (λ x. All (λ c. 0 < c) x.costs) }

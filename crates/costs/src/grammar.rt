@@ -10,6 +10,7 @@ use cfgrammar::yacc::{YaccFault, YaccGrammar, YaccKind, YaccOriginalActionKind};
 use rows::row::Row;
 use rows::{pen, text};
 use std::alloc::{AllocError, Global};
+use std::cell::Cell;
 use trees::read::kind_of;
 
 /// Writes a row's text, where the row isn't brief, and what is answered of its costs.
@@ -44,8 +45,26 @@ fn tell_grammar(
     row: &Row<'_>,
     grammar: &YaccGrammar<u32>,
 ) -> Result<(), AllocError> {
-    let generator = grammar.sentence_generator(alloc, |tidx| cost_of(row, tidx))?;
+    let asked = Cell::new(0);
+    let generator = grammar.sentence_generator(alloc, |tidx| asked_cost(row, &asked, tidx))?;
+    if asked.get() != usize::from(grammar.tokens_len()) {
+        out.push_str("    costs aren't asked once of each token, in order\n")?;
+    }
     tell_costs(out, alloc, row, grammar, &generator)
+}
+
+/// What a token costs. It is counted where it is the next one to be asked of.
+fn asked_cost(row: &Row<'_>, asked: &Cell<usize>, tidx: TIdx<u32>) -> u8
+    ensures { 0 < result }
+{
+    let number = usize::from(tidx);
+    let is_next = number == asked.get();
+    asked.set(if is_next {
+        number.saturating_add(1)
+    } else {
+        usize::MAX
+    });
+    cost_of(row, tidx)
 }
 
 /// What a token costs by the row's `costs`, where the list is so long, or else by its `cost`, or else 1.

@@ -109,8 +109,9 @@ impl<S: Storage> YaccGrammar<S> {
         alloc: Global,
         cost: F,
     ) -> Result<SentenceGenerator<'_, S, YaccGrammar<S>>, AllocError>
-        requires callable { F.IsAlwaysCallable cost }
-        requires positive { (t : TIdx S) (c : ℕ) → F.post cost t c → 0 < c }
+        requires callable { (t : TIdx S) → S.number t.0 < length self.now.tokens → F.pre cost t }
+        requires positive { (t : TIdx S) (c : ℕ) → S.number t.0 < length self.now.tokens
+            → F.post cost t c → 0 < c }
         ensures grammar { IfOk result (λ x. x.grammar ≡ core self.now) }
         ensures tokens { IfOk result (λ x. length x.costs ≡ length self.now.tokens) }
         ensures positive { IfOk result (λ x. All (λ c. 0 < c) x.costs) }
