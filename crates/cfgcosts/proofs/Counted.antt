@@ -21,7 +21,7 @@ use Rattle.cfgcosts.specs.Sentences.{Takes, token, free, unchosen, chosen, symbo
 use Rattle.cfgcosts.specs.DerivedBy.{IsProductionAt, DerivesBy, none, next, times, IsFree, IsDerivedBy, OpensNoneFree, OpensAt, nothing, one, HasStopped, HasWalked}
 use Rattle.cfgcosts.proofs.Generated.{answered_some, some_answered, reads_cost}
 use Rattle.cfgcosts.proofs.Steps.{steps_token, sum_by-cons}
-use Rattle.cfgcosts.proofs.Sentences.{IsOnTheWay, Opens, last, read_last, none_opened, one_opened, has_choice, finished, map-reverse}
+use Rattle.cfgcosts.proofs.Sentences.{IsOnTheWay, Opens, last, read_last, none_opened, one_opened, has_choice, finished, finished_by_choices, map-reverse}
 use Rattle.cfgcosts.proofs.Tokens.{tokens_of, spend, rule_tokens, spend_opened, spend_most}
 
 times-append : (q : ℕ) (xs : List ℕ) (p : ℕ) → times q (xs ++ p ∷ []) ≡ times q xs + cond (nat_eq q p) 1 0
@@ -291,6 +291,7 @@ module _ (x : CostTables) (n : ℕ) (is : IsGenerator x n) (grammar : IsGrammar 
       record {
         minimal = sentence.0;
         short = subst (λ m. m ≤ cost_of (token_cost x) (map f turned)) (sym (length-map turned f)) sentence.1;
+        chosen = finished_by_choices x n is grammar f items turned r e way;
         derived = subst (λ w. IsDerivedBy x.grammar (token_cost x) opened all r w) same by.0;
         few = subst (λ (w : List ℕ). all ≤ 1 + length w * x.grammar.rules) same by.1;
         free = k.paid;

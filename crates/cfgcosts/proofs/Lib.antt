@@ -14,6 +14,7 @@ pub mod Generated
 pub mod TokenCosts
 pub mod Steps
 pub mod Lengths
+pub mod Choices
 pub mod Sentences
 pub mod Tokens
 pub mod Counted

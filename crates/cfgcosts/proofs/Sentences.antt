@@ -17,9 +17,12 @@ use Rattle.cfgsums.specs.Sums.{sum_of, symbol_cost}
 use Rattle.cfgsums.specs.Lists.{rule_cost}
 use Rattle.cfgcosts.specs.Certificate.{IsChosenBelow, rule_choice}
 use Rattle.cfgcosts.specs.Generator.{CostTables, IsGenerator, cost_answer, choice_answer, token_cost, where_some}
+use Rattle.cfgcosts.specs.Choices.{ChoicesGive}
+use Rattle.cfgcosts.specs.Choices as gives
 use Rattle.cfgcosts.specs.Sentences.{Takes, number_of, symbols_at}
 use Rattle.cfgcosts.specs.Sentences as taken
 use Rattle.cfgsums.proofs.Sums.{plus_parts, plus_both, plus_zero, sum_of-append}
+use Rattle.cfgcosts.proofs.Choices.{choices_split, choices_join}
 use Rattle.cfgcosts.proofs.Generated.{answered_some, some_answered, reads_cost}
 use Rattle.cfgcosts.proofs.Lengths.{sentence_length}
 use Rattle.cfgcosts.proofs.Steps.{steps, steps_positive, steps_opened, sum_by-cons}
@@ -37,7 +40,8 @@ pub place_is : {S : Type 0} (number : S → ℕ) (place : Option (PIdx S)) (Q : 
 place_is number None Q h = tt
 place_is number (Some p) Q h = h
 
--- what the pending symbols yield, before the word in reverse, the rule yields; and together they cost the least
+-- what the pending symbols yield, before the word in reverse, the rule yields; and so what the choices give for them; and together they
+-- cost the least
 pub record IsOnTheWay (x : CostTables) (r : ℕ) (pending : List Sym) (word : List ℕ) : Type 0 where
   pub symbols : All (IsSymbolOf x.grammar) pending
   pub cost : ℕ
@@ -46,6 +50,7 @@ pub record IsOnTheWay (x : CostTables) (r : ℕ) (pending : List Sym) (word : Li
   pub left_is : sum_of (cost_by x) pending ≡ Some left
   pub whole : cost ≡ left + cost_of (token_cost x) (reverse word)
   pub derived : (v : List ℕ) → Yields (HasProduction x.grammar) pending v → Yields (HasProduction x.grammar) (Rule r ∷ []) (v ++ reverse word)
+  pub given : (v : List ℕ) → ChoicesGive x pending v → ChoicesGive x (Rule r ∷ []) (v ++ reverse word)
 
 -- how many symbols will still be taken from the pending ones
 abbrev pub left_to_take : CostTables → List Sym → ℕ
@@ -142,6 +147,7 @@ module _ (x : CostTables) (n : ℕ) (is : IsGenerator x n) (grammar : IsGrammar 
     left_is = plus_zero (rule_cost x.least r) ∙ (answered_some (rule_cost x.least r) c answer).0;
     whole = omega arith;
     derived = λ v y. subst (Yields P (Rule r ∷ [])) (sym (append-nil v)) y;
+    given = λ v y. subst (ChoicesGive x (Rule r ∷ [])) (sym (append-nil v)) y;
   }))
 
   -- the last pending symbol
@@ -196,6 +202,8 @@ module _ (x : CostTables) (n : ℕ) (is : IsGenerator x n) (grammar : IsGrammar 
         whole = omega (arith, whole, both, cost, here);
         derived = λ v y. subst (Yields P (Rule r ∷ [])) (append_assoc v (t ∷ []) (reverse word) ∙ ap (λ l. v ++ l) (sym turned))
             (way.derived (v ++ t ∷ []) (trees_join P y (token empty)));
+        given = λ v y. subst (ChoicesGive x (Rule r ∷ [])) (append_assoc v (t ∷ []) (reverse word) ∙ ap (λ l. v ++ l) (sym turned))
+            (way.given (v ++ t ∷ []) (choices_join x y (gives.token gives.empty)));
       }
 
   after_free : (r q : ℕ) (rest : List Sym) (word : List ℕ) → IsOnTheWay x r (rest ++ Rule q ∷ []) word → cost_answer x q ≡ Some 0 → IsOnTheWay x r rest word
@@ -214,6 +222,7 @@ module _ (x : CostTables) (n : ℕ) (is : IsGenerator x n) (grammar : IsGrammar 
         left_is = l.front_is;
         whole = omega (arith, whole, both, here);
         derived = λ v y. subst (λ u. Yields P (Rule r ∷ []) (u ++ reverse word)) (append-nil v) (way.derived (v ++ []) (trees_join P y (vanishes q known)));
+        given = λ v y. subst (λ u. ChoicesGive x (Rule r ∷ []) (u ++ reverse word)) (append-nil v) (way.given (v ++ []) (choices_join x y (gives.free e gives.empty)));
       }
 
   -- the choice that is answered of a rule that is pending
@@ -234,9 +243,9 @@ module _ (x : CostTables) (n : ℕ) (is : IsGenerator x n) (grammar : IsGrammar 
       let pairs : ◌≡◌ {A = ℕ × ℕ} (p', m') (p, m) = cc in
       subst (λ (c : ℕ × ℕ). Opens x q l.here c.0 c.1) pairs o
 
-  after_opened : (r q p m : ℕ) (rest : List Sym) (word : List ℕ) → IsOnTheWay x r (rest ++ Rule q ∷ []) word → choice_answer x q ≡ Some (p, m)
-      → IsOnTheWay x r (rest ++ (nth_production x.grammar p).symbols) word
-  after_opened r q p m rest word way e =
+  after_opened : (r q p m : ℕ) (rest : List Sym) (word : List ℕ) → IsOnTheWay x r (rest ++ Rule q ∷ []) word → (cost_answer x q ≡ Some 0 → ⊥)
+      → choice_answer x q ≡ Some (p, m) → IsOnTheWay x r (rest ++ (nth_production x.grammar p).symbols) word
+  after_opened r q p m rest word way costly e =
       let l = last r rest (Rule q) word way in
       let o = read_last r q p m rest word way e in
       record {
@@ -249,6 +258,9 @@ module _ (x : CostTables) (n : ℕ) (is : IsGenerator x n) (grammar : IsGrammar 
         derived = λ v y. let parts = trees_split P rest (nth_production x.grammar p).symbols v y in
             way.derived v (subst (Yields P (rest ++ Rule q ∷ [])) (sym parts.whole)
             (trees_join P parts.first (opened o.has parts.second empty (sym (append-nil parts.back)))));
+        given = λ v y. let parts = choices_split x rest (nth_production x.grammar p).symbols v y in
+            way.given v (subst (ChoicesGive x (rest ++ Rule q ∷ [])) (sym parts.whole)
+            (choices_join x parts.first (gives.chosen costly e parts.second gives.empty (sym (append-nil parts.back)))));
       }
 
   -- where no production is opened, what is pending is the rest
@@ -277,7 +289,7 @@ module _ (x : CostTables) (n : ℕ) (is : IsGenerator x n) (grammar : IsGrammar 
       absurd (has_choice r q rest word (subst (λ s. IsOnTheWay x r (rest ++ s ∷ []) word) e way) none)
   goes_on r rest s place pending word word' way (taken.chosen q p m e costly choice f h) k =
       subst (λ a. IsOnTheWay x r a word') (one_opened rest pending place p f k) (subst (IsOnTheWay x r (rest ++ (nth_production x.grammar p).symbols)) (sym h)
-      (after_opened r q p m rest word (subst (λ s. IsOnTheWay x r (rest ++ s ∷ []) word) e way) choice))
+      (after_opened r q p m rest word (subst (λ s. IsOnTheWay x r (rest ++ s ∷ []) word) e way) costly choice))
 
   -- the production that is answered is there
   pub place_taken : (r : ℕ) (rest : List Sym) (s : Sym) (place : Option ℕ) (word word' : List ℕ) → IsOnTheWay x r (rest ++ s ∷ []) word → Takes x s place word word'
@@ -337,3 +349,8 @@ module _ (x : CostTables) (n : ℕ) (is : IsGenerator x n) (grammar : IsGrammar 
       let minimal = subst (Minimal P (token_cost x) r) (sym (ap (map f) e ∙ map-reverse f items)) (ends r (map f items) way) in
       let short = sentence_length x.grammar x.costs grammar is.tokens is.positive r (map f turned) minimal.0 in
       (minimal, subst (λ m. m ≤ cost_of (token_cost x) (map f turned)) (length-map turned f) short)
+
+  -- and they are what the choices give
+  pub finished_by_choices : {A : Type 0} (f : A → ℕ) (items turned : List A) (r : ℕ) → turned ≡ reverse items → IsOnTheWay x r [] (map f items)
+      → ChoicesGive x (Rule r ∷ []) (map f turned)
+  finished_by_choices f items turned r e way = subst (ChoicesGive x (Rule r ∷ [])) (sym (ap (map f) e ∙ map-reverse f items)) (way.given [] gives.empty)

@@ -6,6 +6,7 @@ use Rattle.derivation.specs.Sentence.{cost_of}
 use Rattle.derivation.specs.Costs.{Least, Minimal}
 use Rattle.cfganalysis.specs.Openings.{nth_production, OpensOne}
 use Rattle.cfgcosts.specs.Generator.{CostTables, token_cost}
+use Rattle.cfgcosts.specs.Choices.{ChoicesGive}
 use Rattle.cfgcosts.specs.Splits.{Split}
 
 -- production p of the grammar is of this rule, and has these symbols
@@ -48,6 +49,7 @@ pub data OpensAt (place : Option ℕ) (content content' : Grammar) (opened opene
 pub record HasWalked (x : CostTables) (r : ℕ) (opened : ℕ → ℕ) (all : ℕ) (w : List ℕ) : Type 0 where
   pub minimal : Minimal (HasProduction x.grammar) (token_cost x) r w
   pub short : length w ≤ cost_of (token_cost x) w
+  pub chosen : ChoicesGive x (Rule r ∷ []) w
   pub derived : IsDerivedBy x.grammar (token_cost x) opened all r w
   pub few : all ≤ 1 + length w * x.grammar.rules
   pub free : OpensNoneFree x.grammar (token_cost x) opened

@@ -1,5 +1,6 @@
 pub mod Numbers
 pub mod Certificate
+pub mod Choices
 pub mod Queue
 pub mod Open
 pub mod Settled

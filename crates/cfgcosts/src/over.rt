@@ -1,11 +1,12 @@
 //! One minimal sentence of a rule, by productions that are opened one by one.
 
 ghost use Rattle.std.specs.Prelude.{◌≡◌, ◌↔◌, ℕ, ◌+◌, ◌-◌, ◌*◌, ◌^◌, ◌<◌, ◌≤◌};
-ghost use Rattle.std.specs.Prelude.{◌++◌, ◌⊎◌, Err, IfOk, IfSome, OnErr, OnOk, Some, length, map};
-ghost use Rattle.derivation.specs.Grammar.{HasProduction};
+ghost use Rattle.std.specs.Prelude.{[], ◌∷◌, ◌++◌, ◌⊎◌, Err, IfOk, IfSome, OnErr, OnOk, Some, length, map};
+ghost use Rattle.derivation.specs.Grammar.{HasProduction, Rule};
 ghost use Rattle.derivation.specs.Sentence.{cost_of};
 ghost use Rattle.derivation.specs.Costs.{Least, Minimal};
 ghost use Rattle.cfganalysis.specs.Symbols.{sym_of};
+ghost use Rattle.cfgcosts.specs.Choices.{ChoicesGive};
 ghost use Rattle.cfgcosts.specs.DerivedBy.{HasStopped, HasWalked, IsDerivedBy, OpensAt, OpensNoneFree};
 ghost use Rattle.cfgcosts.specs.Generator.{HasNone, IsTooDear, cost_answer, token_cost};
 ghost use Rattle.cfgcosts.specs.Sentences.{number_of, symbols_at};
@@ -104,6 +105,8 @@ pub fn min_sentence_over<'a, S: Storage, T: Tables<S>, P: Productions<S>>(
         (S.number rule.0) (map (λ t. S.number t.0) sentence.items)) }
     ensures length { IfOk result (λ sentence.
         length sentence.items ≤ cost_of (token_cost generator.now) (map (λ t. S.number t.0) sentence.items)) }
+    ensures chosen { IfOk result (λ sentence.
+        ChoicesGive generator.now (Rule (S.number rule.0) ∷ []) (map (λ t. S.number t.0) sentence.items)) }
     ensures none { (result ≡ Err SentenceError.NoSentence)
         ↔ HasNone (HasProduction generator.now.grammar) (S.number rule.0) }
     ensures dear { (result ≡ Err SentenceError.CostTooLarge)

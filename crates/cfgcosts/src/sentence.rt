@@ -1,11 +1,12 @@
 //! One minimal sentence of a rule, by the productions that were chosen.
 
-ghost use Rattle.std.specs.Prelude.{◌≡◌, ◌↔◌, ℕ, ◌<◌, ◌≤◌, ◌++◌, Err, IfOk, IfSome, IsTrue};
+ghost use Rattle.std.specs.Prelude.{◌≡◌, ◌↔◌, ℕ, ◌<◌, ◌≤◌, [], ◌∷◌, ◌++◌, Err, IfOk, IfSome, IsTrue};
 ghost use Rattle.std.specs.Prelude.{OnOk, Some, length, map};
-ghost use Rattle.derivation.specs.Grammar.{HasProduction, IsSymbolOf};
+ghost use Rattle.derivation.specs.Grammar.{HasProduction, IsSymbolOf, Rule};
 ghost use Rattle.derivation.specs.Sentence.{cost_of};
 ghost use Rattle.derivation.specs.Costs.{Minimal};
 ghost use Rattle.cfganalysis.specs.Symbols.{sym_of};
+ghost use Rattle.cfgcosts.specs.Choices.{ChoicesGive};
 ghost use Rattle.cfgcosts.specs.Generator.{HasNone, IsTooDear, cost_answer, token_cost};
 ghost use Rattle.cfgcosts.specs.Sentences.{Takes, number_of, symbols_at};
 
@@ -104,6 +105,8 @@ impl<'a, S: Storage, T: Tables<S>> SentenceGenerator<'a, S, T> {
             (S.number rule.0) (map (λ t. S.number t.0) sentence.items)) }
         ensures length { IfOk result (λ sentence.
             length sentence.items ≤ cost_of (token_cost self.now) (map (λ t. S.number t.0) sentence.items)) }
+        ensures chosen { IfOk result (λ sentence.
+            ChoicesGive self.now (Rule (S.number rule.0) ∷ []) (map (λ t. S.number t.0) sentence.items)) }
     {
         let _rules = self.tables.rules_len();
         let mut sentence = Vec::new(alloc);
@@ -117,8 +120,8 @@ impl<'a, S: Storage, T: Tables<S>> SentenceGenerator<'a, S, T> {
         Ok(sentence)
     }
 
-    /// A sentence of the rule that no other of its sentences costs less than. It has at most as many tokens as it
-    /// costs.
+    /// A sentence of the rule that no other of its sentences costs less than: the one that the choices give. It has at
+    /// most as many tokens as it costs.
     ///
     /// # Errors
     ///
@@ -130,6 +133,8 @@ impl<'a, S: Storage, T: Tables<S>> SentenceGenerator<'a, S, T> {
             (S.number rule.0) (map (λ t. S.number t.0) sentence.items)) }
         ensures length { IfOk result (λ sentence.
             length sentence.items ≤ cost_of (token_cost self.now) (map (λ t. S.number t.0) sentence.items)) }
+        ensures chosen { IfOk result (λ sentence.
+            ChoicesGive self.now (Rule (S.number rule.0) ∷ []) (map (λ t. S.number t.0) sentence.items)) }
         ensures none { (result ≡ Err SentenceError.NoSentence)
             ↔ HasNone (HasProduction self.now.grammar) (S.number rule.0) }
         ensures dear { (result ≡ Err SentenceError.CostTooLarge)

@@ -1,14 +1,15 @@
 //! The costs of a grammar's sentences: the least and the greatest of each rule.
 
-ghost use Rattle.std.specs.Prelude.{◌≡◌, ◌↔◌, ℕ, ◌<◌, ◌≤◌, ◌⊎◌, List, Option, All};
+ghost use Rattle.std.specs.Prelude.{◌≡◌, ◌↔◌, ℕ, ◌<◌, ◌≤◌, ◌⊎◌, List, [], ◌∷◌, Option, All};
 ghost use Rattle.std.specs.Prelude.{Contains, EachIndex, Err, IfOk, IfSome, None, Ok, Some, length, map};
 ghost use Rattle.cfgindex.specs.declared.idxnewtype.TIdx.{TIdx};
-ghost use Rattle.derivation.specs.Grammar.{HasProduction};
+ghost use Rattle.derivation.specs.Grammar.{HasProduction, Rule};
 ghost use Rattle.derivation.specs.Sentence.{cost_of};
 ghost use Rattle.derivation.specs.Costs.{Greatest, Least, Minimal, Unbounded};
 ghost use Rattle.std.specs.List.Sorted.{IsStrictlySortedBy};
 ghost use Rattle.std.specs.Result.{result_ok};
 ghost use Rattle.cfgsums.specs.Lists.{rule_cost};
+ghost use Rattle.cfgcosts.specs.Choices.{ChoicesGive};
 ghost use Rattle.cfgcosts.specs.Certificate.{IsCovered, IsReached, choice_of, rule_choice};
 ghost use Rattle.cfgcosts.specs.Minimal.{dictionary, numbers_of};
 ghost use Rattle.cfgcosts.specs.Generator.{HasNone, IsLeastProduction, IsTooDear, choice_answer, cost_answer};
@@ -64,8 +65,9 @@ impl<'a, S: Storage, T: Tables<S>> SentenceGenerator<'a, S, T> {
         tables: &'a T,
         cost: F,
     ) -> Result<Self, AllocError>
-        requires callable { F.IsAlwaysCallable cost }
-        requires positive { (t : TIdx S) (c : ℕ) → F.post cost t c → 0 < c }
+        requires callable { (t : TIdx S) → S.number t.0 < (T.grammar tables.now).tokens → F.pre cost t }
+        requires positive { (t : TIdx S) (c : ℕ) → S.number t.0 < (T.grammar tables.now).tokens
+            → F.post cost t c → 0 < c }
         ensures grammar { IfOk result (λ x. x.grammar ≡ T.grammar tables.now) }
         ensures tokens { IfOk result (λ x. length x.costs ≡ (T.grammar tables.now).tokens) }
         ensures positive { IfOk result (λ x. All (λ c. 0 < c) x.costs) }
@@ -154,8 +156,8 @@ impl<'a, S: Storage, T: Tables<S>> SentenceGenerator<'a, S, T> {
         self.least.answers_pass_both_checks()
     }
 
-    /// A sentence of the rule that no other of its sentences costs less than. It has at most as many tokens as it
-    /// costs.
+    /// A sentence of the rule that no other of its sentences costs less than: the one that the choices give. It has at
+    /// most as many tokens as it costs.
     ///
     /// # Errors
     ///
@@ -167,6 +169,8 @@ impl<'a, S: Storage, T: Tables<S>> SentenceGenerator<'a, S, T> {
             (S.number rule.0) (map (λ t. S.number t.0) sentence.items)) }
         ensures length { IfOk result (λ sentence.
             length sentence.items ≤ cost_of (token_cost self.now) (map (λ t. S.number t.0) sentence.items)) }
+        ensures chosen { IfOk result (λ sentence.
+            ChoicesGive self.now (Rule (S.number rule.0) ∷ []) (map (λ t. S.number t.0) sentence.items)) }
         ensures none { (result ≡ Err SentenceError.NoSentence)
             ↔ HasNone (HasProduction self.now.grammar) (S.number rule.0) }
         ensures dear { (result ≡ Err SentenceError.CostTooLarge)

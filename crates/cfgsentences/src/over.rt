@@ -1,10 +1,11 @@
 //! One minimal sentence of a rule, by productions that are opened one by one.
 
 ghost use Rattle.std.specs.Prelude.{◌≡◌, ◌↔◌, ℕ, ◌+◌, ◌*◌, ◌<◌, ◌≤◌, ◌⊎◌, Err};
-ghost use Rattle.std.specs.Prelude.{IfOk, length, map};
-ghost use Rattle.derivation.specs.Grammar.{HasProduction};
+ghost use Rattle.std.specs.Prelude.{[], ◌∷◌, IfOk, length, map};
+ghost use Rattle.derivation.specs.Grammar.{HasProduction, Rule};
 ghost use Rattle.derivation.specs.Sentence.{cost_of};
 ghost use Rattle.derivation.specs.Costs.{Least, Minimal};
+ghost use Rattle.cfgcosts.specs.Choices.{ChoicesGive};
 ghost use Rattle.cfgcosts.specs.DerivedBy.{IsDerivedBy, OpensNoneFree};
 ghost use Rattle.cfgcosts.specs.Generator.{HasNone, IsTooDear, token_cost};
 
@@ -39,6 +40,8 @@ pub fn min_sentence_over<'a, S: Storage, T: Tables<S>, P: Productions<S>>(
         (S.number rule.0) (map (λ t. S.number t.0) sentence.items)) }
     ensures length { IfOk result (λ sentence.
         length sentence.items ≤ cost_of (token_cost generator.now) (map (λ t. S.number t.0) sentence.items)) }
+    ensures chosen { IfOk result (λ sentence.
+        ChoicesGive generator.now (Rule (S.number rule.0) ∷ []) (map (λ t. S.number t.0) sentence.items)) }
     ensures none { (result ≡ Err SentenceError.NoSentence)
         ↔ HasNone (HasProduction generator.now.grammar) (S.number rule.0) }
     ensures dear { (result ≡ Err SentenceError.CostTooLarge)

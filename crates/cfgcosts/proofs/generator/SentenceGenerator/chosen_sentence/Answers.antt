@@ -6,7 +6,7 @@ use Rattle.cfgindex.specs.declared.idxnewtype.Symbol.TheVariants as symbols
 use Rattle.cfganalysis.specs.Symbols.{sym_of}
 use Rattle.cfgcosts.specs.Generator.{CostTables, IsGenerator}
 use Rattle.cfgcosts.specs.Sentences.{number_of, symbols_at}
-use Rattle.cfgcosts.proofs.Sentences.{IsOnTheWay, left_to_take, begins, last_is_symbol, place_taken, place_is, goes_on, takes_less, finished}
+use Rattle.cfgcosts.proofs.Sentences.{IsOnTheWay, left_to_take, begins, last_is_symbol, place_taken, place_is, goes_on, takes_less, finished, finished_by_choices}
 use Rattle.cfgcosts.proofs.generator.SentenceGenerator.chosen_sentence.Goals as goal
 
 pub loop-symbol-init : goal.loop-symbol-init
@@ -98,3 +98,15 @@ returns-clause-length g c =
     let none : c.loop-symbol.pending.items ≡ [] = c.in_default.ensures.items ∙ ap (λ l. l ++ []) rest in
     (finished c.args.self.now n is grammar (λ t. number t.0) c.loop-symbol.sentence.items c.reverse.new.self.items (number c.args.rule.0) c.reverse.ensures.items
     (subst (λ (l : List Sym). IsOnTheWay c.args.self.now (number c.args.rule.0) l word) (ap (map (sym_of number)) none) c.loop-symbol.invariant)).1
+
+pub returns-clause-chosen : goal.returns-clause-chosen
+returns-clause-chosen g c =
+    let number = g.S.Storage.number in
+    let n = c.self.inside.settled.number in
+    let is = subst (λ (x : CostTables). IsGenerator x n) c.self.view_is c.self.invariant in
+    let grammar = subst (λ (x : CostTables). IsGrammar x.grammar) c.self.view_is c.rules_len-rules.ensures.content in
+    let word = map (λ t. number t.0) c.loop-symbol.sentence.items in
+    let rest : c.pop.new.self.items ≡ [] = c.in_default.ensures.rest ∙ ap (λ n. take (n - 1) c.loop-symbol.pending.items) c.in_default.ensures.cases.0 in
+    let none : c.loop-symbol.pending.items ≡ [] = c.in_default.ensures.items ∙ ap (λ l. l ++ []) rest in
+    finished_by_choices c.args.self.now n is grammar (λ t. number t.0) c.loop-symbol.sentence.items c.reverse.new.self.items (number c.args.rule.0) c.reverse.ensures.items
+    (subst (λ (l : List Sym). IsOnTheWay c.args.self.now (number c.args.rule.0) l word) (ap (map (sym_of number)) none) c.loop-symbol.invariant)
