@@ -4,6 +4,7 @@ pub mod Fields
 pub mod Found
 pub mod Fronts
 pub mod Gathered
+pub mod Given
 pub mod Keeps
 pub mod Law
 pub mod Marking

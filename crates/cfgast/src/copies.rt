@@ -30,9 +30,13 @@ pub(crate) fn three<A: Clone, B: Clone, C: Clone>(
     Ok((first, second, third))
 }
 
-// What all of them gave, or a refusal. A caller that asks for its copies before it looks at any has one way out, on
-// which it owns nothing.
-pub(crate) fn all<A: Drop, B: Drop, C: Drop, D: Drop>(
+/// What all of them gave, or a refusal. A caller that asks for its parts before it looks at any has one way out, on which
+/// it owns nothing.
+///
+/// # Errors
+///
+/// Want of memory, where one of them is that.
+pub fn all<A: Drop, B: Drop, C: Drop, D: Drop>(
     a: Result<A, AllocError>,
     b: Result<B, AllocError>,
     c: Result<C, AllocError>,

@@ -2,7 +2,7 @@
 
 pub mod ast;
 pub mod builder;
-mod copies;
+pub mod copies;
 pub mod duplicates;
 pub mod item;
 pub mod laws;

@@ -23,6 +23,7 @@ ghost use Rattle.cfgnumbers.specs.WellNumbered.{IsWellNumbered, times};
 
 use super::fault::storage_too_small;
 use super::iter::{PIdxIter, RIdxIter, TIdxIter};
+use cfgast::copies::all;
 use cfgast::{Precedence, Settings};
 use cfgbase::Span;
 use cfgindex::{PIdx, RIdx, SIdx, Storage, Symbol, TIdx, to_storage};
@@ -151,13 +152,19 @@ impl<S: Storage> YaccGrammar<S> {
         ensures { IfOk result (λ grammar. grammar ≡ numbered kind (syntax ast.now)) }
     {
         let numbering = Numbering::new(kind, ast);
+        let (rules, prods, tokens, settings) = all(
+            numbering.rule_rows(alloc),
+            numbering.production_rows(alloc),
+            numbering.token_rows(alloc),
+            ast.settings().clone(),
+        )?;
         Ok(YaccGrammar {
-            rules: numbering.rule_rows(alloc)?,
-            prods: numbering.production_rows(alloc)?,
-            tokens: numbering.token_rows(alloc)?,
+            rules,
+            prods,
+            tokens,
             start_prod: PIdx(to_storage(ast.prods().len())),
             implicit_rule: numbering.implicit_rule(),
-            settings: ast.settings().clone()?,
+            settings,
         })
     }
 }

@@ -1,10 +1,6 @@
-use Rattle.std.proofs.Common.{◌≡◌, Result, Ok, IfOk, subst}
 use Rattle.cfgast.specs.View.{syntax}
+use Rattle.cfgast.proofs.Given.{given}
 use Rattle.cfgast.proofs.ast.GrammarASTClone.clone.Goals as goal
-
--- what holds of an answer holds of what it gave
-given : {A E : Type 0} (P : A → Type 0) (result : Result A E) (x : A) → result ≡ Ok x → IfOk result P → P x
-given P result x is holds = subst (λ r. IfOk r P) is holds
 
 pub returns : goal.returns
 unfolding syntax

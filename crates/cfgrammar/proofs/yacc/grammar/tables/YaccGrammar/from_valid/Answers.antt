@@ -1,4 +1,5 @@
 use Rattle.std.proofs.Common.{◌++◌, [], length, map, option_map, sym, subst, ◌∙◌}
+use Rattle.cfgast.proofs.Given.{given}
 use Rattle.std.specs.List.{zip}
 use Rattle.cfgast.specs.View.{syntax, production_view}
 use Rattle.cfgast.specs.WellFormed.{IsWellFormed}
@@ -43,16 +44,21 @@ pub returns : goal.returns
 returns g c =
     let s = syntax c.args.ast.now in
     let numbering = c.new-numbering.ensures in
-    built g.S.Storage.number c.args.kind s c.in_ok-rule_rows.field-0.entries c.in_ok-production_rows.field-0.items c.in_ok-token_rows.field-0.entries
-    (record { 0 = c.to_storage.result }) c.implicit_rule.result c.in_ok-clone.field-0
-    (c.in_ok-rule_rows.ensures ∙ (λ i. added_rules (numbering.implicit i) (length (numbering.file i).productions) ++ map file_rule (numbering.file i).rules))
-    (c.in_ok-production_rows.ensures ∙ (λ i.
+    let got = c.in_ok-rules.ensures in
+    let rules = given _ c.rule_rows.result _ got.0 c.rule_rows.ensures in
+    let prods = given _ c.production_rows.result _ got.1 c.production_rows.ensures in
+    let tokens = given _ c.token_rows.result _ got.2 c.token_rows.ensures in
+    let settings = given _ c.clone.result _ got.3 c.clone.ensures in
+    built g.S.Storage.number c.args.kind s c.in_ok-rules.rules.entries c.in_ok-rules.prods.items c.in_ok-rules.tokens.entries
+    (record { 0 = c.to_storage.result }) c.implicit_rule.result c.in_ok-rules.settings
+    (rules ∙ (λ i. added_rules (numbering.implicit i) (length (numbering.file i).productions) ++ map file_rule (numbering.file i).rules))
+    (prods ∙ (λ i.
     map (file_production (numbering.implicit i) (numbering.file i)) (zip (numbering.file i).production_rules (numbering.file i).productions)
     ++ added_productions (numbering.implicit i) (numbering.file i)))
-    (c.in_ok-token_rows.ensures ∙ (λ i. map (file_token (numbering.file i)) (zip (numbering.file i).tokens (numbering.file i).spans)))
+    (tokens ∙ (λ i. map (file_token (numbering.file i)) (zip (numbering.file i).tokens (numbering.file i).spans)))
     (c.to_storage.ensures ∙ sym (as_long production_view c.prods.result.now s.productions c.prods.ensures))
     (c.implicit_rule.ensures ∙ (λ i. option_map (λ names. 1) (numbering.implicit i)))
-    (c.in_ok-clone.ensures.cases ∙ c.settings.ensures)
+    (settings.cases ∙ c.settings.ensures)
 
 pub invariant_of-result : goal.invariant_of-result
 invariant_of-result g c =
