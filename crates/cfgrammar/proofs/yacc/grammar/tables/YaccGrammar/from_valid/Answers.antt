@@ -1,5 +1,5 @@
 use Rattle.std.proofs.Common.{◌++◌, [], length, map, option_map, sym, subst, ◌∙◌}
-use Rattle.cfgast.proofs.Given.{given}
+use Rattle.cfgast.proofs.Given.{given, given_match}
 use Rattle.std.specs.List.{zip}
 use Rattle.cfgast.specs.View.{syntax, production_view}
 use Rattle.cfgast.specs.WellFormed.{IsWellFormed}
@@ -48,7 +48,7 @@ returns g c =
     let rules = given _ c.rule_rows.result _ got.0 c.rule_rows.ensures in
     let prods = given _ c.production_rows.result _ got.1 c.production_rows.ensures in
     let tokens = given _ c.token_rows.result _ got.2 c.token_rows.ensures in
-    let settings = given _ c.clone.result _ got.3 c.clone.ensures in
+    let settings = given_match _ _ c.clone.result _ got.3 c.clone.ensures.cases in
     built g.S.Storage.number c.args.kind s c.in_ok-rules.rules.entries c.in_ok-rules.prods.items c.in_ok-rules.tokens.entries
     (record { 0 = c.to_storage.result }) c.implicit_rule.result c.in_ok-rules.settings
     (rules ∙ (λ i. added_rules (numbering.implicit i) (length (numbering.file i).productions) ++ map file_rule (numbering.file i).rules))
@@ -58,7 +58,7 @@ returns g c =
     (tokens ∙ (λ i. map (file_token (numbering.file i)) (zip (numbering.file i).tokens (numbering.file i).spans)))
     (c.to_storage.ensures ∙ sym (as_long production_view c.prods.result.now s.productions c.prods.ensures))
     (c.implicit_rule.ensures ∙ (λ i. option_map (λ names. 1) (numbering.implicit i)))
-    (settings.cases ∙ c.settings.ensures)
+    (settings ∙ c.settings.ensures)
 
 pub invariant_of-result : goal.invariant_of-result
 invariant_of-result g c =
