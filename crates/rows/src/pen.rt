@@ -3,6 +3,33 @@
 use cfgbase::Span;
 use std::alloc::AllocError;
 
+/// Writes a text.
+pub fn text(out: &mut String, text: &str) -> Result<(), AllocError> {
+    out.push_str(text)
+}
+
+/// Writes a text where something is so.
+pub fn text_if(out: &mut String, is_so: bool, word: &str) -> Result<(), AllocError> {
+    text(out, if is_so { word } else { "" })
+}
+
+/// Writes a character.
+pub fn character(out: &mut String, character: char) -> Result<(), AllocError> {
+    out.push(character)
+}
+
+/// Ends a line.
+pub fn end_line(out: &mut String) -> Result<(), AllocError> {
+    out.push('\n')
+}
+
+/// Writes two texts as a line, or as what is left of one.
+pub fn line(out: &mut String, before: &str, rest: &str) -> Result<(), AllocError> {
+    text(out, before)?;
+    text(out, rest)?;
+    end_line(out)
+}
+
 /// Writes a text and a number.
 pub fn number(out: &mut String, before: &str, number: usize) -> Result<(), AllocError> {
     write!(out, "{before}{number}")

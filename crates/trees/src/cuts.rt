@@ -3,7 +3,7 @@
 use crate::errors::{write_kind, write_spans};
 use crate::read::parse;
 use cfgbase::Span;
-use cfgsyntax::yacc::ast::GrammarAST;
+use cfgsyntax::yacc::ast::{ASTWithValidityInfo, GrammarAST};
 use cfgsyntax::yacc::{YaccFault, YaccGrammarError, YaccKind};
 use indexmap::IndexMap;
 use rows::pen;
@@ -18,54 +18,85 @@ pub fn write_cuts(
 ) -> Result<(), AllocError> {
     for len in 0..=text.len() {
         if let Some(cut) = text.get(..len) {
-            pen::number(out, "    ", len)?;
-            out.push(':')?;
             write_cut(out, alloc, kind, cut)?;
         }
     }
     Ok(())
 }
 
-/// Writes the errors of a text, each as its kind and its spans, and how much was read of it.
+/// Writes the length of a text, its errors, each as its kind and its spans, and how much was read of it.
 fn write_cut(
     out: &mut String,
     alloc: Global,
     kind: Option<YaccKind>,
     text: &str,
 ) -> Result<(), AllocError> {
+    pen::number(out, "    ", text.len())?;
+    pen::text(out, ":")?;
+    parse_cut(out, alloc, kind, text)
+}
+
+fn parse_cut(
+    out: &mut String,
+    alloc: Global,
+    kind: Option<YaccKind>,
+    text: &str,
+) -> Result<(), AllocError> {
     match parse(alloc, kind, text) {
-        Ok(parsed) => {
-            write_errors(out, parsed.errors())?;
-            write_read(out, parsed.ast())
-        }
-        Err(YaccFault::Errors(errors)) => {
-            write_errors(out, &errors)?;
-            out.push_str("; no kind\n")
-        }
-        Err(YaccFault::OutOfMemory) => Err(AllocError),
+        Ok(parsed) => write_parsed(out, &parsed),
+        Err(fault) => write_fault(out, &fault),
     }
+}
+
+/// Writes why a text names no kind.
+fn write_fault(out: &mut String, fault: &YaccFault) -> Result<(), AllocError> {
+    match fault {
+        YaccFault::Errors(errors) => write_refused(out, errors),
+        YaccFault::OutOfMemory => Err(AllocError),
+    }
+}
+
+/// Writes the errors of what was parsed, and how much was read.
+fn write_parsed(out: &mut String, parsed: &ASTWithValidityInfo) -> Result<(), AllocError> {
+    write_errors(out, parsed.errors())?;
+    write_read(out, parsed.ast())
+}
+
+/// Writes the errors that keep a text from naming a kind.
+fn write_refused(out: &mut String, errors: &[YaccGrammarError]) -> Result<(), AllocError> {
+    write_errors(out, errors)?;
+    pen::text(out, "; no kind\n")
 }
 
 fn write_errors(out: &mut String, errors: &[YaccGrammarError]) -> Result<(), AllocError> {
     for error in errors {
-        write_kind(out, error)?;
-        write_spans(out, error)?;
+        write_error(out, error)?;
     }
     Ok(())
 }
 
+fn write_error(out: &mut String, error: &YaccGrammarError) -> Result<(), AllocError> {
+    write_kind(out, error)?;
+    write_spans(out, error)
+}
+
 /// Writes how much was read of a text.
 fn write_read(out: &mut String, ast: &GrammarAST) -> Result<(), AllocError> {
+    write_lengths(out, ast)?;
+    write_said_of_tokens(out, ast)?;
+    write_said_of_parser(out, ast)?;
+    pen::end_line(out)
+}
+
+/// Writes how many rules, productions and tokens were read.
+fn write_lengths(out: &mut String, ast: &GrammarAST) -> Result<(), AllocError> {
     pen::numbers(
         out,
         ("; ", ast.rules().len()),
         (" rules, ", ast.prods().len()),
     )?;
     pen::number(out, " productions, ", ast.tokens().len())?;
-    out.push_str(" tokens")?;
-    write_said_of_tokens(out, ast)?;
-    write_said_of_parser(out, ast)?;
-    out.push('\n')
+    pen::text(out, " tokens")
 }
 
 /// Writes of how many tokens something was read, where it was of any, and how long the lists are that are there.
@@ -79,11 +110,10 @@ fn write_said_of_tokens(out: &mut String, ast: &GrammarAST) -> Result<(), AllocE
 
 /// Writes how many there are, where there are any.
 fn write_count(out: &mut String, count: usize, word: &str) -> Result<(), AllocError> {
-    if count > 0 {
-        pen::number(out, ", ", count)?;
-        out.push_str(word)?;
+    if count == 0 {
+        return Ok(());
     }
-    Ok(())
+    write_length(out, count, word)
 }
 
 /// Writes how many tokens a list has, where there is one.
@@ -92,23 +122,20 @@ fn write_table(
     table: &Option<IndexMap<String, Span>>,
     word: &str,
 ) -> Result<(), AllocError> {
-    if let Some(table) = table {
-        pen::number(out, ", ", table.len())?;
-        out.push_str(word)?;
+    match table {
+        Some(table) => write_length(out, table.len(), word),
+        None => Ok(()),
     }
-    Ok(())
+}
+
+fn write_length(out: &mut String, length: usize, word: &str) -> Result<(), AllocError> {
+    pen::number(out, ", ", length)?;
+    pen::text(out, word)
 }
 
 /// Writes what was read of the parser and of the programs.
 fn write_said_of_parser(out: &mut String, ast: &GrammarAST) -> Result<(), AllocError> {
-    if ast.parse_param().is_some() {
-        out.push_str(", parse-param")?;
-    }
-    if ast.parse_generics().is_some() {
-        out.push_str(", parse-generics")?;
-    }
-    if ast.programs().is_some() {
-        out.push_str(", programs")?;
-    }
-    Ok(())
+    pen::text_if(out, ast.parse_param().is_some(), ", parse-param")?;
+    pen::text_if(out, ast.parse_generics().is_some(), ", parse-generics")?;
+    pen::text_if(out, ast.programs().is_some(), ", programs")
 }

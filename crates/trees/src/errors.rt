@@ -1,6 +1,8 @@
 //! Errors of a text, line by line.
 
-use cfgbase::Spanned;
+ghost use Rattle.cfglines.specs.Lines.{StandsFor};
+
+use cfgbase::{Span, Spanned};
 use cfglines::{FeedError, NewlineCache};
 use cfgsyntax::yacc::YaccGrammarError;
 use rows::pen;
@@ -14,9 +16,9 @@ pub fn write_errors(
     errors: &[YaccGrammarError],
 ) -> Result<(), AllocError> {
     if errors.is_empty() {
-        return out.push_str("errors: none\n");
+        return pen::text(out, "errors: none\n");
     }
-    out.push_str("errors\n")?;
+    pen::text(out, "errors\n")?;
     write_error_lines(out, alloc, text, errors)
 }
 
@@ -28,26 +30,64 @@ pub fn write_error_lines(
     text: &str,
     errors: &[YaccGrammarError],
 ) -> Result<(), AllocError> {
-    let cache = match NewlineCache::from_str(alloc, text) {
-        Ok(cache) => cache,
-        Err(FeedError::OutOfMemory) => return Err(AllocError),
-        Err(FeedError::TooLong) => return out.push_str("    too long\n"),
-    };
+    match NewlineCache::from_str(alloc, text) {
+        Ok(cache) => write_placed(out, &cache, text, errors),
+        Err(FeedError::OutOfMemory) => Err(AllocError),
+        Err(FeedError::TooLong) => pen::text(out, "    too long\n"),
+    }
+}
+
+/// Writes a line for each error, with its place in the text.
+fn write_placed(
+    out: &mut String,
+    cache: &NewlineCache,
+    text: &str,
+    errors: &[YaccGrammarError],
+) -> Result<(), AllocError>
+    requires { StandsFor cache.now text.now }
+{
     for error in errors {
-        out.push_str("   ")?;
-        write_kind(out, error)?;
-        let mut place = 0;
-        for span in error.spans().iter().rev() {
-            place = span.start();
-        }
-        write_spans(out, error)?;
-        match cache.byte_to_line_num_and_col_num(text, place) {
-            Some((line, column)) => pen::numbers(out, (" ", line), (":", column))?,
-            None => out.push_str(" no place")?,
-        }
-        writeln!(out, " {:?}: {error}", error.spanskind())?;
+        write_error(out, cache, text, error)?;
     }
     Ok(())
+}
+
+fn write_error(
+    out: &mut String,
+    cache: &NewlineCache,
+    text: &str,
+    error: &YaccGrammarError,
+) -> Result<(), AllocError>
+    requires { StandsFor cache.now text.now }
+{
+    pen::text(out, "   ")?;
+    write_kind(out, error)?;
+    write_spans(out, error)?;
+    write_place(out, cache, text, first_start(error.spans()))?;
+    writeln!(out, " {:?}: {error}", error.spanskind())
+}
+
+/// Where the first span starts, or 0 where there is none.
+fn first_start(spans: &[Span]) -> usize {
+    match spans.first() {
+        Some(span) => span.start(),
+        None => 0,
+    }
+}
+
+/// Writes the line and the column of a byte.
+fn write_place(
+    out: &mut String,
+    cache: &NewlineCache,
+    text: &str,
+    byte: usize,
+) -> Result<(), AllocError>
+    requires { StandsFor cache.now text.now }
+{
+    match cache.byte_to_line_num_and_col_num(text, byte) {
+        Some((line, column)) => pen::numbers(out, (" ", line), (":", column)),
+        None => pen::text(out, " no place"),
+    }
 }
 
 /// Writes a space and the kind of an error.

@@ -1,7 +1,9 @@
 //! Rows on the texts of errors and warnings.
 
+use crate::errors::write_spans;
 use cfgbase::{Span, Spanned};
 use cfgsyntax::yacc::{YaccGrammarError, YaccGrammarErrorKind, YaccGrammarWarningKind};
+use rows::pen;
 use rows::row::{Row, numbers};
 use std::alloc::{AllocError, Global};
 
@@ -10,48 +12,107 @@ use std::alloc::{AllocError, Global};
 pub fn tell(out: &mut String, alloc: Global, row: &Row<'_>, text: &str) -> Result<(), AllocError> {
     let held = if text.is_empty() { "µ" } else { text };
     for (word, rest) in &row.lines {
-        match *word {
-            "error" => write_error(out, alloc, held, *rest)?,
-            "warning" => {
-                let kind = match *rest {
-                    "UnusedRule" => YaccGrammarWarningKind::UnusedRule,
-                    _ => YaccGrammarWarningKind::UnusedToken,
-                };
-                writeln!(out, "    {kind:?}: {kind}")?;
-            }
-            _ => {}
-        }
+        tell_line(out, alloc, held, (*word, *rest))?;
     }
     Ok(())
 }
 
-fn write_error(out: &mut String, alloc: Global, held: &str, line: &str) -> Result<(), AllocError> {
+fn tell_line(
+    out: &mut String,
+    alloc: Global,
+    held: &str,
+    (word, rest): (&str, &str),
+) -> Result<(), AllocError> {
+    match word {
+        "error" => tell_error(out, alloc, held, rest),
+        "warning" => tell_warning(out, rest),
+        _ => Ok(()),
+    }
+}
+
+fn tell_warning(out: &mut String, name: &str) -> Result<(), AllocError> {
+    let kind = match name {
+        "UnusedRule" => YaccGrammarWarningKind::UnusedRule,
+        _ => YaccGrammarWarningKind::UnusedToken,
+    };
+    writeln!(out, "    {kind:?}: {kind}")
+}
+
+fn tell_error(out: &mut String, alloc: Global, held: &str, line: &str) -> Result<(), AllocError> {
+    let error = error_of(alloc, held, line)?;
+    write_error(out, &error)
+}
+
+/// The error that a line tells, by its kind and the two ends of its span.
+fn error_of(alloc: Global, held: &str, line: &str) -> Result<YaccGrammarError, AllocError> {
     let (name, rest) = line.split_once(' ').unwrap_or((line, ""));
-    let (start, end) = numbers(rest);
-    let mut spans = Vec::new(alloc);
-    if start <= end {
-        spans.push(Span::new(start, end))?;
-        spans.push(Span::new(end, end))?;
+    let spans = spans_of(alloc, numbers(rest))?;
+    let kind = kind_of(alloc, name, held)?;
+    Ok(YaccGrammarError::new(kind, spans))
+}
+
+/// A span and its end, or no spans where they would end before they start.
+fn spans_of(alloc: Global, (start, end): (usize, usize)) -> Result<Vec<Span>, AllocError> {
+    if start > end {
+        return Ok(Vec::new(alloc));
     }
-    let error = YaccGrammarError::new(kind_of(alloc, name, held)?, spans);
+    [Span::new(start, end), Span::new(end, end)].to_vec(alloc)
+}
+
+fn write_error(out: &mut String, error: &YaccGrammarError) -> Result<(), AllocError> {
     write!(out, "    {:?}", error.kind())?;
-    for span in error.spans() {
-        write!(out, " ({},{})", span.start(), span.end())?;
-    }
+    write_spans(out, error)?;
     write!(out, " {:?}: {error}", error.spanskind())?;
-    if error.clone()? != error {
-        out.push_str(", and a copy that isn't the same")?;
-    }
-    out.push('\n')
+    let is_same = is_its_copy(error)?;
+    pen::text_if(out, !is_same, ", and a copy that isn't the same")?;
+    pen::end_line(out)
+}
+
+/// Whether a copy of an error is the same.
+fn is_its_copy(error: &YaccGrammarError) -> Result<bool, AllocError> {
+    let copy = error.clone()?;
+    Ok(copy == *error)
 }
 
 /// The kind of this name. A kind that holds a name holds this one; a kind that holds a character, `µ`.
 fn kind_of(alloc: Global, name: &str, held: &str) -> Result<YaccGrammarErrorKind, AllocError> {
-    let n = String::from_str(alloc, held)?;
-    Ok(match name {
+    match name {
+        "InvalidStartRule" | "UnknownRuleRef" | "UnknownToken" | "NoPrecForToken" | "UnknownEPP" =>
+            Ok(kind_with(String::from_str(alloc, held)?, name)),
+        _ => Ok(plain_kind(name)),
+    }
+}
+
+/// The kind of this name, of those that hold one.
+fn kind_with(held: String, name: &str) -> YaccGrammarErrorKind {
+    match name {
+        "InvalidStartRule" => YaccGrammarErrorKind::InvalidStartRule(held),
+        "UnknownRuleRef" => YaccGrammarErrorKind::UnknownRuleRef(held),
+        "UnknownToken" => YaccGrammarErrorKind::UnknownToken(held),
+        "NoPrecForToken" => YaccGrammarErrorKind::NoPrecForToken(held),
+        _ => YaccGrammarErrorKind::UnknownEPP(held),
+    }
+}
+
+/// The kind of this name, of those that hold no name.
+fn plain_kind(name: &str) -> YaccGrammarErrorKind {
+    match name {
         "IllegalInteger" => YaccGrammarErrorKind::IllegalInteger,
         "IllegalName" => YaccGrammarErrorKind::IllegalName,
         "IllegalString" => YaccGrammarErrorKind::IllegalString,
+        "InvalidString" => YaccGrammarErrorKind::InvalidString,
+        "ReachedEOL" => YaccGrammarErrorKind::ReachedEOL,
+        "PrematureEnd" => YaccGrammarErrorKind::PrematureEnd,
+        "ExpectedInput" => YaccGrammarErrorKind::ExpectedInput('µ'),
+        "StorageTooSmall" => YaccGrammarErrorKind::StorageTooSmall,
+        "NoStartRule" => YaccGrammarErrorKind::NoStartRule,
+        _ => rule_kind(name),
+    }
+}
+
+/// The kind of this name, of those that speak of rules.
+fn rule_kind(name: &str) -> YaccGrammarErrorKind {
+    match name {
         "IncompleteRule" => YaccGrammarErrorKind::IncompleteRule,
         "IncompleteComment" => YaccGrammarErrorKind::IncompleteComment,
         "IncompleteAction" => YaccGrammarErrorKind::IncompleteAction,
@@ -59,24 +120,20 @@ fn kind_of(alloc: Global, name: &str, held: &str) -> Result<YaccGrammarErrorKind
         "MissingRightArrow" => YaccGrammarErrorKind::MissingRightArrow,
         "MismatchedBrace" => YaccGrammarErrorKind::MismatchedBrace,
         "NonEmptyProduction" => YaccGrammarErrorKind::NonEmptyProduction,
-        "PrematureEnd" => YaccGrammarErrorKind::PrematureEnd,
         "ProductionNotTerminated" => YaccGrammarErrorKind::ProductionNotTerminated,
+        "PrecNotFollowedByToken" => YaccGrammarErrorKind::PrecNotFollowedByToken,
+        _ => declaration_kind(name),
+    }
+}
+
+/// The kind of this name, of those that speak of declarations.
+fn declaration_kind(name: &str) -> YaccGrammarErrorKind {
+    match name {
         "ProgramsNotSupported" => YaccGrammarErrorKind::ProgramsNotSupported,
         "UnknownDeclaration" => YaccGrammarErrorKind::UnknownDeclaration,
-        "PrecNotFollowedByToken" => YaccGrammarErrorKind::PrecNotFollowedByToken,
-        "ReachedEOL" => YaccGrammarErrorKind::ReachedEOL,
-        "InvalidString" => YaccGrammarErrorKind::InvalidString,
-        "NoStartRule" => YaccGrammarErrorKind::NoStartRule,
         "UnknownSymbol" => YaccGrammarErrorKind::UnknownSymbol,
-        "InvalidStartRule" => YaccGrammarErrorKind::InvalidStartRule(n),
-        "UnknownRuleRef" => YaccGrammarErrorKind::UnknownRuleRef(n),
-        "UnknownToken" => YaccGrammarErrorKind::UnknownToken(n),
-        "NoPrecForToken" => YaccGrammarErrorKind::NoPrecForToken(n),
-        "UnknownEPP" => YaccGrammarErrorKind::UnknownEPP(n),
-        "ExpectedInput" => YaccGrammarErrorKind::ExpectedInput('µ'),
-        "StorageTooSmall" => YaccGrammarErrorKind::StorageTooSmall,
         _ => duplicate_of(name),
-    })
+    }
 }
 
 /// The kind of this name, of those that speak of duplicates.

@@ -21,20 +21,32 @@ pub fn write_settings(
     generics: &Option<String>,
     programs: &Option<String>,
 ) -> Result<(), AllocError> {
-    if let Some((name, param_type)) = param {
-        pen::name(out, "    parse-param ", name.as_str())?;
-        pen::name(out, " ", param_type.as_str())?;
-        out.push('\n')?;
-    }
+    write_param(out, param)?;
     write_text(out, "    parse-generics ", generics)?;
     write_text(out, "    programs ", programs)
 }
 
+fn write_param(out: &mut String, param: &Option<(String, String)>) -> Result<(), AllocError> {
+    match param {
+        Some((name, param_type)) => write_names(out, name.as_str(), param_type.as_str()),
+        None => Ok(()),
+    }
+}
+
+fn write_names(out: &mut String, name: &str, param_type: &str) -> Result<(), AllocError> {
+    pen::name(out, "    parse-param ", name)?;
+    write_name(out, " ", param_type)
+}
+
 /// Writes a text that may be there, as a line.
 fn write_text(out: &mut String, word: &str, text: &Option<String>) -> Result<(), AllocError> {
-    if let Some(text) = text {
-        pen::name(out, word, text.as_str())?;
-        out.push('\n')?;
+    match text {
+        Some(text) => write_name(out, word, text.as_str()),
+        None => Ok(()),
     }
-    Ok(())
+}
+
+fn write_name(out: &mut String, before: &str, name: &str) -> Result<(), AllocError> {
+    pen::name(out, before, name)?;
+    pen::end_line(out)
 }

@@ -17,12 +17,17 @@ pub fn write_syntax(
 ) -> Result<(), AllocError> {
     let shown = syntax_text(alloc, parsed.ast())?;
     let of_copy = copy_text(alloc, parsed.ast())?;
-    out.push_str("syntax\n")?;
-    out.push_str(shown.as_str())?;
-    if of_copy != shown {
-        out.push_str("    and a copy that isn't the same\n")?;
-    }
-    Ok(())
+    write_shown(out, shown.as_str(), of_copy.as_str())
+}
+
+fn write_shown(out: &mut String, shown: &str, of_copy: &str) -> Result<(), AllocError> {
+    pen::text(out, "syntax\n")?;
+    pen::text(out, shown)?;
+    pen::text_if(
+        out,
+        of_copy != shown,
+        "    and a copy that isn't the same\n",
+    )
 }
 
 fn copy_text(alloc: Global, ast: &GrammarAST) -> Result<String, AllocError> {
@@ -32,35 +37,58 @@ fn copy_text(alloc: Global, ast: &GrammarAST) -> Result<String, AllocError> {
 
 /// Writes how much there is in a syntax.
 pub fn write_lengths(out: &mut String, ast: &GrammarAST) -> Result<(), AllocError> {
-    writeln!(
+    pen::numbers(
         out,
-        "syntax of {} rules, {} productions, {} tokens, {} of them declared",
-        ast.rules().len(),
-        ast.prods().len(),
-        ast.tokens().len(),
-        ast.token_directives().len()
-    )
+        ("syntax of ", ast.rules().len()),
+        (" rules, ", ast.prods().len()),
+    )?;
+    pen::numbers(
+        out,
+        (" productions, ", ast.tokens().len()),
+        (" tokens, ", ast.token_directives().len()),
+    )?;
+    pen::text(out, " of them declared\n")
 }
 
 fn syntax_text(alloc: Global, ast: &GrammarAST) -> Result<String, AllocError> {
     let mut out = String::new(alloc);
-    if let Some((name, span)) = ast.start() {
-        write_named(&mut out, "    start ", name.as_str(), *span)?;
-        out.push('\n')?;
-    }
-    write_expected(&mut out, "    expect ", ast.expect())?;
-    write_expected(&mut out, "    expect-rr ", ast.expectrr())?;
-    write_settings(
-        &mut out,
-        ast.parse_param(),
-        ast.parse_generics(),
-        ast.programs(),
-    )?;
-    write_said_of_tokens(&mut out, ast)?;
-    write_rules(&mut out, ast)?;
-    write_productions(&mut out, ast)?;
-    write_tokens(&mut out, ast)?;
+    write_parts(&mut out, ast)?;
     Ok(out)
+}
+
+fn write_parts(out: &mut String, ast: &GrammarAST) -> Result<(), AllocError> {
+    write_start(out, ast.start())?;
+    write_said_of_file(out, ast)?;
+    write_said_of_tokens(out, ast)?;
+    write_rules(out, ast)?;
+    write_productions(out, ast)?;
+    write_tokens(out, ast)
+}
+
+/// Writes what the declarations say of conflicts, of the parser and of the programs.
+fn write_said_of_file(out: &mut String, ast: &GrammarAST) -> Result<(), AllocError> {
+    write_expected(out, "    expect ", ast.expect())?;
+    write_expected(out, "    expect-rr ", ast.expectrr())?;
+    write_settings(out, ast.parse_param(), ast.parse_generics(), ast.programs())
+}
+
+/// Writes the start's name and its place, where there is a start.
+fn write_start(out: &mut String, start: &Option<(String, Span)>) -> Result<(), AllocError> {
+    match start {
+        Some((name, span)) => write_named_line(out, "    start ", name.as_str(), *span),
+        None => Ok(()),
+    }
+}
+
+/// Writes a name and its place, as a line.
+fn write_named_line(
+    out: &mut String,
+    before: &str,
+    name: &str,
+    span: Span,
+) -> Result<(), AllocError> {
+    write_named(out, before, name, span)?;
+    pen::end_line(out)
 }
 
 /// Writes a name and its place.
@@ -75,12 +103,16 @@ fn write_expected(
     word: &str,
     expected: &Option<(usize, Span)>,
 ) -> Result<(), AllocError> {
-    if let Some((number, span)) = expected {
-        pen::number(out, word, *number)?;
-        pen::span(out, *span)?;
-        out.push('\n')?;
+    match expected {
+        Some((number, span)) => write_placed(out, word, *number, *span),
+        None => Ok(()),
     }
-    Ok(())
+}
+
+fn write_placed(out: &mut String, word: &str, number: usize, span: Span) -> Result<(), AllocError> {
+    pen::number(out, word, number)?;
+    pen::span(out, span)?;
+    pen::end_line(out)
 }
 
 /// Writes what the declarations say of single tokens.
@@ -101,9 +133,9 @@ fn write_unused(out: &mut String, ast: &GrammarAST) -> Result<(), AllocError> {
 }
 
 fn write_unused_symbol(out: &mut String, symbol: &Symbol) -> Result<(), AllocError> {
-    out.push_str("    expect-unused")?;
+    pen::text(out, "    expect-unused")?;
     write_symbol(out, symbol)?;
-    out.push('\n')
+    pen::end_line(out)
 }
 
 /// Writes a line for each token that has a precedence: its name, the place where it gets it, and the precedence.
@@ -122,7 +154,7 @@ fn write_ranked(
 ) -> Result<(), AllocError> {
     write_named(out, "    precedence ", name, span)?;
     write_precedence(out, ": ", precedence)?;
-    out.push('\n')
+    pen::end_line(out)
 }
 
 /// Writes a line for each token that has a printed form: its name and its place, and that form and its place.
@@ -142,7 +174,7 @@ fn write_printed_form(
     let (printed, span) = printed;
     write_named(out, "    epp ", name, key)?;
     write_named(out, ": ", printed.as_str(), *span)?;
-    out.push('\n')
+    pen::end_line(out)
 }
 
 /// Writes a list of tokens as a line, where there is such a list.
@@ -151,19 +183,22 @@ fn write_table(
     word: &str,
     table: &Option<IndexMap<String, Span>>,
 ) -> Result<(), AllocError> {
-    let Some(table) = table else {
-        return Ok(());
-    };
-    out.push_str(word)?;
-    write_entries(out, table)?;
-    out.push('\n')
+    match table {
+        Some(table) => write_entries(out, word, table),
+        None => Ok(()),
+    }
 }
 
-fn write_entries(out: &mut String, table: &IndexMap<String, Span>) -> Result<(), AllocError> {
+fn write_entries(
+    out: &mut String,
+    word: &str,
+    table: &IndexMap<String, Span>,
+) -> Result<(), AllocError> {
+    pen::text(out, word)?;
     for (name, span) in table {
         write_named(out, " ", name.as_str(), *span)?;
     }
-    Ok(())
+    pen::end_line(out)
 }
 
 /// Writes a line for each rule.
@@ -177,8 +212,7 @@ fn write_rules(out: &mut String, ast: &GrammarAST) -> Result<(), AllocError> {
 /// Writes a line for each production.
 fn write_productions(out: &mut String, ast: &GrammarAST) -> Result<(), AllocError> {
     for (index, production) in ast.prods().iter().enumerate() {
-        pen::number(out, "    production ", index)?;
-        write_production(out, production)?;
+        write_production(out, index, production)?;
     }
     Ok(())
 }
@@ -187,13 +221,16 @@ fn write_productions(out: &mut String, ast: &GrammarAST) -> Result<(), AllocErro
 fn write_rule(out: &mut String, ast: &GrammarAST, rule: &Rule) -> Result<(), AllocError> {
     let (name, span) = &rule.name;
     write_named(out, "    rule ", name.as_str(), *span)?;
-    out.push(':')?;
+    pen::text(out, ":")?;
     write_indices(out, &rule.pidxs)?;
     write_text(out, ", type ", &rule.actiont)?;
-    if ast.get_rule(name.as_str()) != Some(rule) {
-        out.push_str(", not by its name")?;
-    }
-    out.push('\n')
+    pen::text_if(out, !is_found(ast, rule), ", not by its name")?;
+    pen::end_line(out)
+}
+
+/// Whether a rule is found by its name.
+fn is_found(ast: &GrammarAST, rule: &Rule) -> bool {
+    ast.get_rule(rule.name.0.as_str()) == Some(rule)
 }
 
 fn write_indices(out: &mut String, indices: &[usize]) -> Result<(), AllocError> {
@@ -212,13 +249,18 @@ fn write_text(out: &mut String, word: &str, text: &Option<String>) -> Result<(),
 }
 
 /// Writes a production: its place, its symbols with their places, and its precedence and action, where it has some.
-fn write_production(out: &mut String, production: &Production) -> Result<(), AllocError> {
+fn write_production(
+    out: &mut String,
+    index: usize,
+    production: &Production,
+) -> Result<(), AllocError> {
+    pen::number(out, "    production ", index)?;
     pen::span(out, production.prod_span)?;
-    out.push(':')?;
+    pen::text(out, ":")?;
     write_symbols(out, &production.symbols)?;
     write_text(out, ", precedence of ", &production.precedence)?;
     write_action(out, &production.action)?;
-    out.push('\n')
+    pen::end_line(out)
 }
 
 fn write_symbols(out: &mut String, symbols: &[Symbol]) -> Result<(), AllocError> {
@@ -237,12 +279,10 @@ fn write_action(out: &mut String, action: &Option<(String, Span)>) -> Result<(),
 
 /// Writes a symbol: its kind, its name and the name's place. The name is also what the symbol prints.
 fn write_symbol(out: &mut String, symbol: &Symbol) -> Result<(), AllocError> {
-    let (kind, name, span) = match symbol {
-        Symbol::Rule(name, span) => (" rule", name, *span),
-        Symbol::Token(name, span) => (" token", name, *span),
-    };
-    out.push_str(kind)?;
-    write_named(out, " ", name.as_str(), span)
+    match symbol {
+        Symbol::Rule(name, span) => write_named(out, " rule ", name.as_str(), *span),
+        Symbol::Token(name, span) => write_named(out, " token ", name.as_str(), *span),
+    }
 }
 
 /// Writes each token: its name, the name's place, and whether a `%token` declares it.
@@ -262,11 +302,7 @@ fn write_token(
 ) -> Result<(), AllocError> {
     pen::number(out, "    token ", index)?;
     write_named(out, " ", name, span)?;
-    if ast.token_directives().contains(&index) {
-        out.push_str(" declared")?;
-    }
-    if !ast.has_token(name) {
-        out.push_str(", not by its name")?;
-    }
-    out.push('\n')
+    pen::text_if(out, ast.token_directives().contains(&index), " declared")?;
+    pen::text_if(out, !ast.has_token(name), ", not by its name")?;
+    pen::end_line(out)
 }

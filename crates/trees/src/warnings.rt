@@ -9,19 +9,24 @@ use std::alloc::{AllocError, Global};
 /// Writes the warnings of a syntax, each by its kind and its spans.
 pub fn write_warnings(out: &mut String, alloc: Global, ast: &GrammarAST) -> Result<(), AllocError> {
     let warnings = ast.warnings(alloc)?;
-    out.push_str(if warnings.is_empty() {
-        "warnings: none"
-    } else {
-        "warnings:"
-    })?;
-    for (index, warning) in warnings.iter().enumerate() {
-        out.push_str(if index == 0 { " " } else { ", " })?;
-        write_warning(out, warning)?;
-    }
-    out.push('\n')
+    write_list(out, &warnings)
 }
 
-fn write_warning(out: &mut String, warning: &YaccGrammarWarning) -> Result<(), AllocError> {
+fn write_list(out: &mut String, warnings: &[YaccGrammarWarning]) -> Result<(), AllocError> {
+    pen::text(out, "warnings:")?;
+    pen::text_if(out, warnings.is_empty(), " none")?;
+    for (index, warning) in warnings.iter().enumerate() {
+        write_warning(out, index, warning)?;
+    }
+    pen::end_line(out)
+}
+
+fn write_warning(
+    out: &mut String,
+    index: usize,
+    warning: &YaccGrammarWarning,
+) -> Result<(), AllocError> {
+    pen::text(out, if index == 0 { " " } else { ", " })?;
     write!(out, "{:?}", warning.kind())?;
     for span in warning.spans() {
         pen::span(out, *span)?;

@@ -1,8 +1,10 @@
 //! Rows on what writes a syntax: another start, rules, productions and programs.
 
-use cfgbase::{Span, Spanned};
+use crate::warnings;
+use cfgbase::Span;
 use cfgsyntax::yacc::ast::{ASTWithValidityInfo, GrammarAST, Rule, StartFault};
 use cfgsyntax::yacc::{YaccKind, YaccOriginalActionKind};
+use rows::pen;
 use rows::row::{Row, number, words};
 use std::alloc::{AllocError, Global};
 
@@ -21,14 +23,44 @@ fn tell_read(
     parsed: &ASTWithValidityInfo,
 ) -> Result<(), AllocError> {
     write_start(out, alloc, parsed)?;
+    change_starts(out, alloc, row, parsed)?;
+    write_start(out, alloc, parsed)?;
+    tell_copy(out, alloc, row, parsed.ast())
+}
+
+fn change_starts(
+    out: &mut String,
+    alloc: Global,
+    row: &Row<'_>,
+    parsed: &ASTWithValidityInfo,
+) -> Result<(), AllocError> {
     for (word, rest) in &row.lines {
         if *word == "start" {
             change_start(out, alloc, parsed, *rest)?;
         }
     }
-    write_start(out, alloc, parsed)?;
-    let mut ast = parsed.ast().clone()?;
-    write_tree(out, alloc, row, &mut ast)
+    Ok(())
+}
+
+/// Makes the calls that write a tree on a copy of this one, and writes the copy.
+fn tell_copy(
+    out: &mut String,
+    alloc: Global,
+    row: &Row<'_>,
+    ast: &GrammarAST,
+) -> Result<(), AllocError> {
+    let mut copy = ast.clone()?;
+    tell_changed(out, alloc, row, &mut copy)
+}
+
+fn tell_changed(
+    out: &mut String,
+    alloc: Global,
+    row: &Row<'_>,
+    ast: &mut GrammarAST,
+) -> Result<(), AllocError> {
+    change_tree(alloc, row, ast)?;
+    write_tree(out, alloc, ast)
 }
 
 /// Writes what starts where the rule of this name is the start, or why it can't be.
@@ -38,11 +70,25 @@ fn change_start(
     parsed: &ASTWithValidityInfo,
     line: &str,
 ) -> Result<(), AllocError> {
-    let rule = rule_of(alloc, line)?;
-    match parsed.clone_and_change_start_rule(alloc, rule) {
+    match restarted(alloc, parsed, line) {
         Ok(changed) => write_start(out, alloc, &changed),
-        Err(StartFault::Modification(error)) => writeln!(out, "    {error}"),
-        Err(StartFault::OutOfMemory) => Err(AllocError),
+        Err(fault) => write_fault(out, &fault),
+    }
+}
+
+fn restarted(
+    alloc: Global,
+    parsed: &ASTWithValidityInfo,
+    line: &str,
+) -> Result<ASTWithValidityInfo, StartFault> {
+    let rule = rule_of(alloc, line)?;
+    parsed.clone_and_change_start_rule(alloc, rule)
+}
+
+fn write_fault(out: &mut String, fault: &StartFault) -> Result<(), AllocError> {
+    match fault {
+        StartFault::Modification(error) => writeln!(out, "    {error}"),
+        StartFault::OutOfMemory => Err(AllocError),
     }
 }
 
@@ -52,33 +98,23 @@ fn write_start(
     alloc: Global,
     parsed: &ASTWithValidityInfo,
 ) -> Result<(), AllocError> {
-    match parsed.ast().start() {
-        Some((name, span)) => {
-            let (start, end) = (span.start(), span.end());
-            write!(out, "    start {name:?} ({start},{end})")?;
-        }
-        None => out.push_str("    no start")?,
-    }
-    write!(out, ", {} errors", parsed.errors().len())?;
-    write_warnings(out, alloc, parsed.ast())
+    write_named(out, parsed.ast().start())?;
+    pen::number(out, ", ", parsed.errors().len())?;
+    pen::text(out, " errors, ")?;
+    warnings::write_warnings(out, alloc, parsed.ast())
 }
 
-/// Writes the warnings of a tree, each by its kind and its span.
-fn write_warnings(out: &mut String, alloc: Global, ast: &GrammarAST) -> Result<(), AllocError> {
-    let warnings = ast.warnings(alloc)?;
-    out.push_str(if warnings.is_empty() {
-        ", warnings: none"
-    } else {
-        ", warnings:"
-    })?;
-    for (index, warning) in warnings.iter().enumerate() {
-        out.push_str(if index == 0 { " " } else { ", " })?;
-        write!(out, "{:?}", warning.kind())?;
-        for span in warning.spans() {
-            write!(out, " ({},{})", span.start(), span.end())?;
-        }
+/// Writes the start's name and its place, where there is a start.
+fn write_named(out: &mut String, start: &Option<(String, Span)>) -> Result<(), AllocError> {
+    match start {
+        Some((name, span)) => write_placed(out, name.as_str(), *span),
+        None => pen::text(out, "    no start"),
     }
-    out.push('\n')
+}
+
+fn write_placed(out: &mut String, name: &str, span: Span) -> Result<(), AllocError> {
+    pen::name(out, "    start ", name)?;
+    pen::span(out, span)
 }
 
 /// The rule that a line tells, by its name and the two ends of its span.
@@ -95,29 +131,39 @@ fn rule_of(alloc: Global, line: &str) -> Result<Rule, AllocError> {
     })
 }
 
-/// Writes the tree after all calls that write it: its rules, how many productions there are, its programs and its
-/// warnings.
-fn write_tree(
-    out: &mut String,
-    alloc: Global,
-    row: &Row<'_>,
-    ast: &mut GrammarAST,
-) -> Result<(), AllocError> {
+/// Makes all calls of the row that write a tree.
+fn change_tree(alloc: Global, row: &Row<'_>, ast: &mut GrammarAST) -> Result<(), AllocError> {
     for (word, rest) in &row.lines {
-        match *word {
-            "rule" => {
-                let rule = rule_of(alloc, *rest)?;
-                ast.add_rule(rule.name, rule.actiont)?;
-            }
-            "production" => add_production(alloc, ast, *rest)?,
-            "programs" => ast.set_programs(String::from_str(alloc, *rest)?),
-            _ => {}
-        }
+        change(alloc, ast, *word, *rest)?;
     }
+    Ok(())
+}
+
+fn change(alloc: Global, ast: &mut GrammarAST, word: &str, line: &str) -> Result<(), AllocError> {
+    match word {
+        "rule" => add_rule(alloc, ast, line),
+        "production" => add_production(alloc, ast, line),
+        "programs" => set_programs(alloc, ast, line),
+        _ => Ok(()),
+    }
+}
+
+/// Writes a tree: its rules, how many productions there are, its programs and its warnings.
+fn write_tree(out: &mut String, alloc: Global, ast: &GrammarAST) -> Result<(), AllocError> {
     write_rules(out, ast)?;
-    let (productions, programs) = (ast.prods().len(), ast.programs());
-    write!(out, "    {productions} productions, programs {programs:?}")?;
-    write_warnings(out, alloc, ast)
+    pen::number(out, "    ", ast.prods().len())?;
+    write!(out, " productions, programs {:?}, ", ast.programs())?;
+    warnings::write_warnings(out, alloc, ast)
+}
+
+fn add_rule(alloc: Global, ast: &mut GrammarAST, line: &str) -> Result<(), AllocError> {
+    let rule = rule_of(alloc, line)?;
+    ast.add_rule(rule.name, rule.actiont)
+}
+
+fn set_programs(alloc: Global, ast: &mut GrammarAST, text: &str) -> Result<(), AllocError> {
+    ast.set_programs(String::from_str(alloc, text)?);
+    Ok(())
 }
 
 /// Adds an empty production to the rule of this name, where it is there.
@@ -132,9 +178,14 @@ fn add_production(alloc: Global, ast: &mut GrammarAST, name: &str) -> Result<(),
 /// Writes a line for each rule: its name, its place, and the productions that it lists.
 fn write_rules(out: &mut String, ast: &GrammarAST) -> Result<(), AllocError> {
     for (name, rule) in ast.rules() {
-        let span = rule.name.1;
-        let (start, end) = (span.start(), span.end());
-        writeln!(out, "    {name} ({start},{end}): {:?}", rule.pidxs)?;
+        write_rule(out, name.as_str(), rule)?;
     }
     Ok(())
+}
+
+fn write_rule(out: &mut String, name: &str, rule: &Rule) -> Result<(), AllocError> {
+    pen::text(out, "    ")?;
+    pen::text(out, name)?;
+    pen::span(out, rule.name.1)?;
+    writeln!(out, ": {:?}", rule.pidxs)
 }
