@@ -1,7 +1,7 @@
 //! What the keys of a section have.
 
 use cfgbase::{Location, Span};
-use cfgheader::{HeaderValue, KindFault, Namespaced, Setting, Value, YaccKind};
+use cfgheader::{HeaderError, HeaderValue, KindFault, Namespaced, Setting, Value, YaccKind};
 use rows::pen;
 use std::alloc::{AllocError, Global};
 
@@ -34,44 +34,67 @@ pub(crate) fn held_text<T: Place>(
 ) -> Result<String, AllocError> {
     let mut out = String::new(alloc);
     held.0.write(&mut out)?;
-    let told = value_text(alloc, &held.1)?;
-    write!(out, ": {told}")?;
+    pen::text(&mut out, ": ")?;
+    write_value(&mut out, alloc, &held.1)?;
     Ok(out)
 }
 
 /// What a key has, and the kind that it names, or why it names none.
 pub(crate) fn value_text<T: Place>(alloc: Global, value: &Value<T>) -> Result<String, AllocError> {
     let mut out = String::new(alloc);
-    match value {
-        Value::Flag(on, place) => {
-            pen::flag(&mut out, "", *on)?;
-            place.write(&mut out)?;
-        }
-        Value::Setting(setting) => write_setting(&mut out, setting)?,
-    }
-    match YaccKind::try_from_value(alloc, value) {
-        Ok(kind) => write!(out, "; kind {kind:?}")?,
-        Err(KindFault::Error(error)) => {
-            write!(out, "; {:?}", error.kind)?;
-            for place in &error.locations {
-                place.write(&mut out)?;
-            }
-        }
-        Err(KindFault::OutOfMemory) => return Err(AllocError),
-    }
+    write_value(&mut out, alloc, value)?;
     Ok(out)
+}
+
+fn write_value<T: Place>(
+    out: &mut String,
+    alloc: Global,
+    value: &Value<T>,
+) -> Result<(), AllocError> {
+    match value {
+        Value::Flag(on, place) => write_flag(out, *on, place)?,
+        Value::Setting(setting) => write_setting(out, setting)?,
+    }
+    write_kind(out, alloc, value)
+}
+
+fn write_flag<T: Place>(out: &mut String, on: bool, place: &T) -> Result<(), AllocError> {
+    pen::flag(out, "", on)?;
+    place.write(out)
+}
+
+/// Writes the kind that a value names, or why it names none.
+fn write_kind<T: Place>(
+    out: &mut String,
+    alloc: Global,
+    value: &Value<T>,
+) -> Result<(), AllocError> {
+    match YaccKind::try_from_value(alloc, value) {
+        Ok(kind) => write!(out, "; kind {kind:?}"),
+        Err(fault) => write_fault(out, &fault),
+    }
+}
+
+fn write_fault<T: Place>(out: &mut String, fault: &KindFault<T>) -> Result<(), AllocError> {
+    match fault {
+        KindFault::Error(error) => write_refused(out, error),
+        KindFault::OutOfMemory => Err(AllocError),
+    }
+}
+
+fn write_refused<T: Place>(out: &mut String, error: &HeaderError<T>) -> Result<(), AllocError> {
+    write!(out, "; {:?}", error.kind)?;
+    for place in &error.locations {
+        place.write(out)?;
+    }
+    Ok(())
 }
 
 #[cycle(write_setting)]
 fn write_setting<T: Place>(out: &mut String, setting: &Setting<T>) -> Result<(), AllocError> {
     match setting {
         Setting::Unitary(name) => write_namespaced(out, name),
-        Setting::Constructor { ctor, arg } => {
-            write_namespaced(out, ctor)?;
-            out.push('(')?;
-            write_namespaced(out, arg)?;
-            out.push(')')
-        }
+        Setting::Constructor { ctor, arg } => write_constructor(out, ctor, arg),
         Setting::Num(number, place) => {
             write!(out, "{number}")?;
             place.write(out)
@@ -82,8 +105,7 @@ fn write_setting<T: Place>(out: &mut String, setting: &Setting<T>) -> Result<(),
         }
         Setting::Array(settings, opens, closes) => {
             write_settings(out, settings)?;
-            opens.write(out)?;
-            closes.write(out)
+            write_places(out, opens, closes)
         }
     }
 }
@@ -93,21 +115,40 @@ fn write_settings<T: Place>(
     out: &mut String,
     settings: &Vec<Setting<T>>,
 ) -> Result<(), AllocError> {
-    out.push('[')?;
+    pen::text(out, "[")?;
     for (index, setting) in settings.iter().enumerate() {
-        out.push_str(if index == 0 { "" } else { ", " })?;
+        pen::text_if(out, index > 0, ", ")?;
         write_setting(out, setting)?;
     }
-    out.push(']')
+    pen::text(out, "]")
+}
+
+fn write_places<T: Place>(out: &mut String, first: &T, second: &T) -> Result<(), AllocError> {
+    first.write(out)?;
+    second.write(out)
+}
+
+fn write_constructor<T: Place>(
+    out: &mut String,
+    ctor: &Namespaced<T>,
+    arg: &Namespaced<T>,
+) -> Result<(), AllocError> {
+    write_namespaced(out, ctor)?;
+    pen::text(out, "(")?;
+    write_namespaced(out, arg)?;
+    pen::text(out, ")")
 }
 
 /// Writes a name with its place, and before it its namespace where one is given.
 fn write_namespaced<T: Place>(out: &mut String, name: &Namespaced<T>) -> Result<(), AllocError> {
     if let Some((namespace, place)) = &name.namespace {
-        out.push_str(namespace.as_str())?;
-        place.write(out)?;
-        out.push_str("::")?;
+        write_placed(out, namespace.as_str(), place)?;
+        pen::text(out, "::")?;
     }
-    out.push_str(name.member.0.as_str())?;
-    name.member.1.write(out)
+    write_placed(out, name.member.0.as_str(), &name.member.1)
+}
+
+fn write_placed<T: Place>(out: &mut String, word: &str, place: &T) -> Result<(), AllocError> {
+    pen::text(out, word)?;
+    place.write(out)
 }

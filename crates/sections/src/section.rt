@@ -1,9 +1,11 @@
 //! Rows on sections by themselves.
 
+ghost use Rattle.std.specs.Str.{IsCharBoundary};
+
 use crate::held::{held_text, value_text};
-use cfgbase::{Span, Spanned};
+use cfgbase::{Location, Span, Spanned};
 use cfgheader::{
-    GrmtoolsSectionParser, Header, HeaderError, HeaderFault, Value, YaccKind,
+    GrmtoolsSectionParser, Header, HeaderError, HeaderFault, HeaderValue, Value, YaccKind,
     YaccOriginalActionKind,
 };
 use rows::row::Row;
@@ -13,124 +15,202 @@ use std::alloc::{AllocError, Global};
 /// Writes what is answered of the section at a text's front, of that of each of its beginnings, or of an entry at each
 /// of its places; or the values of all kinds.
 pub fn tell(out: &mut String, alloc: Global, row: &Row<'_>, text: &str) -> Result<(), AllocError> {
-    writeln!(out, "text of {} bytes", text.len())?;
+    pen::number(out, "text of ", text.len())?;
+    pen::text(out, " bytes\n")?;
     text::write_text(out, text)?;
     match row.first("show") {
         Some("cuts") => write_cuts(out, alloc, text),
         Some("entries") => write_entries(out, alloc, text),
         Some("kinds") => write_kinds(out, alloc),
-        _ => {
-            out.push_str("section")?;
-            write_section(out, alloc, text)
-        }
+        _ => write_whole(out, alloc, text),
     }
+}
+
+fn write_whole(out: &mut String, alloc: Global, text: &str) -> Result<(), AllocError> {
+    pen::text(out, "section")?;
+    write_section(out, alloc, text)
 }
 
 /// Writes what is answered of each beginning of the text that ends where a character begins or the text ends.
 fn write_cuts(out: &mut String, alloc: Global, text: &str) -> Result<(), AllocError> {
     for len in 0..=text.len() {
         if let Some(cut) = text.get(..len) {
-            pen::number(out, "cut ", len)?;
-            write_section(out, alloc, cut)?;
+            write_cut(out, alloc, cut)?;
         }
     }
     Ok(())
+}
+
+fn write_cut(out: &mut String, alloc: Global, cut: &str) -> Result<(), AllocError> {
+    pen::number(out, "cut ", cut.len())?;
+    write_section(out, alloc, cut)
 }
 
 /// Writes what is answered where a section must stand and where none need, once where it is the same.
 fn write_section(out: &mut String, alloc: Global, text: &str) -> Result<(), AllocError> {
     let required = section_text(alloc, text, true)?;
     let optional = section_text(alloc, text, false)?;
+    write_both(out, required.as_str(), optional.as_str())
+}
+
+fn write_both(out: &mut String, required: &str, optional: &str) -> Result<(), AllocError> {
     if required == optional {
-        return write!(out, ":{required}");
+        pen::text(out, ":")?;
+        return pen::text(out, required);
     }
-    write!(out, ", required:{required}    not required:{optional}")
+    pen::text(out, ", required:")?;
+    pen::text(out, required)?;
+    pen::text(out, "    not required:")?;
+    pen::text(out, optional)
 }
 
 /// What is answered of a section: where it ends, and a line for each key; or its errors.
 fn section_text(alloc: Global, text: &str, required: bool) -> Result<String, AllocError> {
     let mut out = String::new(alloc);
-    match GrmtoolsSectionParser::new(text, required).parse(alloc) {
-        Ok((header, end)) => {
-            writeln!(out, " ends at {end}")?;
-            write_header(&mut out, alloc, &header)?;
-        }
-        Err(HeaderFault::Errors(errors)) => write_errors(&mut out, &errors)?,
-        Err(HeaderFault::OutOfMemory) => return Err(AllocError),
-    }
+    parse_section(&mut out, alloc, text, required)?;
     Ok(out)
 }
 
-/// Writes a line for each key: its place and what it has. With locations in place of spans it is the same.
-fn write_header(out: &mut String, alloc: Global, header: &Header<Span>) -> Result<(), AllocError> {
+fn parse_section(
+    out: &mut String,
+    alloc: Global,
+    text: &str,
+    required: bool,
+) -> Result<(), AllocError> {
+    match GrmtoolsSectionParser::new(text, required).parse(alloc) {
+        Ok(parsed) => write_parsed(out, alloc, &parsed),
+        Err(fault) => write_fault(out, &fault),
+    }
+}
+
+fn write_fault(out: &mut String, fault: &HeaderFault) -> Result<(), AllocError> {
+    match fault {
+        HeaderFault::Errors(errors) => write_errors(out, errors),
+        HeaderFault::OutOfMemory => Err(AllocError),
+    }
+}
+
+/// Writes where a section ends, and a line for each key: its place and what it has.
+fn write_parsed(
+    out: &mut String,
+    alloc: Global,
+    (header, end): &(Header<Span>, usize),
+) -> Result<(), AllocError> {
+    pen::number(out, " ends at ", *end)?;
+    pen::end_line(out)?;
     for (key, held) in header {
-        let told = held_text(alloc, held)?;
-        writeln!(out, "    {:?}{told}", key.as_str())?;
-        if held_text(alloc, &held.to_location(alloc)?)? != told {
-            out.push_str("    and with other locations\n")?;
-        }
+        write_held(out, alloc, key.as_str(), held)?;
     }
     Ok(())
+}
+
+/// Writes a key, its place and what it has. With locations in place of spans it is the same.
+fn write_held(
+    out: &mut String,
+    alloc: Global,
+    key: &str,
+    held: &HeaderValue<Span>,
+) -> Result<(), AllocError> {
+    let told = held_text(alloc, held)?;
+    let located = located_text(alloc, held)?;
+    write_told(out, key, told.as_str(), told == located)
+}
+
+fn located_text(alloc: Global, held: &HeaderValue<Span>) -> Result<String, AllocError> {
+    let located = held.to_location(alloc)?;
+    held_text(alloc, &located)
+}
+
+fn write_told(out: &mut String, key: &str, told: &str, is_same: bool) -> Result<(), AllocError> {
+    pen::name(out, "    ", key)?;
+    pen::text(out, told)?;
+    pen::end_line(out)?;
+    pen::text_if(out, !is_same, "    and with other locations\n")
 }
 
 /// Writes what is answered of an entry at each place where a character begins or the text ends.
 fn write_entries(out: &mut String, alloc: Global, text: &str) -> Result<(), AllocError> {
-    let parser = GrmtoolsSectionParser::new(text, true);
     for place in 0..=text.len() {
-        if !text.is_char_boundary(place) {
-            continue;
-        }
-        pen::number(out, "entry at ", place)?;
-        out.push(':')?;
-        match parser.parse_key_value(alloc, place) {
-            Ok((key, span, value, end)) => {
-                write_entry(out, alloc, key.as_str(), span, &value)?;
-                writeln!(out, ", then {end}")?;
-            }
-            Err(HeaderFault::Errors(errors)) => write_errors(out, &errors)?,
-            Err(HeaderFault::OutOfMemory) => return Err(AllocError),
+        if text.is_char_boundary(place) {
+            parse_entry(out, alloc, text, place)?;
         }
     }
     Ok(())
+}
+
+fn parse_entry(out: &mut String, alloc: Global, text: &str, place: usize) -> Result<(), AllocError>
+    requires { IsCharBoundary text.now place }
+{
+    pen::number(out, "entry at ", place)?;
+    pen::text(out, ":")?;
+    match GrmtoolsSectionParser::new(text, true).parse_key_value(alloc, place) {
+        Ok(entry) => write_entry(out, alloc, &entry),
+        Err(fault) => write_fault(out, &fault),
+    }
 }
 
 /// Writes a line for each error: its kind, its spans, what they stand for, and its text.
 fn write_errors(out: &mut String, errors: &[HeaderError<Span>]) -> Result<(), AllocError> {
     for (index, error) in errors.iter().enumerate() {
-        out.push_str(if index == 0 { " " } else { "    " })?;
-        write!(out, "{:?}", error.kind)?;
-        for span in error.spans() {
-            pen::span(out, *span)?;
-        }
-        writeln!(out, " {:?}: {error}", error.spanskind())?;
-        let copy = error.clone()?;
-        if copy.kind != error.kind || copy.spans() != error.spans() {
-            out.push_str("    and a copy that isn't the same\n")?;
-        }
+        pen::text(out, if index == 0 { " " } else { "    " })?;
+        write_error(out, error)?;
     }
     Ok(())
 }
 
-/// Writes a key with its place, and what it has. With locations in place of spans it is the same.
+fn write_error(out: &mut String, error: &HeaderError<Span>) -> Result<(), AllocError> {
+    write!(out, "{:?}", error.kind)?;
+    write_spans(out, error.spans())?;
+    writeln!(out, " {:?}: {error}", error.spanskind())?;
+    let is_same = is_its_copy(error)?;
+    pen::text_if(out, !is_same, "    and a copy that isn't the same\n")
+}
+
+fn write_spans(out: &mut String, spans: &[Span]) -> Result<(), AllocError> {
+    for span in spans {
+        pen::span(out, *span)?;
+    }
+    Ok(())
+}
+
+/// Whether a copy of an error has its kind and its spans.
+fn is_its_copy(error: &HeaderError<Span>) -> Result<bool, AllocError> {
+    let copy = error.clone()?;
+    Ok(copy.kind == error.kind && copy.spans() == error.spans())
+}
+
+/// Writes a key with its place, what it has, and where it ends. With locations in place of spans it is the same.
 fn write_entry(
     out: &mut String,
     alloc: Global,
-    key: &str,
-    span: Span,
-    value: &Value<Span>,
+    (key, span, value, end): &(String, Span, Value<Span>, usize),
 ) -> Result<(), AllocError> {
-    pen::name(out, " ", key)?;
-    pen::span(out, span)?;
+    pen::name(out, " ", key.as_str())?;
+    pen::span(out, *span)?;
+    write_value(out, alloc, value)?;
+    pen::number(out, ", then ", *end)?;
+    pen::end_line(out)
+}
+
+fn write_value(out: &mut String, alloc: Global, value: &Value<Span>) -> Result<(), AllocError> {
     let told = value_text(alloc, value)?;
-    write!(out, ": {told}")?;
-    let located = match value {
+    let located = located_value_text(alloc, value)?;
+    pen::text(out, ": ")?;
+    pen::text(out, told.as_str())?;
+    pen::text_if(out, located != told, " and with other locations")
+}
+
+fn located_value_text(alloc: Global, value: &Value<Span>) -> Result<String, AllocError> {
+    let located = located(alloc, value)?;
+    value_text(alloc, &located)
+}
+
+/// A value with locations in place of spans.
+fn located(alloc: Global, value: &Value<Span>) -> Result<Value<Location>, AllocError> {
+    Ok(match value {
         Value::Setting(setting) => Value::Setting(setting.to_location(alloc)?),
         Value::Flag(..) => value.to_location(alloc)?,
-    };
-    if value_text(alloc, &located)? != told {
-        out.push_str(" and with other locations")?;
-    }
-    Ok(())
+    })
 }
 
 /// Writes the value of each kind.
@@ -142,9 +222,18 @@ fn write_kinds(out: &mut String, alloc: Global) -> Result<(), AllocError> {
         YaccKind::Grmtools,
         YaccKind::Eco,
     ] {
-        let value = Value::try_from_kind(alloc, kind)?;
-        let told = value_text(alloc, &value)?;
-        writeln!(out, "{kind:?}: {told}")?;
+        write_kind(out, alloc, kind)?;
     }
     Ok(())
+}
+
+fn write_kind(out: &mut String, alloc: Global, kind: YaccKind) -> Result<(), AllocError> {
+    let told = kind_text(alloc, kind)?;
+    write!(out, "{kind:?}")?;
+    pen::line(out, ": ", told.as_str())
+}
+
+fn kind_text(alloc: Global, kind: YaccKind) -> Result<String, AllocError> {
+    let value = Value::try_from_kind(alloc, kind)?;
+    value_text(alloc, &value)
 }
