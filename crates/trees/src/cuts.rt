@@ -1,6 +1,7 @@
 //! Each beginning of a text.
 
 use crate::errors::{write_kind, write_spans};
+use crate::made::{Writer, write_made};
 use crate::read::parse;
 use cfgbase::Span;
 use cfgsyntax::yacc::ast::{ASTWithValidityInfo, GrammarAST};
@@ -33,33 +34,24 @@ fn write_cut(
 ) -> Result<(), AllocError> {
     pen::number(out, "    ", text.len())?;
     pen::text(out, ":")?;
-    parse_cut(out, alloc, kind, text)
+    write_made(out, &Cut, parse(alloc, kind, text))
 }
 
-fn parse_cut(
-    out: &mut String,
-    alloc: Global,
-    kind: Option<YaccKind>,
-    text: &str,
-) -> Result<(), AllocError> {
-    match parse(alloc, kind, text) {
-        Ok(parsed) => write_parsed(out, &parsed),
-        Err(fault) => write_fault(out, &fault),
+/// Writes what was parsed of a cut.
+struct Cut;
+
+impl Writer<ASTWithValidityInfo, YaccFault> for Cut {
+    fn write(&self, out: &mut String, parsed: &mut ASTWithValidityInfo) -> Result<(), AllocError> {
+        write_errors(out, parsed.errors())?;
+        write_read(out, parsed.ast())
     }
-}
 
-/// Writes why a text names no kind.
-fn write_fault(out: &mut String, fault: &YaccFault) -> Result<(), AllocError> {
-    match fault {
-        YaccFault::Errors(errors) => write_refused(out, errors),
-        YaccFault::OutOfMemory => Err(AllocError),
+    fn refuse(&self, out: &mut String, fault: &YaccFault) -> Result<(), AllocError> {
+        match fault {
+            YaccFault::Errors(errors) => write_refused(out, errors),
+            YaccFault::OutOfMemory => Err(AllocError),
+        }
     }
-}
-
-/// Writes the errors of what was parsed, and how much was read.
-fn write_parsed(out: &mut String, parsed: &ASTWithValidityInfo) -> Result<(), AllocError> {
-    write_errors(out, parsed.errors())?;
-    write_read(out, parsed.ast())
 }
 
 /// Writes the errors that keep a text from naming a kind.

@@ -5,6 +5,7 @@
 pub mod cuts;
 pub mod errors;
 pub mod kinds;
+mod made;
 pub mod read;
 pub mod said;
 pub mod syntax;

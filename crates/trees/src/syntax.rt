@@ -1,5 +1,6 @@
 //! The syntax of a text, by what its readers answer.
 
+use crate::made::{Writer, write_made};
 use crate::said::{write_precedence, write_settings};
 use cfgast::Precedence;
 use cfgbase::Span;
@@ -31,8 +32,22 @@ fn write_shown(out: &mut String, shown: &str, of_copy: &str) -> Result<(), Alloc
 }
 
 fn copy_text(alloc: Global, ast: &GrammarAST) -> Result<String, AllocError> {
-    let copy = ast.clone()?;
-    syntax_text(alloc, &copy)
+    let mut out = String::new(alloc);
+    write_made(&mut out, &Whole, ast.clone())?;
+    Ok(out)
+}
+
+/// Writes all that a tree holds.
+struct Whole;
+
+impl Writer<GrammarAST, AllocError> for Whole {
+    fn write(&self, out: &mut String, ast: &mut GrammarAST) -> Result<(), AllocError> {
+        write_parts(out, ast)
+    }
+
+    fn refuse(&self, _: &mut String, _: &AllocError) -> Result<(), AllocError> {
+        Err(AllocError)
+    }
 }
 
 /// Writes how much there is in a syntax.

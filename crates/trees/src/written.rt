@@ -1,5 +1,6 @@
 //! Rows on what writes a syntax: another start, rules, productions and programs.
 
+use crate::made::{Writer, write_made};
 use crate::warnings;
 use cfgbase::Span;
 use cfgsyntax::yacc::ast::{ASTWithValidityInfo, GrammarAST, Rule, StartFault};
@@ -12,8 +13,36 @@ use std::alloc::{AllocError, Global};
 /// and then the others, one after another on a copy of the tree.
 pub fn tell(out: &mut String, alloc: Global, row: &Row<'_>, text: &str) -> Result<(), AllocError> {
     let kind = YaccKind::Original(YaccOriginalActionKind::GenericParseTree);
-    let parsed = ASTWithValidityInfo::new(alloc, kind, text)?;
-    tell_read(out, alloc, row, &parsed)
+    let script = Script { alloc, row };
+    write_made(out, &script, ASTWithValidityInfo::new(alloc, kind, text))
+}
+
+/// The calls of a row.
+#[derive(Drop)]
+struct Script<'a> {
+    alloc: Global,
+    row: &'a Row<'a>,
+}
+
+impl Writer<ASTWithValidityInfo, AllocError> for Script<'_> {
+    fn write(&self, out: &mut String, parsed: &mut ASTWithValidityInfo) -> Result<(), AllocError> {
+        tell_read(out, self.alloc, self.row, parsed)
+    }
+
+    fn refuse(&self, _: &mut String, _: &AllocError) -> Result<(), AllocError> {
+        Err(AllocError)
+    }
+}
+
+impl Writer<GrammarAST, AllocError> for Script<'_> {
+    fn write(&self, out: &mut String, ast: &mut GrammarAST) -> Result<(), AllocError> {
+        change_tree(self.alloc, self.row, ast)?;
+        write_tree(out, self.alloc, ast)
+    }
+
+    fn refuse(&self, _: &mut String, _: &AllocError) -> Result<(), AllocError> {
+        Err(AllocError)
+    }
 }
 
 fn tell_read(
@@ -25,7 +54,7 @@ fn tell_read(
     write_start(out, alloc, parsed)?;
     change_starts(out, alloc, row, parsed)?;
     write_start(out, alloc, parsed)?;
-    tell_copy(out, alloc, row, parsed.ast())
+    write_made(out, &Script { alloc, row }, parsed.ast().clone())
 }
 
 fn change_starts(
@@ -42,27 +71,6 @@ fn change_starts(
     Ok(())
 }
 
-/// Makes the calls that write a tree on a copy of this one, and writes the copy.
-fn tell_copy(
-    out: &mut String,
-    alloc: Global,
-    row: &Row<'_>,
-    ast: &GrammarAST,
-) -> Result<(), AllocError> {
-    let mut copy = ast.clone()?;
-    tell_changed(out, alloc, row, &mut copy)
-}
-
-fn tell_changed(
-    out: &mut String,
-    alloc: Global,
-    row: &Row<'_>,
-    ast: &mut GrammarAST,
-) -> Result<(), AllocError> {
-    change_tree(alloc, row, ast)?;
-    write_tree(out, alloc, ast)
-}
-
 /// Writes what starts where the rule of this name is the start, or why it can't be.
 fn change_start(
     out: &mut String,
@@ -70,9 +78,25 @@ fn change_start(
     parsed: &ASTWithValidityInfo,
     line: &str,
 ) -> Result<(), AllocError> {
-    match restarted(alloc, parsed, line) {
-        Ok(changed) => write_start(out, alloc, &changed),
-        Err(fault) => write_fault(out, &fault),
+    write_made(out, &Start { alloc }, restarted(alloc, parsed, line))
+}
+
+/// Writes what starts in a tree that has another start.
+#[derive(Drop)]
+struct Start {
+    alloc: Global,
+}
+
+impl Writer<ASTWithValidityInfo, StartFault> for Start {
+    fn write(&self, out: &mut String, changed: &mut ASTWithValidityInfo) -> Result<(), AllocError> {
+        write_start(out, self.alloc, changed)
+    }
+
+    fn refuse(&self, out: &mut String, fault: &StartFault) -> Result<(), AllocError> {
+        match fault {
+            StartFault::Modification(error) => writeln!(out, "    {error}"),
+            StartFault::OutOfMemory => Err(AllocError),
+        }
     }
 }
 
@@ -83,13 +107,6 @@ fn restarted(
 ) -> Result<ASTWithValidityInfo, StartFault> {
     let rule = rule_of(alloc, line)?;
     parsed.clone_and_change_start_rule(alloc, rule)
-}
-
-fn write_fault(out: &mut String, fault: &StartFault) -> Result<(), AllocError> {
-    match fault {
-        StartFault::Modification(error) => writeln!(out, "    {error}"),
-        StartFault::OutOfMemory => Err(AllocError),
-    }
 }
 
 /// Writes the start, the number of errors, and the warnings.
