@@ -3,27 +3,17 @@
 
 ghost use Rattle.std.specs.Prelude.{◌<◌, length};
 
-use crate::grammar::grammar_of;
-use cfgrammar::yacc::{Precedence, YaccGrammar, YaccKind};
-use cfgrammar::{PIdx, RIdx, TIdx};
-use rows::pen;
-use std::alloc::{AllocError, Global};
+use crate::pen;
+use cfgrammar::yacc::{Precedence, YaccGrammar};
+use cfgrammar::{PIdx, RIdx, Span, TIdx};
+use std::alloc::AllocError;
 use trees::said::write_precedence;
 
-/// Writes a line for each rule, production and token of a text's grammar, and one for the whole, where it has one.
+/// Writes a line for each rule, production and token of a grammar, and one for the whole.
 pub(crate) fn write_accessors(
     out: &mut String,
-    alloc: Global,
-    kind: Option<YaccKind>,
-    text: &str,
+    grammar: &YaccGrammar<u32>,
 ) -> Result<(), AllocError> {
-    let Some(grammar) = grammar_of(alloc, kind, text)? else {
-        return Ok(());
-    };
-    write_all(out, &grammar)
-}
-
-fn write_all(out: &mut String, grammar: &YaccGrammar<u32>) -> Result<(), AllocError> {
     write_rules(out, grammar)?;
     write_productions(out, grammar)?;
     write_tokens(out, grammar)?;
@@ -45,11 +35,11 @@ fn write_rule(
 ) -> Result<(), AllocError>
     requires { ridx.0 < length grammar.now.rules }
 {
-    pen::number(out, "    rule ", usize::from(ridx))?;
+    pen::rule(out, "    rule ", ridx)?;
     pen::name(out, ": rule_name ", grammar.rule_name(ridx))?;
     pen::name(out, ", rule_name_str ", grammar.rule_name_str(ridx))?;
     write_text(out, ", actiontype ", grammar.actiontype(ridx))?;
-    out.push('\n')
+    pen::end_line(out)
 }
 
 fn write_productions(out: &mut String, grammar: &YaccGrammar<u32>) -> Result<(), AllocError> {
@@ -67,15 +57,19 @@ fn write_production(
 ) -> Result<(), AllocError>
     requires { pidx.0 < length grammar.now.productions }
 {
-    pen::number(out, "    production ", usize::from(pidx))?;
+    pen::production(out, "    production ", pidx)?;
     write_text(out, ": action ", grammar.action(pidx))?;
-    out.push_str(", action_span")?;
-    match grammar.action_span(pidx) {
-        Some(span) => pen::span(out, span)?,
-        None => out.push_str(" none")?,
-    }
+    write_action_span(out, grammar.action_span(pidx))?;
     write_level(out, ", prod_precedence ", grammar.prod_precedence(pidx))?;
-    out.push('\n')
+    pen::end_line(out)
+}
+
+fn write_action_span(out: &mut String, answered: Option<Span>) -> Result<(), AllocError> {
+    pen::text(out, ", action_span")?;
+    match answered {
+        Some(span) => pen::span(out, span),
+        None => pen::text(out, " none"),
+    }
 }
 
 fn write_tokens(out: &mut String, grammar: &YaccGrammar<u32>) -> Result<(), AllocError> {
@@ -93,42 +87,48 @@ fn write_token(
 ) -> Result<(), AllocError>
     requires { tidx.0 < length grammar.now.tokens }
 {
-    pen::number(out, "    token ", usize::from(tidx))?;
-    match grammar.token_epp(tidx) {
-        Some(printed) => pen::name(out, ": token_epp ", printed)?,
-        None => out.push_str(": token_epp none")?,
-    }
+    pen::token(out, "    token ", tidx)?;
+    write_epp(out, grammar.token_epp(tidx))?;
     write_level(out, ", token_precedence ", grammar.token_precedence(tidx))?;
     pen::flag(out, ", avoid_insert ", grammar.avoid_insert(tidx))?;
-    out.push('\n')
+    pen::end_line(out)
+}
+
+fn write_epp(out: &mut String, answered: Option<&str>) -> Result<(), AllocError> {
+    match answered {
+        Some(printed) => pen::name(out, ": token_epp ", printed),
+        None => pen::text(out, ": token_epp none"),
+    }
 }
 
 /// Writes what is said of the grammar as a whole.
 fn write_whole(out: &mut String, grammar: &YaccGrammar<u32>) -> Result<(), AllocError> {
-    write_implicit_rule(out, grammar)?;
+    write_implicit_rule(out, grammar.implicit_rule())?;
     write_number(out, ", expect ", grammar.expect())?;
     write_number(out, ", expectrr ", grammar.expectrr())?;
     write_param(out, grammar.parse_param())?;
     write_text(out, ", parse_generics ", grammar.parse_generics())?;
     write_text(out, ", programs ", grammar.programs())?;
-    out.push('\n')
+    pen::end_line(out)
 }
 
-fn write_implicit_rule(out: &mut String, grammar: &YaccGrammar<u32>) -> Result<(), AllocError> {
-    match grammar.implicit_rule() {
-        Some(ridx) => pen::number(out, "    implicit_rule ", usize::from(ridx)),
-        None => out.push_str("    implicit_rule none"),
+fn write_implicit_rule(out: &mut String, answered: Option<RIdx<u32>>) -> Result<(), AllocError> {
+    match answered {
+        Some(ridx) => pen::rule(out, "    implicit_rule ", ridx),
+        None => pen::text(out, "    implicit_rule none"),
     }
 }
 
 fn write_param(out: &mut String, param: &Option<(String, String)>) -> Result<(), AllocError> {
     match param {
-        Some((name, param_type)) => {
-            pen::name(out, ", parse_param ", name.as_str())?;
-            pen::name(out, " ", param_type.as_str())
-        }
-        None => out.push_str(", parse_param none"),
+        Some((name, param_type)) => write_named(out, name.as_str(), param_type.as_str()),
+        None => pen::text(out, ", parse_param none"),
     }
+}
+
+fn write_named(out: &mut String, name: &str, param_type: &str) -> Result<(), AllocError> {
+    pen::name(out, ", parse_param ", name)?;
+    pen::name(out, " ", param_type)
 }
 
 /// Writes a precedence that may be there.
@@ -139,10 +139,7 @@ fn write_level(
 ) -> Result<(), AllocError> {
     match answered {
         Some(precedence) => write_precedence(out, before, precedence),
-        None => {
-            out.push_str(before)?;
-            out.push_str("none")
-        }
+        None => write_none(out, before),
     }
 }
 
@@ -150,10 +147,7 @@ fn write_level(
 fn write_number(out: &mut String, before: &str, answered: Option<usize>) -> Result<(), AllocError> {
     match answered {
         Some(answered) => pen::number(out, before, answered),
-        None => {
-            out.push_str(before)?;
-            out.push_str("none")
-        }
+        None => write_none(out, before),
     }
 }
 
@@ -161,9 +155,11 @@ fn write_number(out: &mut String, before: &str, answered: Option<usize>) -> Resu
 fn write_text(out: &mut String, before: &str, answered: &Option<String>) -> Result<(), AllocError> {
     match answered {
         Some(answered) => pen::name(out, before, answered.as_str()),
-        None => {
-            out.push_str(before)?;
-            out.push_str("none")
-        }
+        None => write_none(out, before),
     }
+}
+
+fn write_none(out: &mut String, before: &str) -> Result<(), AllocError> {
+    pen::text(out, before)?;
+    pen::text(out, "none")
 }

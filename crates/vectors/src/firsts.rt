@@ -2,10 +2,10 @@
 
 ghost use Rattle.std.specs.Prelude.{◌≡◌, ◌<◌, length};
 
+use crate::pen;
 use cfgrammar::yacc::YaccGrammar;
 use cfgrammar::yacc::firsts::YaccFirsts;
 use cfgrammar::{RIdx, Storage, TIdx};
-use rows::pen;
 use std::alloc::{AllocError, Global};
 
 /// Writes the FIRST sets of a grammar.
@@ -25,10 +25,18 @@ pub(crate) fn write_lengths<S: Storage>(
     grammar: &YaccGrammar<S>,
 ) -> Result<(), AllocError> {
     let firsts = grammar.firsts(alloc)?;
+    write_counts(out, grammar, &firsts)
+}
+
+fn write_counts<S: Storage>(
+    out: &mut String,
+    grammar: &YaccGrammar<S>,
+    firsts: &YaccFirsts<S>,
+) -> Result<(), AllocError> {
     let mut tokens = 0u64;
     let mut empty = 0u64;
     for ridx in grammar.iter_rules() {
-        tokens = tokens.saturating_add(tokens_in(grammar, &firsts, ridx));
+        tokens = tokens.saturating_add(tokens_in(grammar, firsts, ridx));
         empty = empty.saturating_add(u64::from(firsts.is_epsilon_set(ridx)));
     }
     writeln!(out, "    firsts of {tokens} tokens, {empty} rules empty")
@@ -66,23 +74,40 @@ fn write_rule<S: Storage>(
 ) -> Result<(), AllocError>
     requires { S.number ridx.0 < length firsts.now.firsts.rows }
 {
-    pen::number(out, "    first of ", usize::from(ridx))?;
-    out.push(':')?;
+    pen::rule(out, "    first of ", ridx)?;
+    pen::text(out, ":")?;
+    write_tokens(out, grammar, firsts, ridx)?;
+    pen::text_if(out, firsts.is_epsilon_set(ridx), " empty")?;
+    pen::end_line(out)
+}
+
+fn write_tokens<S: Storage>(
+    out: &mut String,
+    grammar: &YaccGrammar<S>,
+    firsts: &YaccFirsts<S>,
+    ridx: RIdx<S>,
+) -> Result<(), AllocError>
+    requires { S.number ridx.0 < length firsts.now.firsts.rows }
+{
     let tokens = firsts.firsts(ridx);
     for tidx in grammar.iter_tidxs() {
-        let begins = firsts.is_set(ridx, tidx);
-        if begins {
-            pen::number(out, " ", usize::from(tidx))?;
-        }
-        if tokens.get(usize::from(tidx)) != Some(begins) {
-            out.push_str(" differs")?;
-        }
+        let listed = tokens.get(usize::from(tidx));
+        write_bit(out, tidx, firsts.is_set(ridx, tidx), listed)?;
     }
-    out.push_str(if firsts.is_epsilon_set(ridx) {
-        " empty\n"
-    } else {
-        "\n"
-    })
+    Ok(())
+}
+
+/// Writes a token's index where the token is in a set, and whether the two accessors of that differ.
+pub(crate) fn write_bit<S: Storage>(
+    out: &mut String,
+    tidx: TIdx<S>,
+    is_set: bool,
+    listed: Option<bool>,
+) -> Result<(), AllocError> {
+    if is_set {
+        pen::token(out, " ", tidx)?;
+    }
+    pen::text_if(out, listed != Some(is_set), " differs")
 }
 
 /// Sets one bit of the FIRST sets of a grammar twice, and writes whether it was set before, and the sets.
@@ -92,9 +117,19 @@ pub(crate) fn write_set(
     grammar: &YaccGrammar<u32>,
     (rule, token): (usize, usize),
 ) -> Result<(), AllocError> {
-    let (Some(rule), Some(token)) = (u32::from_usize(rule), u32::from_usize(token)) else {
-        return out.push_str("no such bit\n");
-    };
+    match (u32::from_usize(rule), u32::from_usize(token)) {
+        (Some(rule), Some(token)) => write_with_bit(out, alloc, grammar, rule, token),
+        _ => pen::text(out, "no such bit\n"),
+    }
+}
+
+fn write_with_bit(
+    out: &mut String,
+    alloc: Global,
+    grammar: &YaccGrammar<u32>,
+    rule: u32,
+    token: u32,
+) -> Result<(), AllocError> {
     let mut firsts = grammar.firsts(alloc)?;
     if rule < grammar.rules_len().0 && token < grammar.tokens_len().0 {
         let was_set = firsts.set(RIdx(rule), TIdx(token));

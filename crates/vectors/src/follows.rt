@@ -1,11 +1,12 @@
 //! FOLLOW sets of a grammar.
 
-ghost use Rattle.std.specs.Prelude.{◌<◌, length};
+ghost use Rattle.std.specs.Prelude.{◌≡◌, ◌<◌, length};
 
+use crate::firsts::write_bit;
+use crate::pen;
 use cfgrammar::yacc::YaccGrammar;
 use cfgrammar::yacc::follows::YaccFollows;
 use cfgrammar::{RIdx, Storage};
-use rows::pen;
 use std::alloc::{AllocError, Global};
 
 /// Writes each rule's FOLLOW set: the tokens by their indices, and where the two accessors differ.
@@ -15,14 +16,24 @@ pub(crate) fn write_follows<S: Storage>(
     grammar: &YaccGrammar<S>,
 ) -> Result<(), AllocError> {
     let follows = grammar.follows(alloc)?;
+    write_sets(out, grammar, &follows)
+}
+
+fn write_sets<S: Storage>(
+    out: &mut String,
+    grammar: &YaccGrammar<S>,
+    follows: &YaccFollows<S>,
+) -> Result<(), AllocError>
+    requires { length follows.now.rows ≡ length grammar.now.rules }
+{
     for ridx in grammar.iter_rules() {
-        write_set(out, grammar, &follows, ridx)?;
+        write_rule(out, grammar, follows, ridx)?;
     }
     Ok(())
 }
 
 /// Writes a rule's set.
-fn write_set<S: Storage>(
+fn write_rule<S: Storage>(
     out: &mut String,
     grammar: &YaccGrammar<S>,
     follows: &YaccFollows<S>,
@@ -30,19 +41,26 @@ fn write_set<S: Storage>(
 ) -> Result<(), AllocError>
     requires { S.number ridx.0 < length follows.now.rows }
 {
-    pen::number(out, "    follow of ", usize::from(ridx))?;
-    out.push(':')?;
+    pen::rule(out, "    follow of ", ridx)?;
+    pen::text(out, ":")?;
+    write_tokens(out, grammar, follows, ridx)?;
+    pen::end_line(out)
+}
+
+fn write_tokens<S: Storage>(
+    out: &mut String,
+    grammar: &YaccGrammar<S>,
+    follows: &YaccFollows<S>,
+    ridx: RIdx<S>,
+) -> Result<(), AllocError>
+    requires { S.number ridx.0 < length follows.now.rows }
+{
     let tokens = follows.follows(ridx);
     for tidx in grammar.iter_tidxs() {
-        let follows = follows.is_set(ridx, tidx);
-        if follows {
-            pen::number(out, " ", usize::from(tidx))?;
-        }
-        if tokens.get(usize::from(tidx)) != Some(follows) {
-            out.push_str(" differs")?;
-        }
+        let listed = tokens.get(usize::from(tidx));
+        write_bit(out, tidx, follows.is_set(ridx, tidx), listed)?;
     }
-    out.push('\n')
+    Ok(())
 }
 
 /// Writes how many tokens the FOLLOW sets of a grammar have, all together.
@@ -52,11 +70,16 @@ pub(crate) fn write_lengths<S: Storage>(
     grammar: &YaccGrammar<S>,
 ) -> Result<(), AllocError> {
     let follows = grammar.follows(alloc)?;
+    let tokens = tokens_of_all(grammar, &follows);
+    writeln!(out, "    follows of {tokens} tokens")
+}
+
+fn tokens_of_all<S: Storage>(grammar: &YaccGrammar<S>, follows: &YaccFollows<S>) -> u64 {
     let mut tokens = 0u64;
     for ridx in grammar.iter_rules() {
-        tokens = tokens.saturating_add(tokens_in(grammar, &follows, ridx));
+        tokens = tokens.saturating_add(tokens_in(grammar, follows, ridx));
     }
-    writeln!(out, "    follows of {tokens} tokens")
+    tokens
 }
 
 /// How many tokens follow a rule.

@@ -1,8 +1,8 @@
 //! Rows on the texts of grammars.
 
-use crate::{accessors, firsts, openings, paths, starts, tables};
+use crate::{accessors, firsts, openings, paths, pen, starts, tables};
 use cfgrammar::yacc::ast::ASTWithValidityInfo;
-use cfgrammar::yacc::{YaccFault, YaccGrammar, YaccGrammarError, YaccKind};
+use cfgrammar::yacc::{YaccFault, YaccGrammar, YaccGrammarError, YaccGrammarResult, YaccKind};
 use rows::row::{Row, numbers};
 use rows::text;
 use std::alloc::{AllocError, Global};
@@ -18,7 +18,7 @@ pub fn tell(out: &mut String, alloc: Global, row: &Row<'_>, text: &str) -> Resul
     }
 }
 
-/// Writes the errors of a text that names no kind.
+/// Writes what is answered of a text that names no kind.
 fn tell_refused(
     out: &mut String,
     alloc: Global,
@@ -26,16 +26,25 @@ fn tell_refused(
     text: &str,
     errors: &[YaccGrammarError],
 ) -> Result<(), AllocError> {
-    writeln!(out, "text of {} bytes, no kind", text.len())?;
+    pen::number(out, "text of ", text.len())?;
+    pen::text(out, " bytes, no kind\n")?;
+    match row.first("show") {
+        Some("cuts") => tell_cuts(out, alloc, row, text),
+        _ => tell_errors(out, alloc, text, errors),
+    }
+}
+
+/// Writes the errors of a text that names no kind.
+fn tell_errors(
+    out: &mut String,
+    alloc: Global,
+    text: &str,
+    errors: &[YaccGrammarError],
+) -> Result<(), AllocError> {
     text::write_text(out, text)?;
-    if row.first("show") == Some("cuts") {
-        return cuts::write_cuts(out, alloc, kind_of(row), text);
-    }
     errors::write_errors(out, alloc, text, errors)?;
-    if !is_refused_so(alloc, text, errors)? {
-        out.push_str("    and its grammar isn't refused so\n")?;
-    }
-    Ok(())
+    let is_same = is_refused_so(alloc, text, errors)?;
+    pen::text_if(out, !is_same, "    and its grammar isn't refused so\n")
 }
 
 /// Whether a text has no grammar of the kind that it names, for these errors.
@@ -59,39 +68,68 @@ fn tell_parsed(
     text: &str,
     parsed: &ASTWithValidityInfo,
 ) -> Result<(), AllocError> {
-    writeln!(
-        out,
-        "text of {} bytes, {:?}",
-        text.len(),
-        parsed.yacc_kind()
-    )?;
+    pen::number(out, "text of ", text.len())?;
+    writeln!(out, " bytes, {:?}", parsed.yacc_kind())?;
     match row.first("show") {
-        Some("cuts") => {
-            text::write_text(out, text)?;
-            cuts::write_cuts(out, alloc, kind_of(row), text)
-        }
-        Some("brief") => {
-            tell_brief(out, alloc, text, parsed)?;
-            tell_analyses(out, alloc, row, text)
-        }
-        Some("accessors") => {
-            text::write_text(out, text)?;
-            accessors::write_accessors(out, alloc, kind_of(row), text)
-        }
-        _ => {
-            text::write_text(out, text)?;
-            tell_whole(out, alloc, text, parsed)?;
-            if kind_of(row).is_none() {
-                tables::write_tables_by_name(out, alloc, text, parsed)?;
-            }
-            starts::write_starts(out, alloc, row, text, parsed)?;
-            tell_analyses(out, alloc, row, text)
-        }
+        Some("cuts") => tell_cuts(out, alloc, row, text),
+        Some("brief") => tell_brief(out, alloc, row, text, parsed),
+        Some("accessors") => tell_accessors(out, alloc, row, text),
+        _ => tell_whole(out, alloc, row, text, parsed),
     }
 }
 
-/// Writes the errors, the syntax and the tables of a text.
+/// Writes a text, and what is answered of each beginning of it.
+fn tell_cuts(out: &mut String, alloc: Global, row: &Row<'_>, text: &str) -> Result<(), AllocError> {
+    text::write_text(out, text)?;
+    cuts::write_cuts(out, alloc, kind_of(row), text)
+}
+
+/// Writes the errors of a text, how much there is in its syntax and its tables, and what the analyses do.
+fn tell_brief(
+    out: &mut String,
+    alloc: Global,
+    row: &Row<'_>,
+    text: &str,
+    parsed: &ASTWithValidityInfo,
+) -> Result<(), AllocError> {
+    errors::write_errors(out, alloc, text, parsed.errors())?;
+    syntax::write_lengths(out, parsed.ast())?;
+    tables::write_lengths_of_all(out, alloc, text, parsed)?;
+    tell_analyses(out, alloc, row, text)
+}
+
+/// Writes a text, and what the accessors answer of its grammar, where it has one.
+fn tell_accessors(
+    out: &mut String,
+    alloc: Global,
+    row: &Row<'_>,
+    text: &str,
+) -> Result<(), AllocError> {
+    text::write_text(out, text)?;
+    match grammar_of(alloc, kind_of(row), text) {
+        Ok(grammar) => accessors::write_accessors(out, &grammar),
+        Err(fault) => refused(&fault),
+    }
+}
+
+/// Writes a text and all that is answered of it.
 fn tell_whole(
+    out: &mut String,
+    alloc: Global,
+    row: &Row<'_>,
+    text: &str,
+    parsed: &ASTWithValidityInfo,
+) -> Result<(), AllocError> {
+    text::write_text(out, text)?;
+    write_parsed(out, alloc, text, parsed)?;
+    tables::write_tables(out, alloc, text, parsed)?;
+    tell_by_name(out, alloc, row, text, parsed)?;
+    starts::write_starts(out, alloc, row, text, parsed)?;
+    tell_analyses(out, alloc, row, text)
+}
+
+/// Writes the errors, the syntax and the warnings of what was parsed.
+pub(crate) fn write_parsed(
     out: &mut String,
     alloc: Global,
     text: &str,
@@ -99,24 +137,40 @@ fn tell_whole(
 ) -> Result<(), AllocError> {
     errors::write_errors(out, alloc, text, parsed.errors())?;
     syntax::write_syntax(out, alloc, parsed)?;
-    warnings::write_warnings(out, alloc, parsed.ast())?;
-    tables::write_tables(out, alloc, text, parsed)
+    warnings::write_warnings(out, alloc, parsed.ast())
 }
 
-/// The grammar of a text, where it has one.
-pub(crate) fn grammar_of(
+/// Writes the tables of a text by the kind that it names, where the row says none.
+fn tell_by_name(
+    out: &mut String,
+    alloc: Global,
+    row: &Row<'_>,
+    text: &str,
+    parsed: &ASTWithValidityInfo,
+) -> Result<(), AllocError> {
+    match kind_of(row) {
+        Some(_) => Ok(()),
+        None => tables::write_tables_by_name(out, alloc, text, parsed),
+    }
+}
+
+/// The grammar of a text.
+fn grammar_of(
     alloc: Global,
     kind: Option<YaccKind>,
     text: &str,
-) -> Result<Option<YaccGrammar<u32>>, AllocError> {
-    let answer = match kind {
+) -> YaccGrammarResult<YaccGrammar<u32>> {
+    match kind {
         Some(kind) => YaccGrammar::new(alloc, kind, text),
         None => YaccGrammar::from_str(alloc, text),
-    };
-    match answer {
-        Ok(grammar) => Ok(Some(grammar)),
-        Err(YaccFault::Errors(_)) => Ok(None),
-        Err(YaccFault::OutOfMemory) => Err(AllocError),
+    }
+}
+
+/// Where a text has no grammar, nothing is written.
+fn refused(fault: &YaccFault) -> Result<(), AllocError> {
+    match fault {
+        YaccFault::Errors(_) => Ok(()),
+        YaccFault::OutOfMemory => Err(AllocError),
     }
 }
 
@@ -127,20 +181,19 @@ fn tell_analyses(
     row: &Row<'_>,
     text: &str,
 ) -> Result<(), AllocError> {
-    let Some(grammar) = grammar_of(alloc, kind_of(row), text)? else {
-        return Ok(());
-    };
-    openings::write_openings(out, alloc, &grammar)?;
-    tell_all_asked(out, alloc, row, &grammar)
+    match grammar_of(alloc, kind_of(row), text) {
+        Ok(grammar) => tell_all_asked(out, alloc, row, &grammar),
+        Err(fault) => refused(&fault),
+    }
 }
 
-/// Writes what the row asks of the analyses.
 fn tell_all_asked(
     out: &mut String,
     alloc: Global,
     row: &Row<'_>,
     grammar: &YaccGrammar<u32>,
 ) -> Result<(), AllocError> {
+    openings::write_openings(out, alloc, grammar)?;
     for (word, rest) in &row.lines {
         tell_asked(out, alloc, grammar, *word, *rest)?;
     }
@@ -161,16 +214,4 @@ fn tell_asked(
         "path" => paths::write_path(out, alloc, grammar, rest),
         _ => Ok(()),
     }
-}
-
-/// Writes the errors of a text, and how much there is in its syntax and its tables.
-fn tell_brief(
-    out: &mut String,
-    alloc: Global,
-    text: &str,
-    parsed: &ASTWithValidityInfo,
-) -> Result<(), AllocError> {
-    errors::write_errors(out, alloc, text, parsed.errors())?;
-    syntax::write_lengths(out, parsed.ast())?;
-    tables::write_lengths_of_all(out, alloc, text, parsed)
 }

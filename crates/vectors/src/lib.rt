@@ -5,8 +5,10 @@ mod accessors;
 mod firsts;
 mod follows;
 mod grammar;
+mod held;
 mod openings;
 mod paths;
+mod pen;
 mod starts;
 mod tables;
 

@@ -15,14 +15,22 @@ pub(crate) fn write_openings(
     grammar: &YaccGrammar<u32>,
 ) -> Result<(), AllocError> {
     let firsts = opened_by_firsts(alloc, grammar)?;
-    if !is_expected(grammar, firsts) {
-        writeln!(out, "    opened {firsts} times for firsts")?;
-    }
+    write_unexpected(out, grammar, firsts, "firsts")?;
     let follows = opened_by_follows(alloc, grammar)?;
-    if !is_expected(grammar, follows) {
-        writeln!(out, "    opened {follows} times for follows")?;
+    write_unexpected(out, grammar, follows, "follows")
+}
+
+/// Writes how often a production was opened at the most, where it may not have been opened so often.
+fn write_unexpected(
+    out: &mut String,
+    grammar: &YaccGrammar<u32>,
+    most: u64,
+    sets: &str,
+) -> Result<(), AllocError> {
+    if is_expected(grammar, most) {
+        return Ok(());
     }
-    Ok(())
+    writeln!(out, "    opened {most} times for {sets}")
 }
 
 /// Whether a production may have been opened so often at the most.

@@ -2,6 +2,7 @@
 
 ghost use Rattle.std.specs.Prelude.{◌<◌, length};
 
+use crate::pen;
 use cfgrammar::RIdx;
 use cfgrammar::yacc::YaccGrammar;
 use std::alloc::{AllocError, Global};
@@ -27,13 +28,32 @@ fn write_paths_of(
 ) -> Result<(), AllocError>
     requires { from.0 < length grammar.now.rules }
 {
-    write!(out, "paths of {}:", grammar.rule_name_str(from))?;
+    pen::text(out, "paths of ")?;
+    pen::text(out, grammar.rule_name_str(from))?;
+    pen::text(out, ":")?;
+    write_ends(out, alloc, grammar, from)?;
+    pen::end_line(out)
+}
+
+fn write_ends(
+    out: &mut String,
+    alloc: Global,
+    grammar: &YaccGrammar<u32>,
+    from: RIdx<u32>,
+) -> Result<(), AllocError>
+    requires { from.0 < length grammar.now.rules }
+{
     for to in grammar.iter_rules() {
         if grammar.has_path(alloc, from, to)? {
-            write!(out, " {}", grammar.rule_name_str(to))?;
+            write_end(out, grammar.rule_name_str(to))?;
         }
     }
-    out.push('\n')
+    Ok(())
+}
+
+fn write_end(out: &mut String, name: &str) -> Result<(), AllocError> {
+    pen::text(out, " ")?;
+    pen::text(out, name)
 }
 
 /// Writes whether the first of two rules leads to the other.
@@ -44,9 +64,25 @@ pub(crate) fn write_path(
     names: &str,
 ) -> Result<(), AllocError> {
     let (from, to) = names.split_once(' ').unwrap_or((names, ""));
-    let (Some(first), Some(second)) = (grammar.rule_idx(from), grammar.rule_idx(to)) else {
-        return writeln!(out, "no such path: {names}");
-    };
-    let leads = grammar.has_path(alloc, first, second)?;
-    writeln!(out, "path {from} {to}: {leads}")
+    match (grammar.rule_idx(from), grammar.rule_idx(to)) {
+        (Some(from), Some(to)) => write_leads(out, alloc, grammar, names, from, to),
+        _ => pen::line(out, "no such path: ", names),
+    }
+}
+
+fn write_leads(
+    out: &mut String,
+    alloc: Global,
+    grammar: &YaccGrammar<u32>,
+    names: &str,
+    from: RIdx<u32>,
+    to: RIdx<u32>,
+) -> Result<(), AllocError>
+    requires { from.0 < length grammar.now.rules }
+{
+    let leads = grammar.has_path(alloc, from, to)?;
+    pen::text(out, "path ")?;
+    pen::text(out, names)?;
+    pen::flag(out, ": ", leads)?;
+    pen::end_line(out)
 }

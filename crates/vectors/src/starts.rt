@@ -1,11 +1,11 @@
 //! Another start of a syntax.
 
-use crate::tables;
+use crate::grammar::write_parsed;
+use crate::{pen, tables};
 use cfgrammar::Span;
 use cfgrammar::yacc::ast::{ASTWithValidityInfo, Rule, StartFault};
 use rows::row::{Row, number, words};
 use std::alloc::{AllocError, Global};
-use trees::{errors, syntax, warnings};
 
 /// Writes what is answered of each other start that the row asks for.
 pub(crate) fn write_starts(
@@ -17,14 +17,13 @@ pub(crate) fn write_starts(
 ) -> Result<(), AllocError> {
     for (word, rest) in &row.lines {
         if *word == "start" {
-            writeln!(out, "start {rest}")?;
             write_start(out, alloc, *rest, text, parsed)?;
         }
     }
     Ok(())
 }
 
-/// Writes the errors, the syntax and the tables with the start that a line tells, or why it can't be the start.
+/// Writes what is answered of the start that a line tells.
 fn write_start(
     out: &mut String,
     alloc: Global,
@@ -32,16 +31,24 @@ fn write_start(
     text: &str,
     parsed: &ASTWithValidityInfo,
 ) -> Result<(), AllocError> {
-    match parsed.clone_and_change_start_rule(alloc, rule_of(alloc, line)?) {
-        Ok(changed) => {
-            errors::write_errors(out, alloc, text, changed.errors())?;
-            syntax::write_syntax(out, alloc, &changed)?;
-            warnings::write_warnings(out, alloc, changed.ast())?;
-            tables::write_tables_of_tree(out, alloc, text, &changed)
-        }
+    pen::line(out, "start ", line)?;
+    let start = rule_of(alloc, line)?;
+    match parsed.clone_and_change_start_rule(alloc, start) {
+        Ok(changed) => write_changed(out, alloc, text, &changed),
         Err(StartFault::Modification(error)) => writeln!(out, "    {error}"),
         Err(StartFault::OutOfMemory) => Err(AllocError),
     }
+}
+
+/// Writes what was parsed, with another start, and its tables.
+fn write_changed(
+    out: &mut String,
+    alloc: Global,
+    text: &str,
+    changed: &ASTWithValidityInfo,
+) -> Result<(), AllocError> {
+    write_parsed(out, alloc, text, changed)?;
+    tables::write_tables_of_tree(out, alloc, text, changed)
 }
 
 /// The rule that a line tells, by its name and the two ends of its span.
