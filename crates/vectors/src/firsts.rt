@@ -5,7 +5,7 @@ ghost use Rattle.std.specs.Prelude.{◌≡◌, ◌<◌, length};
 use crate::pen;
 use cfgrammar::yacc::YaccGrammar;
 use cfgrammar::yacc::firsts::YaccFirsts;
-use cfgrammar::{RIdx, Storage, TIdx};
+use cfgrammar::{RIdx, Storage, TIdx, Vob};
 use std::alloc::{AllocError, Global};
 
 /// Writes the FIRST sets of a grammar.
@@ -91,23 +91,23 @@ fn write_tokens<S: Storage>(
 {
     let tokens = firsts.firsts(ridx);
     for tidx in grammar.iter_tidxs() {
-        let listed = tokens.get(usize::from(tidx));
-        write_bit(out, tidx, firsts.is_set(ridx, tidx), listed)?;
+        write_bit(out, tidx, firsts.is_set(ridx, tidx), tokens)?;
     }
     Ok(())
 }
 
-/// Writes a token's index where the token is in a set, and whether the two accessors of that differ.
+/// Writes a token's index where the token is in a set, and whether the set's list of bits says otherwise.
 pub(crate) fn write_bit<S: Storage>(
     out: &mut String,
     tidx: TIdx<S>,
     is_set: bool,
-    listed: Option<bool>,
+    listed: &Vob,
 ) -> Result<(), AllocError> {
     if is_set {
         pen::token(out, " ", tidx)?;
     }
-    pen::text_if(out, listed != Some(is_set), " differs")
+    let is_other = listed.get(usize::from(tidx)) != Some(is_set);
+    pen::text_if(out, is_other, " differs")
 }
 
 /// Sets one bit of the FIRST sets of a grammar twice, and writes whether it was set before, and the sets.
@@ -134,7 +134,21 @@ fn write_with_bit(
     if rule < grammar.rules_len().0 && token < grammar.tokens_len().0 {
         let was_set = firsts.set(RIdx(rule), TIdx(token));
         let is_set = firsts.set(RIdx(rule), TIdx(token));
-        writeln!(out, "set({rule}, {token}): {was_set}, and again: {is_set}")?;
+        write_set_twice(out, RIdx(rule), TIdx(token), was_set, is_set)?;
     }
     write_sets(out, grammar, &firsts)
+}
+
+fn write_set_twice(
+    out: &mut String,
+    ridx: RIdx<u32>,
+    tidx: TIdx<u32>,
+    was_set: bool,
+    is_set: bool,
+) -> Result<(), AllocError> {
+    pen::rule(out, "set(", ridx)?;
+    pen::token(out, ", ", tidx)?;
+    pen::flag(out, "): ", was_set)?;
+    pen::flag(out, ", and again: ", is_set)?;
+    pen::end_line(out)
 }

@@ -57,8 +57,7 @@ fn write_tokens<S: Storage>(
 {
     let tokens = follows.follows(ridx);
     for tidx in grammar.iter_tidxs() {
-        let listed = tokens.get(usize::from(tidx));
-        write_bit(out, tidx, follows.is_set(ridx, tidx), listed)?;
+        write_bit(out, tidx, follows.is_set(ridx, tidx), tokens)?;
     }
     Ok(())
 }

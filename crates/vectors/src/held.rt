@@ -47,10 +47,31 @@ pub(crate) fn write_lengths<S: Storage>(
 
 /// Writes how many rules, productions and tokens there are, and which of them are the start's and the end's.
 fn write_counts<S: Storage>(out: &mut String, grammar: &YaccGrammar<S>) -> Result<(), AllocError> {
+    write_rule_count(out, grammar)?;
+    write_production_count(out, grammar)?;
+    write_token_count(out, grammar)
+}
+
+fn write_rule_count<S: Storage>(
+    out: &mut String,
+    grammar: &YaccGrammar<S>,
+) -> Result<(), AllocError> {
     pen::rule(out, "    rules ", grammar.rules_len())?;
-    pen::rule(out, ", start ", grammar.start_rule_idx())?;
+    pen::rule(out, ", start ", grammar.start_rule_idx())
+}
+
+fn write_production_count<S: Storage>(
+    out: &mut String,
+    grammar: &YaccGrammar<S>,
+) -> Result<(), AllocError> {
     pen::production(out, "; productions ", grammar.prods_len())?;
-    pen::production(out, ", start ", grammar.start_prod())?;
+    pen::production(out, ", start ", grammar.start_prod())
+}
+
+fn write_token_count<S: Storage>(
+    out: &mut String,
+    grammar: &YaccGrammar<S>,
+) -> Result<(), AllocError> {
     pen::token(out, "; tokens ", grammar.tokens_len())?;
     pen::token(out, ", end ", grammar.eof_token_idx())
 }

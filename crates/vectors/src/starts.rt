@@ -54,11 +54,21 @@ fn write_changed(
 /// The rule that a line tells, by its name and the two ends of its span.
 fn rule_of(alloc: Global, line: &str) -> Result<Rule, AllocError> {
     let (name, start, end) = words(line);
-    let (start, end) = (number(start), number(end));
-    let span = Span::new(start.min(end), end);
-    Ok(Rule {
-        name: (String::from_str(alloc, name)?, span),
+    let name = String::from_str(alloc, name)?;
+    let span = span_of(number(start), number(end));
+    Ok(rule_named(alloc, name, span))
+}
+
+/// What ends at `end`, and starts there at the latest.
+fn span_of(start: usize, end: usize) -> Span {
+    Span::new(start.min(end), end)
+}
+
+/// A rule that has no production.
+fn rule_named(alloc: Global, name: String, span: Span) -> Rule {
+    Rule {
+        name: (name, span),
         pidxs: Vec::new(alloc),
         actiont: None,
-    })
+    }
 }
