@@ -1,5 +1,5 @@
 -- A group that its productions keep is bounded beside the rules found so far.
-use Rattle.std.proofs.Common.{◌≡◌, ℕ, ◌+◌, ◌<◌, ◌≤◌, ◌⊎◌, inl, inr, All, Bool, true, false, List, [], Option, Contains, length, get_or, slice_set, replicate, length-set, get_or-set_same, get_or-set_other, refl, sym, ap, subst, ◌∙◌, arith, below_more, true≢false}
+use Rattle.std.proofs.Common.{◌≡◌, ℕ, ◌+◌, ◌<◌, ◌≤◌, inl, inr, All, Bool, true, false, List, [], Option, length, get_or, slice_set, replicate, get_or-set_same, get_or-set_other, refl, sym, ap, subst, ◌∙◌, arith, below_more, true≢false}
 use Rattle.std.proofs.lemmas.Bool.{cases_Bool, cases_lt, cases_eq}
 use Rattle.std.proofs.lemmas.List.{get_or_default, length-replicate}
 use Rattle.lemmas.proofs.Elements.{get_or-set}
@@ -8,8 +8,7 @@ use Rattle.cfganalysis.specs.Openings.{nth_production}
 use Rattle.cfganalysis.specs.Paths.{ArePlacesOf}
 use Rattle.cfggreatest.specs.Rows.{in_set}
 use Rattle.cfggreatest.specs.Tops.{live_in, positive_in}
-use Rattle.cfggreatest.specs.Peel.{Keeps}
-use Rattle.cfggreatest.specs.Keep.{AddsGroup, AreSame, DifferFrom, IsKeeping, IsRuleKept, StandsFrom}
+use Rattle.cfggreatest.specs.Keep.{AddsGroup, AreSame, DifferFrom, IsKeeping, IsRuleKept}
 use Rattle.cfggreatest.specs.Stages.{AreFoundBounded}
 use Rattle.cfggreatest.proofs.Peeling.{are_in_more, bounded_more}
 use Rattle.cfggreatest.proofs.Widening.{none_found}

@@ -1,9 +1,9 @@
 -- A rule that was raised waits.
-use Rattle.std.proofs.Common.{◌≡◌, ℕ, ◌+◌, ◌*◌, ◌-◌, ◌<◌, ◌≤◌, List, ◌∷◌, [], ◌++◌, All, Bool, true, false, Contains, length-append, Option, length, map, get_or, sym, subst, arith}
+use Rattle.std.proofs.Common.{◌≡◌, ℕ, ◌+◌, ◌*◌, ◌-◌, ◌<◌, ◌≤◌, List, ◌∷◌, [], ◌++◌, All, Bool, true, false, Contains, length-append, Option, length, map, sym, subst, arith}
 use Rattle.std.specs.List.{slice_index}
 use Rattle.std.proofs.lemmas.List.{get_or-map, length-map}
 use Rattle.std.proofs.lemmas.List.Elements.{All-push}
-use Rattle.derivation.specs.Grammar.{Sym, Grammar, IsGrammar, Production}
+use Rattle.derivation.specs.Grammar.{Sym, Grammar, IsGrammar}
 use Rattle.cfganalysis.specs.Rounds.{TakesIn}
 use Rattle.cfganalysis.proofs.FirstBits.{owner}
 use Rattle.cfggreatest.specs.Rows.{in_set}

@@ -1,5 +1,5 @@
 -- A walk through rules ends: what is entered is entered once.
-use Rattle.std.proofs.Common.{◌≡◌, ℕ, zero, suc, ◌+◌, ◌<◌, Bool, true, false, cond, List, [], ◌∷◌, Vec, Global, length, get_or, slice_set, arith, refl}
+use Rattle.std.proofs.Common.{◌≡◌, ℕ, zero, suc, ◌+◌, ◌<◌, Bool, true, false, List, [], ◌∷◌, Vec, Global, length, get_or, slice_set, arith}
 use Rattle.cfggreatest.specs.Walk.{unentered}
 
 pub entered_once : {X : Type 0} (entered : List Bool) (users : List (Vec X Global)) (r : ℕ) (d : Bool) (list : Vec X Global) → r < length entered → r < length users

@@ -1,5 +1,5 @@
 -- A walk through rules, from each to those that use it: rules wait to be entered, or to be left.
-use Rattle.std.specs.Prelude.{◌≡◌, ℕ, ◌+◌, ◌<◌, ◌≤◌, Bool, cond, List, [], ◌∷◌, All, Vec, length}
+use Rattle.std.specs.Prelude.{◌≡◌, ℕ, ◌+◌, ◌<◌, Bool, cond, List, [], ◌∷◌, All, Vec, length}
 use Rattle.std.specs.declared.alloc.Global.{Global}
 use Rattle.derivation.specs.Grammar.{Grammar, IsGrammar}
 

@@ -156,6 +156,26 @@ fn reach(rule: usize, taken: &mut [bool], group: &mut Vec<usize>) -> Result<(), 
     Ok(())
 }
 
+/// Puts a rule into the group, if it is in none; a token stays outside.
+///
+/// # Errors
+///
+/// Want of memory.
+fn reach_symbol<S: Storage>(
+    symbol: Symbol<S>,
+    taken: &mut [bool],
+    group: &mut Vec<usize>,
+) -> Result<(), AllocError>
+    requires listed { (tokens : ℕ) × IsListed (length taken.old) tokens (sym_of S.number symbol) }
+    requires group { All (λ r. r < length taken.old) group.old.items }
+    ensures { OnOk result (All (λ r. r < length taken.old) group.new.items) }
+{
+    match symbol {
+        Symbol::Rule(rule) => reach(usize::from(rule), taken, group),
+        Symbol::Token(_) => Ok(()),
+    }
+}
+
 /// Puts the rules among the symbols into the group, if they all have signs.
 ///
 /// # Errors
@@ -176,9 +196,7 @@ fn reach_symbols<S: Storage>(
         return Ok(());
     }
     for symbol in symbols {
-        if let Symbol::Rule(rule) = symbol {
-            reach(usize::from(*rule), taken, group)?;
-        }
+        reach_symbol(*symbol, taken, group)?;
     }
     Ok(())
 }

@@ -1,4 +1,4 @@
-use Rattle.std.proofs.Common.{refl, ◌<◌, ℕ, All, map, length, sym, subst, ap, ◌∙◌, arith}
+use Rattle.std.proofs.Common.{refl, ◌<◌, All, map, length, sym, subst, ◌∙◌, arith}
 use Rattle.std.proofs.lemmas.List.{length-map}
 use Rattle.cfganalysis.specs.Paths.{ArePlacesOf}
 use Rattle.cfggreatest.specs.Rows.{in_set}

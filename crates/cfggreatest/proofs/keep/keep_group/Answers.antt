@@ -1,4 +1,4 @@
-use Rattle.std.proofs.Common.{refl, sym, length, ◌∙◌}
+use Rattle.std.proofs.Common.{refl}
 use Rattle.cfggreatest.proofs.Keeping.{differ_bounded, group_kept}
 use Rattle.cfggreatest.proofs.keep.keep_group.Goals as goal
 

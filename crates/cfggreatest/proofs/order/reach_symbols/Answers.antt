@@ -1,15 +1,24 @@
-use Rattle.std.proofs.Common.{◌<◌, ℕ, All, map, length, sym, subst}
+use Rattle.std.proofs.Common.{◌<◌, All, map, length, sym, subst}
 use Rattle.cfganalysis.specs.Symbols.{sym_of}
 use Rattle.cfgsums.specs.Lists.{IsListed}
 use Rattle.cfgsums.proofs.Rows.{shown_holds}
 use Rattle.cfggreatest.proofs.order.reach_symbols.Goals as goal
 
-pub reach-requires-clause-rule : goal.reach-requires-clause-rule
-reach-requires-clause-rule g c =
-    let tokens = c.requires.listed.0 in
-    let listed = shown_holds _ _ c.loop-symbol.symbol-index _ c.loop-symbol-test.true c.symbol-item.is (IsListed (length c.args.taken.now) tokens) c.requires.listed.1 in
-    let within = subst (λ s. IsListed (length c.args.taken.now) tokens (sym_of g.S.Storage.number s)) c.in-Rule.is listed in
-    subst (λ n. n < length c.loop-symbol.taken) (sym c.from.ensures) (subst (λ n. g.S.Storage.number c.in-Rule.rule.0 < n) (sym c.loop-symbol.auto.taken) within)
+pub are_live-requires : goal.are_live-requires
+are_live-requires g c = (
+  c.requires.listed.0,
+  subst (λ n. All (IsListed n c.requires.listed.0) (map (sym_of g.S.Storage.number) c.args.symbols.now)) (sym c.requires.signs) c.requires.listed.1,
+)
 
-pub reach-requires-clause-group : goal.reach-requires-clause-group
-reach-requires-clause-group g c = subst (λ n. All (λ r. r < n) c.loop-symbol.group.items) (sym c.loop-symbol.auto.taken) c.loop-symbol.invariant
+pub reach_symbol-requires-clause-listed : goal.reach_symbol-requires-clause-listed
+reach_symbol-requires-clause-listed g c = (
+  c.requires.listed.0,
+  subst (λ n. IsListed n c.requires.listed.0 (sym_of g.S.Storage.number c.symbol-item.result)) (sym c.loop-symbol.auto.taken)
+      (shown_holds _ _ c.loop-symbol.symbol-index _ c.loop-symbol-test.true c.symbol-item.is (IsListed (length c.args.taken.now) c.requires.listed.0) c.requires.listed.1),
+)
+
+pub reach_symbol-requires-clause-group : goal.reach_symbol-requires-clause-group
+reach_symbol-requires-clause-group g c = subst (λ n. All (λ r. r < n) c.loop-symbol.group.items) (sym c.loop-symbol.auto.taken) c.loop-symbol.invariant
+
+pub loop-symbol-preserved : goal.loop-symbol-preserved
+loop-symbol-preserved g c = subst (λ n. All (λ r. r < n) c.reach_symbol.new.group.items) c.loop-symbol.auto.taken c.in_ok-reach_symbol.ensures

@@ -1,5 +1,8 @@
-use Rattle.std.proofs.Common.{◌≡◌, ◌<◌, ◌++◌, ◌∷◌, [], ℕ, All, Bool, List, Contains, length, subst, ap, ◌∙◌}
-use Rattle.std.proofs.lemmas.List.Elements.{All-contains_itself, All-get_or, All-weaker, Contains-append_left, Contains-push}
+use Rattle.std.proofs.Common.{◌≡◌, ◌+◌, ◌<◌, ◌≤◌, ◌++◌, ◌∷◌, [], ℕ, All, Bool, false, List, Contains, length, sym, subst, ap, ◌∙◌, arith}
+use Rattle.std.proofs.lemmas.List.{length-replicate}
+use Rattle.std.proofs.lemmas.List.Elements.{All-contains_itself, All-nil, All-get_or, All-weaker, Contains-append_left, Contains-push}
+use Rattle.cfggreatest.specs.Walk.{unentered}
+use Rattle.cfggreatest.proofs.Lent.{put_back}
 use Rattle.cfggreatest.proofs.order.walk.Goals as goal
 
 -- what all have, one of them has
@@ -25,3 +28,38 @@ step-requires-clause-rule g c =
     let P : ℕ × Bool → Type 0 = λ x. x.0 < (g.T.Tables.grammar c.args.grm.now).rules in
     all_has P (c.pop.new.self.items ++ (c.in-Some.top ∷ [])) c.in-Some.top (subst (All P) c.in-Some.ensures.items c.loop-top.invariant.state.waits)
     (Contains-push c.pop.new.self.items c.in-Some.top)
+
+pub loop-top-init : goal.loop-top-init
+loop-top-init g c =
+    let rules = c.to_usize-rules_len.ensures.value ∙ c.rules_len.ensures.value in
+    record {
+      state = record {
+        grammar = c.rules_len.ensures.content;
+        rules = ap length c.in_ok-entered.ensures ∙ length-replicate c.to_usize-rules_len.result false ∙ rules;
+        waits = subst (λ n. All (λ (x : ℕ × Bool). x.0 < n) c.in_ok-waiting.waiting.items) rules c.in_ok-waiting.ensures;
+      };
+      left = subst (All (λ r. r < (g.T.Tables.grammar c.args.grm.now).rules)) (sym c.new-left.ensures.items) (All-nil _);
+    }
+
+pub loop-top-smaller : goal.loop-top-smaller
+loop-top-smaller g c =
+    let users = c.args.users.now in
+    let held = c.deref_mut.ensures.value in
+    let shorter : length c.loop-top.waiting.items ≡ length c.pop.new.self.items + 1 = omega (arith, c.in-Some.ensures.len) in
+    let fewer = subst (λ (e : List Bool). length c.step.new.waiting.items + unentered c.step.new.entered users ≤ length c.pop.new.self.items + unentered e users)
+    held c.in_ok-step.ensures.fewer in
+    put_back (λ (e : List Bool). length c.step.new.waiting.items + unentered e users < length c.loop-top.waiting.items + unentered c.loop-top.entered.items users)
+    c.loop-top.entered.len c.step.new.entered _ (c.step.auto.entered ∙ ap length held ∙ sym c.loop-top.entered.ok.0) (omega (arith, shorter, fewer))
+
+pub loop-top-preserved : goal.loop-top-preserved
+loop-top-preserved g c =
+    let state = c.in_ok-step.ensures.state in
+    record {
+      state = record {
+        grammar = state.grammar;
+        rules = put_back (λ (e : List Bool). length e ≡ (g.T.Tables.grammar c.args.grm.now).rules) c.loop-top.entered.len c.step.new.entered _
+            (c.step.auto.entered ∙ ap length c.deref_mut.ensures.value ∙ sym c.loop-top.entered.ok.0) state.rules;
+        waits = state.waits;
+      };
+      left = c.in_ok-step.ensures.left;
+    }

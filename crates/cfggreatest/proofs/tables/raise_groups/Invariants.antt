@@ -1,4 +1,3 @@
-use Rattle.std.proofs.Common.{◌≡◌, length}
 use Rattle.cfggreatest.specs.Spread.{IsSpreading}
 use Rattle.cfggreatest.proofs.tables.raise_groups.Given as goal
 

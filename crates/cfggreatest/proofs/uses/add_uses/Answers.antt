@@ -1,4 +1,4 @@
-use Rattle.std.proofs.Common.{◌<◌, ℕ, All, map, length, sym, subst, ap, ◌∙◌}
+use Rattle.std.proofs.Common.{◌<◌, All, map, length, sym, subst}
 use Rattle.cfganalysis.specs.Symbols.{sym_of}
 use Rattle.cfgsums.specs.Lists.{IsListed}
 use Rattle.cfgsums.proofs.Rows.{shown_holds}
