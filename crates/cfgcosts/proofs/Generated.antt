@@ -1,5 +1,5 @@
 -- What a generator holds, and what it answers.
-use Rattle.std.proofs.Common.{◌≡◌, ℕ, ◌<◌, ◌≤◌, ◌⊎◌, inl, inr, List, [], ◌∷◌, length, get_or, map, cond, Option, Some, None, Ok, Err, All, arith, refl, sym, ap, subst, ◌∙◌}
+use Rattle.std.proofs.Common.{◌≡◌, ◌↔◌, ℕ, ◌<◌, ◌≤◌, ◌⊎◌, inl, inr, List, [], ◌∷◌, length, get_or, map, cond, Option, Some, None, Ok, Err, All, arith, refl, sym, ap, subst, ◌∙◌}
 use Rattle.std.specs.Prelude.{IfSome, IsSomeAnd, EachIndex}
 use Rattle.std.proofs.lemmas.Bool.{cases_lt, le-leb}
 use Rattle.std.proofs.lemmas.Bool.Decides.{leb_tells}
@@ -9,11 +9,12 @@ use Rattle.std.proofs.lemmas.List.{get_or_default, get_or_past}
 use Rattle.std.proofs.lemmas.List.Elements.{All-from_get_or}
 use Rattle.derivation.specs.Grammar.{Sym, Rule, Token, HasProduction}
 use Rattle.cfganalysis.specs.Openings.{nth_production}
+use Rattle.cfgcosts.specs.declared.errors.CostError.{CostError}
 use Rattle.cfgcosts.specs.declared.errors.CostError.TheVariants.{NoSentence, CostTooLarge}
 use Rattle.cfgsums.specs.Sums.{sum_of, symbol_cost}
 use Rattle.cfgsums.specs.Lists.{rule_cost}
 use Rattle.cfgcosts.specs.Certificate.{IsCovered, IsReached, IsChosenBelow, RestsOn, choice_of, rule_choice}
-use Rattle.cfgcosts.specs.Generator.{CostTables, IsGenerator, AnswersLeast, IsLeastProduction, up_to_limit, where_some, cost_answer, choice_answer, token_cost}
+use Rattle.cfgcosts.specs.Generator.{CostTables, IsGenerator, AnswersLeast, HasNone, IsLeastProduction, IsTooDear, up_to_limit, where_some, cost_answer, choice_answer, token_cost}
 use Rattle.cfgsums.proofs.Sums.{plus_parts, plus_both}
 use Rattle.cfgsums.proofs.Rows.{item_shown}
 use Rattle.cfgcosts.proofs.Gains.{HasCost, all_have_costs, sum_kept}
@@ -71,6 +72,28 @@ module _ (x : CostTables) (n : ℕ) (is : IsGenerator x n) where
           → IfSome o (λ choice. IsLeastProduction x.grammar (token_cost x) r (value choice.0.0))
       go None e small k = tt
       go (Some choice) e small k = least_production x.grammar (token_cost x) x.least x.choices n is.settled r c (value choice.0.0) choice.1 e small k
+
+  -- the entry of a rule in the list of choices
+  pub choice_shown : {S : Type 0} (value : S → ℕ) (items : List (Option (PIdx S × ℕ))) (r i : ℕ) (entry : Option (PIdx S × ℕ)) → map (choice_of value) items ≡ x.choices
+      → r < x.grammar.rules → i ≡ r → entry ≡ get_or items i entry → rule_choice x.choices r ≡ choice_of value entry
+  choice_shown value items r i entry shown within at stands =
+      item_shown (choice_of value) items x.choices r entry None shown (subst (λ m. r < m) (sym is.settled.chosen.listed) within)
+      (subst (λ m. entry ≡ get_or items m entry) at stands)
+
+  -- a rule whose cost is answered has a choice
+  pub choice_none : {S : Type 0} (value : S → ℕ) (r c : ℕ) (entry : Option (PIdx S × ℕ)) → Some c ≡ cost_answer x r → rule_choice x.choices r ≡ choice_of value entry
+      → (entry ≡ None) ↔ (HasNone (HasProduction x.grammar) r ⊎ IsTooDear (HasProduction x.grammar) (token_cost x) r)
+  choice_none value r c entry answer shown =
+      let known = answered_some (rule_cost x.least r) c (sym answer) in
+      let small = known.1 in
+      let (p, m, by, lt) = is.settled.chosen.chosen r c known.0 in
+      let least = (reads_cost x n is r c known.0 small).least in (
+        (λ e. let no : ◌≡◌ {A = Option (ℕ × ℕ)} None (Some (p, m)) = sym (shown ∙ ap (choice_of value) e) ∙ by.choice in absurd (cc)),
+        (λ h. elim h [
+          | inl none ↦ absurd (none least.0.0 least.0.1)
+          | inr dear ↦ let more = dear.1 least.0.0 least.0.1 in let cost = least.0.2 in absurd (omega (arith, more, cost, small))
+        ]),
+      )
 
   module _ (least : List (Option ℕ)) (rules : length least ≡ x.grammar.rules)
       (answered : (r : ℕ) → r < x.grammar.rules → rule_cost least r ≡ cost_answer x r) where
@@ -139,3 +162,8 @@ module _ (x : CostTables) (n : ℕ) (is : IsGenerator x n) where
           go : (o : Option ℕ) → rule_cost least r ≡ o → IfSome o (λ c. IsSomeAnd (rule_choice choices r) (λ choice. RestsOn x.grammar x.costs least choices r c choice.0 choice.1))
           go None e = tt
           go (Some c) e = reached_cost r c e
+
+-- why no cost is answered
+pub refused : (P : ℕ → List Sym → Type 0) (cost : ℕ → ℕ) (r : ℕ) (e : CostError) → AnswersLeast P cost r (Err e) → HasNone P r ⊎ IsTooDear P cost r
+refused P cost r NoSentence h = inl (h.none.0 refl)
+refused P cost r CostTooLarge h = inr (h.dear.0 refl)

@@ -1,6 +1,6 @@
 -- Lists that are gone through from their ends.
-use Rattle.std.proofs.Common.{◌≡◌, ◌<◌, ◌≤◌, List, [], ◌∷◌, ◌++◌, length, map, append_assoc, refl, ap, ◌∙◌, arith}
-use Rattle.std.proofs.lemmas.List.{length-append}
+use Rattle.std.proofs.Common.{◌≡◌, ℕ, zero, suc, ◌+◌, ◌<◌, ◌≤◌, List, [], ◌∷◌, ◌++◌, length, map, replicate, append_assoc, add-one, refl, sym, ap, ◌∙◌, arith}
+use Rattle.std.proofs.lemmas.List.{length-append, map-append}
 
 module _ {A : Type 0} (all items rest done : List A) (x : A) where
   pub popped : all ≡ items ++ done → items ≡ rest ++ x ∷ [] → all ≡ rest ++ (x ∷ done)
@@ -19,3 +19,19 @@ map_twice f g (x ∷ xs) = ap (λ l. f (g x) ∷ l) (map_twice f g xs)
 pub none_left : {A : Type 0} (w : List A) → length w ≤ 0 → w ≡ []
 none_left [] h = refl
 none_left (t ∷ w) h = absurd (omega (arith, h))
+
+-- the first one of the others goes behind those that came before
+pub moved_one : {A B : Type 0} (f : A → B) (done rest all : List A) (x : A) → all ≡ x ∷ rest → map f (done ++ x ∷ []) ++ map f rest ≡ map f done ++ map f all
+moved_one f done rest all x e = ap (λ l. l ++ map f rest) (map-append f done (x ∷ [])) ∙ append_assoc (map f done) (f x ∷ []) (map f rest)
+    ∙ ap (λ l. map f done ++ map f l) (sym e)
+
+pub shorter : {A : Type 0} (rest all : List A) (x : A) → all ≡ x ∷ rest → length rest < length all
+shorter rest all x e = let long = ap length e in omega (arith, long)
+
+-- one element more
+pub replicate_more : {A : Type 0} (x : A) (n : ℕ) → replicate n x ++ x ∷ [] ≡ replicate (n + 1) x
+replicate_more {A} x n = go n ∙ ap (λ k. replicate k x) (sym (add-one n))
+  where
+    go : (k : ℕ) → replicate k x ++ x ∷ [] ≡ replicate (suc k) x
+    go zero = refl
+    go (suc k) = ap (λ l. x ∷ l) (go k)

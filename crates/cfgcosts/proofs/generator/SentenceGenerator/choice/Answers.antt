@@ -1,6 +1,8 @@
-use Rattle.std.proofs.Common.{ℕ, Some, ◌≡◌, ap, subst}
-use Rattle.cfgcosts.specs.Generator.{CostTables, IsGenerator, cost_answer}
-use Rattle.cfgcosts.proofs.Generated.{choice_read}
+use Rattle.std.proofs.Common.{ℕ, Option, Some, None, Err, ◌≡◌, refl, sym, ap, subst, ◌∙◌}
+use Rattle.derivation.specs.Grammar.{HasProduction}
+use Rattle.cfgcosts.specs.Certificate.{rule_choice}
+use Rattle.cfgcosts.specs.Generator.{AnswersLeast, CostTables, IsGenerator, cost_answer, token_cost, where_some}
+use Rattle.cfgcosts.proofs.Generated.{choice_none, choice_read, choice_shown, refused}
 use Rattle.cfgcosts.proofs.generator.SentenceGenerator.choice.Goals as goal
 
 pub returns-in-Ok-clause-production : goal.returns-in-Ok-clause-production
@@ -11,3 +13,34 @@ returns-in-Ok-clause-production g c =
     let answer = subst (λ (r : ℕ). Some c.in-Ok.field-0 ≡ cost_answer c.args.self.now r) c.from.ensures c.in-Ok.ensures.answer in
     choice_read c.args.self.now number is g.S.Storage.number c.self.inside.settled.choices.items (g.S.Storage.number c.args.rule.0) c.from-in-Ok.result c.in-Ok.field-0 c.index.result.now
     shown c.requires c.from-in-Ok.ensures c.index.ensures answer
+
+pub returns-in-Ok-clause-none : goal.returns-in-Ok-clause-none
+returns-in-Ok-clause-none g c =
+    let number = c.self.inside.settled.number in
+    let is = subst (λ (x : CostTables). IsGenerator x number) c.self.view_is c.self.invariant in
+    let shown = ap (λ (x : CostTables). x.choices) c.self.view_is in
+    let answer = subst (λ (r : ℕ). Some c.in-Ok.field-0 ≡ cost_answer c.args.self.now r) c.from.ensures c.in-Ok.ensures.answer in
+    choice_none c.args.self.now number is g.S.Storage.number (g.S.Storage.number c.args.rule.0) c.in-Ok.field-0 c.index.result.now answer
+    (choice_shown c.args.self.now number is g.S.Storage.number c.self.inside.settled.choices.items (g.S.Storage.number c.args.rule.0) c.from-in-Ok.result
+    c.index.result.now shown c.requires c.from-in-Ok.ensures c.index.ensures)
+
+pub returns-in-Ok-clause-answer : goal.returns-in-Ok-clause-answer
+returns-in-Ok-clause-answer g c =
+    let number = c.self.inside.settled.number in
+    let is = subst (λ (x : CostTables). IsGenerator x number) c.self.view_is c.self.invariant in
+    let shown = ap (λ (x : CostTables). x.choices) c.self.view_is in
+    let r = g.S.Storage.number c.args.rule.0 in
+    let answer = subst (λ (r : ℕ). Some c.in-Ok.field-0 ≡ cost_answer c.args.self.now r) c.from.ensures c.in-Ok.ensures.answer in
+    sym (choice_shown c.args.self.now number is g.S.Storage.number c.self.inside.settled.choices.items r c.from-in-Ok.result
+    c.index.result.now shown c.requires c.from-in-Ok.ensures c.index.ensures)
+    ∙ ap (λ o. where_some o (rule_choice c.args.self.now.choices r)) answer
+
+pub returns-in-Err-clause-none : goal.returns-in-Err-clause-none
+returns-in-Err-clause-none g c =
+    let least = subst (λ (r : ℕ). AnswersLeast (HasProduction c.args.self.now.grammar) (token_cost c.args.self.now) r (Err c.in-Err.field-0)) c.from.ensures c.in-Err.ensures.least in
+    ((λ _. refused (HasProduction c.args.self.now.grammar) (token_cost c.args.self.now) (g.S.Storage.number c.args.rule.0) c.in-Err.field-0 least), (λ _. refl))
+
+pub returns-in-Err-clause-answer : goal.returns-in-Err-clause-answer
+returns-in-Err-clause-answer g c =
+    let none = subst (λ (r : ℕ). ◌≡◌ {A = Option ℕ} None (cost_answer c.args.self.now r)) c.from.ensures c.in-Err.ensures.answer in
+    ap (λ o. where_some o (rule_choice c.args.self.now.choices (g.S.Storage.number c.args.rule.0))) none
