@@ -18,3 +18,7 @@ round_smaller size old new false again on fewer same = absurd (true≢false (sym
 -- a loop that came to its end
 pub at_end : (i n : ℕ) → i ≤ n → n ≤ i → i ≡ n
 at_end i n within past = omega (arith, within, past)
+
+-- what was paid for, twice
+pub paid_both : (w v u x y z : ℕ) → v + x ≤ w + y → u + y ≤ v + z → u + x ≤ w + z
+paid_both w v u x y z h k = omega (arith, h, k)

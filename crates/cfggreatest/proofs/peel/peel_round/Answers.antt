@@ -1,4 +1,4 @@
-use Rattle.std.proofs.Common.{◌<◌, length, subst, sym, ap, ◌∙◌, All, map, arith}
+use Rattle.std.proofs.Common.{◌<◌, [], length, subst, sym, ap, ◌∙◌, All, map, arith}
 use Rattle.cfganalysis.specs.Symbols.{sym_of}
 use Rattle.cfganalysis.specs.Openings.{nth_production}
 use Rattle.cfganalysis.proofs.Settling.{at_place, sweep_one}
@@ -33,3 +33,30 @@ loop-number-preserved g c =
     (takes_out c.args.signs.now c.args.bounded.now c.from-rule.result _ c.loop-number.further c.peel_one-changed.new.further c.peel_one-changed.result
     c.peel_one-changed.ensures grammar c.requires.content (c.loop-number.invariant.sound c.requires.peeled)
     (at_place grammar c.loop-number.number _ within owner holds))
+
+pub to_storage-requires : goal.to_storage-requires
+to_storage-requires g c =
+    let lt = c.loop-number-test.true in
+    let range = c.to_usize-prods_len.ensures.range in
+    omega (arith, lt, range)
+
+pub prod_to_rule-requires : goal.prod_to_rule-requires
+prod_to_rule-requires g c =
+    let within : c.loop-number.number < length (g.T.Tables.grammar c.args.grm.now).productions =
+    omega (arith, c.loop-number-test.true, c.to_usize-prods_len.ensures.value, c.prods_len.ensures) in
+    subst (λ n. n < length (g.T.Tables.grammar c.args.grm.now).productions) (sym c.to_storage.ensures) within
+
+pub prod-requires : goal.prod-requires
+prod-requires g c =
+    let within : c.loop-number.number < length (g.T.Tables.grammar c.args.grm.now).productions =
+    omega (arith, c.loop-number-test.true, c.to_usize-prods_len.ensures.value, c.prods_len.ensures) in
+    subst (λ n. n < length (g.T.Tables.grammar c.args.grm.now).productions) (sym c.to_storage.ensures) within
+
+pub peel_one-changed-requires-clause-rule : goal.peel_one-changed-requires-clause-rule
+peel_one-changed-requires-clause-rule g c =
+    let within : c.loop-number.number < length (g.T.Tables.grammar c.args.grm.now).productions =
+    omega (arith, c.loop-number-test.true, c.to_usize-prods_len.ensures.value, c.prods_len.ensures) in
+    let place = subst (λ n. n < length (g.T.Tables.grammar c.args.grm.now).productions) (sym c.to_storage.ensures) within in
+    let below = c.requires.content.owners (g.S.Storage.number c.to_storage.result) (record { rule = 0; symbols = [] }) place in
+    subst (λ n. c.from-rule.result < n) (sym (c.loop-number.invariant.sound c.requires.peeled).rules)
+    (subst (λ r. r < (g.T.Tables.grammar c.args.grm.now).rules) (sym (c.from-rule.ensures ∙ c.prod_to_rule.ensures)) below)
