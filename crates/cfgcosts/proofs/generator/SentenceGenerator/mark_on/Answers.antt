@@ -1,4 +1,4 @@
-use Rattle.std.proofs.Common.{◌≡◌, ◌<◌, ◌+◌, ◌-◌, ◌||◌, [], ◌∷◌, drop, length, map, sym, ap, subst, arith}
+use Rattle.std.proofs.Common.{◌≡◌, ◌<◌, ◌+◌, ◌-◌, ◌||◌, [], ◌∷◌, drop, length, map, sym, ap, subst, ◌∙◌, arith}
 use Rattle.cfgcosts.specs.Generator.{CostTables}
 use Rattle.cfgcosts.specs.Minimal.{AllNoted, KeepsMarks, MarksOn, count_unmarked, place_of}
 use Rattle.cfgcosts.proofs.Marks.{keeps_both}
@@ -35,3 +35,13 @@ loop-behind-preserved g c =
     subst (λ i. MarksOn x (drop i (map place_of tight)) old new (c.loop-behind.changed || c.mark_production-changed.result)) j
     (passes_back KeepsMarks count_unmarked (AllNoted x) place_of tight keeps_both old c.loop-behind.marks.items new _ _
     (length tight - 1 - c.loop-behind.behind) (length tight - c.loop-behind.behind) (0, 0) (omega (arith, below)) (omega (arith, below)) c.loop-behind.invariant one)
+
+pub mark_production-changed-requires-clause-rules : goal.mark_production-changed-requires-clause-rules
+mark_production-changed-requires-clause-rules g c = c.loop-behind.invariant.keeps.rules ∙ c.requires.rules
+
+pub returns : goal.returns
+returns g c =
+    let tight = c.args.tight.now in
+    let past = c.loop-behind-test.false in
+    let end : length tight - c.loop-behind.behind ≡ 0 = omega (arith, past) in
+    subst (λ k. MarksOn c.args.self.now (drop k (map place_of tight)) c.args.marks.now.items c.loop-behind.marks.items c.loop-behind.changed) end c.loop-behind.invariant
