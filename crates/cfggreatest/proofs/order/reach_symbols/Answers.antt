@@ -22,3 +22,12 @@ reach_symbol-requires-clause-group g c = subst (λ n. All (λ r. r < n) c.loop-s
 
 pub loop-symbol-preserved : goal.loop-symbol-preserved
 loop-symbol-preserved g c = subst (λ n. All (λ r. r < n) c.reach_symbol.new.group.items) c.loop-symbol.auto.taken c.in_ok-reach_symbol.ensures
+
+pub returns-then-not-are_live : goal.returns-then-not-are_live
+returns-then-not-are_live g c = c.requires.group
+
+pub loop-symbol-init : goal.loop-symbol-init
+loop-symbol-init g c = c.requires.group
+
+pub returns : goal.returns
+returns g c = c.loop-symbol.invariant
