@@ -1,4 +1,4 @@
-use Rattle.std.proofs.Common.{All, map, sym, subst, ◌∙◌}
+use Rattle.std.proofs.Common.{All, map, sym, subst, ◌∙◌, true≢false}
 use Rattle.cfgcosts.specs.Minimal.{Extends, HasAllOfMarked, IsLeastSentence, place_of, room_for_sentences}
 use Rattle.cfgcosts.proofs.Passes.{less_left}
 use Rattle.cfgcosts.proofs.Tables.{still_least}
@@ -21,3 +21,26 @@ loop-changed-preserved g c =
 
 pub returns-clause-closed : goal.returns-clause-closed
 returns-clause-closed g c = c.loop-changed.invariant.closed c.loop-changed-test.false
+
+pub loop-changed-init : goal.loop-changed-init
+loop-changed-init g c = record {
+  rules = c.in_ok-table.ensures.rules;
+  least = c.in_ok-table.ensures.least;
+  free = c.in_ok-table.ensures.free;
+  closed = λ e. absurd (true≢false e);
+}
+
+pub add_round-requires-clause-rules : goal.add_round-requires-clause-rules
+add_round-requires-clause-rules g c = c.loop-changed.invariant.rules
+
+pub add_round-requires-clause-least : goal.add_round-requires-clause-least
+add_round-requires-clause-least g c = c.loop-changed.invariant.least
+
+pub returns-clause-rules : goal.returns-clause-rules
+returns-clause-rules g c = c.loop-changed.invariant.rules
+
+pub returns-clause-least : goal.returns-clause-least
+returns-clause-least g c = c.loop-changed.invariant.least
+
+pub returns-clause-free : goal.returns-clause-free
+returns-clause-free g c = c.loop-changed.invariant.free

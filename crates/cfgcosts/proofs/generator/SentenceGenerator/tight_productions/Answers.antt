@@ -1,4 +1,4 @@
-use Rattle.std.proofs.Common.{◌≤◌, ◌+◌, length, map, sym, ap, subst, ◌∙◌, true≢false, arith}
+use Rattle.std.proofs.Common.{◌≤◌, ◌+◌, length, map, sym, ap, subst, ◌∙◌, true≢false, arith, ◌<◌}
 use Rattle.std.proofs.lemmas.List.{map-append}
 use Rattle.cfgcosts.specs.Generator.{CostTables}
 use Rattle.cfgcosts.specs.Minimal.{IsTight, place_of}
@@ -26,3 +26,20 @@ returns g c =
     let past : length x.grammar.productions ≤ c.loop-place.place = omega (arith, all, counted, value, end) in
     tight_sorted x c.loop-place.tight.items c.sort.new.self.items (all_found x (map place_of c.loop-place.tight.items) c.loop-place.place c.loop-place.invariant past)
     c.in_ok-sort.ensures.permutation
+
+pub to_storage-requires : goal.to_storage-requires
+to_storage-requires g c =
+    let lt = c.loop-place-test.true in
+    let range = c.to_usize-prods_len.ensures.range in
+    omega (arith, lt, range)
+
+pub is_tight-requires : goal.is_tight-requires
+is_tight-requires g c =
+    let all = ap (λ (x : CostTables). length x.grammar.productions) c.self.view_is in
+    subst (λ n. n < length c.args.self.now.grammar.productions) (sym c.to_storage.ensures)
+    (subst (λ n. c.loop-place.place < n) (c.to_usize-prods_len.ensures.value ∙ c.prods_len.ensures ∙ all) c.loop-place-test.true)
+
+pub prod_to_rule-requires : goal.prod_to_rule-requires
+prod_to_rule-requires g c =
+    subst (λ n. n < length (g.T.Tables.grammar c.self.inside.tables.now).productions) (sym c.to_storage.ensures)
+    (subst (λ n. c.loop-place.place < n) (c.to_usize-prods_len.ensures.value ∙ c.prods_len.ensures) c.loop-place-test.true)
