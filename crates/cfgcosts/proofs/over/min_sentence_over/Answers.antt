@@ -1,17 +1,10 @@
-use Rattle.std.proofs.Common.{◌+◌, ◌*◌, ◌≤◌, Ok, map, refl, sym, ap, subst, ◌∙◌}
-use Rattle.std.specs.Result.{result_ok}
-use Rattle.std.proofs.lemmas.List.{length-map}
+use Rattle.std.proofs.Common.{Ok, refl}
 use Rattle.derivation.specs.Grammar.{HasProduction}
-use Rattle.derivation.specs.Sentence.{cost_of}
 use Rattle.cfgcosts.specs.declared.errors.CostError.TheVariants as costs
-use Rattle.cfgcosts.specs.declared.errors.SentenceError.TheVariants.{OutOfMemory}
 use Rattle.cfgcosts.specs.Generator.{HasNone, IsTooDear, token_cost}
 use Rattle.cfgcosts.specs.Sentences.{sentence_error}
-use Rattle.cfgcosts.proofs.Refused.{memory_none, refusal, refused_dear, refused_memory, refused_none, sentence_none}
+use Rattle.cfgcosts.proofs.Refused.{refusal, refused_dear, refused_memory, refused_none, sentence_none}
 use Rattle.cfgcosts.proofs.over.min_sentence_over.Goals as goal
-
-pub walk_over-requires-clause-cost : goal.walk_over-requires-clause-cost
-walk_over-requires-clause-cost g c = (c.in_ok-min_sentence_cost.field-0, sym c.min_sentence_cost.ensures.answer ∙ ap result_ok c.in_ok-min_sentence_cost.was)
 
 pub returns-in_err-min_sentence_cost-clause-content : goal.returns-in_err-min_sentence_cost-clause-content
 returns-in_err-min_sentence_cost-clause-content g c = refl
@@ -22,27 +15,6 @@ returns-in_err-min_sentence_cost-clause-free g c = λ p within none. c.requires.
 pub returns-in_err-min_sentence_cost-clause-refused : goal.returns-in_err-min_sentence_cost-clause-refused
 returns-in_err-min_sentence_cost-clause-refused g c = λ _. refl
 
-pub returns-in_err-sentence-clause-content : goal.returns-in_err-sentence-clause-content
-returns-in_err-sentence-clause-content g c = c.in_err-sentence.ensures.content ∙ sym c.requires.same
-
-pub returns-in_err-sentence-clause-free : goal.returns-in_err-sentence-clause-free
-returns-in_err-sentence-clause-free g c = c.in_err-sentence.ensures.stopped.free
-
-pub returns-in_err-sentence-clause-cut_short : goal.returns-in_err-sentence-clause-cut_short
-returns-in_err-sentence-clause-cut_short g c = λ _. c.in_err-sentence.ensures.stopped.few
-
-pub returns-clause-minimal : goal.returns-clause-minimal
-returns-clause-minimal g c = c.in_ok-sentence.ensures.walked.minimal
-
-pub returns-clause-content : goal.returns-clause-content
-returns-clause-content g c = c.in_ok-sentence.ensures.content ∙ sym c.requires.same
-
-pub returns-clause-derived : goal.returns-clause-derived
-returns-clause-derived g c = c.in_ok-sentence.ensures.walked.derived
-
-pub returns-clause-free : goal.returns-clause-free
-returns-clause-free g c = c.in_ok-sentence.ensures.walked.free
-
 pub returns-clause-cut_short : goal.returns-clause-cut_short
 returns-clause-cut_short g c = λ e. let no = e in absurd (cc)
 
@@ -50,11 +22,6 @@ pub returns-in_err-min_sentence_cost-clause-none : goal.returns-in_err-min_sente
 returns-in_err-min_sentence_cost-clause-none g c = refused_none (HasNone (HasProduction c.args.generator.now.grammar) (g.S.Storage.number c.args.rule.0))
     c.from_residual.result c.in_err-min_sentence_cost.field-0.0 (refusal c.from_residual.result (sentence_error c.in_err-min_sentence_cost.field-0.0) c.from_residual.ensures.1)
     c.in_err-min_sentence_cost.ensures.none
-
-pub returns-in_err-sentence-clause-none : goal.returns-in_err-sentence-clause-none
-returns-in_err-sentence-clause-none g c = memory_none (HasNone (HasProduction c.args.generator.now.grammar) (g.S.Storage.number c.args.rule.0))
-    c.from_residual-in_err-sentence.result c.in_ok-min_sentence_cost.field-0 costs.NoSentence (refusal c.from_residual-in_err-sentence.result OutOfMemory c.from_residual-in_err-sentence.ensures.1)
-    c.in_ok-min_sentence_cost.ensures.none
 
 pub returns-clause-none : goal.returns-clause-none
 returns-clause-none g c = sentence_none (HasNone (HasProduction c.args.generator.now.grammar) (g.S.Storage.number c.args.rule.0))
@@ -65,11 +32,6 @@ returns-in_err-min_sentence_cost-clause-dear g c = refused_dear (IsTooDear (HasP
     c.from_residual.result c.in_err-min_sentence_cost.field-0.0 (refusal c.from_residual.result (sentence_error c.in_err-min_sentence_cost.field-0.0) c.from_residual.ensures.1)
     c.in_err-min_sentence_cost.ensures.dear
 
-pub returns-in_err-sentence-clause-dear : goal.returns-in_err-sentence-clause-dear
-returns-in_err-sentence-clause-dear g c = memory_none (IsTooDear (HasProduction c.args.generator.now.grammar) (token_cost c.args.generator.now) (g.S.Storage.number c.args.rule.0))
-    c.from_residual-in_err-sentence.result c.in_ok-min_sentence_cost.field-0 costs.CostTooLarge (refusal c.from_residual-in_err-sentence.result OutOfMemory c.from_residual-in_err-sentence.ensures.1)
-    c.in_ok-min_sentence_cost.ensures.dear
-
 pub returns-clause-dear : goal.returns-clause-dear
 returns-clause-dear g c = sentence_none (IsTooDear (HasProduction c.args.generator.now.grammar) (token_cost c.args.generator.now) (g.S.Storage.number c.args.rule.0))
     (Ok c.in_ok-sentence.sentence) c.in_ok-sentence.sentence c.in_ok-min_sentence_cost.field-0 costs.CostTooLarge refl c.in_ok-min_sentence_cost.ensures.dear
@@ -77,11 +39,3 @@ returns-clause-dear g c = sentence_none (IsTooDear (HasProduction c.args.generat
 pub returns-in_err-min_sentence_cost-clause-cut_short : goal.returns-in_err-min_sentence_cost-clause-cut_short
 returns-in_err-min_sentence_cost-clause-cut_short g c = λ e. absurd (refused_memory (Unit {0}) c.from_residual.result c.in_err-min_sentence_cost.field-0.0
     (refusal c.from_residual.result (sentence_error c.in_err-min_sentence_cost.field-0.0) c.from_residual.ensures.1) e)
-
-pub returns-clause-length : goal.returns-clause-length
-returns-clause-length g c = subst (λ n. n ≤ cost_of (token_cost c.args.generator.now) (map (λ t. g.S.Storage.number t.0) c.in_ok-sentence.sentence.items))
-    (length-map c.in_ok-sentence.sentence.items (λ t. g.S.Storage.number t.0)) c.in_ok-sentence.ensures.walked.short
-
-pub returns-clause-few : goal.returns-clause-few
-returns-clause-few g c = subst (λ n. g.P.Productions.opened_all c.walk_over.new.productions ≤ 1 + n * c.args.generator.now.grammar.rules)
-    (length-map c.in_ok-sentence.sentence.items (λ t. g.S.Storage.number t.0)) c.in_ok-sentence.ensures.walked.few
