@@ -1,6 +1,5 @@
 //! Rows as files hold them.
 
-use crate::pen;
 use std::alloc::{AllocError, Global};
 
 /// A row: what it tries, its name, and its lines, each a word and what stands behind it.
@@ -26,7 +25,7 @@ impl<'a> Row<'a> {
     pub fn write_notes(&self, out: &mut String) -> Result<(), AllocError> {
         for (word, rest) in &self.lines {
             if *word == "note" {
-                pen::line(out, "   ", *rest)?;
+                writeln!(out, "   {rest}")?;
             }
         }
         Ok(())

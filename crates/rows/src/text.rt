@@ -1,6 +1,5 @@
 //! The texts of rows.
 
-use crate::pen;
 use crate::row::{Row, number};
 use std::alloc::AllocError;
 use std::{fs, io};
@@ -29,19 +28,14 @@ pub fn of_row(rt: &HostRuntime, row: &Row<'_>) -> io::Result<String> {
 /// Adds what a line of a row spells, in which pictures stand for CR, LF and TAB.
 fn push_line(text: &mut String, line: &str) -> Result<(), AllocError> {
     for character in line.chars() {
-        pen::character(text, pictured(character))?;
+        text.push(match character {
+            '␍' => '\r',
+            '␊' => '\n',
+            '␉' => '\t',
+            other => other,
+        })?;
     }
     Ok(())
-}
-
-/// What a character of a row stands for.
-fn pictured(character: char) -> char {
-    match character {
-        '␍' => '\r',
-        '␊' => '\n',
-        '␉' => '\t',
-        other => other,
-    }
 }
 
 /// Adds a line as many times as the number in front of it says, with the turn's number for each `#`.
@@ -56,52 +50,32 @@ fn push_times(text: &mut String, line: &str) -> Result<(), AllocError> {
 /// Adds a line, with the turn's number for each `#`.
 pub fn push_turn(text: &mut String, line: &str, turn: usize) -> Result<(), AllocError> {
     for (place, part) in line.split('#').enumerate() {
-        push_part(text, part, turn, place > 0)?;
+        if place > 0 {
+            write!(text, "{turn}")?;
+        }
+        push_line(text, part)?;
     }
     Ok(())
-}
-
-/// Adds a part of a line, behind the turn's number where it isn't the first.
-fn push_part(
-    text: &mut String,
-    part: &str,
-    turn: usize,
-    is_behind: bool,
-) -> Result<(), AllocError> {
-    if is_behind {
-        pen::number(text, "", turn)?;
-    }
-    push_line(text, part)
 }
 
 /// Writes a text, each line behind a bar, with pictures for CR and TAB.
 pub fn write_text(out: &mut String, text: &str) -> Result<(), AllocError> {
     for line in text.split('\n') {
-        write_line(out, line)?;
+        out.push_str("    |")?;
+        push_pictures(out, line)?;
+        out.push('\n')?;
     }
     Ok(())
-}
-
-/// Writes a line behind a bar, with pictures for CR and TAB.
-fn write_line(out: &mut String, line: &str) -> Result<(), AllocError> {
-    pen::text(out, "    |")?;
-    push_pictures(out, line)?;
-    pen::end_line(out)
 }
 
 /// Adds a text with pictures for CR and TAB.
 pub fn push_pictures(out: &mut String, text: &str) -> Result<(), AllocError> {
     for character in text.chars() {
-        pen::character(out, picture(character))?;
+        out.push(match character {
+            '\r' => '␍',
+            '\t' => '␉',
+            other => other,
+        })?;
     }
     Ok(())
-}
-
-/// The character that stands for another: a picture for CR and for TAB.
-fn picture(character: char) -> char {
-    match character {
-        '\r' => '␍',
-        '\t' => '␉',
-        other => other,
-    }
 }
