@@ -32,7 +32,7 @@ pub fn action_kinds_are_told_apart()
     ensures cloned { (a : YaccOriginalActionKind) → ⟦<YaccOriginalActionKind as Clone>⟧.is_infallible a }
 {}
 
-/// The value that a kind is put into names that kind, wherever its parts stand.
+/// The value that a kind is put into names that kind.
 pub fn kinds_come_back()
     ensures { (kind : YaccKind) (value : ShownValue Location) → map_value location_view value ≡ value_of_kind kind
         → kind_of_value value ≡ Ok kind }
