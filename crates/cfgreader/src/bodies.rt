@@ -14,7 +14,7 @@ use cfgwords::words::Token;
 use std::alloc::{AllocError, Global};
 
 /// A part of a production.
-#[derive(Clone, Copy, Debug)]
+#[derive(Clone, Copy)]
 pub(super) enum Part<'a> {
     /// A symbol.
     Symbol(Token<'a>),

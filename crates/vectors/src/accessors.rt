@@ -3,9 +3,9 @@
 
 ghost use Rattle.std.specs.Prelude.{◌<◌, length};
 
-use crate::pen;
 use cfgrammar::yacc::{Precedence, YaccGrammar};
 use cfgrammar::{PIdx, RIdx, Span, TIdx};
+use held::pen;
 use std::alloc::AllocError;
 use trees::said::write_precedence;
 

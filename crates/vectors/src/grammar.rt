@@ -1,8 +1,9 @@
 //! Rows on the texts of grammars.
 
-use crate::{accessors, firsts, openings, paths, pen, starts, tables};
+use crate::{accessors, openings, paths, starts, tables};
 use cfgrammar::yacc::ast::ASTWithValidityInfo;
 use cfgrammar::yacc::{YaccFault, YaccGrammar, YaccGrammarError, YaccGrammarResult, YaccKind};
+use held::{firsts, pen};
 use rows::row::{Row, numbers};
 use rows::text;
 use std::alloc::{AllocError, Global};

@@ -2,13 +2,9 @@
 #![tactic(auto)]
 
 mod accessors;
-mod firsts;
-mod follows;
 mod grammar;
-mod held;
 mod openings;
 mod paths;
-mod pen;
 mod starts;
 mod tables;
 

@@ -2,9 +2,9 @@
 
 ghost use Rattle.std.specs.Prelude.{◌<◌, length};
 
-use crate::pen;
 use cfgrammar::RIdx;
 use cfgrammar::yacc::YaccGrammar;
+use held::pen;
 use std::alloc::{AllocError, Global};
 
 /// Writes for each rule the rules to which it leads.

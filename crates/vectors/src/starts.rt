@@ -1,9 +1,10 @@
 //! Another start of a syntax.
 
 use crate::grammar::write_parsed;
-use crate::{pen, tables};
+use crate::tables;
 use cfgrammar::Span;
 use cfgrammar::yacc::ast::{ASTWithValidityInfo, Rule, StartFault};
+use held::pen;
 use rows::row::{Row, number, words};
 use std::alloc::{AllocError, Global};
 

@@ -1,11 +1,11 @@
 //! The tables of a grammar at every index type, and of a syntax.
 
-use crate::held::{write_grammar, write_lengths};
-use crate::{firsts, follows, pen};
 use cfgrammar::Storage;
 use cfgrammar::yacc::YaccGrammar;
 use cfgrammar::yacc::ast::ASTWithValidityInfo;
 use cfgrammar::yacc::parser::{YaccFault, YaccGrammarError, YaccGrammarResult};
+use held::tables::{write_grammar, write_lengths};
+use held::{firsts, follows, pen};
 use std::alloc::{AllocError, Global};
 use trees::errors::write_error_lines;
 

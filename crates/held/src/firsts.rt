@@ -9,7 +9,7 @@ use cfgrammar::{RIdx, Storage, TIdx, Vob};
 use std::alloc::{AllocError, Global};
 
 /// Writes the FIRST sets of a grammar.
-pub(crate) fn write_firsts<S: Storage>(
+pub fn write_firsts<S: Storage>(
     out: &mut String,
     alloc: Global,
     grammar: &YaccGrammar<S>,
@@ -19,7 +19,7 @@ pub(crate) fn write_firsts<S: Storage>(
 }
 
 /// Writes how many tokens the FIRST sets of a grammar have, all together, and how many rules are empty.
-pub(crate) fn write_lengths<S: Storage>(
+pub fn write_lengths<S: Storage>(
     out: &mut String,
     alloc: Global,
     grammar: &YaccGrammar<S>,
@@ -97,7 +97,7 @@ fn write_tokens<S: Storage>(
 }
 
 /// Writes a token's index where the token is in a set, and whether the set's list of bits says otherwise.
-pub(crate) fn write_bit<S: Storage>(
+pub fn write_bit<S: Storage>(
     out: &mut String,
     tidx: TIdx<S>,
     is_set: bool,
@@ -111,7 +111,7 @@ pub(crate) fn write_bit<S: Storage>(
 }
 
 /// Sets one bit of the FIRST sets of a grammar twice, and writes whether it was set before, and the sets.
-pub(crate) fn write_set(
+pub fn write_set(
     out: &mut String,
     alloc: Global,
     grammar: &YaccGrammar<u32>,

@@ -10,7 +10,7 @@ use cfgrammar::{RIdx, Storage};
 use std::alloc::{AllocError, Global};
 
 /// Writes each rule's FOLLOW set: the tokens by their indices, and where the two accessors differ.
-pub(crate) fn write_follows<S: Storage>(
+pub fn write_follows<S: Storage>(
     out: &mut String,
     alloc: Global,
     grammar: &YaccGrammar<S>,
@@ -63,7 +63,7 @@ fn write_tokens<S: Storage>(
 }
 
 /// Writes how many tokens the FOLLOW sets of a grammar have, all together.
-pub(crate) fn write_lengths<S: Storage>(
+pub fn write_lengths<S: Storage>(
     out: &mut String,
     alloc: Global,
     grammar: &YaccGrammar<S>,

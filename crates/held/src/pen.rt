@@ -1,20 +1,16 @@
 //! Pieces of what is written: those of `rows::pen`, and indices.
 
 use cfgrammar::{PIdx, RIdx, Storage, TIdx};
-pub(crate) use rows::pen::{end_line, flag, line, name, number, numbers, span, text, text_if};
+pub use rows::pen::{end_line, flag, line, name, number, numbers, span, text, text_if};
 use std::alloc::AllocError;
 
 /// Writes a text and a rule's number.
-pub(crate) fn rule<S: Storage>(
-    out: &mut String,
-    before: &str,
-    ridx: RIdx<S>,
-) -> Result<(), AllocError> {
+pub fn rule<S: Storage>(out: &mut String, before: &str, ridx: RIdx<S>) -> Result<(), AllocError> {
     number(out, before, usize::from(ridx))
 }
 
 /// Writes a text and a production's number.
-pub(crate) fn production<S: Storage>(
+pub fn production<S: Storage>(
     out: &mut String,
     before: &str,
     pidx: PIdx<S>,
@@ -23,10 +19,6 @@ pub(crate) fn production<S: Storage>(
 }
 
 /// Writes a text and a token's number.
-pub(crate) fn token<S: Storage>(
-    out: &mut String,
-    before: &str,
-    tidx: TIdx<S>,
-) -> Result<(), AllocError> {
+pub fn token<S: Storage>(out: &mut String, before: &str, tidx: TIdx<S>) -> Result<(), AllocError> {
     number(out, before, usize::from(tidx))
 }

@@ -12,7 +12,7 @@ use std::alloc::{AllocError, Global};
 use trees::said::{write_precedence, write_settings};
 
 /// Writes all that a grammar holds.
-pub(crate) fn write_grammar<S: Storage>(
+pub fn write_grammar<S: Storage>(
     out: &mut String,
     alloc: Global,
     grammar: &YaccGrammar<S>,
@@ -29,7 +29,7 @@ pub(crate) fn write_grammar<S: Storage>(
 
 /// Writes how many rules, productions and tokens there are, which of them are the start's and the end's, and what is
 /// said of the grammar as a whole.
-pub(crate) fn write_lengths<S: Storage>(
+pub fn write_lengths<S: Storage>(
     out: &mut String,
     grammar: &YaccGrammar<S>,
 ) -> Result<(), AllocError> {
