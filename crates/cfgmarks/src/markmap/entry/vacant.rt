@@ -20,8 +20,8 @@ impl<'a, K: Ord + Clone, V: Drop> VacantEntry<'a, K, V> {
         &self.key
     }
 
-    /// Gives the key the value, and lends it. Only a key without an entry can be refused, for want of memory: key and
-    /// value then come back. A clone of such a key finds the entry again.
+    /// Gives the key the value, and lends it. Only a key without an entry can be refused, for want of memory or where a
+    /// clone of it isn't equal to it: key and value then come back. A clone of such a key finds the entry again.
     pub fn insert(self, value: V) -> Result<&'a mut V, (K, V)>
         ensures* writes_back { sem 𝓛 (lends_value K.row V.row K.Ord self.entry result) }
         ensures value { IfOk result (λ lent. lent.now ≡ value) }
@@ -40,7 +40,8 @@ impl<'a, K: Ord + Clone, V: Drop> VacantEntry<'a, K, V> {
     }
 
     /// Gives the key the value, and answers the occupied entry. Only a key without an entry can be refused, for want
-    /// of memory: key and value then come back. A clone of such a key finds the entry again.
+    /// of memory or where a clone of it isn't equal to it: key and value then come back. A clone of such a key finds
+    /// the entry again.
     pub fn insert_entry(self, value: V) -> Result<OccupiedEntry<'a, K, V>, (K, V)>
         ensures* rests { sem 𝓛 (rests_if_refused K.row V.row K.Ord self.entry result) }
         ensures map { IfOk result (λ e. occupied_map e
