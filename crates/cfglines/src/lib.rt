@@ -2,5 +2,7 @@
 #![tactic(auto)]
 
 pub mod newlinecache;
+pub mod places;
 
 pub use newlinecache::{FeedError, NewlineCache};
+pub use places::Places;
