@@ -10,18 +10,10 @@ use Rattle.std.specs.Str.{IsCharBoundary, IsUtf8}
 use Rattle.cfgbase.specs.declared.span.Span.{Span}
 use Rattle.cfglines.specs.Lines.{character_count, column, ends_crlf, is_newline, line_end, line_front, line_start}
 use Rattle.cfglines.proofs.LineEnds.{is_other, line_start-suffix_len, line_start-le, line_end-position}
+use Rattle.cfglines.proofs.LineFronts.{line_begins, line_front_is}
 use Rattle.cfgrender.specs.Render.{carets, shown_end, shown_front, shown_span, under_front}
 use Rattle.cfgrender.proofs.Carets.{front_columns, span_columns}
-use Rattle.cfgrender.proofs.ShownLines.{line_begins, line_end_bounds, shown_line_ends, crlf_bytes}
-
--- the front of a place's line goes from the line's start up to the place
-line_front_is : (text : List ℕ) (b : ℕ) → b ≤ length text → line_front text b ≡ slice_range text (line_start text b) b
-unfolding line_front
-line_front_is text b within =
-    let start = line_start-le text b in
-    ap (λ n. drop n (take b text)) (sym (line_start-suffix_len text b))
-    ∙ (ap (λ n. drop (line_start text b) (take n text)) (omega arith)
-    ∙ drop-take (line_start text b) (b - line_start text b) text)
+use Rattle.cfgrender.proofs.ShownLines.{line_end_bounds, shown_line_ends, crlf_bytes}
 
 -- so many columns stand before what follows it
 before : (text : List ℕ) (b : ℕ) → IsUtf8 text → IsCharBoundary text b
