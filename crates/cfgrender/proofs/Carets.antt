@@ -1,9 +1,7 @@
 -- As many columns stand under a piece of a text as it has characters.
-use Rattle.std.proofs.Common.{◌≡◌, ℕ, ◌+◌, ◌/◌, ◌==◌, ◌<◌, ◌≤◌, Bool, true, false, if◌then◌else◌, cond, ltb, ltb-true, List, [], ◌∷◌, length, length-append, count_by, chars, sym, ap, ◌∙◌, refl, arith}
-use Rattle.std.proofs.Math.Utf8.{encode, encodes, next}
-use Rattle.std.proofs.lemmas.Bool.{cond_both, le-leb, le-ltb, lt-ltb, lt-leb, eqb-true, or_left, or_right, or_from}
-use Rattle.std.proofs.lemmas.List.Sums.{sum_by-append, sum_by-cons}
-use Rattle.std.proofs.lemmas.Str.{encodes-chars}
+use Rattle.std.proofs.Common.{◌≡◌, ℕ, ◌==◌, Bool, true, false, if◌then◌else◌, cond, List, [], ◌∷◌, length, length-append, count_by, chars, ◌∙◌, refl, arith}
+use Rattle.std.proofs.lemmas.Bool.{cond_both, eqb-true}
+use Rattle.std.proofs.lemmas.List.Sums.{sum_by-cons}
 use Rattle.std.specs.List.{flat_map}
 use Rattle.std.specs.Str.{IsUtf8}
 use Rattle.cfglines.specs.Characters.{begins_character}

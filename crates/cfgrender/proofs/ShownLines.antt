@@ -1,13 +1,12 @@
 -- A line, as it is shown, is a piece of its text.
-use Rattle.std.proofs.Common.{◌≡◌, ℕ, ◌-◌, ◌<◌, ◌≤◌, Bool, true, false, if◌then◌else◌, List, length, take, drop, get_or, get_or-drop, length-take, length-drop, reverse, ⊎_elim, subst, ◌∙◌, ap, sym, refl, arith}
-use Rattle.std.proofs.lemmas.Bool.{cases_lt, and_parts, eqb-true, ltb-true, not-false}
-use Rattle.std.proofs.lemmas.List.{get_or-reverse, get_or-take, length-reverse}
-use Rattle.std.proofs.lemmas.List.Sums.{prefix_len_stops, passes_at_first, prefix_len-le-length}
-use Rattle.std.proofs.lemmas.Str.{IsCharBoundary-start, IsCharBoundary-end, IsCharBoundary-before_ascii, IsCharBoundary-after_ascii}
-use Rattle.std.specs.List.{suffix_len, position_or_len}
-use Rattle.std.specs.Str.{IsCharBoundary, IsUtf8}
+use Rattle.std.proofs.Common.{◌≡◌, ℕ, ◌-◌, ◌<◌, ◌≤◌, Bool, true, false, if◌then◌else◌, List, length, drop, get_or, get_or-drop, length-take, length-drop, ⊎_elim, subst, ◌∙◌, ap, sym, refl, arith}
+use Rattle.std.proofs.lemmas.Bool.{cases_lt, and_parts, eqb-true, ltb-true}
+use Rattle.std.proofs.lemmas.List.Sums.{passes_at_first, prefix_len-le-length}
+use Rattle.std.proofs.lemmas.Str.{IsCharBoundary-end, IsCharBoundary-before_ascii}
+use Rattle.std.specs.List.{position_or_len}
+use Rattle.std.specs.Str.{IsCharBoundary}
 use Rattle.cfglines.specs.Lines.{is_newline, ends_crlf, line_start, line_end}
-use Rattle.cfglines.proofs.LineEnds.{is_other, line_start-suffix_len, line_start-le, line_end-position}
+use Rattle.cfglines.proofs.LineEnds.{is_other, line_start-le, line_end-position}
 use Rattle.cfglines.proofs.LineFronts.{before_line_start}
 use Rattle.cfgrender.specs.Render.{shown_end}
 
