@@ -66,8 +66,8 @@ impl<'a> Places<'a> {
         self.text
     }
 
-    /// The number of the byte's line, and the byte's column in characters, both from 1. There is none inside a character
-    /// or past the text's end.
+    /// The number of the byte's line, and the byte's column in characters, both from 1. There is none inside a
+    /// character, or past the text's end.
     pub fn line_and_column(&self, byte: usize) -> Option<(usize, usize)>
         ensures { SomeIff result (IsCharBoundary self.now byte) (line_number self.now byte, column self.now byte) }
     {
@@ -99,7 +99,8 @@ impl<'a> Places<'a> {
         }
     }
 
-    /// How many characters the byte's line has up to and with the one that the byte begins. The text's end counts as one.
+    /// How many characters the byte's line has up to and with the one that the byte begins. The text's end counts as
+    /// one.
     fn character_count(&self, byte: usize) -> usize
         requires { IsCharBoundary self.now byte }
         ensures { result ≡ character_count self.now byte }
