@@ -1,4 +1,4 @@
-//! Lines and columns of a text that is fed in pieces.
+//! Lines and columns of a text, which is fed in pieces or whole.
 #![tactic(auto)]
 
 pub mod newlinecache;
