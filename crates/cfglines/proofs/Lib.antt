@@ -2,3 +2,6 @@ pub mod Newlines
 pub mod LineEnds
 pub mod LastLine
 pub mod Pieces
+pub mod Characters
+pub mod LineFronts
+pub mod Counts

@@ -1,2 +1,3 @@
+pub mod Characters
 pub mod FeedTexts
 pub mod Lines

@@ -180,7 +180,7 @@ impl NewlineCache {
     }
 
     /// The start of the byte's line, or of the last line past the text's end.
-    fn line_start(&self, byte: usize) -> usize
+    pub(crate) fn line_start(&self, byte: usize) -> usize
         ensures { (text : List ℕ) → StandsFor self.now text → result ≡ line_start text byte }
     {
         match self.newlines_before(byte).checked_sub(1) {
@@ -234,7 +234,7 @@ fn character_count(text: &str, byte: usize) -> usize
 }
 
 /// Whether the byte is a LF right after a CR.
-fn ends_crlf(text: &[u8], byte: usize) -> bool
+pub(crate) fn ends_crlf(text: &[u8], byte: usize) -> bool
     ensures { result ≡ ends_crlf text.now byte }
 {
     byte > 0 && text.get(byte) == Some(&b'\n') && text.get(byte - 1) == Some(&b'\r')

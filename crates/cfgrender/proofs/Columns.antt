@@ -2,26 +2,17 @@
 use Rattle.std.proofs.Common.{◌≡◌, ℕ, ◌+◌, ◌-◌, ◌<◌, ◌≤◌, Bool, true, false, if◌then◌else◌, List, [], ◌∷◌, length, take, drop, min, max, get_or, get_or-drop, length-take, chars, ⊎_elim, subst, refl, ◌∙◌, ap, sym, arith}
 use Rattle.std.proofs.Math.Utf8.{encodes}
 use Rattle.std.proofs.lemmas.Bool.{cases_eq, cases_lt}
-use Rattle.std.proofs.lemmas.List.{drop-take}
 use Rattle.std.proofs.lemmas.List.Sums.{position_or_len_is, suffix_len-take_yes, suffix_len-le-length}
 use Rattle.std.proofs.lemmas.Str.{IsCharBoundary-before_ascii, IsUtf8-between, IsUtf8-nil, chars-nil, encodes-chars}
 use Rattle.std.specs.List.{flat_map, slice_range, position_or_len, suffix_len}
 use Rattle.std.specs.Str.{IsCharBoundary, IsUtf8}
 use Rattle.cfgbase.specs.declared.span.Span.{Span}
-use Rattle.cfglines.specs.Lines.{character_count, column, ends_crlf, is_newline, line_end, line_front, line_start}
+use Rattle.cfglines.specs.Lines.{character_count, column, ends_crlf, is_newline, line_end, line_start}
 use Rattle.cfglines.proofs.LineEnds.{is_other, line_start-suffix_len, line_start-le, line_end-position}
+use Rattle.cfglines.proofs.LineFronts.{line_begins, line_front_is}
 use Rattle.cfgrender.specs.Render.{carets, shown_end, shown_front, shown_span, under_front}
 use Rattle.cfgrender.proofs.Carets.{front_columns, span_columns}
-use Rattle.cfgrender.proofs.ShownLines.{line_begins, line_end_bounds, shown_line_ends, crlf_bytes}
-
--- the front of a place's line goes from the line's start up to the place
-line_front_is : (text : List ℕ) (b : ℕ) → b ≤ length text → line_front text b ≡ slice_range text (line_start text b) b
-unfolding line_front
-line_front_is text b within =
-    let start = line_start-le text b in
-    ap (λ n. drop n (take b text)) (sym (line_start-suffix_len text b))
-    ∙ (ap (λ n. drop (line_start text b) (take n text)) (omega arith)
-    ∙ drop-take (line_start text b) (b - line_start text b) text)
+use Rattle.cfgrender.proofs.ShownLines.{line_end_bounds, shown_line_ends, crlf_bytes}
 
 -- so many columns stand before what follows it
 before : (text : List ℕ) (b : ℕ) → IsUtf8 text → IsCharBoundary text b

@@ -1,31 +1,14 @@
 -- A line, as it is shown, is a piece of its text.
-use Rattle.std.proofs.Common.{◌≡◌, ℕ, ◌-◌, ◌<◌, ◌≤◌, Bool, true, false, if◌then◌else◌, List, length, take, drop, get_or, get_or-drop, length-take, length-drop, reverse, ⊎_elim, subst, ◌∙◌, ap, sym, refl, arith}
-use Rattle.std.proofs.lemmas.Bool.{cases_lt, and_parts, eqb-true, ltb-true, not-false}
-use Rattle.std.proofs.lemmas.List.{get_or-reverse, get_or-take, length-reverse}
-use Rattle.std.proofs.lemmas.List.Sums.{prefix_len_stops, passes_at_first, prefix_len-le-length}
-use Rattle.std.proofs.lemmas.Str.{IsCharBoundary-start, IsCharBoundary-end, IsCharBoundary-before_ascii, IsCharBoundary-after_ascii}
-use Rattle.std.specs.List.{suffix_len, position_or_len}
-use Rattle.std.specs.Str.{IsCharBoundary, IsUtf8}
+use Rattle.std.proofs.Common.{◌≡◌, ℕ, ◌-◌, ◌<◌, ◌≤◌, Bool, true, false, if◌then◌else◌, List, length, drop, get_or, get_or-drop, length-take, length-drop, ⊎_elim, subst, ◌∙◌, ap, sym, refl, arith}
+use Rattle.std.proofs.lemmas.Bool.{cases_lt, and_parts, eqb-true, ltb-true}
+use Rattle.std.proofs.lemmas.List.Sums.{passes_at_first, prefix_len-le-length}
+use Rattle.std.proofs.lemmas.Str.{IsCharBoundary-end, IsCharBoundary-before_ascii}
+use Rattle.std.specs.List.{position_or_len}
+use Rattle.std.specs.Str.{IsCharBoundary}
 use Rattle.cfglines.specs.Lines.{is_newline, ends_crlf, line_start, line_end}
-use Rattle.cfglines.proofs.LineEnds.{is_other, line_start-suffix_len, line_start-le, line_end-position}
+use Rattle.cfglines.proofs.LineEnds.{is_other, line_start-le, line_end-position}
+use Rattle.cfglines.proofs.LineFronts.{before_line_start}
 use Rattle.cfgrender.specs.Render.{shown_end}
-
--- a LF stands right before a line that isn't the first
-before_line_start : (text : List ℕ) (b : ℕ) → 0 < line_start text b → get_or text (line_start text b - 1) 0 ≡ 10
-before_line_start text b behind =
-    let front = take b text in
-    let n = suffix_len is_other front in
-    let start = line_start-suffix_len text b in
-    let short : n < length (reverse front) = omega (arith, length-reverse front) in
-    let stop : is_other (get_or (reverse front) n 0) ≡ false = prefix_len_stops is_other (reverse front) 0 short in
-    let place : get_or (reverse front) n 0 ≡ get_or text (line_start text b - 1) 0 =
-    get_or-reverse front n 0 (omega (arith, length-reverse front))
-    ∙ (ap (λ i. get_or front i 0) (omega arith)
-    ∙ get_or-take b text (line_start text b - 1) 0 (omega (arith, line_start-le text b))) in
-    sym place ∙ newline _ stop
-  where
-    newline : (byte : ℕ) → is_other byte ≡ false → byte ≡ 10
-    newline byte h = eqb-true byte 10 (not-false _ h)
 
 -- a line ends in the text, and not before the place
 pub line_end_bounds : (text : List ℕ) (b : ℕ) → b ≤ length text
@@ -56,16 +39,6 @@ crlf_bytes text b h =
     let (some, bytes) = and_parts _ _ h in
     let (newline, return) = and_parts _ _ bytes in
     (ltb-true 0 b some, eqb-true _ 10 newline, eqb-true _ 13 return)
-
-pub line_begins : (text : List ℕ) (b : ℕ) → IsUtf8 text → b ≤ length text → IsCharBoundary text (line_start text b)
-line_begins text b utf8 within =
-    let start = line_start-le text b in
-    ⊎_elim
-    (λ behind. let newline = before_line_start text b behind in
-    let boundary = IsCharBoundary-after_ascii text (line_start text b - 1) utf8 (omega arith) (omega arith) in
-    subst (IsCharBoundary text) (omega arith) boundary)
-    (λ first. subst (IsCharBoundary text) (omega arith) (IsCharBoundary-start text utf8))
-    (cases_lt 0 (line_start text b))
 
 whole_line_ends : (text : List ℕ) (b : ℕ) → b ≤ length text → IsCharBoundary text (line_end text b)
 whole_line_ends text b within =

@@ -1,15 +1,12 @@
 -- What a person reads of an error: where it is and what it says, the line of the text, and carets under the span.
-use Rattle.std.specs.Prelude.{ℕ, ◌-◌, Bool, ◌&&◌, ◌||◌, ◌==◌, nat_lt, nat_le, if◌then◌else◌, List, [], ◌∷◌, ◌++◌, length, slice_index, min, codes}
+use Rattle.std.specs.Prelude.{ℕ, ◌-◌, Bool, ◌&&◌, ◌==◌, nat_le, if◌then◌else◌, List, [], ◌∷◌, ◌++◌, length, slice_index, min, codes}
 use Rattle.std.specs.List.{flat_map, slice_range}
 use Rattle.std.specs.Fmt.{decimal}
 use Rattle.cfgbase.specs.declared.span.Span.{Span}
 use Rattle.cfgbase.specs.declared.span.SpansKind.{SpansKind}
 use Rattle.cfgbase.specs.declared.span.SpansKind.TheVariants.{DuplicationError, Error}
+use Rattle.cfglines.specs.Characters.{begins_character}
 use Rattle.cfglines.specs.Lines.{ends_crlf, line_number, line_start, line_end, column}
-
--- whether a byte begins a character: the others of a character, in UTF-8, are those from 128 up to 191
-abbrev pub begins_character : ℕ → Bool
-begins_character byte = nat_lt byte 128 || nat_le 192 byte
 
 -- whether b is a place of the text: a character begins there, or the text ends
 abbrev pub is_place : List ℕ → ℕ → Bool

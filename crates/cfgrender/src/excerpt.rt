@@ -4,27 +4,27 @@ ghost use Rattle.std.specs.Prelude.{◌≡◌, ◌-◌, ◌++◌, ◌≤◌, if�
 ghost use Rattle.std.specs.Prelude.{string_bytes};
 ghost use Rattle.std.specs.List.{flat_map, slice_range};
 ghost use Rattle.std.specs.Str.{IsCharBoundary};
-ghost use Rattle.cfglines.specs.Lines.{StandsFor, ends_crlf, line_start};
-ghost use Rattle.cfgrender.specs.Render.{begins_character, carets, excerpt, shown_end, under_front, under_span};
+ghost use Rattle.cfglines.specs.Lines.{ends_crlf, line_start};
+ghost use Rattle.cfgrender.specs.Render.{carets, excerpt, shown_end, under_front, under_span};
 
 use cfgbase::Span;
-use cfglines::NewlineCache;
+use cfglines::Places;
+use cfglines::places::begins_character;
 use std::alloc::AllocError;
 
 /// Writes the line where a span starts, and the carets below it.
 #[tactic(auto, unfolding(crate::specs::Render::excerpt))]
 pub(crate) fn push_excerpt(
     out: &mut String,
-    lines: &NewlineCache,
-    text: &str,
+    places: &Places<'_>,
     span: Span,
 ) -> Result<(), AllocError>
-    requires cached { StandsFor lines.now text.now }
-    requires placed { IsCharBoundary text.now span.start }
-    ensures { OnOk result (string_bytes out.new ≡ string_bytes out.old ++ excerpt text.now span) }
+    requires { IsCharBoundary places.now span.start }
+    ensures { OnOk result (string_bytes out.new ≡ string_bytes out.old ++ excerpt places.now span) }
 {
+    let text = places.text();
     let at = span.start();
-    let (start, end) = shown_line(lines, text, at);
+    let (start, end) = shown_line(places, at);
     let bytes = text.as_bytes();
     out.push_str(&text[start..end])?;
     out.push_str("\n")?;
@@ -34,17 +34,16 @@ pub(crate) fn push_excerpt(
 }
 
 /// Where the line of a place starts, and where the part of it that is shown ends.
-fn shown_line(lines: &NewlineCache, text: &str, at: usize) -> (usize, usize)
-    requires cached { StandsFor lines.now text.now }
-    requires placed { at ≤ length text.now }
-    ensures value { result ≡ (line_start text.now at, shown_end text.now at) }
+fn shown_line(places: &Places<'_>, at: usize) -> (usize, usize)
+    requires { at ≤ length places.now }
+    ensures value { result ≡ (line_start places.now at, shown_end places.now at) }
     ensures ordered { result.0 ≤ result.1 }
-    ensures begins { IsCharBoundary text.now result.0 }
-    ensures ends { IsCharBoundary text.now result.1 }
+    ensures begins { IsCharBoundary places.now result.0 }
+    ensures ends { IsCharBoundary places.now result.1 }
     ensures before { result.0 ≤ at }
 {
-    let (start, end) = lines.span_line_bytes(Span::new(at, at));
-    (start, without_line_end(text.as_bytes(), end))
+    let (start, end) = places.span_line_bytes(Span::new(at, at));
+    (start, without_line_end(places.text().as_bytes(), end))
 }
 
 /// The place before a CR, where the line that ends at `end` ends in one and a LF.
@@ -113,11 +112,4 @@ fn under_span(byte: u8) -> &'static str
     ensures { result.now ≡ under_span byte }
 {
     if begins_character(byte) { "^" } else { "" }
-}
-
-/// Whether the byte begins a character.
-fn begins_character(byte: u8) -> bool
-    ensures { result ≡ begins_character byte }
-{
-    byte < 0x80 || byte >= 0xc0
 }

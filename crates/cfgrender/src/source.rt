@@ -2,34 +2,28 @@
 
 ghost use Rattle.std.specs.Prelude.{◌≡◌, ◌++◌, codes, string_bytes, IfOk, OnOk};
 ghost use Rattle.std.specs.List.{flat_map};
-ghost use Rattle.cfglines.specs.Lines.{StandsFor};
 ghost use Rattle.cfgrender.specs.Render.{rendered, told, told_also};
 
 use crate::excerpt::push_excerpt;
 use cfgbase::{Span, SpansKind};
-use cfglines::{FeedError, NewlineCache};
+use cfglines::Places;
 use std::alloc::{AllocError, Global};
 
-/// A text with its name and its newlines.
+/// A text with its name and its places.
 #[derive(Drop)]
 pub(crate) struct Source<'a> {
     name: &'a str,
-    text: &'a str,
-    lines: NewlineCache,
-    ghost cached: { StandsFor lines text.now },
+    places: Places<'a>,
 }
 
 impl<'a> Source<'a> {
     /// A text of this name.
     pub(crate) fn new(alloc: Global, name: &'a str, text: &'a str) -> Result<Source<'a>, AllocError>
         ensures name { IfOk result (λ source. source.name.now ≡ name.entry.now) }
-        ensures text { IfOk result (λ source. source.text.now ≡ text.entry.now) }
+        ensures text { IfOk result (λ source. source.places ≡ text.entry.now) }
     {
-        match NewlineCache::from_str(alloc, text) {
-            Ok(lines) => Ok(Source { name, text, lines }),
-            Err(FeedError::OutOfMemory) => Err(AllocError),
-            Err(FeedError::TooLong) => unreachable!(),
-        }
+        let places = Places::new(alloc, text)?;
+        Ok(Source { name, places })
     }
 
     /// Writes what is read of an error or a warning with this message, these spans and this kind.
@@ -41,7 +35,7 @@ impl<'a> Source<'a> {
         kind: SpansKind,
     ) -> Result<(), AllocError>
         ensures { OnOk result (string_bytes out.new ≡ string_bytes out.old
-            ++ rendered self.now.name.now self.now.text.now message.now spans.now kind) }
+            ++ rendered self.now.name.now self.now.places message.now spans.now kind) }
     {
         let [first, others @ ..] = spans else {
             let name = self.name;
@@ -59,7 +53,7 @@ impl<'a> Source<'a> {
         spans: &[Span],
     ) -> Result<(), AllocError>
         ensures { OnOk result (string_bytes out.new
-            ≡ string_bytes out.old ++ told_also kind self.now.name.now self.now.text.now spans.now) }
+            ≡ string_bytes out.old ++ told_also kind self.now.name.now self.now.places spans.now) }
     {
         match kind {
             SpansKind::DuplicationError => self.push_each(out, spans),
@@ -71,7 +65,7 @@ impl<'a> Source<'a> {
     fn push_each(&self, out: &mut String, spans: &[Span]) -> Result<(), AllocError>
         ensures { OnOk result (string_bytes out.new
             ≡ string_bytes out.old
-            ++ flat_map (told self.now.name.now self.now.text.now (codes "also here")) spans.now) }
+            ++ flat_map (told self.now.name.now self.now.places (codes "also here")) spans.now) }
     {
         for span in spans {
             self.push_told(out, "also here", *span)?;
@@ -82,13 +76,13 @@ impl<'a> Source<'a> {
     /// Writes where a span starts, these words, and the excerpt.
     fn push_told(&self, out: &mut String, words: &str, span: Span) -> Result<(), AllocError>
         ensures { OnOk result (string_bytes out.new
-            ≡ string_bytes out.old ++ told self.now.name.now self.now.text.now words.now span) }
+            ≡ string_bytes out.old ++ told self.now.name.now self.now.places words.now span) }
     {
-        let Source { name, text, lines } = self;
-        match lines.byte_to_line_num_and_col_num(text, span.start()) {
+        let Source { name, places } = self;
+        match places.line_and_column(span.start()) {
             Some((line, column)) => {
                 writeln!(out, "{name}:{line}:{column}: {words}")?;
-                push_excerpt(out, lines, text, span)
+                push_excerpt(out, places, span)
             }
             None => writeln!(out, "{name}: {words}"),
         }

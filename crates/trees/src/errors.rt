@@ -1,9 +1,7 @@
 //! Errors of a text, line by line.
 
-ghost use Rattle.cfglines.specs.Lines.{StandsFor};
-
 use cfgbase::{Span, Spanned};
-use cfglines::{FeedError, NewlineCache};
+use cfglines::Places;
 use cfgsyntax::yacc::YaccGrammarError;
 use rows::pen;
 use std::alloc::{AllocError, Global};
@@ -30,40 +28,22 @@ pub fn write_error_lines(
     text: &str,
     errors: &[YaccGrammarError],
 ) -> Result<(), AllocError> {
-    match NewlineCache::from_str(alloc, text) {
-        Ok(cache) => write_placed(out, &cache, text, errors),
-        Err(FeedError::OutOfMemory) => Err(AllocError),
-        Err(FeedError::TooLong) => pen::text(out, "    too long\n"),
-    }
-}
-
-/// Writes a line for each error, with its place in the text.
-fn write_placed(
-    out: &mut String,
-    cache: &NewlineCache,
-    text: &str,
-    errors: &[YaccGrammarError],
-) -> Result<(), AllocError>
-    requires { StandsFor cache.now text.now }
-{
+    let places = Places::new(alloc, text)?;
     for error in errors {
-        write_error(out, cache, text, error)?;
+        write_error(out, &places, error)?;
     }
     Ok(())
 }
 
 fn write_error(
     out: &mut String,
-    cache: &NewlineCache,
-    text: &str,
+    places: &Places<'_>,
     error: &YaccGrammarError,
-) -> Result<(), AllocError>
-    requires { StandsFor cache.now text.now }
-{
+) -> Result<(), AllocError> {
     pen::text(out, "   ")?;
     write_kind(out, error)?;
     write_spans(out, error)?;
-    write_place(out, cache, text, first_start(error.spans()))?;
+    write_place(out, places, first_start(error.spans()))?;
     writeln!(out, " {:?}: {error}", error.spanskind())
 }
 
@@ -76,15 +56,8 @@ fn first_start(spans: &[Span]) -> usize {
 }
 
 /// Writes the line and the column of a byte.
-fn write_place(
-    out: &mut String,
-    cache: &NewlineCache,
-    text: &str,
-    byte: usize,
-) -> Result<(), AllocError>
-    requires { StandsFor cache.now text.now }
-{
-    match cache.byte_to_line_num_and_col_num(text, byte) {
+fn write_place(out: &mut String, places: &Places<'_>, byte: usize) -> Result<(), AllocError> {
+    match places.line_and_column(byte) {
         Some((line, column)) => pen::numbers(out, (" ", line), (":", column)),
         None => pen::text(out, " no place"),
     }
