@@ -1,5 +1,5 @@
 -- What is answered of a sentence where a cost is refused, or where none is.
-use Rattle.std.proofs.Common.{◌≡◌, ◌↔◌, ℕ, Result, Ok, Err, refl, sym, ap, ◌∙◌}
+use Rattle.std.proofs.Common.{◌≡◌, ◌↔◌, ◌⊎◌, inl, inr, ℕ, Result, Ok, Err, refl, sym, ap, ◌∙◌}
 use Rattle.std.specs.Result.{IsErrAnd}
 use Rattle.cfgcosts.specs.declared.errors.CostError.{CostError}
 use Rattle.cfgcosts.specs.declared.errors.CostError.TheVariants as costs
@@ -31,6 +31,10 @@ module _ {A : Type 0} (P : Type 0) (result : Result A SentenceError) where
   pub refused_memory : (e : CostError) → result ≡ Err (sentence_error e) → result ≡ Err OutOfMemory → ⊥
   refused_memory costs.NoSentence is e = let no : ◌≡◌ {A = Result A SentenceError} (Err NoSentence) (Err OutOfMemory) = sym is ∙ e in absurd (cc)
   refused_memory costs.CostTooLarge is e = let no : ◌≡◌ {A = Result A SentenceError} (Err CostTooLarge) (Err OutOfMemory) = sym is ∙ e in absurd (cc)
+
+  pub memory_alone : result ≡ Err OutOfMemory → (result ≡ Err NoSentence) ⊎ (result ≡ Err CostTooLarge) → ⊥
+  memory_alone is (inl e) = refused_memory costs.NoSentence e is
+  memory_alone is (inr e) = refused_memory costs.CostTooLarge e is
 
   -- where there is a cost, nothing of that is so
   pub memory_none : (c : ℕ) (e : CostError) → result ≡ Err OutOfMemory → (◌≡◌ {A = Result ℕ CostError} (Ok c) (Err e)) ↔ P → (result ≡ Err (sentence_error e)) ↔ P

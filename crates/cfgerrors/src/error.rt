@@ -1,7 +1,6 @@
 //! What is wrong with a Yacc file, and where.
 
-ghost use Rattle.std.specs.Prelude.{◌≡◌, ◌↔◌, ◌++◌, IsTrue, IfOk, Some};
-ghost use Rattle.std.specs.Fmt.{WritesOnOk, WritesStyledOnOk};
+ghost use Rattle.std.specs.Prelude.{◌≡◌, ◌↔◌, IsTrue, IfOk, Some};
 ghost use Rattle.std.specs.Cmp.{partial_equiv_from_equiv};
 ghost use Rattle.cfgerrors.specs.HeaderErrors.{error_view};
 ghost use Rattle.cfgerrors.specs.Errors.{error_at, header_error, kind_view, same_error, same_error-equivalence};
@@ -10,6 +9,7 @@ ghost use Rattle.cfgerrors.specs.Texts.{error_text, fault_text};
 ghost use Rattle.cfgerrors.specs.declared.error.YaccFault.TheVariants.{OutOfMemory};
 
 use crate::header::{HeaderError, HeaderErrorKind};
+use crate::parts::write_parts;
 use cfgbase::{Span, Spanned, SpansKind};
 use std::alloc::{AllocError, AllocFailed, Global};
 use std::error::Error;
@@ -172,21 +172,6 @@ impl fmt::Display for YaccGrammarErrorKind {
         };
         f.write_str(text)
     }
-}
-
-/// Writes a name between two texts, under any options.
-fn write_parts<W: fmt::Write>(
-    f: &mut fmt::Formatter<W>,
-    before: &str,
-    name: &str,
-    behind: &str,
-) -> fmt::Result
-    ensures plain { WritesOnOk W.write_str_gives f.old result (before.now ++ (name.now ++ behind.now)) f.new }
-    ensures styled { WritesStyledOnOk W.write_str_gives f.old result (before.now ++ (name.now ++ behind.now)) f.new }
-{
-    f.write_str(before)?;
-    f.write_str(name)?;
-    f.write_str(behind)
 }
 
 /// An error in a Yacc file: what is wrong, and where.

@@ -1,9 +1,11 @@
 //! What is wrong with a section, and where.
 
 ghost use Rattle.std.specs.Prelude.{◌≡◌, Some};
+ghost use Rattle.std.specs.Fmt.{WritesOnOk, WritesStyledOnOk};
 ghost use Rattle.cfgerrors.specs.HeaderErrors.{error_kind_view, spanskind_of};
-ghost use Rattle.cfgerrors.specs.HeaderTexts.{kind_text};
+ghost use Rattle.cfgerrors.specs.HeaderTexts.{conversion_text, kind_text, unexpected_text};
 
+use crate::parts::write_parts;
 use cfgbase::{Span, Spanned, SpansKind};
 use std::error::Error;
 use std::fmt;
@@ -39,31 +41,48 @@ impl fmt::Display for HeaderErrorKind {
             HeaderErrorKind::MissingGrmtoolsSection => f.write_str("Missing %grmtools section"),
             HeaderErrorKind::IllegalName => f.write_str("Illegal name"),
             HeaderErrorKind::ExpectedToken(character) => {
-                f.write_str("Expected token: '")?;
-                f.write_str(character.encode_utf8(&mut bytes))?;
-                f.write_str("'")
+                write_parts(
+                    f,
+                    "Expected token: '",
+                    character.encode_utf8(&mut bytes),
+                    "'",
+                )
             }
             HeaderErrorKind::UnexpectedToken(character, hint) => {
-                f.write_str("Unxpected token: '")?;
-                f.write_str(character.encode_utf8(&mut bytes))?;
-                f.write_str("', ")?;
-                f.write_str(hint)?;
-                f.write_str(" ")
+                write_unexpected(f, character.encode_utf8(&mut bytes), hint)
             }
             HeaderErrorKind::DuplicateEntry => f.write_str("Duplicate Entry"),
-            HeaderErrorKind::InvalidEntry(what) => {
-                f.write_str("Invalid entry: '")?;
-                f.write_str(what)?;
-                f.write_str("'")
-            }
-            HeaderErrorKind::ConversionError(wanted, cause) => {
-                f.write_str("Converting header value to type '")?;
-                f.write_str(wanted)?;
-                f.write_str("': ")?;
-                f.write_str(cause)
-            }
+            HeaderErrorKind::InvalidEntry(what) => write_parts(f, "Invalid entry: '", what, "'"),
+            HeaderErrorKind::ConversionError(wanted, cause) => write_conversion(f, wanted, cause),
         }
     }
+}
+
+/// Writes what is said of a character that can't stand where it does, under any options.
+fn write_unexpected<W: fmt::Write>(
+    f: &mut fmt::Formatter<W>,
+    character: &str,
+    hint: &str,
+) -> fmt::Result
+    ensures plain { WritesOnOk W.write_str_gives f.old result (unexpected_text character.now hint.now) f.new }
+    ensures styled { WritesStyledOnOk W.write_str_gives f.old result (unexpected_text character.now hint.now) f.new }
+{
+    write_parts(f, "Unxpected token: '", character, "', ")?;
+    f.write_str(hint)?;
+    f.write_str(" ")
+}
+
+/// Writes what is said of a value that isn't of the wanted type, under any options.
+fn write_conversion<W: fmt::Write>(
+    f: &mut fmt::Formatter<W>,
+    wanted: &str,
+    cause: &str,
+) -> fmt::Result
+    ensures plain { WritesOnOk W.write_str_gives f.old result (conversion_text wanted.now cause.now) f.new }
+    ensures styled { WritesStyledOnOk W.write_str_gives f.old result (conversion_text wanted.now cause.now) f.new }
+{
+    write_parts(f, "Converting header value to type '", wanted, "': ")?;
+    f.write_str(cause)
 }
 
 /// An error in a section: what is wrong, and where.

@@ -4,6 +4,7 @@
 pub mod error;
 pub mod header;
 pub mod laws;
+mod parts;
 
 pub use error::{YaccFault, YaccGrammarError, YaccGrammarErrorKind, YaccGrammarResult, error_at};
 pub use header::{HeaderError, HeaderErrorKind};

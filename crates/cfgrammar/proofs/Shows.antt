@@ -1,5 +1,6 @@
 -- What accessors read in the tables.
-use Rattle.std.proofs.Common.{◌≡◌, ℕ, zero, suc, ◌<◌, ◌≤◌, List, [], ◌∷◌, length, map, get_or, slice_get, Option, Some, None, option_map, unwrap_or, String, Global, sym, ap, subst, ◌∙◌, arith}
+use Rattle.std.proofs.Common.{◌≡◌, ℕ, zero, suc, ◌<◌, ◌≤◌, List, [], ◌∷◌, ◌++◌, codes, length, map, get_or, slice_get, Option, Some, None, option_map, unwrap_or, String, Global, sym, ap, subst, ◌∙◌, arith}
+use Rattle.std.specs.List.{concat}
 use Rattle.std.specs.Map.{values_of}
 use Rattle.std.specs.Option.{option_map_or}
 use Rattle.std.proofs.lemmas.List.{get_or-map, length-map}
@@ -7,10 +8,10 @@ use Rattle.std.proofs.lemmas.Option.{slice_get-get_or}
 use Rattle.cfgindex.specs.declared.idxnewtype.PIdx.{PIdx}
 use Rattle.cfgindex.specs.declared.idxnewtype.RIdx.{RIdx}
 use Rattle.cfgast.specs.declared.settings.Settings.{Settings}
-use Rattle.derivation.specs.Grammar.{Rule, Token}
+use Rattle.derivation.specs.Grammar.{Rule, Sym, Token}
 use Rattle.cfgnumbers.specs.Numbered.{Numbered, NumberedRule, NumberedToken, NumberedProduction}
 use Rattle.cfgnumbers.specs.Fits.{Fits}
-use Rattle.cfgnumbers.specs.Shown.{rule_part, token_part, production_part, sym_name}
+use Rattle.cfgnumbers.specs.Shown.{rule_part, token_part, production_part, production_text, sym_name, sym_text}
 use Rattle.cfgnumbers.specs.View.{rule_view, production_view, tables}
 use Rattle.cfganalysis.specs.Symbols.{sym_of}
 use Rattle.cfgnumbers.specs.declared.rows.RuleRow.{RuleRow}
@@ -29,6 +30,21 @@ token_named g t name at = go (slice_get g.tokens t) at
     go (Some token) at =
         let same : token.name ≡ name = cc in
         ap (λ n. unwrap_or n []) same
+
+-- the text of a production is that of its rule's name and its symbols
+pub shown_text : (g : Numbered) (p r : ℕ) (symbols : List Sym) (name : List ℕ) → production_part (λ production. production.rule) g p ≡ Some r
+    → production_part (λ production. production.symbols) g p ≡ Some symbols → rule_part (λ rule. rule.name) g r ≡ Some name
+    → production_part (production_text g) g p ≡ Some (name ++ (codes ":" ++ concat (map (sym_text g) symbols)))
+shown_text g p r symbols name owner held named = go (slice_get g.productions p) owner held
+  where
+    go : (o : Option NumberedProduction) → option_map (λ production. production.rule) o ≡ Some r → option_map (λ production. production.symbols) o ≡ Some symbols
+        → option_map (production_text g) o ≡ Some (name ++ (codes ":" ++ concat (map (sym_text g) symbols)))
+    go None owner held = let no : None ≡ Some r = owner in cc
+    go (Some production) owner held =
+        let rule : production.rule ≡ r = cc in
+        let same : production.symbols ≡ symbols = cc in
+        let called = ap (λ k. sym_name g (Rule k)) rule ∙ rule_named g r name named in
+        λ i. Some (called i ++ (codes ":" ++ concat (map (sym_text g) (same i))))
 
 module _ {S A : Type 0} (number : S → ℕ) (part : NumberedRule → A) (row : RuleRow S) (x : A) (shows : (key : String Global) → part (rule_view number (key, row)) ≡ x) where
   row_shown : (es : List (String Global × RuleRow S)) (i : ℕ) → slice_get (values_of es) i ≡ Some row → option_map part (slice_get (map (rule_view number) es) i) ≡ Some x

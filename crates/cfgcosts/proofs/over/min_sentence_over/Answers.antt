@@ -1,9 +1,10 @@
 use Rattle.std.proofs.Common.{Ok, refl}
 use Rattle.derivation.specs.Grammar.{HasProduction}
 use Rattle.cfgcosts.specs.declared.errors.CostError.TheVariants as costs
+use Rattle.cfgcosts.specs.declared.errors.SentenceError.TheVariants.{OutOfMemory}
 use Rattle.cfgcosts.specs.Generator.{HasNone, IsTooDear, token_cost}
 use Rattle.cfgcosts.specs.Sentences.{sentence_error}
-use Rattle.cfgcosts.proofs.Refused.{refusal, refused_dear, refused_memory, refused_none, sentence_none}
+use Rattle.cfgcosts.proofs.Refused.{memory_alone, memory_none, refusal, refused_dear, refused_memory, refused_none, sentence_none}
 use Rattle.cfgcosts.proofs.over.min_sentence_over.Goals as goal
 
 pub returns-in_err-min_sentence_cost-clause-content : goal.returns-in_err-min_sentence_cost-clause-content
@@ -39,3 +40,23 @@ returns-clause-dear g c = sentence_none (IsTooDear (HasProduction c.args.generat
 pub returns-in_err-min_sentence_cost-clause-cut_short : goal.returns-in_err-min_sentence_cost-clause-cut_short
 returns-in_err-min_sentence_cost-clause-cut_short g c = λ e. absurd (refused_memory (Unit {0}) c.from_residual.result c.in_err-min_sentence_cost.field-0.0
     (refusal c.from_residual.result (sentence_error c.in_err-min_sentence_cost.field-0.0) c.from_residual.ensures.1) e)
+
+pub returns-in_err-sentence-clause-none : goal.returns-in_err-sentence-clause-none
+returns-in_err-sentence-clause-none g c = memory_none (HasNone (HasProduction c.args.generator.now.grammar) (g.S.Storage.number c.args.rule.0))
+    c.from_residual-in_err-sentence.result c.in_ok-min_sentence_cost.field-0 costs.NoSentence (refusal c.from_residual-in_err-sentence.result OutOfMemory c.from_residual-in_err-sentence.ensures.1)
+    c.in_ok-min_sentence_cost.ensures.none
+
+pub returns-in_err-sentence-clause-dear : goal.returns-in_err-sentence-clause-dear
+returns-in_err-sentence-clause-dear g c = memory_none (IsTooDear (HasProduction c.args.generator.now.grammar) (token_cost c.args.generator.now) (g.S.Storage.number c.args.rule.0))
+    c.from_residual-in_err-sentence.result c.in_ok-min_sentence_cost.field-0 costs.CostTooLarge (refusal c.from_residual-in_err-sentence.result OutOfMemory c.from_residual-in_err-sentence.ensures.1)
+    c.in_ok-min_sentence_cost.ensures.dear
+
+pub returns-in_err-sentence-clause-free : goal.returns-in_err-sentence-clause-free
+returns-in_err-sentence-clause-free g c = c.in_err-sentence.ensures.stopped.free
+
+pub returns-in_err-sentence-clause-cut_short : goal.returns-in_err-sentence-clause-cut_short
+returns-in_err-sentence-clause-cut_short g c = λ _. c.in_err-sentence.ensures.stopped.few
+
+pub returns-in_err-sentence-clause-refused : goal.returns-in_err-sentence-clause-refused
+returns-in_err-sentence-clause-refused g c = λ cost. absurd (memory_alone (Unit {0}) c.from_residual-in_err-sentence.result
+    (refusal c.from_residual-in_err-sentence.result OutOfMemory c.from_residual-in_err-sentence.ensures.1) cost)

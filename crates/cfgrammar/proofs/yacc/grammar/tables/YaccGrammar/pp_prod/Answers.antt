@@ -1,9 +1,10 @@
-use Rattle.std.proofs.Common.{rules, ◌≡◌, ℕ, ◌++◌, map, take, codes, List, [], Bor, Option, option_map, unwrap_or, string_bytes, sym, ap, ◌∙◌, append_assoc}
+use Rattle.std.proofs.Common.{rules, ◌≡◌, ℕ, ◌++◌, map, take, codes, List, [], Bor, Option, option_map, unwrap_or, string_bytes, sym, ap, ◌∙◌, append_assoc, Some}
 use Rattle.std.specs.List.{concat}
+use Rattle.std.proofs.lemmas.List.{take_all}
 use Rattle.cfgnumbers.specs.Shown.{sym_name, sym_text}
 use Rattle.cfgindex.specs.declared.idxnewtype.Symbol.{Symbol}
 use Rattle.cfganalysis.specs.Symbols.{sym_of}
-use Rattle.cfgrammar.proofs.Shows.{rule_named, token_named}
+use Rattle.cfgrammar.proofs.Shows.{rule_named, shown_text, token_named}
 use Rattle.cfgnumbers.proofs.Turns.{more_joined}
 use Rattle.cfgrammar.proofs.yacc.grammar.tables.YaccGrammar.pp_prod.Goals as goal
 use Rattle.cfgrammar.proofs.yacc.grammar.tables.YaccGrammar.pp_prod.Goals.{in-Rule, in-Token}
@@ -25,3 +26,15 @@ loop-symbol-preserved g c =
     ∙ ap (λ t. t ++ text (symbol c.symbol-item.result)) c.loop-symbol.invariant
     ∙ append_assoc before (concat (map text (map symbol (take c.loop-symbol.symbol-index symbols)))) (text (symbol c.symbol-item.result))
     ∙ ap (λ t. before ++ t) (more_joined text symbol symbols c.loop-symbol.symbol-index c.symbol-item.result c.loop-symbol-test.true c.symbol-item.is)
+
+pub returns : goal.returns
+returns g c =
+    let symbols = map (sym_of g.S.Storage.number) c.prod-symbol-items.result.now in
+    let name = c.rule_name_str.result.now in
+    let joined : List ℕ → List ℕ = λ before. before ++ concat (map (sym_text c.args.self.now) symbols) in
+    let read = take_all c.loop-symbol.symbol-index c.prod-symbol-items.result.now c.loop-symbol-test.false in
+    let text = c.loop-symbol.invariant
+    ∙ ap (λ items. string_bytes c.push_str.new.self ++ concat (map (sym_text c.args.self.now) (map (sym_of g.S.Storage.number) items))) read
+    ∙ ap joined (c.in_ok-push_str.ensures.bytes ∙ ap (λ before. before ++ codes ":") c.in_ok-text.ensures.ok)
+    ∙ append_assoc name (codes ":") (concat (map (sym_text c.args.self.now) symbols)) in
+    shown_text c.args.self.now _ _ symbols name c.prod_to_rule.ensures.value c.prod-symbol-items.ensures.value c.rule_name_str.ensures ∙ ap Some (sym text)

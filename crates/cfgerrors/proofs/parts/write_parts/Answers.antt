@@ -1,6 +1,6 @@
 use Rattle.std.proofs.Common.{refl}
 use Rattle.std.proofs.Output.{has_written_styled_append}
-use Rattle.cfgerrors.proofs.error.write_parts.Goals as goal
+use Rattle.cfgerrors.proofs.parts.write_parts.Goals as goal
 
 pub returns-clause-styled : goal.returns-clause-styled
 returns-clause-styled g c = λ flush ok.

@@ -1,0 +1,9 @@
+use Rattle.std.proofs.Common.{refl}
+use Rattle.std.proofs.Output.{has_written_styled_append}
+use Rattle.cfgerrors.proofs.header.write_conversion.Goals as goal
+
+pub returns-clause-styled : goal.returns-clause-styled
+returns-clause-styled g c = λ flush ok.
+    let wanted = c.in_ok-write_parts.ensures.styled flush refl in
+    let cause = c.write_str.ensures.styled wanted.flush ok in
+    has_written_styled_append _ _ _ _ _ _ wanted cause

@@ -1,0 +1,10 @@
+use Rattle.std.proofs.Common.{refl}
+use Rattle.std.proofs.Output.{has_written_styled_append}
+use Rattle.cfgerrors.proofs.header.write_unexpected.Goals as goal
+
+pub returns-clause-styled : goal.returns-clause-styled
+returns-clause-styled g c = λ flush ok.
+    let placed = c.in_ok-write_parts.ensures.styled flush refl in
+    let hint = c.in_ok-write_str.ensures.styled placed.flush refl in
+    let behind = c.write_str-2.ensures.styled hint.flush ok in
+    has_written_styled_append _ _ _ _ _ _ placed (has_written_styled_append _ _ _ _ _ _ hint behind)
