@@ -6,7 +6,6 @@ use Rattle.cfgerrors.specs.Errors.{GrammarError, header_error}
 use Rattle.cfgrammar.specs.GrammarOf.{HoldsOfNaming}
 use Rattle.cfgnumbers.specs.Numbered.{Numbered}
 use Rattle.cfgshell.specs.declared.outcome.Outcome.{Outcome}
-use Rattle.cfgshell.specs.declared.words.Command.{Command}
 use Rattle.cfgshell.specs.declared.words.KindArg.{KindArg}
 use Rattle.cfgshell.specs.declared.words.KindArg.TheVariants.{Named, Section}
 use Rattle.cfgtool.specs.Report.{HoldsOfText, IsReport}
@@ -21,5 +20,5 @@ module _ (text : List ℕ) (A B : List GrammarError → Syntax → Numbered → 
   of_text Section h = (h.0, λ naming names. of_naming naming (h.1 naming names))
 
 -- what is told of a text with these errors, this syntax and this numbering, if anything is
-abbrev pub IsTold : {E : Type 0} → Command → List ℕ → Result (Outcome × String Global) E → List GrammarError → Syntax → Numbered → Type 0
-IsTold command text result errors s g = IfOk result (λ told. IsReport command text errors s g told.0 (string_bytes told.1))
+abbrev pub IsTold : {E : Type 0} → (Syntax → Numbered → List ℕ → Type 0) → List ℕ → Result (Outcome × String Global) E → List GrammarError → Syntax → Numbered → Type 0
+IsTold AreLines text result errors s g = IfOk result (λ told. IsReport AreLines text errors s g told.0 (string_bytes told.1))

@@ -27,7 +27,10 @@ use Rattle.cfgshell.specs.declared.words.KindArg.{KindArg}
 use Rattle.cfgshell.specs.declared.words.KindArg.TheVariants.{Named, Section}
 use Rattle.cfgtool.specs.FirstLines.{AreFirstLines}
 use Rattle.cfgtool.specs.FollowLines.{AreFollowLines}
+use Rattle.cfgtool.specs.LexerLines.{lexer_lines, names_in}
 use Rattle.cfgtool.specs.SentenceLines.{AreSentenceLines}
+use Rattle.cfgtool.specs.declared.engine.Request.{Request}
+use Rattle.cfgtool.specs.declared.engine.Request.TheVariants as requests
 use Rattle.cfgshell.specs.Sinks.{AppendsBeginning}
 
 -- This holds of a text: of its reading as the kind that is asked for, or else as the kind that it names itself.
@@ -85,23 +88,40 @@ AreLinesOf Follows text s g lines = AreFollowLines g lines
 AreLinesOf Sentences text s g lines = AreSentenceLines g lines
 AreLinesOf Warnings text s g lines = AreWarningLines text s lines
 
--- How a report of a text with these errors, this syntax and this numbering ends, and its lines: the text is a grammar,
--- and the command's lines are told, or it is refused, and its errors are.
-abbrev pub IsReport : Command → List ℕ → List GrammarError → Syntax → Numbered → Outcome → List ℕ → Type 0
-IsReport command text errors s g Done lines = (errors ≡ []) × Fits greatest g × AreLinesOf command text s g lines
-IsReport command text errors s g Refused lines = (told : List GrammarError) × IsRefused greatest errors g told × (lines ≡ error_lines text told)
+-- the lines that tell where a grammar's tokens and the names in a text differ
+abbrev pub AreLexerLines : List ℕ → Syntax → Numbered → List ℕ → Type 0
+AreLexerLines names s g lines = lines ≡ lexer_lines g (names_in names)
 
--- What a report adds to the known bytes of its sink: the lines of how it ended; nothing where memory ended; where the
--- sink counted a fault, a beginning of the lines of how it would have ended.
-abbrev pub Tells : Command → List ℕ → List GrammarError → Syntax → Numbered → Option (List ℕ) → Option (List ℕ) → Result Outcome ReportFault → Type 0
-Tells command text errors s g old new (Ok outcome) = (lines : List ℕ) × IsReport command text errors s g outcome lines × Appends old new lines
-Tells command text errors s g old new (Err faults.Write) = (outcome : Outcome) × (lines : List ℕ)
-    × IsReport command text errors s g outcome lines × AppendsBeginning old new lines
-Tells command text errors s g old new (Err faults.OutOfMemory) = Keeps old new
+-- the lines that are asked for
+abbrev pub AreAskedLines : Request → List ℕ → Syntax → Numbered → List ℕ → Type 0
+AreAskedLines (requests.Command command) text s g lines = AreLinesOf command text s g lines
+AreAskedLines (requests.Names names) text s g lines = AreLexerLines names.now s g lines
+
+-- `AreLines` says of a syntax and of that in numbers which lines are told of them.
+module _ (AreLines : Syntax → Numbered → List ℕ → Type 0) where
+  -- How a report of a text with these errors, this syntax and this numbering ends, and its lines: the text is a grammar,
+  -- and the lines asked for are told, or it is refused, and its errors are.
+  abbrev pub IsReport : List ℕ → List GrammarError → Syntax → Numbered → Outcome → List ℕ → Type 0
+  IsReport text errors s g Done lines = (errors ≡ []) × Fits greatest g × AreLines s g lines
+  IsReport text errors s g Refused lines = (told : List GrammarError) × IsRefused greatest errors g told × (lines ≡ error_lines text told)
+
+  -- What a report adds to the known bytes of its sink: the lines of how it ended; nothing where memory ended; where the
+  -- sink counted a fault, a beginning of the lines of how it would have ended.
+  abbrev pub Tells : List ℕ → List GrammarError → Syntax → Numbered → Option (List ℕ) → Option (List ℕ) → Result Outcome ReportFault → Type 0
+  Tells text errors s g old new (Ok outcome) = (lines : List ℕ) × IsReport text errors s g outcome lines × Appends old new lines
+  Tells text errors s g old new (Err faults.Write) = (outcome : Outcome) × (lines : List ℕ)
+      × IsReport text errors s g outcome lines × AppendsBeginning old new lines
+  Tells text errors s g old new (Err faults.OutOfMemory) = Keeps old new
 
 -- A report of a text tells so of the text's one reading: of its errors, of its syntax, and of that in numbers. Where the
 -- text names no kind, it tells so of the errors that keep it from that.
 abbrev pub TellsText : KindArg → Command → List ℕ → Option (List ℕ) → Option (List ℕ) → Result Outcome ReportFault
     → Type 0
 TellsText kind command text old new answer =
-    HoldsOfText kind text (λ errors s g. Tells command text errors s g old new answer)
+    HoldsOfText kind text (λ errors s g. Tells (AreLinesOf command text) text errors s g old new answer)
+
+-- the same of a report on the names in a text
+abbrev pub TellsLexer : KindArg → List ℕ → List ℕ → Option (List ℕ) → Option (List ℕ) → Result Outcome ReportFault
+    → Type 0
+TellsLexer kind text names old new answer =
+    HoldsOfText kind text (λ errors s g. Tells (AreLexerLines names) text errors s g old new answer)

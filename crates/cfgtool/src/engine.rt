@@ -7,12 +7,14 @@ ghost use Rattle.cfgast.specs.View.{syntax};
 ghost use Rattle.cfgsyntax.specs.Spans.{EachParsedSpan};
 ghost use Rattle.cfgrammar.specs.GrammarOf.{HoldsOfItself, HoldsOfReading};
 ghost use Rattle.cfgnumbers.specs.Numbered.{numbered};
-ghost use Rattle.cfgtool.specs.Report.{AreLinesOf, HoldsOfText, IsReport, TellsText};
+ghost use Rattle.cfgtool.specs.Report.{AreAskedLines, AreLinesOf, HoldsOfText, IsReport, Tells};
+ghost use Rattle.cfgtool.specs.Report.{TellsLexer, TellsText};
 ghost use Rattle.cfgshell.specs.Endings.{faults_met};
 ghost use Rattle.cfgshell.specs.declared.outcome.ReportFault.TheVariants as variants;
 
 use crate::first_lines::first_lines;
 use crate::follow_lines::follow_lines;
+use crate::lexer_lines::lexer_lines;
 use crate::lines::{error_lines, production_lines, warning_lines};
 use crate::sentence_lines::sentence_lines;
 use cfgrammar::yacc::ast::{ASTWithValidityInfo, GrammarAST};
@@ -41,7 +43,55 @@ pub fn report<W: Sink>(
     ensures faults { W.faults_counted out.new ≡ W.faults_counted out.old + faults_met result }
     ensures untouched { IsErrOf result variants.OutOfMemory → out.new ≡ out.old }
 {
-    let (outcome, lines) = report_text(alloc, kind, command, text)?;
+    write_report(alloc, kind, Request::Command(command), text, out)
+}
+
+/// Writes where the tokens of the text's grammar and the names that a lexer gives differ, or else the errors of the
+/// text, each as a line. `names` has a name in each line that isn't empty.
+///
+/// # Errors
+///
+/// As of [`report`].
+pub fn report_lex<W: Sink>(
+    alloc: Global,
+    kind: KindArg,
+    text: &str,
+    names: &str,
+    out: &mut W,
+) -> Result<Outcome, ReportFault>
+    requires { W.faults_counted out.old < 2 ^ 64 - 1 }
+    ensures told { TellsLexer kind text.now names.now (W.written out.old) (W.written out.new) result }
+    ensures faults { W.faults_counted out.new ≡ W.faults_counted out.old + faults_met result }
+    ensures untouched { IsErrOf result variants.OutOfMemory → out.new ≡ out.old }
+{
+    write_report(alloc, kind, Request::Names(names), text, out)
+}
+
+/// What is asked of a text's grammar.
+#[derive(Clone, Copy)]
+pub(crate) enum Request<'a> {
+    /// What the command tells.
+    Command(Command),
+    /// Where its tokens and these names, a line each, differ.
+    Names(&'a str),
+}
+
+/// Writes the whole report, or nothing where memory ends.
+fn write_report<W: Sink>(
+    alloc: Global,
+    kind: KindArg,
+    request: Request<'_>,
+    text: &str,
+    out: &mut W,
+) -> Result<Outcome, ReportFault>
+    requires { W.faults_counted out.old < 2 ^ 64 - 1 }
+    ensures told { HoldsOfText kind text.now (λ errors s g.
+        Tells (AreAskedLines request.entry text.now) text.now errors s g (W.written out.old) (W.written out.new)
+        result) }
+    ensures faults { W.faults_counted out.new ≡ W.faults_counted out.old + faults_met result }
+    ensures untouched { IsErrOf result variants.OutOfMemory → out.new ≡ out.old }
+{
+    let (outcome, lines) = report_text(alloc, kind, request, text)?;
     write_whole(out, lines.as_bytes())?;
     Ok(outcome)
 }
@@ -50,15 +100,15 @@ pub fn report<W: Sink>(
 fn report_text(
     alloc: Global,
     kind: KindArg,
-    command: Command,
+    request: Request<'_>,
     text: &str,
 ) -> Result<(Outcome, String), AllocError>
-    ensures { HoldsOfText kind text.now (λ errors s g.
-        IfOk result (λ told. IsReport command text.now errors s g told.0 (string_bytes told.1))) }
+    ensures { HoldsOfText kind text.now (λ errors s g. IfOk result (λ told.
+        IsReport (AreAskedLines request.entry text.now) text.now errors s g told.0 (string_bytes told.1))) }
 {
     match kind {
-        KindArg::Named(kind) => report_as(alloc, kind, command, text),
-        KindArg::Section => report_itself(alloc, command, text),
+        KindArg::Named(kind) => report_as(alloc, kind, request, text),
+        KindArg::Section => report_itself(alloc, request, text),
     }
 }
 
@@ -66,27 +116,27 @@ fn report_text(
 fn report_as(
     alloc: Global,
     kind: YaccKind,
-    command: Command,
+    request: Request<'_>,
     text: &str,
 ) -> Result<(Outcome, String), AllocError>
-    ensures { HoldsOfReading kind text.now (λ errors s g.
-        IfOk result (λ told. IsReport command text.now errors s g told.0 (string_bytes told.1))) }
+    ensures { HoldsOfReading kind text.now (λ errors s g. IfOk result (λ told.
+        IsReport (AreAskedLines request.entry text.now) text.now errors s g told.0 (string_bytes told.1))) }
 {
     let parsed = ASTWithValidityInfo::new(alloc, kind, text)?;
-    report_parsed(alloc, command, text, &parsed)
+    report_parsed(alloc, request, text, &parsed)
 }
 
 /// The report of a text as a file of the kind that it names.
 fn report_itself(
     alloc: Global,
-    command: Command,
+    request: Request<'_>,
     text: &str,
 ) -> Result<(Outcome, String), AllocError>
-    ensures { HoldsOfItself text.now (λ errors s g.
-        IfOk result (λ told. IsReport command text.now errors s g told.0 (string_bytes told.1))) }
+    ensures { HoldsOfItself text.now (λ errors s g. IfOk result (λ told.
+        IsReport (AreAskedLines request.entry text.now) text.now errors s g told.0 (string_bytes told.1))) }
 {
     match ASTWithValidityInfo::from_str(alloc, text) {
-        Ok(parsed) => report_parsed(alloc, command, text, &parsed),
+        Ok(parsed) => report_parsed(alloc, request, text, &parsed),
         Err(YaccFault::Errors(errors)) => {
             let lines = error_lines(alloc, text, &errors)?;
             Ok((Outcome::Refused, lines))
@@ -98,23 +148,41 @@ fn report_itself(
 /// The report of a text that was read.
 fn report_parsed(
     alloc: Global,
-    command: Command,
+    request: Request<'_>,
     text: &str,
     parsed: &ASTWithValidityInfo,
 ) -> Result<(Outcome, String), AllocError>
     requires { EachParsedSpan (IsPiece text.now) (IsWithin text.now) parsed.now }
-    ensures { IfOk result (λ told. IsReport command text.now parsed.now.errors parsed.now.syntax
-        (numbered parsed.now.kind parsed.now.syntax) told.0 (string_bytes told.1)) }
+    ensures { IfOk result (λ told. IsReport (AreAskedLines request.entry text.now) text.now parsed.now.errors
+        parsed.now.syntax (numbered parsed.now.kind parsed.now.syntax) told.0 (string_bytes told.1)) }
 {
     match YaccGrammar::new_from_ast_with_validity_info(alloc, parsed) {
         Ok(grammar) => {
-            let lines = command_lines(alloc, command, text, parsed.ast(), &grammar)?;
+            let lines = request_lines(alloc, request, text, parsed.ast(), &grammar)?;
             Ok((Outcome::Done, lines))
         }
         Err(YaccFault::Errors(errors)) => {
             Ok((Outcome::Refused, error_lines(alloc, text, &errors)?))
         }
         Err(YaccFault::OutOfMemory) => Err(AllocError),
+    }
+}
+
+/// The lines that are asked of a text that is this tree, and this grammar.
+fn request_lines(
+    alloc: Global,
+    request: Request<'_>,
+    text: &str,
+    ast: &GrammarAST,
+    grammar: &YaccGrammar<u32>,
+) -> Result<String, AllocError>
+    requires { EachSpan (IsPiece text.now) (IsWithin text.now) (syntax ast.now) }
+    ensures { IfOk result (λ lines.
+        AreAskedLines request.entry text.now (syntax ast.now) grammar.now (string_bytes lines)) }
+{
+    match request {
+        Request::Command(command) => command_lines(alloc, command, text, ast, grammar),
+        Request::Names(names) => lexer_lines(alloc, grammar, names),
     }
 }
 

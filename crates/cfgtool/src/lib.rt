@@ -4,6 +4,7 @@
 pub mod engine;
 pub mod first_lines;
 pub mod follow_lines;
+pub mod lexer_lines;
 pub mod lines;
 pub mod program;
 pub mod sentence_lines;
@@ -14,6 +15,6 @@ pub use cfgshell::{
     Command, Counted, Input, KindArg, Outcome, ReportFault, Sink, SinkFault, Source, laws, sink,
     source, words,
 };
-pub use engine::report;
+pub use engine::{report, report_lex};
 pub use program::run;
 pub use system::{Ended, run_over};

@@ -5,7 +5,7 @@ use Rattle.cfgerrors.specs.declared.error.YaccFault.TheVariants as faults
 use Rattle.cfgsyntax.specs.Spans.{EachErrorSpan}
 use Rattle.cfgrammar.proofs.OfItself.{parsed_itself, refused_itself, refuses}
 use Rattle.cfgshell.specs.declared.outcome.Outcome.TheVariants.{Refused}
-use Rattle.cfgtool.specs.Report.{IsReport, error_lines, greatest}
+use Rattle.cfgtool.specs.Report.{AreAskedLines, IsReport, error_lines, greatest}
 use Rattle.cfgtool.proofs.OfText.{IsTold}
 use Rattle.cfgtool.proofs.engine.report_itself.Goals as goal
 
@@ -18,7 +18,7 @@ error_lines-requires c =
 pub returns-in-Ok : goal.returns-in-Ok
 returns-in-Ok c =
     let parsed = c.in-Ok.ensures in
-    parsed_itself c.args.text.now (IsTold c.args.command c.args.text.now c.report_parsed.result) parsed.one _ parsed.answer c.report_parsed.ensures
+    parsed_itself c.args.text.now (IsTold (AreAskedLines c.args.request c.args.text.now) c.args.text.now c.report_parsed.result) parsed.one _ parsed.answer c.report_parsed.ensures
 
 pub returns-in_err-lines-in-Err-Errors : goal.returns-in_err-lines-in-Err-Errors
 returns-in_err-lines-in-Err-Errors c =
@@ -31,7 +31,7 @@ returns-in_ok-lines-in-Err-Errors c =
     let answer = rw c.in-Err-Errors.field-0-is at c.in-Err-Errors.ensures.answer in
     let errors = rw c.in-Err-Errors.errors-is at c.deref.ensures.value in
     let lines = c.in_ok-lines-in-Err-Errors.ensures ∙ ap (error_lines c.args.text.now) errors in
-    refused_itself c.args.text.now (λ errors s g. IsReport c.args.command c.args.text.now errors s g Refused (string_bytes c.in_ok-lines-in-Err-Errors.lines))
+    refused_itself c.args.text.now (λ errors s g. IsReport (AreAskedLines c.args.request c.args.text.now) c.args.text.now errors s g Refused (string_bytes c.in_ok-lines-in-Err-Errors.lines))
     c.in-Err-Errors.ensures.one (faults.Errors c.in-Err-Errors.errors) answer (λ some s g. (c.in-Err-Errors.errors.items, refuses greatest c.in-Err-Errors.errors.items some g, lines))
 
 pub returns-in-Err-OutOfMemory : goal.returns-in-Err-OutOfMemory

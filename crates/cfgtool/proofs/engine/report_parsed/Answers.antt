@@ -4,11 +4,11 @@ use Rattle.cfgast.specs.Syntax.{Syntax, EachSpan}
 use Rattle.cfgast.specs.View.{syntax}
 use Rattle.cfgsyntax.specs.Spans.{EachErrorSpan}
 use Rattle.cfgnumbers.specs.Numbered.{Numbered, numbered}
-use Rattle.cfgtool.specs.Report.{AreLinesOf, error_lines}
+use Rattle.cfgtool.specs.Report.{AreAskedLines, error_lines}
 use Rattle.cfgtool.proofs.engine.report_parsed.Goals as goal
 
-pub command_lines-requires : goal.command_lines-requires
-command_lines-requires c =
+pub request_lines-requires : goal.request_lines-requires
+request_lines-requires c =
     subst (EachSpan (IsPiece c.args.text.now) (IsWithin c.args.text.now)) (sym c.ast.ensures.value) c.requires.syntax
 
 pub error_lines-requires : goal.error_lines-requires
@@ -23,8 +23,8 @@ returns-in_ok-lines-in-Ok c =
     let lines = string_bytes c.in_ok-lines-in-Ok.lines in (
       answer.0,
       answer.1,
-      subst (λ (s : Syntax). AreLinesOf c.args.command c.args.text.now s (numbered c.args.parsed.now.kind c.args.parsed.now.syntax) lines) c.ast.ensures.value
-          (subst (λ (g : Numbered). AreLinesOf c.args.command c.args.text.now (syntax c.ast.result.now) g lines) answer.2 c.in_ok-lines-in-Ok.ensures),
+      subst (λ (s : Syntax). AreAskedLines c.args.request c.args.text.now s (numbered c.args.parsed.now.kind c.args.parsed.now.syntax) lines) c.ast.ensures.value
+          (subst (λ (g : Numbered). AreAskedLines c.args.request c.args.text.now (syntax c.ast.result.now) g lines) answer.2 c.in_ok-lines-in-Ok.ensures),
     )
 
 pub returns-in_ok-error_lines-in-Err-Errors : goal.returns-in_ok-error_lines-in-Err-Errors
