@@ -1,5 +1,6 @@
 -- How a report ends, and a run of the program: with which status, and with which line on standard error.
-use Rattle.std.specs.Prelude.{ℕ, List, [], ◌++◌, Result, Ok, Err, codes}
+use Rattle.std.specs.Prelude.{◌≡◌, ℕ, List, Vec, [], ◌++◌, Result, Ok, Err, codes}
+use Rattle.std.specs.Global.{Global}
 use Rattle.cfgshell.specs.declared.faults.RunFault.{RunFault}
 use Rattle.cfgshell.specs.declared.faults.RunFault.TheVariants as why
 use Rattle.cfgshell.specs.declared.faults.WordsFault.{WordsFault}
@@ -8,6 +9,8 @@ use Rattle.cfgshell.specs.declared.outcome.Outcome.{Outcome}
 use Rattle.cfgshell.specs.declared.outcome.Outcome.TheVariants.{Done, Refused}
 use Rattle.cfgshell.specs.declared.outcome.ReportFault.{ReportFault}
 use Rattle.cfgshell.specs.declared.outcome.ReportFault.TheVariants as faults
+use Rattle.cfgshell.specs.declared.source.Input.{Input}
+use Rattle.cfgshell.specs.declared.source.Input.TheVariants as input
 
 -- how many faults of its sink a report meets
 abbrev pub faults_met : Result Outcome ReportFault → ℕ
@@ -78,3 +81,10 @@ faults_at (Unreadable file) = 0
 faults_at (NotUtf8 file) = 0
 faults_at Unwritten = 1
 faults_at NoMemory = 0
+
+-- what a run goes on with where a source answers this for a file: its bytes, or why there are none
+abbrev pub IsFetched : List ℕ → Input → Result (Vec ℕ Global) RunFault → Type 0
+IsFetched file (input.Bytes bytes) (Ok fetched) = fetched ≡ bytes
+IsFetched file input.Unreadable (Err fault) = ending_with fault ≡ Unreadable file
+IsFetched file input.OutOfMemory (Err fault) = ending_with fault ≡ NoMemory
+IsFetched file answer fetched = ⊥

@@ -1,10 +1,11 @@
--- What a run of the program does with its words: how it ends, and what its output gets. `Tells` is what a report tells of a
--- text: what becomes of the known bytes of its sink, where this is what it answers.
-use Rattle.std.specs.Prelude.{◌≡◌, ℕ, List, [], ◌∷◌, Option, Some, None, Result}
+-- What a run of the program does with its words: how it ends, and what its output gets. `Tells` is what a report of a command
+-- tells of a text, and `TellsLexer` what a report on a lexer's names tells of a text and a list of names: what becomes of the
+-- known bytes of its sink, where this is what it answers.
+use Rattle.std.specs.Prelude.{◌≡◌, ℕ, List, [], ◌∷◌, Option, Some, Result, Bool, true}
 use Rattle.std.specs.Str.{IsUtf8}
 use Rattle.std.specs.Io.KnownBytes.{Keeps}
 use Rattle.cfgshell.specs.Endings.{Ending, Usage, Unreadable, NotUtf8, NoMemory, ending_of}
-use Rattle.cfgshell.specs.Words.{command_named, kind_named}
+use Rattle.cfgshell.specs.Words.{asks_lexer, command_named, kind_named}
 use Rattle.cfgshell.specs.declared.outcome.Outcome.{Outcome}
 use Rattle.cfgshell.specs.declared.outcome.ReportFault.{ReportFault}
 use Rattle.cfgshell.specs.declared.source.Input.{Input}
@@ -20,28 +21,57 @@ EndsUnwritten why old new ending = (ending ≡ why) × Keeps old new
 abbrev pub EndsUnread : {S : Type 0} → S → S → Option (List ℕ) → Option (List ℕ) → Ending → Type 0
 EndsUnread before after old new ending = (after ≡ before) × EndsUnwritten Usage old new ending
 
+-- The run ends as a report that answers so, and its output gets what that tells.
+abbrev pub EndsReported : (Option (List ℕ) → Option (List ℕ) → Result Outcome ReportFault → Type 0) → Option (List ℕ) → Option (List ℕ) → Ending → Type 0
+EndsReported Told old new ending = (answer : Result Outcome ReportFault) × (ending ≡ ending_of answer) × Told old new answer
+
+module _ (old new : Option (List ℕ)) (ending : Ending) where
+  -- What a run does with what its source answers for a file, where this holds of the file's bytes.
+  abbrev pub WithBytes : List ℕ → Input → (List ℕ → Type 0) → Type 0
+  WithBytes file input.Unreadable Holds = EndsUnwritten (Unreadable file) old new ending
+  WithBytes file input.OutOfMemory Holds = EndsUnwritten NoMemory old new ending
+  WithBytes file (input.Bytes bytes) Holds = Holds bytes.items
+
+  -- What a run does with the bytes of a file, where this holds if they are text.
+  abbrev pub WithText : List ℕ → List ℕ → Type 0 → Type 0
+  WithText file bytes Holds = (IsUtf8 bytes → Holds) × ((IsUtf8 bytes → ⊥) → EndsUnwritten (NotUtf8 file) old new ending)
+
 module _ (Tells : KindArg → Command → List ℕ → Option (List ℕ) → Option (List ℕ) → Result Outcome ReportFault → Type 0) where
-  -- The run ends as the report of these bytes, and tells what that tells.
-  abbrev pub EndsReported : KindArg → Command → List ℕ → Option (List ℕ) → Option (List ℕ) → Ending → Type 0
-  EndsReported kind command text old new ending =
-      (answer : Result Outcome ReportFault) × (ending ≡ ending_of answer) × Tells kind command text old new answer
-
-  -- what a run of a kind and a command does with what its source answers for a file
-  abbrev pub HandlesInput : KindArg → Command → List ℕ → Input → Option (List ℕ) → Option (List ℕ) → Ending → Type 0
-  HandlesInput kind command file input.Unreadable old new ending = EndsUnwritten (Unreadable file) old new ending
-  HandlesInput kind command file input.OutOfMemory old new ending = EndsUnwritten NoMemory old new ending
-  HandlesInput kind command file (input.Bytes bytes) old new ending =
-      (IsUtf8 bytes.items → EndsReported kind command bytes.items old new ending)
-      × ((IsUtf8 bytes.items → ⊥) → EndsUnwritten (NotUtf8 file) old new ending)
-
-  -- What a run does with its words, where `Fetches` says what a source may answer for a file, and what becomes of it: a
-  -- source that was `before`, and is `after`.
+  -- What a run of a kind and a command does with a file, where `Fetches` says what a source may answer for a file, and what
+  -- becomes of it: a source that was `before`, and is `after`.
   abbrev pub HandlesNames : {S : Type 0} → Option KindArg → Option Command → List ℕ → (S → List ℕ → Input → S → Type 0) → S → S → Option (List ℕ) → Option (List ℕ) → Ending → Type 0
   HandlesNames (Some kind) (Some command) file Fetches before after old new ending =
-      (answer : Input) × Fetches before file answer after × HandlesInput kind command file answer old new ending
+      (answer : Input) × Fetches before file answer after
+      × WithBytes old new ending file answer (λ text. WithText old new ending file text (EndsReported (Tells kind command text) old new ending))
   HandlesNames kind command file Fetches before after old new ending = EndsUnread before after old new ending
 
+module _ (TellsLexer : KindArg → List ℕ → List ℕ → Option (List ℕ) → Option (List ℕ) → Result Outcome ReportFault → Type 0) where
+  -- what a run of the command `lex` does with the bytes of its two files
+  abbrev pub HandlesTexts : KindArg → List ℕ → List ℕ → List ℕ → List ℕ → Option (List ℕ) → Option (List ℕ) → Ending → Type 0
+  HandlesTexts kind file names text list old new ending =
+      WithText old new ending file text (WithText old new ending names list (EndsReported (TellsLexer kind text list) old new ending))
+
+  -- What it does with what its source, which is then `between`, answers for the first file: only where that is bytes, the second
+  -- is read.
+  abbrev pub HandlesFirst : {S : Type 0} → KindArg → List ℕ → List ℕ → Input → (S → List ℕ → Input → S → Type 0) → S → S → Option (List ℕ) → Option (List ℕ) → Ending → Type 0
+  HandlesFirst kind file names input.Unreadable Fetches between after old new ending = (after ≡ between) × EndsUnwritten (Unreadable file) old new ending
+  HandlesFirst kind file names input.OutOfMemory Fetches between after old new ending = (after ≡ between) × EndsUnwritten NoMemory old new ending
+  HandlesFirst kind file names (input.Bytes bytes) Fetches between after old new ending =
+      (answer : Input) × Fetches between names answer after
+      × WithBytes old new ending names answer (λ list. HandlesTexts kind file names bytes.items list old new ending)
+
+  -- what a run does with a kind and two files, where it is asked rightly for `lex`
+  abbrev pub HandlesLexer : {S : Type 0} → Option KindArg → Bool → List ℕ → List ℕ → (S → List ℕ → Input → S → Type 0) → S → S → Option (List ℕ) → Option (List ℕ) → Ending → Type 0
+  HandlesLexer {S} (Some kind) true file names Fetches before after old new ending =
+      (answer : Input) × (between : S) × Fetches before file answer between × HandlesFirst kind file names answer Fetches between after old new ending
+  HandlesLexer kind asked file names Fetches before after old new ending = EndsUnread before after old new ending
+
+module _ (Tells : KindArg → Command → List ℕ → Option (List ℕ) → Option (List ℕ) → Result Outcome ReportFault → Type 0)
+    (TellsLexer : KindArg → List ℕ → List ℕ → Option (List ℕ) → Option (List ℕ) → Result Outcome ReportFault → Type 0) where
+  -- what a run does with its words
   abbrev pub HandlesWords : {S : Type 0} → List (List ℕ) → (S → List ℕ → Input → S → Type 0) → S → S → Option (List ℕ) → Option (List ℕ) → Ending → Type 0
   HandlesWords (kind ∷ (command ∷ (file ∷ []))) Fetches before after old new ending =
-      HandlesNames (kind_named kind) (command_named command) file Fetches before after old new ending
+      HandlesNames Tells (kind_named kind) (command_named command) file Fetches before after old new ending
+  HandlesWords (kind ∷ (command ∷ (file ∷ (names ∷ [])))) Fetches before after old new ending =
+      HandlesLexer TellsLexer (kind_named kind) (asks_lexer command file names) file names Fetches before after old new ending
   HandlesWords words Fetches before after old new ending = EndsUnread before after old new ending

@@ -1,5 +1,5 @@
 -- What the words of the program name.
-use Rattle.std.specs.Prelude.{ℕ, List, Option, Some, None, if◌then◌else◌, codes}
+use Rattle.std.specs.Prelude.{ℕ, List, Option, Some, None, if◌then◌else◌, codes, Bool, not, ◌&&◌}
 use Rattle.std.specs.Str.{bytes_eq}
 use Rattle.cfgheader.specs.declared.kind.YaccKind.TheVariants.{Original, Grmtools, Eco}
 use Rattle.cfgheader.specs.declared.kind.YaccOriginalActionKind.TheVariants.{NoAction, UserAction, GenericParseTree}
@@ -28,3 +28,7 @@ command_named word =
     else if bytes_eq word (codes "sentences") then Some Sentences
     else if bytes_eq word (codes "warnings") then Some Warnings
     else None
+
+-- whether two files are asked for rightly: by the command `lex`, and one of them alone may be standard input
+abbrev pub asks_lexer : List ℕ → List ℕ → List ℕ → Bool
+asks_lexer command file names = bytes_eq command (codes "lex") && not (bytes_eq file (codes "-") && bytes_eq names (codes "-"))

@@ -1,15 +1,19 @@
 //! A run of the program.
 
-ghost use Rattle.std.specs.Prelude.{◌≡◌, ◌+◌, ◌-◌, ◌^◌, ◌<◌, ◌≤◌, map};
-ghost use Rattle.cfgshell.specs.Endings.{Ending, ending_in, faults_at, faults_met, line_of, status_of};
-ghost use Rattle.cfgshell.specs.Run.{HandlesWords};
+ghost use Rattle.std.specs.Prelude.{◌≡◌, ◌+◌, ◌-◌, ◌^◌, ◌<◌, ◌≤◌, map, true, IfOk, IfErr};
+ghost use Rattle.std.specs.Str.{IsUtf8};
+ghost use Rattle.cfgshell.specs.Endings.{Ending, NotUtf8, IsFetched, ending_in, ending_with, faults_at, faults_met};
+ghost use Rattle.cfgshell.specs.Endings.{line_of, status_of};
+ghost use Rattle.cfgshell.specs.Run.{HandlesLexer, HandlesNames, HandlesWords};
+ghost use Rattle.cfgshell.specs.Words.{command_named, kind_named};
+ghost use Rattle.cfgshell.specs.declared.source.Input.{Input};
 ghost use Rattle.cfgshell.specs.Sinks.{AppendsOrFaults};
 
 use crate::faults::{RunFault, tell};
 use crate::outcome::{Outcome, ReportFault};
 use crate::sink::Sink;
 use crate::source::{Input, Source};
-use crate::words::{Command, KindArg, command_of, kind_of};
+use crate::words::{Command, KindArg, asks_lexer, command_of, kind_of};
 use std::alloc::Global;
 
 /// What writes the report of a text.
@@ -21,6 +25,9 @@ pub trait Reporter {
     ghost use Rattle.cfgshell.specs.declared.words.KindArg.{KindArg};
 
     ghost tells: { KindArg → Command → List ℕ → Option (List ℕ) → Option (List ℕ) → Result Outcome ReportFault
+        → Type 0 };
+
+    ghost tells_lexer: { KindArg → List ℕ → List ℕ → Option (List ℕ) → Option (List ℕ) → Result Outcome ReportFault
         → Type 0 };
 
     /// Writes what the command tells of a text that is read as this kind.
@@ -39,6 +46,23 @@ pub trait Reporter {
         requires { W.faults_counted out.old < 2 ^ 64 - 1 }
         ensures told { tells kind command text.now (W.written out.old) (W.written out.new) result }
         ensures faults { W.faults_counted out.new ≡ W.faults_counted out.old + faults_met result };
+
+    /// Writes where the tokens of a text that is read as this kind and the names of a lexer differ.
+    ///
+    /// # Errors
+    ///
+    /// Want of memory, and a fault of `out`.
+    fn report_lex<W: Sink>(
+        &self,
+        alloc: Global,
+        kind: KindArg,
+        text: &str,
+        names: &str,
+        out: &mut W,
+    ) -> Result<Outcome, ReportFault>
+        requires { W.faults_counted out.old < 2 ^ 64 - 1 }
+        ensures told { tells_lexer kind text.now names.now (W.written out.old) (W.written out.new) result }
+        ensures faults { W.faults_counted out.new ≡ W.faults_counted out.old + faults_met result };
 }
 
 /// Runs the program on the words after its name, and answers its status. What its report tells is written to `out`,
@@ -55,7 +79,7 @@ pub fn run<P: Reporter, S: Source, O: Sink, E: Sink>(
     requires err_counts { E.faults_counted err.old < 2 ^ 64 - 1 }
     ensures small { result ≤ 3 }
     ensures ends { (ending : Ending) × (result ≡ status_of ending)
-        × HandlesWords P.tells (map (λ word. word.now) args.now) S.fetches source.old source.new
+        × HandlesWords P.tells P.tells_lexer (map (λ word. word.now) args.now) S.fetches source.old source.new
         (O.written out.old) (O.written out.new) ending
         × (O.faults_counted out.new ≡ O.faults_counted out.old + faults_at ending)
         × AppendsOrFaults (E.written err.old) (E.written err.new)
@@ -71,7 +95,7 @@ pub fn run<P: Reporter, S: Source, O: Sink, E: Sink>(
     }
 }
 
-/// How the report of the file that the words name ended.
+/// How the report that the words ask for ended.
 fn outcome<'a, P: Reporter, S: Source, O: Sink>(
     alloc: Global,
     reporter: &P,
@@ -80,23 +104,89 @@ fn outcome<'a, P: Reporter, S: Source, O: Sink>(
     out: &mut O,
 ) -> Result<Outcome, RunFault<'a>>
     requires { O.faults_counted out.old < 2 ^ 64 - 1 }
-    ensures ends { HandlesWords P.tells (map (λ word. word.now) args.now) S.fetches source.old source.new
+    ensures ends { HandlesWords P.tells P.tells_lexer (map (λ word. word.now) args.now) S.fetches source.old source.new
         (O.written out.old) (O.written out.new) (ending_in result) }
     ensures faults { O.faults_counted out.new ≡ O.faults_counted out.old + faults_at (ending_in result) }
 {
-    let [kind, command, file] = args else {
-        return Err(RunFault::Usage);
-    };
+    match *args {
+        [kind, command, file] => command_outcome(alloc, reporter, kind, command, file, source, out),
+        [kind, command, file, names] => {
+            if asks_lexer(command, file, names) {
+                lexer_outcome(alloc, reporter, kind, file, names, source, out)
+            } else {
+                Err(RunFault::Usage)
+            }
+        }
+        _ => Err(RunFault::Usage),
+    }
+}
+
+/// How the report of a command on a file ended.
+fn command_outcome<'a, P: Reporter, S: Source, O: Sink>(
+    alloc: Global,
+    reporter: &P,
+    kind: &str,
+    command: &str,
+    file: &'a str,
+    source: &mut S,
+    out: &mut O,
+) -> Result<Outcome, RunFault<'a>>
+    requires { O.faults_counted out.old < 2 ^ 64 - 1 }
+    ensures ends { HandlesNames P.tells (kind_named kind.now) (command_named command.now) file.now
+        S.fetches source.old source.new (O.written out.old) (O.written out.new) (ending_in result) }
+    ensures faults { O.faults_counted out.new ≡ O.faults_counted out.old + faults_at (ending_in result) }
+{
     let (Some(kind), Some(command)) = (kind_of(kind), command_of(command)) else {
         return Err(RunFault::Usage);
     };
-    let bytes = match source.fetch(file) {
-        Input::Bytes(bytes) => bytes,
-        Input::Unreadable => return Err(RunFault::Unreadable(file)),
-        Input::OutOfMemory => return Err(RunFault::OutOfMemory),
-    };
-    let Ok(text) = std::str::from_utf8(&bytes) else {
-        return Err(RunFault::NotUtf8(file));
-    };
+    let bytes = fetch(source, file)?;
+    let text = text_of(&bytes, file)?;
     Ok(reporter.report(alloc, kind, command, text, out)?)
+}
+
+/// How the report on a lexer's names and a file ended.
+fn lexer_outcome<'a, P: Reporter, S: Source, O: Sink>(
+    alloc: Global,
+    reporter: &P,
+    kind: &str,
+    file: &'a str,
+    names: &'a str,
+    source: &mut S,
+    out: &mut O,
+) -> Result<Outcome, RunFault<'a>>
+    requires { O.faults_counted out.old < 2 ^ 64 - 1 }
+    ensures ends { HandlesLexer P.tells_lexer (kind_named kind.now) true file.now names.now
+        S.fetches source.old source.new (O.written out.old) (O.written out.new) (ending_in result) }
+    ensures faults { O.faults_counted out.new ≡ O.faults_counted out.old + faults_at (ending_in result) }
+{
+    let Some(kind) = kind_of(kind) else {
+        return Err(RunFault::Usage);
+    };
+    let bytes = fetch(source, file)?;
+    let list = fetch(source, names)?;
+    let text = text_of(&bytes, file)?;
+    let list = text_of(&list, names)?;
+    Ok(reporter.report_lex(alloc, kind, text, list, out)?)
+}
+
+/// The bytes of the file of this name.
+fn fetch<'a, S: Source>(source: &mut S, file: &'a str) -> Result<Vec<u8>, RunFault<'a>>
+    ensures { (answer : Input) × S.fetches source.old file.now answer source.new × IsFetched file.now answer result }
+{
+    match source.fetch(file) {
+        Input::Bytes(bytes) => Ok(bytes),
+        Input::Unreadable => Err(RunFault::Unreadable(file)),
+        Input::OutOfMemory => Err(RunFault::OutOfMemory),
+    }
+}
+
+/// The bytes of the file of this name as text.
+fn text_of<'a, 'b>(bytes: &'b [u8], file: &'a str) -> Result<&'b str, RunFault<'a>>
+    ensures ok { IfOk result (λ text. (text.now ≡ bytes.now) × IsUtf8 bytes.now) }
+    ensures err { IfErr result (λ fault. (ending_with fault ≡ NotUtf8 file.now) × (IsUtf8 bytes.now → ⊥)) }
+{
+    match std::str::from_utf8(bytes) {
+        Ok(text) => Ok(text),
+        Err(_) => Err(RunFault::NotUtf8(file)),
+    }
 }

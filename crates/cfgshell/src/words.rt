@@ -1,7 +1,7 @@
 //! The words that name a kind of Yacc and a command.
 
 ghost use Rattle.std.specs.Prelude.{◌≡◌};
-ghost use Rattle.cfgshell.specs.Words.{command_named, kind_named};
+ghost use Rattle.cfgshell.specs.Words.{asks_lexer, command_named, kind_named};
 
 use cfgheader::{YaccKind, YaccOriginalActionKind};
 
@@ -58,4 +58,11 @@ pub fn command_of(word: &str) -> Option<Command>
         "warnings" => Some(Command::Warnings),
         _ => None,
     }
+}
+
+/// Whether a command that takes two files is asked for rightly: it is `lex`, and one of the files alone is standard input.
+pub(crate) fn asks_lexer(command: &str, file: &str, names: &str) -> bool
+    ensures { result ≡ asks_lexer command.now file.now names.now }
+{
+    command == "lex" && !(file == "-" && names == "-")
 }

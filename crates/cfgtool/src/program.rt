@@ -5,7 +5,7 @@ ghost use Rattle.cfgshell.specs.Endings.{Ending, faults_at, line_of, status_of};
 ghost use Rattle.cfgshell.specs.Sinks.{AppendsOrFaults};
 ghost use Rattle.cfgtool.specs.Run.{HandlesWords};
 
-use crate::engine::{Outcome, ReportFault, report};
+use crate::engine::{Outcome, ReportFault, report, report_lex};
 use cfgshell::program::{self, Reporter};
 use cfgshell::sink::Sink;
 use cfgshell::source::Source;
@@ -34,14 +34,16 @@ pub fn run<S: Source, O: Sink, E: Sink>(
     program::run(alloc, &Reports, args, source, out, err)
 }
 
-/// The program's reports: those of [`report`](crate::report).
+/// The program's reports: those of [`report`](crate::report) and [`report_lex`](crate::report_lex).
 #[derive(Drop)]
 pub(crate) struct Reports;
 
 impl Reporter for Reports {
-    ghost use Rattle.cfgtool.specs.Report.{TellsText};
+    ghost use Rattle.cfgtool.specs.Report.{TellsLexer, TellsText};
 
     ghost tells = { TellsText };
+
+    ghost tells_lexer = { TellsLexer };
 
     fn report<W: Sink>(
         &self,
@@ -52,5 +54,16 @@ impl Reporter for Reports {
         out: &mut W,
     ) -> Result<Outcome, ReportFault> {
         report(alloc, kind, command, text, out)
+    }
+
+    fn report_lex<W: Sink>(
+        &self,
+        alloc: Global,
+        kind: KindArg,
+        text: &str,
+        names: &str,
+        out: &mut W,
+    ) -> Result<Outcome, ReportFault> {
+        report_lex(alloc, kind, text, names, out)
     }
 }
