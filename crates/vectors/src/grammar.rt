@@ -1,6 +1,6 @@
 //! Rows on the texts of grammars.
 
-use crate::{accessors, openings, paths, starts, tables};
+use crate::{accessors, names, openings, paths, starts, tables};
 use cfgrammar::yacc::ast::ASTWithValidityInfo;
 use cfgrammar::yacc::{YaccFault, YaccGrammar, YaccGrammarError, YaccGrammarResult, YaccKind};
 use held::{firsts, pen};
@@ -213,6 +213,7 @@ fn tell_asked(
         "set" => firsts::write_set(out, alloc, grammar, numbers(rest)),
         "paths" => paths::write_paths(out, alloc, grammar),
         "path" => paths::write_path(out, alloc, grammar, rest),
+        "names" => names::write_names(out, alloc, grammar, rest),
         _ => Ok(()),
     }
 }

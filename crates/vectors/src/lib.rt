@@ -3,6 +3,7 @@
 
 mod accessors;
 mod grammar;
+mod names;
 mod openings;
 mod paths;
 mod starts;

@@ -1,0 +1,2 @@
+%implicit_tokens w t
+%% S: 'x';

@@ -1,0 +1,1 @@
+%start S %% S: B C 'd'; B: 'b'; C: 'c' | ;

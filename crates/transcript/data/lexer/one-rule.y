@@ -1,0 +1,1 @@
+%start R %token T %% R: 'T';
