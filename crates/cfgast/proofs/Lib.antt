@@ -10,6 +10,7 @@ pub mod Law
 pub mod Marking
 pub mod Names
 pub mod Once
+pub mod Refilled
 pub mod Repeats
 pub mod Searching
 pub mod Steps

@@ -15,6 +15,7 @@ use crate::settings::Settings;
 use crate::symbol::Symbol;
 use crate::tables::Tables;
 use cfgbase::Span;
+use cfghash::NameHashes;
 use indexmap::{IndexMap, IndexSet};
 use std::alloc::AllocError;
 
@@ -22,11 +23,11 @@ use std::alloc::AllocError;
 #[derive(Debug, Drop)]
 pub struct GrammarAST {
     pub(crate) start: Option<(String, Span)>,
-    pub(crate) rules: IndexMap<String, Rule>,
+    pub(crate) rules: IndexMap<String, Rule, NameHashes>,
     pub(crate) prods: Vec<Production>,
     pub(crate) prods_rules: Vec<usize>,
     pub(crate) token_directives: IndexSet<usize>,
-    pub(crate) tokens: IndexSet<String>,
+    pub(crate) tokens: IndexSet<String, NameHashes>,
     pub(crate) spans: Vec<Span>,
     pub(crate) tables: Tables,
     pub(crate) settings: Settings,
@@ -46,7 +47,7 @@ impl GrammarAST {
     }
 
     /// The rules, by their names, in the order in which they come first.
-    pub fn rules(&self) -> &IndexMap<String, Rule>
+    pub fn rules(&self) -> &IndexMap<String, Rule, NameHashes>
         ensures { map rule_entry result.now.entries ≡ (syntax self.now).rules }
     {
         &self.rules
@@ -74,7 +75,7 @@ impl GrammarAST {
     }
 
     /// The tokens' names, in the order in which they come first.
-    pub fn tokens(&self) -> &IndexSet<String>
+    pub fn tokens(&self) -> &IndexSet<String, NameHashes>
         ensures { map string_bytes result.now.keys ≡ (syntax self.now).tokens }
     {
         &self.tokens
@@ -88,14 +89,14 @@ impl GrammarAST {
     }
 
     /// The precedences of tokens (POSIX yacc), each with the place where the token is given one first.
-    pub fn precs(&self) -> &IndexMap<String, (Precedence, Span)>
+    pub fn precs(&self) -> &IndexMap<String, (Precedence, Span), NameHashes>
         ensures { map precedence_entry result.now.entries ≡ (syntax self.now).tables.precedences }
     {
         &self.tables.precs
     }
 
     /// The tokens of the `%avoid_insert` lists, each with its first place there, where there is such a list.
-    pub fn avoid_insert(&self) -> &Option<IndexMap<String, Span>>
+    pub fn avoid_insert(&self) -> &Option<IndexMap<String, Span, NameHashes>>
         ensures { option_map (λ table. map span_entry table.entries) result.now
             ≡ (syntax self.now).tables.avoid_insert }
     {
@@ -103,7 +104,7 @@ impl GrammarAST {
     }
 
     /// The tokens of the `%implicit_tokens` lists, each with its first place there, where there is such a list.
-    pub fn implicit_tokens(&self) -> &Option<IndexMap<String, Span>>
+    pub fn implicit_tokens(&self) -> &Option<IndexMap<String, Span, NameHashes>>
         ensures { option_map (λ table. map span_entry table.entries) result.now
             ≡ (syntax self.now).tables.implicit_tokens }
     {
@@ -111,7 +112,7 @@ impl GrammarAST {
     }
 
     /// The printed forms of tokens: the place of the token behind its first `%epp`, and the form with its own place.
-    pub fn epp(&self) -> &IndexMap<String, (Span, (String, Span))>
+    pub fn epp(&self) -> &IndexMap<String, (Span, (String, Span)), NameHashes>
         ensures { map printed_entry result.now.entries ≡ (syntax self.now).tables.printed_forms }
     {
         &self.tables.epp
@@ -197,7 +198,14 @@ impl GrammarAST {
     // Copies of the rules, of the productions, and of the productions' rules.
     fn clone_rules(
         &self,
-    ) -> Result<(IndexMap<String, Rule>, Vec<Production>, Vec<usize>), AllocError>
+    ) -> Result<
+        (
+            IndexMap<String, Rule, NameHashes>,
+            Vec<Production>,
+            Vec<usize>,
+        ),
+        AllocError,
+    >
         ensures rules { IfOk result (λ copy. map rule_entry copy.0.entries ≡ (syntax self.now).rules) }
         ensures productions { IfOk result
             (λ copy. map production_view copy.1.items ≡ (syntax self.now).productions) }
@@ -228,7 +236,9 @@ impl GrammarAST {
     }
 
     // Copies of the tokens, of their spans, and of the directives.
-    fn clone_tokens(&self) -> Result<(IndexSet<String>, Vec<Span>, IndexSet<usize>), AllocError>
+    fn clone_tokens(
+        &self,
+    ) -> Result<(IndexSet<String, NameHashes>, Vec<Span>, IndexSet<usize>), AllocError>
         ensures tokens { IfOk result (λ copy. map string_bytes copy.0.keys ≡ (syntax self.now).tokens) }
         ensures spans { IfOk result (λ copy. copy.1.items ≡ (syntax self.now).spans) }
         ensures token_directives { IfOk result (λ copy. copy.2.keys ≡ (syntax self.now).token_directives) }

@@ -9,7 +9,9 @@ ghost use Rattle.cfgast.specs.Occurrences.{of_grammar, of_token};
 ghost use Rattle.cfgast.specs.Building.{add, adds, with_first, with_rule, new_rule, is_declared};
 ghost use Rattle.cfgast.specs.WellFormed.{IsWellFormed};
 
+use crate::anew::{hash_map_anew, hash_set_anew};
 use crate::ast::GrammarAST;
+use crate::crowds::{Crowds, New};
 use crate::item::{Body, RuleHead};
 use crate::occurrence::{Occurrence, Unique, UniqueKind};
 use crate::precedence::{AssocKind, Precedence};
@@ -20,6 +22,7 @@ use crate::symbol::Symbol;
 use crate::tables::{Tables, begin_marked, put_entry, put_marked};
 use crate::writing::list_production;
 use cfgbase::Span;
+use cfghash::NameHashes;
 use cfgwords::words::{Token, Word};
 use indexmap::{IndexMap, IndexSet};
 use std::alloc::{AllocError, Global};
@@ -30,29 +33,34 @@ use std::alloc::{AllocError, Global};
 /// added a part of its item, and its contract says nothing of what the builder holds then. So the reader drops it, and
 /// answers want of memory and no tree.
 #[derive(Drop)]
-pub struct AstBuilder {
+pub struct AstBuilder<'text> {
+    text: &'text str,
+    crowds: Option<Crowds>,
     ast: GrammarAST,
 }
 
 #[tactic(auto, unfolding(crate::specs::View::syntax_built, crate::specs::View::syntax, crate::specs::Building::add))]
-impl AstBuilder {
+impl<'text> AstBuilder<'text> {
     ghost use Rattle.cfgast.specs.View.{syntax, syntax_built, production_view, rule_view, symbol_view, word_view};
     ghost use Rattle.cfgast.specs.View.{token_view, head_view, body_view};
 
-    /// A builder that no item was added to.
-    pub fn new(alloc: Global) -> Self
+    /// A builder that no item was added to. Names are hashed plainly, or where they crowd under the key of this text.
+    pub fn new(alloc: Global, text: &'text str) -> Self
         ensures { syntax_built result ≡ syntax_of [] }
     {
+        let hashes = NameHashes::plain();
         AstBuilder {
+            text,
+            crowds: Some(Crowds::new(alloc)),
             ast: GrammarAST {
                 start: None,
-                rules: IndexMap::new(alloc),
+                rules: IndexMap::with_hasher(alloc, hashes),
                 prods: Vec::new(alloc),
                 prods_rules: Vec::new(alloc),
                 token_directives: IndexSet::new(alloc),
-                tokens: IndexSet::new(alloc),
+                tokens: IndexSet::with_hasher(alloc, hashes),
                 spans: Vec::new(alloc),
-                tables: Tables::none(alloc),
+                tables: Tables::none(alloc, hashes),
                 settings: Settings::none(),
                 expect_unused: Vec::new(alloc),
                 occurrences: Vec::new(alloc),
@@ -69,7 +77,7 @@ impl AstBuilder {
 
     /// The tree of the items that were added.
     pub fn finish(self) -> GrammarAST
-        ensures { syntax result ≡ syntax_built self }
+        ensures { syntax result ≡ syntax_built self.entry }
     {
         self.ast
     }
@@ -97,13 +105,13 @@ impl AstBuilder {
     {
         let level = self.ast.tables.levels.len() as u64;
         let precedence = Precedence { level, kind };
-        put_entry(
+        let is_new = put_entry(
             alloc,
             &mut self.ast.tables.precs,
             word.name,
             (precedence, word.span),
         )?;
-        self.note_token(alloc, UniqueKind::Precedence, word)
+        self.note_token(alloc, UniqueKind::Precedence, word, is_new)
     }
 
     /// Adds the end of a `%left`, `%right` or `%nonassoc` list.
@@ -118,7 +126,8 @@ impl AstBuilder {
     pub fn begin_avoid_insert(&mut self, alloc: Global)
         ensures { syntax_built self.new ≡ add (syntax_built self.old) AvoidInsertBegun }
     {
-        begin_marked(alloc, &mut self.ast.tables.avoid_insert);
+        let hashes = *self.ast.tokens.hasher();
+        begin_marked(alloc, hashes, &mut self.ast.tables.avoid_insert);
     }
 
     /// Adds a token of an `%avoid_insert` list. The first one of its name counts.
@@ -127,15 +136,17 @@ impl AstBuilder {
             ≡ add (syntax_built self.old) (AvoidInsertDeclared (word_view word.entry))) }
     {
         self.put_token(alloc, word)?;
-        put_marked(alloc, &mut self.ast.tables.avoid_insert, word)?;
-        self.note_token(alloc, UniqueKind::AvoidInsert, word)
+        let hashes = *self.ast.tokens.hasher();
+        let is_new = put_marked(alloc, hashes, &mut self.ast.tables.avoid_insert, word)?;
+        self.note_token(alloc, UniqueKind::AvoidInsert, word, is_new)
     }
 
     /// Adds the beginning of an `%implicit_tokens` list.
     pub fn begin_implicit_tokens(&mut self, alloc: Global)
         ensures { syntax_built self.new ≡ add (syntax_built self.old) ImplicitTokensBegun }
     {
-        begin_marked(alloc, &mut self.ast.tables.implicit_tokens);
+        let hashes = *self.ast.tokens.hasher();
+        begin_marked(alloc, hashes, &mut self.ast.tables.implicit_tokens);
     }
 
     /// Adds a token of an `%implicit_tokens` list. The first one of its name counts.
@@ -148,8 +159,9 @@ impl AstBuilder {
             ≡ add (syntax_built self.old) (ImplicitTokenDeclared (word_view word.entry))) }
     {
         self.put_token(alloc, word)?;
-        put_marked(alloc, &mut self.ast.tables.implicit_tokens, word)?;
-        self.note_token(alloc, UniqueKind::ImplicitToken, word)
+        let hashes = *self.ast.tokens.hasher();
+        let is_new = put_marked(alloc, hashes, &mut self.ast.tables.implicit_tokens, word)?;
+        self.note_token(alloc, UniqueKind::ImplicitToken, word, is_new)
     }
 
     /// Adds the printed form of a token, with its place; the token's span has its quotes too. The first form counts.
@@ -163,13 +175,13 @@ impl AstBuilder {
         ensures { OnOk result (syntax_built self.new
             ≡ add (syntax_built self.old) (PrintedFormDeclared (word_view token.entry) (string_bytes form, span))) }
     {
-        put_entry(
+        let is_new = put_entry(
             alloc,
             &mut self.ast.tables.epp,
             token.name,
             (token.span, (form, span)),
         )?;
-        self.note_token(alloc, UniqueKind::PrintedForm, token)
+        self.note_token(alloc, UniqueKind::PrintedForm, token, is_new)
     }
 
     /// Adds a quoted token of a rule's body.
@@ -336,12 +348,13 @@ impl AstBuilder {
         Ok(())
     }
 
-    // Notes where the file declares what it may declare only once of a token.
+    // Notes where the file declares what it may declare only once of a token, and whether it is new there.
     fn note_token(
         &mut self,
         alloc: Global,
         kind: UniqueKind,
         token: Word<'_>,
+        is_new: bool,
     ) -> Result<(), AllocError>
         ensures { OnOk result (syntax_built self.new ≡ record (syntax_built self.old) {
           occurrences = (syntax_built self.old).occurrences ++ of_token kind (word_view token.entry) ∷ [];
@@ -351,6 +364,7 @@ impl AstBuilder {
             kind,
             token: Some(String::from_str(alloc, token.name)?),
         };
+        self.take_in_declared(alloc, &what, is_new)?;
         self.ast.occurrences.push(Occurrence {
             what,
             span: token.span,
@@ -384,6 +398,7 @@ impl AstBuilder {
             .ast
             .tokens
             .insert_full(String::from_str(alloc, word.name)?)?;
+        self.take_in(alloc, New::Token(word.name))?;
         Ok(index)
     }
 
@@ -404,7 +419,50 @@ impl AstBuilder {
             .ast
             .rules
             .insert_full(String::from_str(alloc, name)?, rule)?;
+        self.take_in(alloc, New::Rule(name))?;
         Ok(index)
+    }
+
+    // Takes in what is declared of a token, where it is new.
+    fn take_in_declared(
+        &mut self,
+        alloc: Global,
+        what: &Unique,
+        is_new: bool,
+    ) -> Result<(), AllocError>
+        ensures { OnOk result (syntax_built self.new ≡ syntax_built self.old) }
+    {
+        if is_new {
+            self.take_in(alloc, New::Declared(what))
+        } else {
+            Ok(())
+        }
+    }
+
+    // Takes in what is new. Where names crowd, they are hashed anew.
+    fn take_in(&mut self, alloc: Global, new: New<'_>) -> Result<(), AllocError>
+        ensures { OnOk result (syntax_built self.new ≡ syntax_built self.old) }
+    {
+        let crowded = match &mut self.crowds {
+            Some(crowds) => crowds.takes(new)?,
+            None => false,
+        };
+        if crowded {
+            self.hash_anew(alloc)
+        } else {
+            Ok(())
+        }
+    }
+
+    // Hashes all names under the key of the text, from now on.
+    fn hash_anew(&mut self, alloc: Global) -> Result<(), AllocError>
+        ensures { OnOk result (syntax_built self.new ≡ syntax_built self.old) }
+    {
+        self.crowds = None;
+        let hashes = NameHashes::of_text(self.text);
+        hash_map_anew(alloc, hashes, &mut self.ast.rules)?;
+        hash_set_anew(alloc, hashes, &mut self.ast.tokens)?;
+        self.ast.tables.hash_anew(alloc, hashes)
     }
 
     // A rule with no production yet. Where its head says no type, it has the one of all rules.

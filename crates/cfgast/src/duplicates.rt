@@ -6,6 +6,7 @@ ghost use Rattle.cfgast.specs.View.{occurrence_view, duplicate_view};
 
 use crate::occurrence::{Occurrence, Unique};
 use cfgbase::Span;
+use cfghash::NameHashes;
 use indexmap::{IndexMap, IndexSet};
 use std::alloc::{AllocError, Global};
 
@@ -13,12 +14,13 @@ use std::alloc::{AllocError, Global};
 #[tactic(auto, unfolding(crate::specs::Occurrences::duplicates))]
 pub fn duplicates(
     alloc: Global,
+    hashes: NameHashes,
     occurrences: &[Occurrence],
-) -> Result<IndexMap<&Unique, Vec<Span>>, AllocError>
+) -> Result<IndexMap<&Unique, Vec<Span>, NameHashes>, AllocError>
     ensures { IfOk result (λ found. map duplicate_view found.entries
         ≡ duplicates (map occurrence_view occurrences.now)) }
 {
-    let mut found = repeated(alloc, occurrences)?;
+    let mut found = repeated(alloc, hashes, occurrences)?;
     for occurrence in occurrences {
         if let Some(places) = found.get_mut(&&occurrence.what) {
             places.push(occurrence.span)?;
@@ -30,14 +32,15 @@ pub fn duplicates(
 // What the occurrences declare more than once, in the order of the first repeats, without its places.
 fn repeated(
     alloc: Global,
+    hashes: NameHashes,
     occurrences: &[Occurrence],
-) -> Result<IndexMap<&Unique, Vec<Span>>, AllocError>
+) -> Result<IndexMap<&Unique, Vec<Span>, NameHashes>, AllocError>
     ensures { IfOk result (λ found. map duplicate_view found.entries
         ≡ map (λ what. record { what = what; spans = [] })
         (each_once is_same (repeats (map occurrence_view occurrences.now)))) }
 {
-    let mut declared = IndexSet::new(alloc);
-    let mut again = IndexMap::new(alloc);
+    let mut declared = IndexSet::with_hasher(alloc, hashes);
+    let mut again = IndexMap::with_hasher(alloc, hashes);
     for occurrence in occurrences {
         if !declared.insert(&occurrence.what)? {
             again.insert(&occurrence.what, Vec::new(alloc))?;

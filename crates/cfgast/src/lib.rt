@@ -1,8 +1,10 @@
 #![tactic(auto)]
 
+mod anew;
 pub mod ast;
 pub mod builder;
 pub mod copies;
+mod crowds;
 pub mod duplicates;
 pub mod item;
 pub mod laws;

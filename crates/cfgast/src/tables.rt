@@ -4,9 +4,11 @@ ghost use Rattle.std.specs.Prelude.{◌≡◌, [], map, option_map, string_bytes
 ghost use Rattle.cfgast.specs.Building.{with_entry, with_marked};
 ghost use Rattle.cfgast.specs.View.{span_entry, word_view};
 
+use crate::anew::{hash_map_anew, hash_marked_anew};
 use crate::copies::{both, three};
 use crate::precedence::{AssocKind, Precedence};
 use cfgbase::Span;
+use cfghash::NameHashes;
 use cfgwords::words::Word;
 use indexmap::IndexMap;
 use std::alloc::{AllocError, Global};
@@ -15,13 +17,13 @@ use std::alloc::{AllocError, Global};
 #[derive(Debug, Drop)]
 pub struct Tables {
     /// The tokens of `%left`, `%right` and `%nonassoc` lists, with their precedences (POSIX yacc) and places.
-    pub precs: IndexMap<String, (Precedence, Span)>,
+    pub precs: IndexMap<String, (Precedence, Span), NameHashes>,
     /// The keys of `%epp`, with their places, and their printed forms with theirs.
-    pub epp: IndexMap<String, (Span, (String, Span))>,
+    pub epp: IndexMap<String, (Span, (String, Span)), NameHashes>,
     /// The tokens of `%avoid_insert` lists, with their places, where there is such a list.
-    pub avoid_insert: Option<IndexMap<String, Span>>,
+    pub avoid_insert: Option<IndexMap<String, Span, NameHashes>>,
     /// The tokens of `%implicit_tokens` lists, with their places, where there is such a list.
-    pub implicit_tokens: Option<IndexMap<String, Span>>,
+    pub implicit_tokens: Option<IndexMap<String, Span, NameHashes>>,
     /// The declarations of precedence that ended, in order.
     pub levels: Vec<AssocKind>,
 }
@@ -32,16 +34,26 @@ impl Tables {
 
     /// Nothing of any token.
     #[tactic(auto, unfolding(crate::specs::Syntax::tables_of))]
-    pub fn none(alloc: Global) -> Self
+    pub fn none(alloc: Global, hashes: NameHashes) -> Self
         ensures { tables_view result ≡ tables_of [] }
     {
         Tables {
-            precs: IndexMap::new(alloc),
-            epp: IndexMap::new(alloc),
+            precs: IndexMap::with_hasher(alloc, hashes),
+            epp: IndexMap::with_hasher(alloc, hashes),
             avoid_insert: None,
             implicit_tokens: None,
             levels: Vec::new(alloc),
         }
+    }
+
+    // Has all tables hash their keys so.
+    pub(crate) fn hash_anew(&mut self, alloc: Global, hashes: NameHashes) -> Result<(), AllocError>
+        ensures { OnOk result (tables_view self.new ≡ tables_view self.old) }
+    {
+        hash_map_anew(alloc, hashes, &mut self.precs)?;
+        hash_map_anew(alloc, hashes, &mut self.epp)?;
+        hash_marked_anew(alloc, hashes, &mut self.avoid_insert)?;
+        hash_marked_anew(alloc, hashes, &mut self.implicit_tokens)
     }
 }
 
@@ -63,45 +75,51 @@ impl Clone for Tables {
     }
 }
 
-// The value, under the name where none has it yet.
+// The value, under the name where none has it yet: whether that is so.
 pub(crate) fn put_entry<V: Drop>(
     alloc: Global,
-    entries: &mut IndexMap<String, V>,
+    entries: &mut IndexMap<String, V, NameHashes>,
     name: &str,
     value: V,
-) -> Result<(), AllocError>
+) -> Result<bool, AllocError>
     ensures { OnOk result (map (λ entry. (string_bytes entry.0, entry.1)) entries.new.entries
         ≡ with_entry (Some (name.now, value)) (map (λ entry. (string_bytes entry.0, entry.1)) entries.old.entries)) }
 {
-    if !entries.contains_key(name) {
-        entries.insert(String::from_str(alloc, name)?, value)?;
+    if entries.contains_key(name) {
+        return Ok(false);
     }
-    Ok(())
+    entries.insert(String::from_str(alloc, name)?, value)?;
+    Ok(true)
 }
 
 // The table of marked tokens, from the beginning of a list on.
-pub(crate) fn begin_marked(alloc: Global, table: &mut Option<IndexMap<String, Span>>)
+pub(crate) fn begin_marked(
+    alloc: Global,
+    hashes: NameHashes,
+    table: &mut Option<IndexMap<String, Span, NameHashes>>,
+)
     ensures { option_map (λ table. map span_entry table.entries) table.new
         ≡ with_marked (Some None) (option_map (λ table. map span_entry table.entries) table.old) }
 {
     if table.is_none() {
-        *table = Some(IndexMap::new(alloc));
+        *table = Some(IndexMap::with_hasher(alloc, hashes));
     }
 }
 
-// The table of marked tokens, with a token of a list.
+// The table of marked tokens, with a token of a list: whether it is new there.
 pub(crate) fn put_marked(
     alloc: Global,
-    table: &mut Option<IndexMap<String, Span>>,
+    hashes: NameHashes,
+    table: &mut Option<IndexMap<String, Span, NameHashes>>,
     word: Word<'_>,
-) -> Result<(), AllocError>
+) -> Result<bool, AllocError>
     ensures { OnOk result (option_map (λ table. map span_entry table.entries) table.new
         ≡ with_marked (Some (Some (word_view word.entry)))
         (option_map (λ table. map span_entry table.entries) table.old)) }
 {
-    begin_marked(alloc, table);
-    if let Some(entries) = table {
-        put_entry(alloc, entries, word.name, word.span)?;
+    begin_marked(alloc, hashes, table);
+    match table {
+        Some(entries) => put_entry(alloc, entries, word.name, word.span),
+        None => Ok(false),
     }
-    Ok(())
 }

@@ -10,6 +10,7 @@ ghost use Rattle.cfgast.specs.View.{syntax, symbol_view, span_entry};
 use crate::ast::GrammarAST;
 use crate::symbol::Symbol;
 use cfgbase::Span;
+use cfghash::NameHashes;
 use cfgwarnings::{YaccGrammarWarning, YaccGrammarWarningKind, warning_at};
 use indexmap::IndexMap;
 use std::alloc::{AllocError, Global};
@@ -82,7 +83,7 @@ impl Marks {
     }
 
     // Marks the tokens of the table.
-    fn mark_tokens(&mut self, ast: &GrammarAST, table: &IndexMap<String, Span>)
+    fn mark_tokens(&mut self, ast: &GrammarAST, table: &IndexMap<String, Span, NameHashes>)
         requires { AreMarksOf (syntax ast.now) self.old }
         ensures { MarksMore (syntax ast.now) (Contains (map entry_token (map span_entry table.now.entries)))
             self.old self.new }

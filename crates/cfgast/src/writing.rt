@@ -17,6 +17,7 @@ use crate::production::Production;
 use crate::rule::Rule;
 use crate::symbol::Symbol;
 use cfgbase::Span;
+use cfghash::NameHashes;
 use indexmap::IndexMap;
 use std::alloc::AllocError;
 
@@ -116,7 +117,7 @@ impl GrammarAST {
 
 // Lists the production of this index with the rule of this name.
 pub(crate) fn list_production(
-    rules: &mut IndexMap<String, Rule>,
+    rules: &mut IndexMap<String, Rule, NameHashes>,
     name: &str,
     index: usize,
 ) -> Result<(), AllocError>

@@ -6,6 +6,7 @@ ghost use Rattle.std.specs.Str.{bytes_eq};
 ghost use Rattle.cfgnumbers.specs.View.{names};
 
 use crate::rows::TokenRow;
+use cfghash::NameHashes;
 use cfgindex::{Storage, TIdx, to_storage};
 use indexmap::IndexMap;
 use std::alloc::{AllocError, Global};
@@ -18,14 +19,14 @@ use std::collections::HashMap;
 /// Want of memory.
 pub fn tokens_by_name<S: Storage>(
     alloc: Global,
-    rows: &IndexMap<String, TokenRow>,
-) -> Result<HashMap<&str, TIdx<S>>, AllocError>
+    rows: &IndexMap<String, TokenRow, NameHashes>,
+) -> Result<HashMap<&str, TIdx<S>, NameHashes>, AllocError>
     requires { length rows.now.entries ≤ S.MAX }
     ensures { IfOk result (λ map. (name : List ℕ)
         → option_map (λ x. S.number x.0) (get_by (λ key. bytes_eq name key.now) map)
         ≡ position (bytes_eq name) (names rows.now.entries)) }
 {
-    let mut map = HashMap::with_capacity(alloc, rows.len())?;
+    let mut map = HashMap::with_capacity_and_hasher(alloc, rows.len(), *rows.hasher())?;
     for place in 0..rows.len() {
         let (name, _) = rows.get_index(place).unwrap();
         map.insert(name.as_str(), TIdx(to_storage(place)))?;

@@ -66,7 +66,7 @@ pub fn read(
     match behind_section(alloc, text) {
         Ok(rest) => read_file(alloc, kind, text.len(), rest),
         Err(HeaderFault::Errors(errors)) => {
-            let nothing = AstBuilder::new(alloc).finish();
+            let nothing = AstBuilder::new(alloc, text).finish();
             Ok((nothing, Some(Stopped::Section(errors))))
         }
         Err(HeaderFault::OutOfMemory) => Err(AllocError),

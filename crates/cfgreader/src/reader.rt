@@ -63,7 +63,7 @@ pub(crate) struct Reader<'a> {
     pub(crate) alloc: Global,
     pub(crate) len: usize,
     pub(crate) rest: &'a str,
-    pub(crate) tree: AstBuilder,
+    pub(crate) tree: AstBuilder<'a>,
     ghost within: { length rest.now ≤ len },
 }
 
@@ -82,7 +82,7 @@ impl<'a> Reader<'a> {
             alloc,
             len,
             rest,
-            tree: AstBuilder::new(alloc),
+            tree: AstBuilder::new(alloc, rest),
         }
     }
 

@@ -4,6 +4,7 @@ use crate::errors::{write_kind, write_spans};
 use crate::made::{Writer, write_made};
 use crate::read::parse;
 use cfgbase::Span;
+use cfghash::NameHashes;
 use cfgsyntax::yacc::ast::{ASTWithValidityInfo, GrammarAST};
 use cfgsyntax::yacc::{YaccFault, YaccGrammarError, YaccKind};
 use indexmap::IndexMap;
@@ -111,7 +112,7 @@ fn write_count(out: &mut String, count: usize, word: &str) -> Result<(), AllocEr
 /// Writes how many tokens a list has, where there is one.
 fn write_table(
     out: &mut String,
-    table: &Option<IndexMap<String, Span>>,
+    table: &Option<IndexMap<String, Span, NameHashes>>,
     word: &str,
 ) -> Result<(), AllocError> {
     match table {

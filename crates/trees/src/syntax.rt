@@ -4,6 +4,7 @@ use crate::made::{Writer, write_made};
 use crate::said::{write_precedence, write_settings};
 use cfgast::Precedence;
 use cfgbase::Span;
+use cfghash::NameHashes;
 use cfgsyntax::yacc::ast::{ASTWithValidityInfo, GrammarAST, Production, Rule, Symbol};
 use indexmap::IndexMap;
 use rows::pen;
@@ -196,7 +197,7 @@ fn write_printed_form(
 fn write_table(
     out: &mut String,
     word: &str,
-    table: &Option<IndexMap<String, Span>>,
+    table: &Option<IndexMap<String, Span, NameHashes>>,
 ) -> Result<(), AllocError> {
     match table {
         Some(table) => write_entries(out, word, table),
@@ -207,7 +208,7 @@ fn write_table(
 fn write_entries(
     out: &mut String,
     word: &str,
-    table: &IndexMap<String, Span>,
+    table: &IndexMap<String, Span, NameHashes>,
 ) -> Result<(), AllocError> {
     pen::text(out, word)?;
     for (name, span) in table {

@@ -15,6 +15,7 @@ ghost use Rattle.cfgnumbers.specs.View.{file_of, implicit_in};
 
 use cfgast::GrammarAST;
 use cfgbase::Span;
+use cfghash::NameHashes;
 use cfgheader::YaccKind;
 use cfgindex::{RIdx, Storage, to_storage};
 use indexmap::IndexMap;
@@ -23,7 +24,7 @@ use indexmap::IndexMap;
 #[derive(Clone, Copy)]
 pub struct Numbering<'a> {
     ast: &'a GrammarAST,
-    implicit: Option<&'a IndexMap<String, Span>>,
+    implicit: Option<&'a IndexMap<String, Span, NameHashes>>,
 }
 
 impl<'a> Numbering<'a> {

@@ -19,6 +19,7 @@ use super::marks::precedence_of;
 use crate::rows::ProductionRow;
 use cfgast::Production;
 use cfgbase::Span;
+use cfghash::NameHashes;
 use cfgindex::{RIdx, Storage, Symbol, to_storage};
 use indexmap::IndexMap;
 use std::alloc::{AllocError, Global};
@@ -83,7 +84,7 @@ impl Numbering<'_> {
         &self,
         alloc: Global,
         rows: &mut Vec<ProductionRow<S>>,
-        tokens: &IndexMap<String, Span>,
+        tokens: &IndexMap<String, Span, NameHashes>,
     ) -> Result<(), AllocError>
         requires own { implicit_in self.now ≡ Some (names tokens.now.entries) }
         requires resolved { IsResolved (file_of self.now) }
@@ -107,7 +108,7 @@ impl Numbering<'_> {
         &self,
         alloc: Global,
         rows: &mut Vec<ProductionRow<S>>,
-        tokens: &IndexMap<String, Span>,
+        tokens: &IndexMap<String, Span, NameHashes>,
     ) -> Result<(), AllocError>
         requires implicit { All (λ name. is_token (file_of self.now) name ≡ true) (names tokens.now.entries) }
         requires rule { 1 ≤ S.MAX }

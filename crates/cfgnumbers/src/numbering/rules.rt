@@ -14,6 +14,7 @@ use super::Numbering;
 use crate::rows::RuleRow;
 use cfgast::Rule;
 use cfgbase::Span;
+use cfghash::NameHashes;
 use cfgindex::{PIdx, Storage, to_storage};
 use indexmap::IndexMap;
 use std::alloc::{AllocError, Global};
@@ -34,7 +35,7 @@ impl Numbering<'_> {
     pub fn rule_rows<S: Storage>(
         &self,
         alloc: Global,
-    ) -> Result<IndexMap<String, RuleRow<S>>, AllocError>
+    ) -> Result<IndexMap<String, RuleRow<S>, NameHashes>, AllocError>
         requires sound { IsSound (file_of self.now) [] }
         requires room { LeavesRoom S.MAX (implicit_in self.now) (file_of self.now) }
         ensures { IfOk result (λ rows. map (rule_view S.number) rows.entries
@@ -52,13 +53,13 @@ impl Numbering<'_> {
     fn added_rule_rows<S: Storage>(
         &self,
         alloc: Global,
-    ) -> Result<IndexMap<String, RuleRow<S>>, AllocError>
+    ) -> Result<IndexMap<String, RuleRow<S>, NameHashes>, AllocError>
         requires room { LeavesRoom S.MAX (implicit_in self.now) (file_of self.now) }
         ensures { IfOk result (λ rows. map (rule_view S.number) rows.entries
             ≡ added_rules (implicit_in self.now) (length (file_of self.now).productions)) }
     {
         let first = self.ast.prods().len();
-        let mut rows = IndexMap::new(alloc);
+        let mut rows = IndexMap::with_hasher(alloc, *self.ast.rules().hasher());
         put_added_rule(alloc, &mut rows, START_RULE, first, 1)?;
         if let Some(tokens) = self.implicit {
             let count = tokens.len();
@@ -72,7 +73,7 @@ impl Numbering<'_> {
 /// Puts a rule that the file doesn't have behind the rows. It has so many productions, from the first on.
 fn put_added_rule<S: Storage>(
     alloc: Global,
-    rows: &mut IndexMap<String, RuleRow<S>>,
+    rows: &mut IndexMap<String, RuleRow<S>, NameHashes>,
     name: &str,
     first: usize,
     count: usize,
@@ -111,7 +112,7 @@ fn places_in_order<S: Storage>(
 /// Puts a rule of the file behind the rows.
 fn put_rule<S: Storage>(
     alloc: Global,
-    rows: &mut IndexMap<String, RuleRow<S>>,
+    rows: &mut IndexMap<String, RuleRow<S>, NameHashes>,
     name: &str,
     rule: &Rule,
 ) -> Result<(), AllocError>

@@ -11,6 +11,7 @@ use super::Numbering;
 use super::marks::{avoids_insert, precedence_of_token, printed_form};
 use crate::rows::TokenRow;
 use cfgbase::Span;
+use cfghash::NameHashes;
 use indexmap::IndexMap;
 use std::alloc::{AllocError, Global};
 
@@ -20,12 +21,15 @@ impl Numbering<'_> {
     /// # Errors
     ///
     /// Want of memory.
-    pub fn token_rows(&self, alloc: Global) -> Result<IndexMap<String, TokenRow>, AllocError>
+    pub fn token_rows(
+        &self,
+        alloc: Global,
+    ) -> Result<IndexMap<String, TokenRow, NameHashes>, AllocError>
         requires well_formed { IsWellFormed (file_of self.now) }
         ensures { IfOk result (λ rows. map token_view rows.entries
             ≡ map (file_token (file_of self.now)) (zip (file_of self.now).tokens (file_of self.now).spans)) }
     {
-        let mut rows = IndexMap::new(alloc);
+        let mut rows = IndexMap::with_hasher(alloc, *self.ast.rules().hasher());
         for (name, span) in self.ast.tokens().iter().zip(self.ast.spans()) {
             self.put_token(alloc, &mut rows, name.as_str(), *span)?;
         }
@@ -36,7 +40,7 @@ impl Numbering<'_> {
     fn put_token(
         &self,
         alloc: Global,
-        rows: &mut IndexMap<String, TokenRow>,
+        rows: &mut IndexMap<String, TokenRow, NameHashes>,
         name: &str,
         span: Span,
     ) -> Result<(), AllocError>

@@ -26,6 +26,7 @@ use super::iter::{PIdxIter, RIdxIter, TIdxIter};
 use cfgast::copies::all;
 use cfgast::{Precedence, Settings};
 use cfgbase::Span;
+use cfghash::NameHashes;
 use cfgindex::{PIdx, RIdx, SIdx, Storage, Symbol, TIdx, to_storage};
 use cfgnumbers::{Numbering, ProductionRow, RuleRow, TokenRow, tokens_by_name};
 use cfgsyntax::yacc::YaccKind;
@@ -46,9 +47,9 @@ use std::marker::Model;
 /// file starts from.
 #[derive(Drop)]
 pub struct YaccGrammar<S: Storage> {
-    rules: IndexMap<String, RuleRow<S>>,
+    rules: IndexMap<String, RuleRow<S>, NameHashes>,
     prods: Vec<ProductionRow<S>>,
-    tokens: IndexMap<String, TokenRow>,
+    tokens: IndexMap<String, TokenRow, NameHashes>,
     start_prod: PIdx<S>,
     implicit_rule: Option<RIdx<S>>,
     settings: Settings,
@@ -462,7 +463,10 @@ impl<S: Storage> YaccGrammar<S> {
     /// # Errors
     ///
     /// Want of memory.
-    pub fn tokens_map(&self, alloc: Global) -> Result<HashMap<&str, TIdx<S>>, AllocError>
+    pub fn tokens_map(
+        &self,
+        alloc: Global,
+    ) -> Result<HashMap<&str, TIdx<S>, NameHashes>, AllocError>
         ensures { IfOk result (λ map. (name : List ℕ)
             → option_map (λ x. S.number x.0) (get_by (λ key. bytes_eq name key.now) map)
             ≡ position (has_token_name name) self.now.tokens) }

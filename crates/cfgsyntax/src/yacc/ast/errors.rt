@@ -19,6 +19,7 @@ use cfgerrors::YaccGrammarErrorKind::{
     DuplicatePrecedence, DuplicateStartDeclaration,
 };
 use cfgerrors::{YaccGrammarError, YaccGrammarErrorKind};
+use cfghash::NameHashes;
 use cfgheader::HeaderError;
 use cfgreader::read::Stopped;
 use std::alloc::{AllocError, Global};
@@ -42,13 +43,14 @@ fn repeated_kind(kind: UniqueKind) -> YaccGrammarErrorKind
 /// The errors for what is declared more than once.
 fn duplicate_errors(
     alloc: Global,
+    hashes: NameHashes,
     occurrences: &[Occurrence],
 ) -> Result<Vec<YaccGrammarError>, AllocError>
     ensures { IfOk result (λ errors. errors.items
         ≡ map duplicate_error (duplicates (map occurrence_view occurrences.now))) }
 {
     let mut errors = Vec::new(alloc);
-    for (what, places) in duplicates(alloc, occurrences)? {
+    for (what, places) in duplicates(alloc, hashes, occurrences)? {
         errors.push(YaccGrammarError::new(repeated_kind(what.kind), places))?;
     }
     Ok(errors)
@@ -89,7 +91,7 @@ pub(super) fn errors_found(
 ) -> Result<Vec<YaccGrammarError>, AllocError>
     ensures { IfOk result (λ errors. errors.items ≡ all_errors (syntax ast.now) (option_map stop_view stop)) }
 {
-    let mut errors = duplicate_errors(alloc, ast.occurrences())?;
+    let mut errors = duplicate_errors(alloc, *ast.rules().hasher(), ast.occurrences())?;
     errors.append(&mut stop_errors(alloc, stop)?)?;
     if let Err(unfit) = check(ast) {
         errors.push(unfit.error(alloc)?)?;

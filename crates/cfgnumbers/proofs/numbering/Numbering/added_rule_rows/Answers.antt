@@ -13,14 +13,14 @@ use Rattle.cfgnumbers.proofs.numbering.Numbering.added_rule_rows.Goals.{in-Some+
 pub put_added_rule-requires-in-Some-clause-new : goal.put_added_rule-requires-in-Some-clause-new
 put_added_rule-requires-in-Some-clause-new g c =
     let start = added_rule start_name (range_with_len (length c.prods-first.result.now) 1) in
-    let one = c.in_ok-put_added_rule.ensures ∙ ap (λ rows. map (rule_view g.S.Storage.number) rows ++ start ∷ []) c.new-rows.ensures.empty in
+    let one = c.in_ok-put_added_rule.ensures ∙ ap (λ rows. map (rule_view g.S.Storage.number) rows ++ start ∷ []) c.with_hasher-rows.ensures.empty in
     ap (list_any (bytes_eq implicit_name)) (names_of_rows g.S.Storage.number c.put_added_rule.new.rows.entries (start ∷ []) one)
 
 pub put_added_rule-requires-in-Some-2-clause-new : goal.put_added_rule-requires-in-Some-2-clause-new
 put_added_rule-requires-in-Some-2-clause-new g c =
     let start = added_rule start_name (range_with_len (length c.prods-first.result.now) 1) in
     let implicit = added_rule implicit_name (range_with_len (length c.prods-first.result.now + 1) (c.len-count.result + 1)) in
-    let one = c.in_ok-put_added_rule.ensures ∙ ap (λ rows. map (rule_view g.S.Storage.number) rows ++ start ∷ []) c.new-rows.ensures.empty in
+    let one = c.in_ok-put_added_rule.ensures ∙ ap (λ rows. map (rule_view g.S.Storage.number) rows ++ start ∷ []) c.with_hasher-rows.ensures.empty in
     let two = c.in_ok-put_added_rule-2.ensures ∙ ap (λ rows. rows ++ implicit ∷ []) one in
     ap (list_any (bytes_eq implicit_start_name)) (names_of_rows g.S.Storage.number c.put_added_rule-in-Some.new.rows.entries (start ∷ implicit ∷ []) two)
 
@@ -30,7 +30,7 @@ returns g c =
     let n = length (file_of c.args.self.now).productions in
     let first_is : first ≡ n = sym (as_long production_view c.prods-first.result.now (file_of c.args.self.now).productions c.prods-first.ensures) in
     let start = added_rule start_name (range_with_len first 1) in
-    let one = c.in_ok-put_added_rule.ensures ∙ ap (λ rows. map (rule_view g.S.Storage.number) rows ++ start ∷ []) c.new-rows.ensures.empty in
+    let one = c.in_ok-put_added_rule.ensures ∙ ap (λ rows. map (rule_view g.S.Storage.number) rows ++ start ∷ []) c.with_hasher-rows.ensures.empty in
     elim c.match-self.branch [
       | in-Some+in_ok-put_added_rule-2+in_ok-put_added_rule-3 w ↦
           let count = w.len-count.result in

@@ -1,0 +1,72 @@
+//! How the names of a tree crowd in its tables.
+
+use crate::occurrence::{Unique, UniqueKind};
+use cfghash::{Crowd, NameHashes};
+use std::alloc::{AllocError, Global};
+use std::hash::BuildHasher;
+
+/// What is new to a tree.
+#[derive(Clone, Copy)]
+pub(crate) enum New<'a> {
+    /// A rule of this name.
+    Rule(&'a str),
+    /// A token of this name.
+    Token(&'a str),
+    /// A first declaration of what a token may be declared only once.
+    Declared(&'a Unique),
+}
+
+/// How full the tables of a tree are, whose names are hashed plainly, and that of all that is declared of tokens.
+#[derive(Drop)]
+pub(crate) struct Crowds {
+    rules: Crowd,
+    tokens: Crowd,
+    precs: Crowd,
+    epp: Crowd,
+    avoid_insert: Crowd,
+    implicit_tokens: Crowd,
+    declared: Crowd,
+}
+
+impl Crowds {
+    /// Those of a tree without names.
+    pub(crate) fn new(alloc: Global) -> Self {
+        Crowds {
+            rules: Crowd::new(alloc),
+            tokens: Crowd::new(alloc),
+            precs: Crowd::new(alloc),
+            epp: Crowd::new(alloc),
+            avoid_insert: Crowd::new(alloc),
+            implicit_tokens: Crowd::new(alloc),
+            declared: Crowd::new(alloc),
+        }
+    }
+
+    /// Takes in what is new: whether names crowd in a table that it goes to.
+    pub(crate) fn takes(&mut self, new: New<'_>) -> Result<bool, AllocError> {
+        match new {
+            New::Rule(name) => self.rules.takes(NameHashes::plain().hash_one(name)),
+            New::Token(name) => self.tokens.takes(NameHashes::plain().hash_one(name)),
+            New::Declared(what) => self.takes_declared(what),
+        }
+    }
+
+    fn takes_declared(&mut self, what: &Unique) -> Result<bool, AllocError> {
+        let crowded = self.declared.takes(NameHashes::plain().hash_one(what))?;
+        Ok(self.takes_entry(what)? || crowded)
+    }
+
+    fn takes_entry(&mut self, what: &Unique) -> Result<bool, AllocError> {
+        let Some(name) = &what.token else {
+            return Ok(false);
+        };
+        let hash = NameHashes::plain().hash_one(name);
+        match what.kind {
+            UniqueKind::PrintedForm => self.epp.takes(hash),
+            UniqueKind::Precedence => self.precs.takes(hash),
+            UniqueKind::AvoidInsert => self.avoid_insert.takes(hash),
+            UniqueKind::ImplicitToken => self.implicit_tokens.takes(hash),
+            _ => Ok(false),
+        }
+    }
+}
