@@ -11,7 +11,7 @@ ghost use Rattle.lemmas.specs.Lists.{places};
 ghost use Rattle.lexcheck.specs.Names.{missing_tokens, unknown_places};
 
 use cfgrammar::yacc::YaccGrammar;
-use cfgrammar::{Storage, TIdx};
+use cfgrammar::{NameHashes, Storage, TIdx};
 use std::alloc::{AllocError, Global};
 use std::collections::{HashMap, HashSet};
 
@@ -50,7 +50,7 @@ pub fn check<S: Storage>(
 /// The places of the names that aren't among the tokens'.
 fn unknown_places<S: Storage>(
     alloc: Global,
-    tokens: &HashMap<&str, TIdx<S>>,
+    tokens: &HashMap<&str, TIdx<S>, NameHashes>,
     names: &[&str],
 ) -> Result<Vec<usize>, AllocError>
     ensures { IfOk result (λ unknown. unknown.items
