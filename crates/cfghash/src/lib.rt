@@ -3,13 +3,13 @@
 
 ghost use Rattle.std.specs.Prelude.{◌≡◌};
 ghost use Rattle.std.specs.declared.hash.FoldHasher.{FoldHasher};
-ghost use Rattle.sha2.specs.Sha256.{sha256};
+ghost use Rattle.sha2.specs.Sha512.{sha512_256};
 ghost use Rattle.cfghash.specs.Names.{begun, hashes_under, mixed, plain_factor};
 
 mod crowd;
 
 pub use crowd::Crowd;
-use sha2::{Digest, Sha256};
+use sha2::{Digest, Sha512_256};
 use std::hash::{BuildHasher, FoldHasher, Hasher};
 
 /// The factor of plain hashes: odd, and without a pattern in its bits.
@@ -19,7 +19,7 @@ const PLAIN_FACTOR: u64 = 0xA076_1D64_78BD_642F;
 ///
 /// A text names its rules and tokens, and whoever writes it may want them to fall on one place of a table, so that each
 /// look-up goes through all of them. Where they do, they are hashed under a key that is drawn from the text itself, by
-/// SHA-256: to make names collide one has to know the key, and to know the key one has to have the text.
+/// SHA-512/256: to make names collide one has to know the key, and to know the key one has to have the text.
 #[derive(Clone, Copy, Debug)]
 pub struct NameHashes {
     begun: FoldHasher,
@@ -42,9 +42,9 @@ impl NameHashes {
     pub fn of_text(text: &str) -> Self
         ensures { (unfed : FoldHasher) → ⟦<FoldHasher as Default>⟧.is_default unfed
             → result ≡ hashes_under ⟦<FoldHasher as Hasher>⟧.write ⟦<FoldHasher as Hasher>⟧.finish
-            unfed (sha256 text.now) }
+            unfed (sha512_256 text.now) }
     {
-        let digest: [u8; 32] = Sha256::digest(text);
+        let digest: [u8; 32] = Sha512_256::digest(text);
         let mut begun = FoldHasher::default();
         begun.write(&digest);
         let mut factor = begun;
