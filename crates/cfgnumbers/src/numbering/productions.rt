@@ -44,14 +44,29 @@ impl Numbering<'_> {
             ++ added_productions (implicit_in self.now) (file_of self.now)) }
     {
         let mut rows = Vec::new(alloc);
+        self.push_file_rows(alloc, &mut rows)?;
+        self.push_added(alloc, &mut rows)?;
+        Ok(rows)
+    }
+
+    /// Puts the productions of the file behind the rows.
+    fn push_file_rows<S: Storage>(
+        &self,
+        alloc: Global,
+        rows: &mut Vec<ProductionRow<S>>,
+    ) -> Result<(), AllocError>
+        requires empty { rows.old.items ≡ [] }
+        requires sound { IsSound (file_of self.now) [] }
+        requires resolved { IsResolved (file_of self.now) }
+        requires room { LeavesRoom S.MAX (implicit_in self.now) (file_of self.now) }
+        ensures { OnOk result (map (production_view S.number) rows.new.items
+            ≡ map (file_production (implicit_in self.now) (file_of self.now))
+            (zip (file_of self.now).production_rules (file_of self.now).productions)) }
+    {
         for (rule, production) in self.ast.prods_rules().iter().zip(self.ast.prods()) {
             rows.push(self.production_row(alloc, *rule, production)?)?;
         }
-        match self.implicit {
-            Some(tokens) => self.push_added(alloc, &mut rows, tokens)?,
-            None => push_added_row(alloc, &mut rows, 0, None, Some(self.start_symbol()))?,
-        }
-        Ok(rows)
+        Ok(())
     }
 
     /// A production of the file, of the rule at this place.
@@ -79,8 +94,27 @@ impl Numbering<'_> {
         })
     }
 
-    /// Puts the productions that are added to a file with implicit tokens behind the rows.
+    /// Puts the productions that are added behind the rows.
     fn push_added<S: Storage>(
+        &self,
+        alloc: Global,
+        rows: &mut Vec<ProductionRow<S>>,
+    ) -> Result<(), AllocError>
+        requires resolved { IsResolved (file_of self.now) }
+        requires implicit { AreTokens (file_of self.now) (implicit_in self.now) }
+        requires room { LeavesRoom S.MAX (implicit_in self.now) (file_of self.now) }
+        ensures { OnOk result (map (production_view S.number) rows.new.items
+            ≡ map (production_view S.number) rows.old.items
+            ++ added_productions (implicit_in self.now) (file_of self.now)) }
+    {
+        match self.implicit {
+            Some(tokens) => self.push_for_implicit(alloc, rows, tokens),
+            None => push_added_row(alloc, rows, 0, None, Some(self.start_symbol())),
+        }
+    }
+
+    /// Puts the productions that are added to a file with implicit tokens behind the rows.
+    fn push_for_implicit<S: Storage>(
         &self,
         alloc: Global,
         rows: &mut Vec<ProductionRow<S>>,

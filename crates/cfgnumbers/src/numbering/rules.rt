@@ -42,31 +42,51 @@ impl Numbering<'_> {
             ≡ added_rules (implicit_in self.now) (length (file_of self.now).productions)
             ++ map file_rule (file_of self.now).rules) }
     {
-        let mut rows = self.added_rule_rows(alloc)?;
-        for (name, rule) in self.ast.rules() {
-            put_rule(alloc, &mut rows, name.as_str(), rule)?;
-        }
+        let mut rows = IndexMap::with_hasher(alloc, *self.ast.rules().hasher());
+        self.put_added_rules(alloc, &mut rows)?;
+        self.put_rules(alloc, &mut rows)?;
         Ok(rows)
     }
 
-    /// The rules that are added. Their productions stand behind those of the file.
-    fn added_rule_rows<S: Storage>(
+    /// Puts the rules that are added into the rows. Their productions stand behind those of the file.
+    fn put_added_rules<S: Storage>(
         &self,
         alloc: Global,
-    ) -> Result<IndexMap<String, RuleRow<S>, NameHashes>, AllocError>
+        rows: &mut IndexMap<String, RuleRow<S>, NameHashes>,
+    ) -> Result<(), AllocError>
+        requires empty { rows.old.entries ≡ [] }
         requires room { LeavesRoom S.MAX (implicit_in self.now) (file_of self.now) }
-        ensures { IfOk result (λ rows. map (rule_view S.number) rows.entries
+        ensures { OnOk result (map (rule_view S.number) rows.new.entries
             ≡ added_rules (implicit_in self.now) (length (file_of self.now).productions)) }
     {
         let first = self.ast.prods().len();
-        let mut rows = IndexMap::with_hasher(alloc, *self.ast.rules().hasher());
-        put_added_rule(alloc, &mut rows, START_RULE, first, 1)?;
+        put_added_rule(alloc, rows, START_RULE, first, 1)?;
         if let Some(tokens) = self.implicit {
             let count = tokens.len();
-            put_added_rule(alloc, &mut rows, IMPLICIT_RULE, first + 1, count + 1)?;
-            put_added_rule(alloc, &mut rows, IMPLICIT_START_RULE, first + count + 2, 1)?;
+            put_added_rule(alloc, rows, IMPLICIT_RULE, first + 1, count + 1)?;
+            put_added_rule(alloc, rows, IMPLICIT_START_RULE, first + count + 2, 1)?;
         }
-        Ok(rows)
+        Ok(())
+    }
+
+    /// Puts the rules of the file behind those that are added.
+    fn put_rules<S: Storage>(
+        &self,
+        alloc: Global,
+        rows: &mut IndexMap<String, RuleRow<S>, NameHashes>,
+    ) -> Result<(), AllocError>
+        requires sound { IsSound (file_of self.now) [] }
+        requires room { LeavesRoom S.MAX (implicit_in self.now) (file_of self.now) }
+        requires added { map (rule_view S.number) rows.old.entries
+            ≡ added_rules (implicit_in self.now) (length (file_of self.now).productions) }
+        ensures { OnOk result (map (rule_view S.number) rows.new.entries
+            ≡ added_rules (implicit_in self.now) (length (file_of self.now).productions)
+            ++ map file_rule (file_of self.now).rules) }
+    {
+        for (name, rule) in self.ast.rules() {
+            put_rule(alloc, rows, name.as_str(), rule)?;
+        }
+        Ok(())
     }
 }
 
@@ -83,12 +103,13 @@ fn put_added_rule<S: Storage>(
     ensures { OnOk result (map (rule_view S.number) rows.new.entries
         ≡ map (rule_view S.number) rows.old.entries ++ added_rule name.now (range_with_len first count) ∷ []) }
 {
+    let name = String::from_str(alloc, name)?;
     let row = RuleRow {
         span: Span::new(0, 0),
         prods: places_in_order(alloc, first, count)?,
         actiont: None,
     };
-    rows.insert(String::from_str(alloc, name)?, row)?;
+    rows.insert(name, row)?;
     Ok(())
 }
 
@@ -122,12 +143,14 @@ fn put_rule<S: Storage>(
         ≡ map (rule_view S.number) rows.old.entries ++ file_rule (name.now, plain_rule rule.now) ∷ []) }
 {
     let (_, span) = &rule.name;
+    let name = String::from_str(alloc, name)?;
+    let actiont = rule.actiont.clone()?;
     let row = RuleRow {
         span: *span,
         prods: stored_places(alloc, &rule.pidxs)?,
-        actiont: rule.actiont.clone()?,
+        actiont,
     };
-    rows.insert(String::from_str(alloc, name)?, row)?;
+    rows.insert(name, row)?;
     Ok(())
 }
 

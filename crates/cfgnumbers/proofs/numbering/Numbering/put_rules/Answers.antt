@@ -9,7 +9,7 @@ use Rattle.cfgnumbers.specs.View.{file_of, implicit_in}
 use Rattle.cfgnumbers.proofs.Places.{listed_within}
 use Rattle.lemmas.proofs.Roads.{item_holds, more_shown, name_is_new}
 use Rattle.cfgnumbers.proofs.RowLemmas.{added_names, rule_names-distinct, rule_names_shown, rule_seen, rules_road}
-use Rattle.cfgnumbers.proofs.numbering.Numbering.rule_rows.Goals as goal
+use Rattle.cfgnumbers.proofs.numbering.Numbering.put_rules.Goals as goal
 
 pub put_rule-requires-clause-new : goal.put_rule-requires-clause-new
 put_rule-requires-clause-new g c =

@@ -2,7 +2,7 @@ use Rattle.std.proofs.Common.{◌≡◌, map}
 use Rattle.cfgnumbers.specs.Numbered.{file_production}
 use Rattle.cfgnumbers.specs.View.{file_of, implicit_in, production_view}
 use Rattle.cfgnumbers.proofs.RowLemmas.{production_seen}
-use Rattle.cfgnumbers.proofs.numbering.Numbering.production_rows.Given as goal
+use Rattle.cfgnumbers.proofs.numbering.Numbering.push_file_rows.Given as goal
 
 abbrev pub invariant-loop-rule : goal.invariant-loop-rule
 invariant-loop-rule g l =

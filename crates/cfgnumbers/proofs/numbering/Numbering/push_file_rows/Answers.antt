@@ -10,8 +10,7 @@ use Rattle.cfgnumbers.specs.View.{names, file_of, implicit_in, production_view}
 use Rattle.lemmas.proofs.Roads.{item_holds, more_shown, pushed_shown}
 use Rattle.cfgnumbers.proofs.RowLemmas.{production_seen, productions_road}
 use Rattle.lemmas.proofs.Zips.{All-zip}
-use Rattle.cfgnumbers.proofs.numbering.Numbering.production_rows.Goals as goal
-use Rattle.cfgnumbers.proofs.numbering.Numbering.production_rows.Goals.{in-Some-implicit+in_ok-push_added-in-Some-implicit, in-None-implicit+in_ok-push_added_row-in-None-implicit}
+use Rattle.cfgnumbers.proofs.numbering.Numbering.push_file_rows.Goals as goal
 
 pub production_row-requires : goal.production_row-requires
 production_row-requires g c =
@@ -34,21 +33,9 @@ loop-rule-preserved g c =
 pub returns : goal.returns
 returns g c =
     let s = file_of c.args.self.now in
-    let implicit = implicit_in c.args.self.now in
     let from = c.into_iter-rule-iterator.ensures.into_iter_gives in
     let road = productions_road s c.into_iter-rule-iterator.result c.prods.result.now c.prods.ensures
     (ap (λ it. iter_rest (zip_first it)) from ∙ ap iter_rest c.zip-rule-items.ensures.first ∙ c.iter.ensures.rest ∙ c.prods_rules.ensures)
     (ap (λ it. iter_rest (zip_second it)) from ∙ c.zip-rule-items.ensures.second.0) in
     let all = YieldsList-end road c.loop-rule.yielded c.loop-rule.rule-iterator c.loop-rule.yielded_by _ c.next.new.self c.in-None.is c.next.ensures.steps in
-    let file_rows = c.loop-rule.invariant ∙ ap (map (file_production implicit s)) all.0 in
-    elim c.match-self.branch [
-      | in-Some-implicit+in_ok-push_added-in-Some-implicit w ↦
-          ap (λ rows. map (production_view g.S.Storage.number) rows.items) w.rows-is ∙ w.in_ok-push_added-in-Some-implicit.ensures
-          ∙ (λ i. file_rows i ++ added_productions (option_map (λ table. names table.now.entries) (sym w.in-Some-implicit.is i)) s)
-      | in-None-implicit+in_ok-push_added_row-in-None-implicit w ↦
-          let symbols = sym w.start_symbol.ensures ∙ ap (λ table. start_symbols (option_map (λ table. names table.now.entries) table) s) w.in-None-implicit.is in
-          ap (λ rows. map (production_view g.S.Storage.number) rows.items) w.rows-is ∙ w.in_ok-push_added_row-in-None-implicit.ensures
-          ∙ (λ i. file_rows i ++ added_production 0 (symbols i) ∷ [])
-          ∙ ap (λ table. map (file_production implicit s) (zip s.production_rules s.productions) ++ added_productions (option_map (λ table. names table.now.entries) table) s)
-          (sym w.in-None-implicit.is)
-    ]
+    c.loop-rule.invariant ∙ ap (map (file_production (implicit_in c.args.self.now) s)) all.0
