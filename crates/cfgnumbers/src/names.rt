@@ -1,6 +1,6 @@
 //! The tokens of a grammar, by their names.
 
-ghost use Rattle.std.specs.Prelude.{◌≡◌, ◌≤◌, ℕ, List, length, position, option_map, IfOk};
+ghost use Rattle.std.specs.Prelude.{◌≡◌, ◌≤◌, ℕ, List, None, length, position, option_map, IfOk, OnOk};
 ghost use Rattle.std.specs.HashMap.{get_by};
 ghost use Rattle.std.specs.Str.{bytes_eq};
 ghost use Rattle.cfgnumbers.specs.View.{names};
@@ -27,9 +27,24 @@ pub fn tokens_by_name<S: Storage>(
         ≡ position (bytes_eq name) (names rows.now.entries)) }
 {
     let mut map = HashMap::with_capacity_and_hasher(alloc, rows.len(), *rows.hasher())?;
+    put_names(&mut map, rows)?;
+    Ok(map)
+}
+
+/// Puts the tokens of these rows into a map that is empty, under their names.
+fn put_names<'rows, S: Storage>(
+    map: &mut HashMap<&'rows str, TIdx<S>, NameHashes>,
+    rows: &'rows IndexMap<String, TokenRow, NameHashes>,
+) -> Result<(), AllocError>
+    requires empty { (name : List ℕ) → get_by (λ key. bytes_eq name key.now) map.old ≡ None }
+    requires room { length rows.now.entries ≤ S.MAX }
+    ensures { OnOk result ((name : List ℕ)
+        → option_map (λ x. S.number x.0) (get_by (λ key. bytes_eq name key.now) map.new)
+        ≡ position (bytes_eq name) (names rows.now.entries)) }
+{
     for place in 0..rows.len() {
         let (name, _) = rows.get_index(place).unwrap();
         map.insert(name.as_str(), TIdx(to_storage(place)))?;
     }
-    Ok(map)
+    Ok(())
 }

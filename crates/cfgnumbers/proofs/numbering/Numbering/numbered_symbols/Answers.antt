@@ -1,9 +1,9 @@
-use Rattle.std.proofs.Common.{◌≡◌, ◌++◌, None, arith, sym, ap, subst, ◌∙◌}
-use Rattle.std.proofs.lemmas.List.{get_or-map, length-map}
+use Rattle.std.proofs.Common.{◌≡◌, ◌++◌, None, map, arith, sym, ap, subst, ◌∙◌}
+use Rattle.std.proofs.lemmas.List.{get_or-map, length-map, take_all}
 use Rattle.cfgast.specs.Syntax.{Symbol}
 use Rattle.cfgast.specs.View.{symbol_view}
 use Rattle.cfgcheck.specs.Check.{symbol_error}
-use Rattle.cfgnumbers.specs.Numbered.{file_symbol, spaced}
+use Rattle.cfgnumbers.specs.Numbered.{file_symbol, file_symbols, spaced}
 use Rattle.cfgnumbers.specs.View.{file_of, implicit_in}
 use Rattle.cfgnumbers.proofs.Symbols.{more_symbols}
 use Rattle.cfgnumbers.proofs.numbering.Numbering.numbered_symbols.Goals as goal
@@ -24,3 +24,9 @@ loop-symbol-preserved g c =
     c.in_ok-push_symbol.ensures
     ∙ ap (λ front. front ++ spaced implicit (file_symbol implicit s (symbol_view c.symbol-item.result))) c.loop-symbol.invariant
     ∙ more_symbols implicit s c.args.symbols.now c.loop-symbol.symbol-index c.symbol-item.result c.loop-symbol-test.true c.symbol-item.is
+
+pub returns : goal.returns
+returns g c =
+    c.loop-symbol.invariant
+    ∙ ap (λ symbols. file_symbols (implicit_in c.args.self.now) (file_of c.args.self.now) (map symbol_view symbols))
+    (take_all c.loop-symbol.symbol-index c.args.symbols.now c.loop-symbol-test.false)

@@ -1,12 +1,11 @@
-use Rattle.std.proofs.Common.{ℕ, ◌<◌, ◌∷◌, ◌++◌, [], length, map, option_map, sym, ap, ◌∙◌}
-use Rattle.std.specs.List.{zip}
+use Rattle.std.proofs.Common.{ℕ, ◌<◌, ◌∷◌, ◌++◌, [], length, map, ap, ◌∙◌}
 use Rattle.std.specs.Iterator.Adapters.{zip_first, zip_second}
 use Rattle.std.specs.Slice.Iter.{iter_rest}
 use Rattle.std.proofs.lemmas.Iterator.Consumers.{YieldsList-end}
 use Rattle.cfgast.specs.Syntax.{Production}
-use Rattle.cfgnumbers.specs.Numbered.{added_production, added_productions, file_production, start_symbols}
+use Rattle.cfgnumbers.specs.Numbered.{file_production}
 use Rattle.cfgnumbers.specs.Resolved.{Resolves}
-use Rattle.cfgnumbers.specs.View.{names, file_of, implicit_in, production_view}
+use Rattle.cfgnumbers.specs.View.{file_of, implicit_in, production_view}
 use Rattle.lemmas.proofs.Roads.{item_holds, more_shown, pushed_shown}
 use Rattle.cfgnumbers.proofs.RowLemmas.{production_seen, productions_road}
 use Rattle.lemmas.proofs.Zips.{All-zip}

@@ -1,4 +1,5 @@
-use Rattle.std.proofs.Common.{◌∷◌, ◌++◌, [], sym, ◌∙◌}
+use Rattle.std.specs.List.{range_with_len}
+use Rattle.std.proofs.Common.{arith, ap, ◌∷◌, ◌++◌, [], sym, ◌∙◌}
 use Rattle.cfgindex.specs.declared.idxnewtype.PIdx.{PIdx}
 use Rattle.lemmas.proofs.Roads.{pushed_shown}
 use Rattle.cfgnumbers.proofs.RowLemmas.{range-push}
@@ -9,3 +10,7 @@ loop-place-preserved g c =
     pushed_shown (λ (p : PIdx g.row.S.Denot). g.S.Storage.number p.0) c.loop-place.prods.items c.push.new.self.items (record { 0 = c.to_storage.result }) c.in_ok-push.ensures.items
     ∙ (λ i. c.loop-place.invariant i ++ c.to_storage.ensures i ∷ [])
     ∙ sym (range-push c.args.first c.loop-place.place)
+
+pub returns : goal.returns
+returns g c =
+    c.loop-place.invariant ∙ ap (range_with_len c.args.first) (omega (arith, c.loop-place-test.false, c.loop-place.auto.place-end))

@@ -4,7 +4,7 @@ use Rattle.std.proofs.lemmas.Option.{slice_get-map}
 use Rattle.cfgindex.specs.declared.idxnewtype.TIdx.{TIdx}
 use Rattle.cfgnumbers.specs.View.{names}
 use Rattle.cfgnumbers.proofs.TokenMaps.{names-distinct, token_put}
-use Rattle.cfgnumbers.proofs.names.tokens_by_name.Goals as goal
+use Rattle.cfgnumbers.proofs.names.put_names.Goals as goal
 
 pub loop-place-preserved : goal.loop-place-preserved
 loop-place-preserved g c =
@@ -12,4 +12,4 @@ loop-place-preserved g c =
     let at = slice_get-map (λ e. string_bytes e.0) entries c.loop-place.place
     ∙ ap (option_map (λ e. string_bytes e.0)) (sym c.get_index.ensures.entry ∙ ap (option_map deref_pair) c.unwrap.ensures) ∙ ap Some (sym c.as_str.ensures.value) in
     token_put (λ (x : TIdx g.row.S.Denot). g.S.Storage.number x.0) c.loop-place.map c.insert.new.self c.as_str.result.now (record { 0 = c.to_storage.result }) c.in_ok-insert.ensures.updates
-    (names entries) c.loop-place.place c.to_storage.ensures (names-distinct entries c.len.ensures.unique) at c.loop-place.invariant
+    (names entries) c.loop-place.place c.to_storage.ensures (names-distinct entries c.len-place-end.ensures.unique) at c.loop-place.invariant

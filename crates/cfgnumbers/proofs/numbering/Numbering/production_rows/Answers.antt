@@ -1,0 +1,9 @@
+use Rattle.std.proofs.Common.{◌++◌, ap, ◌∙◌}
+use Rattle.cfgnumbers.specs.Numbered.{added_productions}
+use Rattle.cfgnumbers.specs.View.{file_of, implicit_in}
+use Rattle.cfgnumbers.proofs.numbering.Numbering.production_rows.Goals as goal
+
+pub returns : goal.returns
+returns g c =
+    c.in_ok-push_added.ensures
+    ∙ ap (λ rows. rows ++ added_productions (implicit_in c.args.self.now) (file_of c.args.self.now)) c.in_ok-push_file_rows.ensures
