@@ -21,22 +21,43 @@ pub fn tell(out: &mut String, alloc: Global, row: &Row<'_>, text: &str) -> Resul
     };
     let answers = answers(alloc, row, &whole, text)?;
     out.push_str(answers.as_str())?;
+    write_ways(out, alloc, row, text, answers.as_str())?;
+    write_joined(out, alloc, text)
+}
+
+/// Writes the ways to feed a text in pieces by which a cache answers something else, and how many ways were tried.
+fn write_ways(
+    out: &mut String,
+    alloc: Global,
+    row: &Row<'_>,
+    text: &str,
+    whole: &str,
+) -> Result<(), AllocError> {
     let ways = ways(alloc, row, text)?;
     for way in &ways {
-        let is_same = match feed_pieces(alloc, text, way) {
-            Ok(Some(cache)) => self::answers(alloc, row, &cache, text)? == answers,
-            Ok(None) => false,
-            Err(_) => return Err(AllocError),
-        };
-        if !is_same {
+        if !answers_same(alloc, row, text, way, whole)? {
             writeln!(
                 out,
                 "otherwise where it is fed by {way:?} bytes and the rest"
             )?;
         }
     }
-    writeln!(out, "fed in {} ways", ways.len())?;
-    write_joined(out, alloc, text)
+    writeln!(out, "fed in {} ways", ways.len())
+}
+
+/// Whether a cache of a text that is fed in pieces of these lengths, and then the rest, answers what the whole text does.
+fn answers_same(
+    alloc: Global,
+    row: &Row<'_>,
+    text: &str,
+    lengths: &[usize],
+    whole: &str,
+) -> Result<bool, AllocError> {
+    match feed_pieces(alloc, text, lengths) {
+        Ok(Some(cache)) => Ok(answers(alloc, row, &cache, text)?.as_str() == whole),
+        Ok(None) => Ok(false),
+        Err(_) => Err(AllocError),
+    }
 }
 
 /// The ways to feed a text, each as the lengths of all pieces but the last: in two pieces, cut before each character

@@ -57,32 +57,51 @@ fn play<K: Key>(out: &mut String, alloc: Global, row: &Row<'_>) -> Result<(), Al
     let mut map = MarkMap::<K, u32>::new(alloc);
     let mut other = MarkMap::<K, u32>::new(alloc);
     for (word, rest) in &row.lines {
-        match *word {
-            "call" => {
-                write!(out, "    {rest}: ")?;
-                call(out, alloc, &mut map, *rest)?;
-                write_map(out, alloc, row, &mut map)?;
-            }
-            "calls" => calls(out, alloc, &mut map, *rest)?,
-            "others" => calls(out, alloc, &mut other, *rest)?,
-            "other" => {
-                write!(out, "    other {rest}: ")?;
-                call(out, alloc, &mut other, *rest)?;
-            }
-            "merge" => {
-                let theirs = mem::replace(&mut other, MarkMap::new(alloc));
-                write!(out, "    merge {rest}: ")?;
-                merge(out, &mut map, theirs, number(*rest))?;
-                write_map(out, alloc, row, &mut map)?;
-            }
-            "compare" => {
-                pen::flag(out, "    equal to the other: ", map == other)?;
-                out.push('\n')?;
-            }
-            _ => {}
-        }
+        play_line(out, alloc, row, &mut map, &mut other, (*word, *rest))?;
     }
     Ok(())
+}
+
+/// Runs a line of a script.
+fn play_line<K: Key>(
+    out: &mut String,
+    alloc: Global,
+    row: &Row<'_>,
+    map: &mut MarkMap<K, u32>,
+    other: &mut MarkMap<K, u32>,
+    line: (&str, &str),
+) -> Result<(), AllocError>
+    requires { IsFaithful K.cmp K.is_clone }
+{
+    let (word, rest) = line;
+    match word {
+        "call" => {
+            write!(out, "    {rest}: ")?;
+            call(out, alloc, map, rest)?;
+            write_map(out, alloc, row, map)
+        }
+        "calls" => calls(out, alloc, map, rest),
+        "others" => calls(out, alloc, other, rest),
+        "other" => {
+            write!(out, "    other {rest}: ")?;
+            call(out, alloc, other, rest)
+        }
+        "merge" => {
+            write!(out, "    merge {rest}: ")?;
+            merge(
+                out,
+                map,
+                mem::replace(other, MarkMap::new(alloc)),
+                number(rest),
+            )?;
+            write_map(out, alloc, row, map)
+        }
+        "compare" => {
+            pen::flag(out, "    equal to the other: ", *map == *other)?;
+            out.push('\n')
+        }
+        _ => Ok(()),
+    }
 }
 
 /// Makes a call as many times as the number in front of it says, with the turn's number for each `#`, and writes what
@@ -121,14 +140,26 @@ fn call<K: Key>(
     let key = K::of(alloc, key)?;
     match name {
         "insert" => insert(out, map, key, small(value)),
-        "remove" => write_old(out, map.remove(&key)),
-        "entry" if map.contains_key(&key) => entry::call_occupied(out, map, key, value),
-        "entry" => entry::call_vacant(out, map, key, value),
-        _ => {
-            mark(map, name, &key, behavior(value))?;
-            out.push_str("()\n")
-        }
+        "entry" => entry::call(out, map, key, value),
+        _ => call_with(out, map, name, &key, value),
     }
+}
+
+/// Makes a call that borrows its key, and writes what it answers.
+fn call_with<K: Key>(
+    out: &mut String,
+    map: &mut MarkMap<K, u32>,
+    name: &str,
+    key: &K,
+    value: &str,
+) -> Result<(), AllocError>
+    requires { IsFaithful K.cmp K.is_clone }
+{
+    if name == "remove" {
+        return write_old(out, map.remove(key));
+    }
+    mark(map, name, key, behavior(value))?;
+    out.push_str("()\n")
 }
 
 /// Gives a key a value, and writes the value that it held.

@@ -1,5 +1,7 @@
 //! Rows on spans, on indices, and on lists of bits.
 
+ghost use Rattle.std.specs.Prelude.{◌≡◌, ◌<◌, length};
+
 use cfgbase::{Location, Span};
 use cfgindex::{PIdx, RIdx, SIdx, Storage, Symbol, TIdx, Vob};
 use rows::pen;
@@ -37,16 +39,31 @@ fn write_span(
     if span.is_empty() {
         out.push_str(", is empty")?;
     }
-    let place = Location::from(span);
-    let copy = place.clone()?;
-    let elsewhere = Location::Other(String::from_str(alloc, script)?);
-    writeln!(
-        out,
-        ", as a place {place:?}; {} {} {}",
-        copy == place,
-        place == Location::CommandLine,
-        elsewhere.clone()? == elsewhere
-    )
+    write_place(out, &Location::from(span))?;
+    write_other(out, &Location::Other(String::from_str(alloc, script)?))
+}
+
+/// Writes a place that a span is, and whether it equals a copy, and the command line.
+fn write_place(out: &mut String, place: &Location) -> Result<(), AllocError> {
+    write!(out, ", as a place {place:?}; ")?;
+    write_copied(out, place)?;
+    pen::flag(out, " ", *place == Location::CommandLine)
+}
+
+/// Writes whether another place equals a copy, and ends the line.
+fn write_other(out: &mut String, place: &Location) -> Result<(), AllocError> {
+    out.push(' ')?;
+    write_copied(out, place)?;
+    out.push('\n')
+}
+
+/// Writes whether a value equals a copy.
+fn write_copied<T: Clone + PartialEq + Drop>(
+    out: &mut String,
+    value: &T,
+) -> Result<(), AllocError> {
+    let is_same = value.clone()? == *value;
+    pen::flag(out, "", is_same)
 }
 
 /// Writes a number as each index type stores it.
@@ -103,29 +120,52 @@ fn write_bits(
 ) -> Result<(), AllocError> {
     let mut bits = Vob::from_elem(alloc, first == 1, len)?;
     write_list(out, &bits)?;
+    write_calls(out, alloc, row, &mut bits)
+}
+
+/// Writes the answers of the row's calls, and the list after each.
+fn write_calls(
+    out: &mut String,
+    alloc: Global,
+    row: &Row<'_>,
+    bits: &mut Vob,
+) -> Result<(), AllocError> {
     for (word, rest) in &row.lines {
         let (place, bit) = numbers(*rest);
         match *word {
-            "set" if place < bits.len() => {
-                let changed = bits.set(place, bit == 1);
-                writeln!(out, "    set({place}, {bit}): {changed}")?;
-                write_list(out, &bits)?;
-            }
+            "set" if place < bits.len() => write_set(out, bits, place, bit)?,
             "get" => writeln!(out, "    get({place}): {:?}", bits.get(place))?,
-            "or" => {
-                let other = Vob::from_elem(alloc, place == 1, bits.len())?;
-                let changed = bits.or(&other);
-                writeln!(
-                    out,
-                    "    or({place}..): {changed}, equal: {}",
-                    bits == other
-                )?;
-                write_list(out, &bits)?;
-            }
+            "or" => write_or(
+                out,
+                bits,
+                place,
+                &Vob::from_elem(alloc, place == 1, bits.len())?,
+            )?,
             _ => {}
         }
     }
     Ok(())
+}
+
+/// Sets a bit, and writes whether it changed, and the list.
+fn write_set(out: &mut String, bits: &mut Vob, place: usize, bit: usize) -> Result<(), AllocError>
+    requires { place < length bits.old }
+{
+    pen::numbers(out, ("    set(", place), (", ", bit))?;
+    pen::flag(out, "): ", bits.set(place, bit == 1))?;
+    out.push('\n')?;
+    write_list(out, bits)
+}
+
+/// Takes the bits of another list as long in, and writes whether that changed the list, whether they are equal then, and the list.
+fn write_or(out: &mut String, bits: &mut Vob, place: usize, other: &Vob) -> Result<(), AllocError>
+    requires { length other.now ≡ length bits.old }
+{
+    pen::number(out, "    or(", place)?;
+    pen::flag(out, "..): ", bits.or(other))?;
+    pen::flag(out, ", equal: ", *bits == *other)?;
+    out.push('\n')?;
+    write_list(out, bits)
 }
 
 /// Writes the bits of a list.

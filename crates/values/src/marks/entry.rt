@@ -3,43 +3,82 @@
 ghost use Rattle.cfgmarks.specs.Marks.{IsFaithful};
 
 use super::{Key, behavior, small};
-use cfgmarks::markmap::{Entry, MarkMap};
+use cfgmarks::markmap::{Entry, MarkMap, OccupiedEntry};
 use rows::pen;
 use rows::row::words;
 use std::alloc::AllocError;
 
+/// Makes a call at the place of a key, and writes what it answers.
+pub(super) fn call<K: Key>(
+    out: &mut String,
+    map: &mut MarkMap<K, u32>,
+    key: K,
+    line: &str,
+) -> Result<(), AllocError>
+    requires { IsFaithful K.cmp K.is_clone }
+{
+    if map.contains_key(&key) {
+        call_occupied(out, map, key, line)
+    } else {
+        call_vacant(out, map, key, line)
+    }
+}
+
 /// Makes a call at the place of a key that holds a value, and writes what it answers.
-pub(super) fn call_occupied<K: Key>(
+fn call_occupied<K: Key>(
     out: &mut String,
     map: &mut MarkMap<K, u32>,
     key: K,
     line: &str,
 ) -> Result<(), AllocError> {
+    let answer = match map.entry(key) {
+        Entry::Vacant(_entry) => Answer::Vacant,
+        Entry::Occupied(mut entry) => occupied_answer(&mut entry, line),
+    };
+    write_answer(out, answer)
+}
+
+/// What a call at the place of a key that should hold a value answers.
+#[derive(Clone, Copy)]
+enum Answer {
+    Vacant,
+    Number(&'static str, usize),
+    Flag(&'static str, bool),
+}
+
+/// What a call at the place of a key that holds a value answers.
+fn occupied_answer<K: Key>(entry: &mut OccupiedEntry<'_, K, u32>, line: &str) -> Answer {
     let (name, word, _) = words(line);
-    match map.entry(key) {
-        Entry::Vacant(_entry) => out.push_str("vacant")?,
-        Entry::Occupied(mut entry) => match name {
-            "insert" => pen::number(out, "occupied, ", entry.insert(small(word)) as usize)?,
-            "mark_used" => {
-                entry.mark_used();
-                pen::flag(out, "occupied, used: ", entry.is_used())?;
-            }
-            "mark_required" => {
-                entry.mark_required();
-                pen::flag(out, "occupied, required: ", entry.is_required())?;
-            }
-            "set_merge_behavior" => {
-                entry.set_merge_behavior(behavior(word));
-                pen::number(out, "occupied, mark ", usize::from(entry.get_mark()))?;
-            }
-            _ => pen::number(out, "occupied, ", *entry.get() as usize)?,
-        },
+    match name {
+        "insert" => Answer::Number("occupied, ", entry.insert(small(word)) as usize),
+        "mark_used" => {
+            entry.mark_used();
+            Answer::Flag("occupied, used: ", entry.is_used())
+        }
+        "mark_required" => {
+            entry.mark_required();
+            Answer::Flag("occupied, required: ", entry.is_required())
+        }
+        "set_merge_behavior" => {
+            entry.set_merge_behavior(behavior(word));
+            Answer::Number("occupied, mark ", usize::from(entry.get_mark()))
+        }
+        _ => Answer::Number("occupied, ", *entry.get() as usize),
+    }
+}
+
+/// Writes an answer as a line.
+fn write_answer(out: &mut String, answer: Answer) -> Result<(), AllocError> {
+    match answer {
+        Answer::Vacant => out.push_str("vacant")?,
+        Answer::Number(before, number) => pen::number(out, before, number)?,
+        Answer::Flag(before, flag) => pen::flag(out, before, flag)?,
     }
     out.push('\n')
 }
 
 /// Makes a call at the place of a key that holds no value, and writes what it answers.
-pub(super) fn call_vacant<K: Key>(
+fn call_vacant<K: Key>(
     out: &mut String,
     map: &mut MarkMap<K, u32>,
     key: K,
