@@ -15,8 +15,8 @@ use Rattle.cfgcosts.specs.Numbers.{IsNumberedBelow}
 use Rattle.cfgsums.specs.Lists.{rule_cost}
 use Rattle.cfgcosts.specs.Certificate.{IsChosenBelow, rule_choice}
 use Rattle.cfgcosts.specs.Settled.{AreSettled}
-use Rattle.cfgcosts.specs.declared.errors.CostError.{CostError}
-use Rattle.cfgcosts.specs.declared.errors.CostError.TheVariants.{NoSentence, CostTooLarge}
+use Rattle.cfgsums.specs.declared.errors.CostError.{CostError}
+use Rattle.cfgsums.specs.declared.errors.CostError.TheVariants.{NoSentence, CostTooLarge}
 use Rattle.cfgcosts.specs.Generator.{HasNone, IsTooDear, AnswersLeast, IsLeastProduction}
 use Rattle.cfgsums.proofs.Sums.{plus_zero}
 use Rattle.cfgsums.proofs.Made.{made_row, cut_over}

@@ -9,8 +9,8 @@ use Rattle.std.proofs.lemmas.List.{get_or_default, get_or_past}
 use Rattle.std.proofs.lemmas.List.Elements.{All-from_get_or}
 use Rattle.derivation.specs.Grammar.{Sym, Rule, Token, HasProduction}
 use Rattle.cfganalysis.specs.Openings.{nth_production}
-use Rattle.cfgcosts.specs.declared.errors.CostError.{CostError}
-use Rattle.cfgcosts.specs.declared.errors.CostError.TheVariants.{NoSentence, CostTooLarge}
+use Rattle.cfgsums.specs.declared.errors.CostError.{CostError}
+use Rattle.cfgsums.specs.declared.errors.CostError.TheVariants.{NoSentence, CostTooLarge}
 use Rattle.cfgsums.specs.Sums.{sum_of, symbol_cost}
 use Rattle.cfgsums.specs.Lists.{rule_cost}
 use Rattle.cfgcosts.specs.Certificate.{IsCovered, IsReached, IsChosenBelow, RestsOn, choice_of, rule_choice}

@@ -11,6 +11,7 @@ pub mod Walked
 pub mod Settles
 pub mod Answered
 pub mod Generated
+pub mod Greatest
 pub mod Refused
 pub mod TokenCosts
 pub mod Steps

@@ -1,8 +1,8 @@
 -- What is answered of a sentence where a cost is refused, or where none is.
 use Rattle.std.proofs.Common.{◌≡◌, ◌↔◌, ◌⊎◌, inl, inr, ℕ, Result, Ok, Err, refl, sym, ap, ◌∙◌}
 use Rattle.std.specs.Result.{IsErrAnd}
-use Rattle.cfgcosts.specs.declared.errors.CostError.{CostError}
-use Rattle.cfgcosts.specs.declared.errors.CostError.TheVariants as costs
+use Rattle.cfgsums.specs.declared.errors.CostError.{CostError}
+use Rattle.cfgsums.specs.declared.errors.CostError.TheVariants as costs
 use Rattle.cfgcosts.specs.declared.errors.SentenceError.{SentenceError}
 use Rattle.cfgcosts.specs.declared.errors.SentenceError.TheVariants.{NoSentence, CostTooLarge, OutOfMemory}
 use Rattle.cfgcosts.specs.Sentences.{sentence_error}

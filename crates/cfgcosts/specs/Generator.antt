@@ -5,8 +5,8 @@ use Rattle.derivation.specs.Derivation.{Derives}
 use Rattle.derivation.specs.Sentence.{Sentence, cost_of}
 use Rattle.derivation.specs.Costs.{Least, Minimal}
 use Rattle.cfganalysis.specs.Openings.{nth_production}
-use Rattle.cfgcosts.specs.declared.errors.CostError.{CostError}
-use Rattle.cfgcosts.specs.declared.errors.CostError.TheVariants.{NoSentence, CostTooLarge}
+use Rattle.cfgsums.specs.declared.errors.CostError.{CostError}
+use Rattle.cfgsums.specs.declared.errors.CostError.TheVariants.{NoSentence, CostTooLarge}
 use Rattle.cfgsums.specs.Lists.{rule_cost}
 use Rattle.cfgcosts.specs.Certificate.{rule_choice}
 use Rattle.cfgcosts.specs.Settled.{AreSettled}

@@ -1,21 +1,13 @@
-//! Why a rule has no cost, or no sentence, that can be answered.
+//! Why a rule has no sentence that can be answered.
 
 ghost use Rattle.std.specs.Prelude.{◌≡◌, Some};
 ghost use Rattle.cfgcosts.specs.declared.errors.SentenceError.TheVariants.{OutOfMemory};
 ghost use Rattle.cfgcosts.specs.Sentences.{sentence_error, sentence_error_text};
 
+use cfgsums::CostError;
 use std::alloc::AllocError;
 use std::error::Error;
 use std::fmt;
-
-/// Why a rule has no cost that can be answered.
-#[derive(Clone, Copy, Debug, PartialEq, Eq)]
-pub enum CostError {
-    /// The rule has no sentence.
-    NoSentence,
-    /// The cost is more than 65535.
-    CostTooLarge,
-}
 
 /// Why a rule's sentence was not answered.
 #[derive(Clone, Copy, Debug, PartialEq, Eq)]

@@ -1,21 +1,22 @@
-//! Least costs of the rules of a grammar, and the productions that show them.
+//! The costs of a grammar's sentences: the least of each rule, with the production that shows it, and the greatest.
 
 ghost use Rattle.std.specs.Prelude.{◌≡◌, ◌↔◌, ℕ, ◌<◌, ◌≤◌, ◌⊎◌, List, Option, All};
-ghost use Rattle.std.specs.Prelude.{EachIndex, Err, IfOk, IfSome, None, Ok, length, slice_index};
+ghost use Rattle.std.specs.Prelude.{EachIndex, Err, IfOk, IfSome, None, Ok, Some, length, slice_index};
 ghost use Rattle.std.specs.Result.{result_ok};
 ghost use Rattle.cfgindex.specs.declared.idxnewtype.TIdx.{TIdx};
 ghost use Rattle.derivation.specs.Grammar.{HasProduction};
-ghost use Rattle.derivation.specs.Costs.{Least};
+ghost use Rattle.derivation.specs.Costs.{Greatest, Least, Unbounded};
 ghost use Rattle.cfgsums.specs.Lists.{rule_cost};
 ghost use Rattle.cfgcosts.specs.Certificate.{IsCovered, IsReached, choice_of, rule_choice};
 ghost use Rattle.cfgcosts.specs.Generator.{AnswersLeast, HasNone, IsLeastProduction, IsTooDear, choice_answer};
 ghost use Rattle.cfgcosts.specs.Generator.{cost_answer, token_cost};
 
-use crate::errors::CostError;
 use crate::settle::{Settled, settle};
 use crate::walk::TOO_LARGE;
 use cfganalysis::Tables;
+use cfggreatest::greatest_costs;
 use cfgindex::{PIdx, RIdx, Storage, TIdx, to_storage};
+use cfgsums::CostError;
 use std::alloc::{AllocError, Global};
 use std::marker::Model;
 
@@ -41,17 +42,19 @@ fn token_costs<S: Storage, F: Fn(TIdx<S>) -> u8>(
     Ok(costs)
 }
 
-/// The least costs of a grammar's rules.
+/// The least and the greatest costs of a grammar's rules.
 #[derive(Drop)]
 pub struct SentenceGenerator<'a, S: Storage, T: Tables<S>> {
     pub(crate) tables: &'a T,
     pub(crate) costs: Vec<u8>,
     pub(crate) settled: Settled<S>,
+    greatest: Vec<Result<Option<u16>, CostError>>,
 }
 
 impl<'a, S: Storage, T: Tables<S>> Model for SentenceGenerator<'a, S, T> {
-    ghost use Rattle.std.specs.Prelude.{map};
+    ghost use Rattle.std.specs.Prelude.{map, slice_index};
     ghost use Rattle.cfgcosts.specs.Certificate.{choice_of};
+    ghost use Rattle.cfggreatest.specs.Words.{AreTold};
     ghost use Rattle.cfgcosts.specs.Generator.{CostTables, IsGenerator};
 
     ghost Value = { CostTables };
@@ -68,12 +71,13 @@ impl<'a, S: Storage, T: Tables<S>> Model for SentenceGenerator<'a, S, T> {
       costs = x.costs.items;
       least = x.settled.least.items;
       choices = map (choice_of S.number) x.settled.choices.items;
-    }) x.settled.number };
+    }) x.settled.number
+        × AreTold (T.grammar x.tables.now) (slice_index x.costs.items) x.greatest.items };
 }
 
 impl<'a, S: Storage, T: Tables<S>> SentenceGenerator<'a, S, T> {
-    /// The least costs of the rules, where `cost` says what each token costs. It is called once for each token, in
-    /// order, the end token too.
+    /// The costs of the rules, where `cost` says what each token costs. It is called once for each token, in order, the
+    /// end token too.
     ///
     /// # Errors
     ///
@@ -95,10 +99,12 @@ impl<'a, S: Storage, T: Tables<S>> SentenceGenerator<'a, S, T> {
         let tokens_len = tables.tokens_len().0.to_usize();
         let costs = token_costs(alloc, tokens_len, cost)?;
         let settled = settle(alloc, tables, &costs)?;
+        let greatest = greatest_costs(alloc, tables, &costs)?;
         Ok(SentenceGenerator {
             tables,
             costs,
             settled,
+            greatest,
         })
     }
 
@@ -142,6 +148,27 @@ impl<'a, S: Storage, T: Tables<S>> SentenceGenerator<'a, S, T> {
             Some(_) => Err(CostError::CostTooLarge),
             None => Err(CostError::NoSentence),
         }
+    }
+
+    /// The greatest cost of the rule's sentences; `None` where some sentence costs more than any number.
+    ///
+    /// # Errors
+    ///
+    /// `NoSentence` where the rule has no sentence, and `CostTooLarge` where there is a greatest cost, and it is more
+    /// than 65535.
+    pub fn max_sentence_cost(&self, rule: RIdx<S>) -> Result<Option<u16>, CostError>
+        requires { S.number rule.0 < self.now.grammar.rules }
+        ensures none { (result ≡ Err CostError.NoSentence)
+            ↔ HasNone (HasProduction self.now.grammar) (S.number rule.0) }
+        ensures unbounded { (result ≡ Ok None)
+            ↔ Unbounded (HasProduction self.now.grammar) (token_cost self.now) (S.number rule.0) }
+        ensures greatest { (c : ℕ) → (result ≡ Ok (Some c))
+            ↔ (Greatest (HasProduction self.now.grammar) (token_cost self.now) (S.number rule.0) c × (c ≤ 65535)) }
+        ensures too_large { (result ≡ Err CostError.CostTooLarge)
+            ↔ ((n : ℕ) × Greatest (HasProduction self.now.grammar) (token_cost self.now) (S.number rule.0) n
+            × (65535 < n)) }
+    {
+        self.greatest[usize::from(rule)]
     }
 
     /// A production of least cost, and a number, which is greater than those of all rules in the production; `None`

@@ -9,10 +9,9 @@ ghost use Rattle.cfgsums.specs.Lists.{rule_cost};
 ghost use Rattle.cfgcosts.specs.Certificate.{IsCovered, IsReached};
 ghost use Rattle.cfgcosts.specs.Choices.{ChoicesGive};
 ghost use Rattle.cfgcosts.specs.Generator.{CostTables};
-ghost use Rattle.cfgcosts.specs.declared.errors.CostError.{CostError};
 ghost use Rattle.cfgcosts.specs.declared.errors.SentenceError.{SentenceError};
 
-use crate::errors::{CostError, SentenceError};
+use crate::errors::SentenceError;
 
 /// Lists of costs up to 65535 and of choices that pass both checks show least costs, whoever made them.
 pub fn certificates_show_least()
@@ -34,13 +33,6 @@ pub fn sentences_cost_their_length()
 pub fn choices_give_one_sentence()
     ensures { (x : CostTables) (symbols : List Sym) (v w : List ℕ)
         → ChoicesGive x symbols v → ChoicesGive x symbols w → v ≡ w }
-{}
-
-/// Why there is no cost is equal to itself alone. A clone is its source, and takes no memory.
-pub fn cost_errors_are_told_apart()
-    ensures equal { (a b : CostError) → IsTrue (⟦<CostError as PartialEq>⟧.eq a b) ↔ (a ≡ b) }
-    ensures clone { (a b : CostError) → ⟦<CostError as Clone>⟧.is_clone a b → b ≡ a }
-    ensures cloned { (a : CostError) → ⟦<CostError as Clone>⟧.is_infallible a }
 {}
 
 /// Why there is no sentence is equal to itself alone. A clone is its source, and takes no memory.

@@ -1,4 +1,4 @@
-//! What the sentences of a grammar cost.
+//! What the sentences of a grammar cost, the least and the greatest.
 #![tactic(auto)]
 
 pub mod certificate;
@@ -15,6 +15,7 @@ mod waiting;
 mod walk;
 
 pub use certificate::{check_least, check_reached};
-pub use errors::{CostError, SentenceError};
+pub use cfgsums::CostError;
+pub use errors::SentenceError;
 pub use generator::SentenceGenerator;
 pub use over::min_sentence_over;

@@ -121,6 +121,36 @@ fn settle_next<S: Storage, T: Tables<S>>(
     wake(grm, costs, &settled.least, &woken, queue, waiting)
 }
 
+/// Settles the rule of the cheapest production, till none is left whose rules are all settled.
+///
+/// # Errors
+///
+/// Want of memory.
+fn settle_all<S: Storage, T: Tables<S>>(
+    grm: &T,
+    costs: &[u8],
+    settled: &mut Settled<S>,
+    queue: &mut Queue,
+    waiting: &mut Waiting,
+) -> Result<(), AllocError>
+    requires costs { length costs.now ≡ (T.grammar grm.now).tokens }
+    requires least { settled.old.least.items ≡ replicate (T.grammar grm.now).rules None }
+    requires choices { map (choice_of S.number) settled.old.choices.items ≡ replicate (T.grammar grm.now).rules None }
+    requires number { settled.old.number ≡ 0 }
+    requires queue { queue.old ≡ [] }
+    requires waiting { waiting.old ≡ replicate (T.grammar grm.now).rules [] }
+    ensures { OnOk result (AreSettled (T.grammar grm.now) (slice_index costs.now) settled.new.least.items
+        (map (choice_of S.number) settled.new.choices.items) settled.new.number) }
+{
+    let _rules_len = grm.rules_len().0.to_usize();
+    let prods_len = grm.prods_len().0.to_usize();
+    start(grm, prods_len, costs, &settled.least, queue, waiting)?;
+    while let Some(top) = queue.pop() {
+        settle_next(grm, costs, settled, queue, waiting, top)?;
+    }
+    Ok(())
+}
+
 /// The least costs of all rules, cut down to 65536.
 ///
 /// # Errors
@@ -136,20 +166,9 @@ pub(crate) fn settle<S: Storage, T: Tables<S>>(
         (map (choice_of S.number) x.choices.items) x.number) }
 {
     let rules_len = grm.rules_len().0.to_usize();
-    let prods_len = grm.prods_len().0.to_usize();
     let mut settled = Settled::new(alloc, rules_len)?;
     let mut queue = Queue::new(alloc);
     let mut waiting = Waiting::new(alloc, rules_len)?;
-    start(
-        grm,
-        prods_len,
-        costs,
-        &settled.least,
-        &mut queue,
-        &mut waiting,
-    )?;
-    while let Some(top) = queue.pop() {
-        settle_next(grm, costs, &mut settled, &mut queue, &mut waiting, top)?;
-    }
+    settle_all(grm, costs, &mut settled, &mut queue, &mut waiting)?;
     Ok(settled)
 }

@@ -1,16 +1,12 @@
 //! The greatest cost of each rule's sentences.
 
-ghost use Rattle.std.specs.Prelude.{◌≡◌, ◌↔◌, ℕ, ◌<◌, ◌≤◌, All, IfOk, List, Option, Some};
-ghost use Rattle.std.specs.Prelude.{length, slice_index, slice_index_or};
+ghost use Rattle.std.specs.Prelude.{◌≡◌, ◌<◌, ◌≤◌, All, Err, IfOk, Ok, Some, length, slice_index};
 ghost use Rattle.derivation.specs.Grammar.{HasProduction};
-ghost use Rattle.derivation.specs.Sentence.{Sentence};
-ghost use Rattle.derivation.specs.Costs.{Greatest, Unbounded};
 ghost use Rattle.cfgsums.specs.Lists.{rule_cost};
 ghost use Rattle.cfggreatest.specs.Rows.{in_set};
 ghost use Rattle.cfggreatest.specs.Tops.{AreReached, live_in, positive_in};
 ghost use Rattle.cfggreatest.specs.Peel.{AreSigns};
-ghost use Rattle.cfggreatest.specs.Words.{AreReadOff, AreTold, IsReadOff};
-ghost use Rattle.cfggreatest.specs.declared.greatest.GreatestCost.TheVariants as told;
+ghost use Rattle.cfggreatest.specs.Words.{AreReadOff, AreTold, read_off};
 
 use crate::order::rule_groups;
 use crate::rounds::rule_top;
@@ -19,44 +15,36 @@ use crate::tables::{signs, tops};
 use crate::uses::uses;
 use cfganalysis::Tables;
 use cfgindex::Storage;
+use cfgsums::CostError;
 use std::alloc::{AllocError, Global};
 
-/// The greatest cost of a rule's sentences.
-#[derive(Clone, Copy, Debug, PartialEq, Eq)]
-pub enum GreatestCost {
-    /// The rule has no sentence.
-    NoSentence,
-    /// Whatever the number, some sentence costs more.
-    Unbounded,
-    /// Some sentence costs this, and none costs more.
-    Cost(u16),
-    /// There is a greatest cost, and it is more than 65535.
-    TooLarge,
-}
-
-/// A greatest cost that was cut down to 65536, in words.
-fn in_words(top: u32) -> GreatestCost
-    ensures within { top ≤ 65535 → result ≡ told.Cost top }
-    ensures past { 65535 < top → result ≡ told.TooLarge }
+/// A greatest cost that was cut down to 65536, as an answer.
+fn answer(top: u32) -> Result<Option<u16>, CostError>
+    ensures within { top ≤ 65535 → result ≡ Ok (Some top) }
+    ensures past { 65535 < top → result ≡ Err CostError.CostTooLarge }
 {
     match u16::try_from(top) {
-        Ok(cost) => GreatestCost::Cost(cost),
-        Err(_) => GreatestCost::TooLarge,
+        Ok(cost) => Ok(Some(cost)),
+        Err(_) => Err(CostError::CostTooLarge),
     }
 }
 
-/// What the bounded rules and the table of their greatest costs tell of a rule.
-fn greatest_of(bounded: &[bool], table: &[Option<u32>], rule: usize) -> GreatestCost
+/// What the bounded rules and the table of their greatest costs tell of a rule: no cost where it isn't bounded.
+fn greatest_of(
+    bounded: &[bool],
+    table: &[Option<u32>],
+    rule: usize,
+) -> Result<Option<u16>, CostError>
     requires bounded { rule < length bounded.now }
     requires table { rule < length table.now }
-    ensures { IsReadOff (in_set bounded.now rule) (rule_cost table.now rule) result }
+    ensures { result ≡ read_off (in_set bounded.now rule) (rule_cost table.now rule) }
 {
     if !bounded[rule] {
-        return GreatestCost::Unbounded;
+        return Ok(None);
     }
     match rule_top(table, rule) {
-        Some(top) => in_words(top),
-        None => GreatestCost::NoSentence,
+        Some(top) => answer(top),
+        None => Err(CostError::NoSentence),
     }
 }
 
@@ -69,7 +57,7 @@ fn greatest_each(
     alloc: Global,
     bounded: &[bool],
     table: &[Option<u32>],
-) -> Result<Vec<GreatestCost>, AllocError>
+) -> Result<Vec<Result<Option<u16>, CostError>>, AllocError>
     requires { length table.now ≡ length bounded.now }
     ensures { IfOk result (λ x. AreReadOff bounded.now table.now x.items) }
 {
@@ -90,7 +78,7 @@ fn greatest_by_signs<S: Storage, T: Tables<S>>(
     grm: &T,
     costs: &[u8],
     signs: &[Option<u32>],
-) -> Result<Vec<GreatestCost>, AllocError>
+) -> Result<Vec<Result<Option<u16>, CostError>>, AllocError>
     requires costs { length costs.now ≡ (T.grammar grm.now).tokens }
     requires positive { All (λ c. 1 ≤ c) costs.now }
     requires reached { AreReached (T.grammar grm.now) (slice_index costs.now) 1 signs.now }
@@ -105,25 +93,9 @@ fn greatest_by_signs<S: Storage, T: Tables<S>>(
     greatest_each(alloc, &bounded, &table)
 }
 
-/// What is told of each rule.
-///
-/// # Errors
-///
-/// Want of memory.
-fn told_costs<S: Storage, T: Tables<S>>(
-    alloc: Global,
-    grm: &T,
-    costs: &[u8],
-) -> Result<Vec<GreatestCost>, AllocError>
-    requires costs { length costs.now ≡ (T.grammar grm.now).tokens }
-    requires positive { All (λ c. 1 ≤ c) costs.now }
-    ensures { IfOk result (λ x. AreTold (T.grammar grm.now) (slice_index costs.now) x.items) }
-{
-    let signs = signs(alloc, grm, costs)?;
-    greatest_by_signs(alloc, grm, costs, &signs)
-}
-
-/// For each rule the greatest cost of its sentences, where a sentence costs what its tokens cost together.
+/// For each rule the greatest cost of its sentences, where a sentence costs what its tokens cost together: `None` where
+/// some sentence costs more than any number, and a refusal where the rule has no sentence, or the greatest cost is past
+/// 65535.
 ///
 /// A rule that derives itself may have a greatest cost all the same: its costs are unbounded only where what stands
 /// beside it costs something.
@@ -135,23 +107,11 @@ pub fn greatest_costs<S: Storage, T: Tables<S>>(
     alloc: Global,
     grm: &T,
     costs: &[u8],
-) -> Result<Vec<GreatestCost>, AllocError>
+) -> Result<Vec<Result<Option<u16>, CostError>>, AllocError>
     requires costs { length costs.now ≡ (T.grammar grm.now).tokens }
     requires positive { All (λ c. 1 ≤ c) costs.now }
-    ensures means { IfOk result (λ x. AreTold (T.grammar grm.now) (slice_index costs.now) x.items) }
-    ensures rules { IfOk result (λ x. length x.items ≡ (T.grammar grm.now).rules) }
-    ensures no_sentence { IfOk result (λ x. (r : ℕ) → r < (T.grammar grm.now).rules
-        → (slice_index_or x.items r told.NoSentence ≡ told.NoSentence)
-        ↔ ((w : List ℕ) → Sentence (HasProduction (T.grammar grm.now)) r w → ⊥)) }
-    ensures unbounded { IfOk result (λ x. (r : ℕ) → r < (T.grammar grm.now).rules
-        → (slice_index_or x.items r told.NoSentence ≡ told.Unbounded)
-        ↔ Unbounded (HasProduction (T.grammar grm.now)) (slice_index costs.now) r) }
-    ensures cost { IfOk result (λ x. (r c : ℕ) → r < (T.grammar grm.now).rules
-        → (slice_index_or x.items r told.NoSentence ≡ told.Cost c)
-        ↔ (Greatest (HasProduction (T.grammar grm.now)) (slice_index costs.now) r c × (c ≤ 65535))) }
-    ensures too_large { IfOk result (λ x. (r : ℕ) → r < (T.grammar grm.now).rules
-        → (slice_index_or x.items r told.NoSentence ≡ told.TooLarge)
-        ↔ ((n : ℕ) × Greatest (HasProduction (T.grammar grm.now)) (slice_index costs.now) r n × (65535 < n))) }
+    ensures { IfOk result (λ x. AreTold (T.grammar grm.now) (slice_index costs.now) x.items) }
 {
-    told_costs(alloc, grm, costs)
+    let signs = signs(alloc, grm, costs)?;
+    greatest_by_signs(alloc, grm, costs, &signs)
 }

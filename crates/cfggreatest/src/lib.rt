@@ -13,4 +13,4 @@ pub mod stages;
 mod tables;
 mod uses;
 
-pub use greatest::{GreatestCost, greatest_costs};
+pub use greatest::greatest_costs;

@@ -8,8 +8,8 @@ use Rattle.derivation.specs.Sentence.{cost_of}
 use Rattle.derivation.specs.Costs.{Greatest, Minimal, Unbounded}
 use Rattle.cfgcosts.specs.Generator.{AnswersLeast, HasNone}
 use Rattle.cfgcosts.specs.Minimal.{dictionary}
-use Rattle.cfgcosts.specs.declared.errors.CostError.{CostError}
-use Rattle.cfgcosts.specs.declared.errors.CostError.TheVariants.{NoSentence, CostTooLarge}
+use Rattle.cfgsums.specs.declared.errors.CostError.{CostError}
+use Rattle.cfgsums.specs.declared.errors.CostError.TheVariants.{NoSentence, CostTooLarge}
 use Rattle.cfgnumbers.specs.Numbered.{Numbered, core}
 use Rattle.cfgnumbers.specs.Shown.{rule_part, sym_text}
 

@@ -1,91 +1,15 @@
-use Rattle.std.proofs.Common.{◌≡◌, ℕ, List, [], None, Option, map, replicate, length, subst, ap, ◌∙◌, arith}
-use Rattle.std.specs.List.{slice_index}
-use Rattle.std.proofs.lemmas.List.{length-replicate}
-use Rattle.std.proofs.lemmas.List.Sorted.{length_permutation}
-use Rattle.cfgsums.specs.Lists.{rule_cost}
+use Rattle.std.proofs.Common.{ℕ, List, [], None, Option, replicate, ap, ◌∙◌}
 use Rattle.cfgcosts.specs.declared.partial.Partial.{Partial}
-use Rattle.cfgcosts.specs.Certificate.{choice_of}
-use Rattle.cfgcosts.specs.Open.{AreAllOpen, AreOpen}
-use Rattle.cfgcosts.proofs.Chosen.{none_chosen_yet}
-use Rattle.cfgcosts.proofs.Opened.{finished}
 use Rattle.cfgcosts.proofs.settle.settle.Goals as goal
 
-pub start-requires-clause-input : goal.start-requires-clause-input
-start-requires-clause-input g c =
-    let grammar = g.T.Tables.grammar c.args.grm.now in
-    let rules = c.to_usize-rules_len.ensures.value ∙ c.rules_len.ensures.value in
-    let none = λ (n : ℕ). replicate {A = Option ℕ} n None in
-    record {
-      grammar = c.rules_len.ensures.content;
-      places = omega (arith, c.prods_len.ensures, c.to_usize-prods_len.ensures.value, c.to_usize-prods_len.ensures.range);
-      tokens = c.requires;
-      rules = ap length (c.deref.ensures.value ∙ c.in_ok-settled.ensures.least ∙ ap none rules) ∙ length-replicate grammar.rules None;
-    }
+pub settle_all-requires-clause-least : goal.settle_all-requires-clause-least
+settle_all-requires-clause-least g c = c.in_ok-settled.ensures.least ∙ ap (λ (n : ℕ). replicate {A = Option ℕ} n None) (c.to_usize-rules_len.ensures.value ∙ c.rules_len.ensures.value)
 
-pub start-requires-clause-least : goal.start-requires-clause-least
-start-requires-clause-least g c =
-    let none = λ (n : ℕ). replicate {A = Option ℕ} n None in
-    c.deref.ensures.value ∙ c.in_ok-settled.ensures.least ∙ ap none (c.to_usize-rules_len.ensures.value ∙ c.rules_len.ensures.value)
+pub settle_all-requires-clause-choices : goal.settle_all-requires-clause-choices
+settle_all-requires-clause-choices g c = c.in_ok-settled.ensures.choices ∙ ap (λ (n : ℕ). replicate {A = Option (ℕ × ℕ)} n None) (c.to_usize-rules_len.ensures.value ∙ c.rules_len.ensures.value)
 
-pub start-requires-clause-waiting : goal.start-requires-clause-waiting
-start-requires-clause-waiting g c =
-    let none = λ (n : ℕ). replicate {A = List Partial} n [] in
-    c.in_ok-waiting.ensures ∙ ap none (c.to_usize-rules_len.ensures.value ∙ c.rules_len.ensures.value)
-
-pub settle_next-requires-clause-small : goal.settle_next-requires-clause-small
-settle_next-requires-clause-small g c =
-    omega (arith, c.rules_len.ensures.value, c.to_usize-rules_len.ensures.value, c.to_usize-rules_len.ensures.range, c.to_usize-rules_len.ensures.limit)
-
-pub loop-top-init : goal.loop-top-init
-loop-top-init g c =
-    let grammar = g.T.Tables.grammar c.args.grm.now in
-    let cost = slice_index c.args.costs.now in
-    let rules = c.to_usize-rules_len.ensures.value ∙ c.rules_len.ensures.value in
-    let none = λ (n : ℕ). replicate {A = Option ℕ} n None in
-    let choices = λ (n : ℕ). replicate {A = Option (ℕ × ℕ)} n None in
-    let least = c.in_ok-settled.ensures.least ∙ ap none rules in
-    record {
-      input = record {
-        grammar = c.rules_len.ensures.content;
-        places = omega (arith, c.prods_len.ensures, c.to_usize-prods_len.ensures.value, c.to_usize-prods_len.ensures.range);
-        tokens = c.requires;
-        rules = ap length least ∙ length-replicate grammar.rules None;
-      };
-      lists = c.in_ok-start.ensures.lists;
-      chosen = none_chosen_yet grammar cost c.in_ok-settled.settled.least.items (map (choice_of g.S.Storage.number) c.in_ok-settled.settled.choices.items) c.in_ok-settled.settled.number
-          least (c.in_ok-settled.ensures.choices ∙ ap choices rules) c.in_ok-settled.ensures.number;
-      state = subst (λ (l : List (Option ℕ)). AreAllOpen cost (rule_cost l) grammar c.start.new.queue c.start.new.waiting) c.deref.ensures.value c.in_ok-start.ensures.state;
-    }
-
-pub settle_next-requires-clause-popped : goal.settle_next-requires-clause-popped
-settle_next-requires-clause-popped g c = record {
-  before = c.loop-top.queue;
-  state = c.loop-top.invariant.state;
-  out = c.in-Some.ensures.out;
-  cheapest = c.in-Some.ensures.least;
-}
-
-pub loop-top-preserved : goal.loop-top-preserved
-loop-top-preserved g c = record {
-  input = c.in_ok-settle_next.ensures.input;
-  lists = c.in_ok-settle_next.ensures.lists;
-  chosen = c.in_ok-settle_next.ensures.chosen;
-  state = c.in_ok-settle_next.ensures.state;
-}
-
-pub loop-top-smaller : goal.loop-top-smaller
-loop-top-smaller g c =
-    let shorter = length_permutation _ _ c.in-Some.ensures.out in
-    omega (arith, shorter, c.in_ok-settle_next.ensures.count)
+pub settle_all-requires-clause-waiting : goal.settle_all-requires-clause-waiting
+settle_all-requires-clause-waiting g c = c.in_ok-waiting.ensures ∙ ap (λ (n : ℕ). replicate {A = List Partial} n []) (c.to_usize-rules_len.ensures.value ∙ c.rules_len.ensures.value)
 
 pub returns : goal.returns
-returns g c =
-    let grammar = g.T.Tables.grammar c.args.grm.now in
-    let cost = slice_index c.args.costs.now in
-    let state = c.loop-top.invariant.state in
-    let none : c.loop-top.queue ≡ [] = c.in_default.ensures.none in
-    record {
-      chosen = c.loop-top.invariant.chosen;
-      covered = finished grammar cost (rule_cost c.loop-top.settled.least.items) state.0 c.loop-top.waiting (λ p. ⊥) (λ q h. h)
-          (subst (λ (l : List (ℕ × ℕ)). AreOpen cost (rule_cost c.loop-top.settled.least.items) grammar l c.loop-top.waiting (λ p. ⊥) state.0) none state.1);
-    }
+returns g c = c.in_ok-settle_all.ensures

@@ -11,8 +11,8 @@ ghost use Rattle.cfgnumbers.specs.Numbered.{core};
 
 use super::tables::YaccGrammar;
 use cfganalysis::{CountedTables, Tables, YaccFirsts, YaccFollows, has_path};
+use cfgcosts::SentenceGenerator;
 use cfgindex::{PIdx, RIdx, Storage, Symbol, TIdx};
-use cfgsentences::SentenceGenerator;
 use std::alloc::{AllocError, Global};
 
 impl<S: Storage> Tables<S> for YaccGrammar<S> {

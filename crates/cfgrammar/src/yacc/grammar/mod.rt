@@ -7,7 +7,7 @@ mod tables;
 
 pub use cfganalysis::{CountedTables, Productions, Tables};
 pub use cfgast::{AssocKind, Precedence};
-pub use cfgsentences::SentenceGenerator;
+pub use cfgcosts::SentenceGenerator;
 pub use iter::{PIdxIter, RIdxIter, TIdxIter};
 pub use tables::YaccGrammar;
 

@@ -6,11 +6,11 @@ use Rattle.cfgcosts.proofs.generator.SentenceGenerator.answers_pass_both_checks.
 pub returns-clause-least : goal.returns-clause-least
 returns-clause-least g c =
     let number = c.self.inside.settled.number in
-    let is = subst (λ (x : CostTables). IsGenerator x number) c.self.view_is c.self.invariant in
+    let is = subst (λ (x : CostTables). IsGenerator x number) c.self.view_is c.self.invariant.0 in
     answers_covered c.args.self.now number is
 
 pub returns-clause-reached : goal.returns-clause-reached
 returns-clause-reached g c =
     let number = c.self.inside.settled.number in
-    let is = subst (λ (x : CostTables). IsGenerator x number) c.self.view_is c.self.invariant in
+    let is = subst (λ (x : CostTables). IsGenerator x number) c.self.view_is c.self.invariant.0 in
     λ least choices rules answered chosen. answers_reached c.args.self.now number is least rules answered choices chosen

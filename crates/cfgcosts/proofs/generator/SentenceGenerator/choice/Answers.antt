@@ -8,7 +8,7 @@ use Rattle.cfgcosts.proofs.generator.SentenceGenerator.choice.Goals as goal
 pub returns-in-Ok-clause-production : goal.returns-in-Ok-clause-production
 returns-in-Ok-clause-production g c =
     let number = c.self.inside.settled.number in
-    let is = subst (λ (x : CostTables). IsGenerator x number) c.self.view_is c.self.invariant in
+    let is = subst (λ (x : CostTables). IsGenerator x number) c.self.view_is c.self.invariant.0 in
     let shown = ap (λ (x : CostTables). x.choices) c.self.view_is in
     let answer = subst (λ (r : ℕ). Some c.in-Ok.field-0 ≡ cost_answer c.args.self.now r) c.from.ensures c.in-Ok.ensures.answer in
     choice_read c.args.self.now number is g.S.Storage.number c.self.inside.settled.choices.items (g.S.Storage.number c.args.rule.0) c.from-in-Ok.result c.in-Ok.field-0 c.index.result.now
@@ -17,7 +17,7 @@ returns-in-Ok-clause-production g c =
 pub returns-in-Ok-clause-none : goal.returns-in-Ok-clause-none
 returns-in-Ok-clause-none g c =
     let number = c.self.inside.settled.number in
-    let is = subst (λ (x : CostTables). IsGenerator x number) c.self.view_is c.self.invariant in
+    let is = subst (λ (x : CostTables). IsGenerator x number) c.self.view_is c.self.invariant.0 in
     let shown = ap (λ (x : CostTables). x.choices) c.self.view_is in
     let answer = subst (λ (r : ℕ). Some c.in-Ok.field-0 ≡ cost_answer c.args.self.now r) c.from.ensures c.in-Ok.ensures.answer in
     choice_none c.args.self.now number is g.S.Storage.number (g.S.Storage.number c.args.rule.0) c.in-Ok.field-0 c.index.result.now answer
@@ -27,7 +27,7 @@ returns-in-Ok-clause-none g c =
 pub returns-in-Ok-clause-answer : goal.returns-in-Ok-clause-answer
 returns-in-Ok-clause-answer g c =
     let number = c.self.inside.settled.number in
-    let is = subst (λ (x : CostTables). IsGenerator x number) c.self.view_is c.self.invariant in
+    let is = subst (λ (x : CostTables). IsGenerator x number) c.self.view_is c.self.invariant.0 in
     let shown = ap (λ (x : CostTables). x.choices) c.self.view_is in
     let r = g.S.Storage.number c.args.rule.0 in
     let answer = subst (λ (r : ℕ). Some c.in-Ok.field-0 ≡ cost_answer c.args.self.now r) c.from.ensures c.in-Ok.ensures.answer in

@@ -13,7 +13,7 @@ pub loop-symbol-init : goal.loop-symbol-init
 loop-symbol-init g c =
     let number = g.S.Storage.number in
     let n = c.self.inside.settled.number in
-    let is = subst (λ (x : CostTables). IsGenerator x n) c.self.view_is c.self.invariant in
+    let is = subst (λ (x : CostTables). IsGenerator x n) c.self.view_is c.self.invariant.0 in
     let grammar = subst (λ (x : CostTables). IsGrammar x.grammar) c.self.view_is c.rules_len-rules.ensures.content in
     begins c.args.self.now n is grammar (number c.args.rule.0) _ _ c.requires.rule c.requires.cost
     (ap (map (sym_of number)) (c.in_ok-push.ensures.items ∙ ap (λ l. l ++ symbols.Rule c.args.rule ∷ []) c.new-pending.ensures.items))
@@ -23,7 +23,7 @@ pub take-requires : goal.take-requires
 take-requires g c =
     let number = g.S.Storage.number in
     let n = c.self.inside.settled.number in
-    let is = subst (λ (x : CostTables). IsGenerator x n) c.self.view_is c.self.invariant in
+    let is = subst (λ (x : CostTables). IsGenerator x n) c.self.view_is c.self.invariant.0 in
     let grammar = subst (λ (x : CostTables). IsGrammar x.grammar) c.self.view_is c.rules_len-rules.ensures.content in
     let rest = map (sym_of number) c.pop.new.self.items in
     let word = map (λ t. number t.0) c.loop-symbol.sentence.items in
@@ -35,7 +35,7 @@ pub push_production-requires : goal.push_production-requires
 push_production-requires g c =
     let number = g.S.Storage.number in
     let n = c.self.inside.settled.number in
-    let is = subst (λ (x : CostTables). IsGenerator x n) c.self.view_is c.self.invariant in
+    let is = subst (λ (x : CostTables). IsGenerator x n) c.self.view_is c.self.invariant.0 in
     let grammar = subst (λ (x : CostTables). IsGrammar x.grammar) c.self.view_is c.rules_len-rules.ensures.content in
     let rest = map (sym_of number) c.pop.new.self.items in
     let word = map (λ t. number t.0) c.loop-symbol.sentence.items in
@@ -49,7 +49,7 @@ pub loop-symbol-smaller : goal.loop-symbol-smaller
 loop-symbol-smaller g c =
     let number = g.S.Storage.number in
     let n = c.self.inside.settled.number in
-    let is = subst (λ (x : CostTables). IsGenerator x n) c.self.view_is c.self.invariant in
+    let is = subst (λ (x : CostTables). IsGenerator x n) c.self.view_is c.self.invariant.0 in
     let grammar = subst (λ (x : CostTables). IsGrammar x.grammar) c.self.view_is c.rules_len-rules.ensures.content in
     let rest = map (sym_of number) c.pop.new.self.items in
     let word = map (λ t. number t.0) c.loop-symbol.sentence.items in
@@ -65,7 +65,7 @@ pub loop-symbol-preserved : goal.loop-symbol-preserved
 loop-symbol-preserved g c =
     let number = g.S.Storage.number in
     let n = c.self.inside.settled.number in
-    let is = subst (λ (x : CostTables). IsGenerator x n) c.self.view_is c.self.invariant in
+    let is = subst (λ (x : CostTables). IsGenerator x n) c.self.view_is c.self.invariant.0 in
     let grammar = subst (λ (x : CostTables). IsGrammar x.grammar) c.self.view_is c.rules_len-rules.ensures.content in
     let rest = map (sym_of number) c.pop.new.self.items in
     let word = map (λ t. number t.0) c.loop-symbol.sentence.items in
@@ -79,7 +79,7 @@ pub returns-clause-minimal : goal.returns-clause-minimal
 returns-clause-minimal g c =
     let number = g.S.Storage.number in
     let n = c.self.inside.settled.number in
-    let is = subst (λ (x : CostTables). IsGenerator x n) c.self.view_is c.self.invariant in
+    let is = subst (λ (x : CostTables). IsGenerator x n) c.self.view_is c.self.invariant.0 in
     let grammar = subst (λ (x : CostTables). IsGrammar x.grammar) c.self.view_is c.rules_len-rules.ensures.content in
     let word = map (λ t. number t.0) c.loop-symbol.sentence.items in
     let rest : c.pop.new.self.items ≡ [] = c.in_default.ensures.rest ∙ ap (λ n. take (n - 1) c.loop-symbol.pending.items) c.in_default.ensures.cases.0 in
@@ -91,7 +91,7 @@ pub returns-clause-length : goal.returns-clause-length
 returns-clause-length g c =
     let number = g.S.Storage.number in
     let n = c.self.inside.settled.number in
-    let is = subst (λ (x : CostTables). IsGenerator x n) c.self.view_is c.self.invariant in
+    let is = subst (λ (x : CostTables). IsGenerator x n) c.self.view_is c.self.invariant.0 in
     let grammar = subst (λ (x : CostTables). IsGrammar x.grammar) c.self.view_is c.rules_len-rules.ensures.content in
     let word = map (λ t. number t.0) c.loop-symbol.sentence.items in
     let rest : c.pop.new.self.items ≡ [] = c.in_default.ensures.rest ∙ ap (λ n. take (n - 1) c.loop-symbol.pending.items) c.in_default.ensures.cases.0 in
@@ -103,7 +103,7 @@ pub returns-clause-chosen : goal.returns-clause-chosen
 returns-clause-chosen g c =
     let number = g.S.Storage.number in
     let n = c.self.inside.settled.number in
-    let is = subst (λ (x : CostTables). IsGenerator x n) c.self.view_is c.self.invariant in
+    let is = subst (λ (x : CostTables). IsGenerator x n) c.self.view_is c.self.invariant.0 in
     let grammar = subst (λ (x : CostTables). IsGrammar x.grammar) c.self.view_is c.rules_len-rules.ensures.content in
     let word = map (λ t. number t.0) c.loop-symbol.sentence.items in
     let rest : c.pop.new.self.items ≡ [] = c.in_default.ensures.rest ∙ ap (λ n. take (n - 1) c.loop-symbol.pending.items) c.in_default.ensures.cases.0 in

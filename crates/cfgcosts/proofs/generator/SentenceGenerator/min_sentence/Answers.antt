@@ -1,7 +1,7 @@
 use Rattle.std.proofs.Common.{Ok, refl, sym, ap, ◌∙◌}
 use Rattle.std.specs.Result.{result_ok}
 use Rattle.derivation.specs.Grammar.{HasProduction}
-use Rattle.cfgcosts.specs.declared.errors.CostError.TheVariants as costs
+use Rattle.cfgsums.specs.declared.errors.CostError.TheVariants as costs
 use Rattle.cfgcosts.specs.declared.errors.SentenceError.TheVariants.{OutOfMemory}
 use Rattle.cfgcosts.specs.Generator.{HasNone, IsTooDear, token_cost}
 use Rattle.cfgcosts.specs.Sentences.{sentence_error}

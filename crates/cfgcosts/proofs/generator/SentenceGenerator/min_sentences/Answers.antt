@@ -3,7 +3,7 @@ use Rattle.std.specs.Result.{result_ok}
 use Rattle.std.proofs.lemmas.List.Elements.{All-contains}
 use Rattle.derivation.specs.Grammar.{IsGrammar, HasProduction}
 use Rattle.derivation.specs.Costs.{Minimal}
-use Rattle.cfgcosts.specs.declared.errors.CostError.TheVariants as costs
+use Rattle.cfgsums.specs.declared.errors.CostError.TheVariants as costs
 use Rattle.cfgcosts.specs.declared.errors.SentenceError.TheVariants.{OutOfMemory}
 use Rattle.cfgcosts.specs.Sentences.{sentence_error}
 use Rattle.cfgcosts.specs.Generator.{CostTables, HasNone, IsGenerator, IsTooDear, token_cost}
@@ -25,7 +25,7 @@ returns-clause-all g c =
     let number = g.S.Storage.number in
     let x = c.args.self.now in
     let n = c.self.inside.settled.number in
-    let is = subst (λ (x : CostTables). IsGenerator x n) c.self.view_is c.self.invariant in
+    let is = subst (λ (x : CostTables). IsGenerator x n) c.self.view_is c.self.invariant.0 in
     let grammar = subst (λ (x : CostTables). IsGrammar x.grammar) c.self.view_is c.rules_len-rules.ensures.content in
     let r = number c.args.rule.0 in
     let tight = map place_of c.in_ok-tight.tight.items in

@@ -4,7 +4,7 @@ use Rattle.cfgsums.specs.Lists.{rule_cost}
 use Rattle.cfgcosts.specs.Certificate.{choice_of}
 use Rattle.cfgcosts.specs.Open.{AreAllOpen, AreInput, count_open}
 use Rattle.cfgcosts.specs.Settled.{AreChosen}
-use Rattle.cfgcosts.proofs.settle.settle.Given as goal
+use Rattle.cfgcosts.proofs.settle.settle_all.Given as goal
 
 abbrev pub invariant-loop-top : goal.invariant-loop-top
 invariant-loop-top g l = record {
