@@ -1,5 +1,6 @@
 -- What is answered of a sentence where a cost is refused, or where none is.
 use Rattle.std.proofs.Common.{◌≡◌, ◌↔◌, ◌⊎◌, inl, inr, ℕ, Result, Ok, Err, refl, sym, ap, ◌∙◌}
+use Rattle.std.specs.Prelude.{IfOk}
 use Rattle.std.specs.Result.{IsErrAnd}
 use Rattle.cfgsums.specs.declared.errors.CostError.{CostError}
 use Rattle.cfgsums.specs.declared.errors.CostError.TheVariants as costs
@@ -48,3 +49,8 @@ module _ {A : Type 0} (P : Type 0) (result : Result A SentenceError) where
     (λ k. let no : ◌≡◌ {A = Result A SentenceError} (Ok a) (Err (sentence_error e)) = sym is ∙ k in absurd (cc)),
     (λ p. let no : ◌≡◌ {A = Result ℕ CostError} (Ok c) (Err e) = h.1 p in absurd (cc)),
   )
+
+-- nothing is said of what is answered where nothing is
+pub unanswered : {A : Type 0} (P : SentenceError → Type 0) (Q : A → Type 0) (result : Result A SentenceError) → IsErrAnd result P → IfOk result Q
+unanswered P Q (Ok a) h = absurd h
+unanswered P Q (Err x) h = tt

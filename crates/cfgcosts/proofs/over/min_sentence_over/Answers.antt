@@ -1,10 +1,10 @@
-use Rattle.std.proofs.Common.{Ok, refl}
+use Rattle.std.proofs.Common.{Ok, refl, sym, ◌∙◌}
 use Rattle.derivation.specs.Grammar.{HasProduction}
 use Rattle.cfgsums.specs.declared.errors.CostError.TheVariants as costs
 use Rattle.cfgcosts.specs.declared.errors.SentenceError.TheVariants.{OutOfMemory}
 use Rattle.cfgcosts.specs.Generator.{HasNone, IsTooDear, token_cost}
 use Rattle.cfgcosts.specs.Sentences.{sentence_error}
-use Rattle.cfgcosts.proofs.Refused.{memory_alone, memory_none, refusal, refused_dear, refused_memory, refused_none, sentence_none}
+use Rattle.cfgcosts.proofs.Refused.{memory_alone, memory_none, refusal, refused_dear, refused_memory, refused_none, sentence_none, unanswered}
 use Rattle.cfgcosts.proofs.over.min_sentence_over.Goals as goal
 
 pub returns-in_err-min_sentence_cost-clause-content : goal.returns-in_err-min_sentence_cost-clause-content
@@ -60,3 +60,51 @@ returns-in_err-sentence-clause-cut_short g c = λ _. c.in_err-sentence.ensures.s
 pub returns-in_err-sentence-clause-refused : goal.returns-in_err-sentence-clause-refused
 returns-in_err-sentence-clause-refused g c = λ cost. absurd (memory_alone (Unit {0}) c.from_residual-in_err-sentence.result
     (refusal c.from_residual-in_err-sentence.result OutOfMemory c.from_residual-in_err-sentence.ensures.1) cost)
+
+pub returns-in_err-min_sentence_cost-clause-minimal : goal.returns-in_err-min_sentence_cost-clause-minimal
+returns-in_err-min_sentence_cost-clause-minimal g c = unanswered _ _ c.from_residual.result c.from_residual.ensures.1
+
+pub returns-in_err-sentence-clause-minimal : goal.returns-in_err-sentence-clause-minimal
+returns-in_err-sentence-clause-minimal g c = unanswered _ _ c.from_residual-in_err-sentence.result c.from_residual-in_err-sentence.ensures.1
+
+pub returns-in_err-min_sentence_cost-clause-length : goal.returns-in_err-min_sentence_cost-clause-length
+returns-in_err-min_sentence_cost-clause-length g c = unanswered _ _ c.from_residual.result c.from_residual.ensures.1
+
+pub returns-in_err-sentence-clause-length : goal.returns-in_err-sentence-clause-length
+returns-in_err-sentence-clause-length g c = unanswered _ _ c.from_residual-in_err-sentence.result c.from_residual-in_err-sentence.ensures.1
+
+pub returns-in_err-min_sentence_cost-clause-chosen : goal.returns-in_err-min_sentence_cost-clause-chosen
+returns-in_err-min_sentence_cost-clause-chosen g c = unanswered _ _ c.from_residual.result c.from_residual.ensures.1
+
+pub returns-in_err-sentence-clause-chosen : goal.returns-in_err-sentence-clause-chosen
+returns-in_err-sentence-clause-chosen g c = unanswered _ _ c.from_residual-in_err-sentence.result c.from_residual-in_err-sentence.ensures.1
+
+pub returns-in_err-min_sentence_cost-clause-derived : goal.returns-in_err-min_sentence_cost-clause-derived
+returns-in_err-min_sentence_cost-clause-derived g c = unanswered _ _ c.from_residual.result c.from_residual.ensures.1
+
+pub returns-in_err-sentence-clause-derived : goal.returns-in_err-sentence-clause-derived
+returns-in_err-sentence-clause-derived g c = unanswered _ _ c.from_residual-in_err-sentence.result c.from_residual-in_err-sentence.ensures.1
+
+pub returns-in_err-min_sentence_cost-clause-few : goal.returns-in_err-min_sentence_cost-clause-few
+returns-in_err-min_sentence_cost-clause-few g c = unanswered _ _ c.from_residual.result c.from_residual.ensures.1
+
+pub returns-in_err-sentence-clause-few : goal.returns-in_err-sentence-clause-few
+returns-in_err-sentence-clause-few g c = unanswered _ _ c.from_residual-in_err-sentence.result c.from_residual-in_err-sentence.ensures.1
+
+pub returns-clause-minimal : goal.returns-clause-minimal
+returns-clause-minimal g c = c.in_ok-sentence.ensures.walked.minimal
+
+pub returns-clause-chosen : goal.returns-clause-chosen
+returns-clause-chosen g c = c.in_ok-sentence.ensures.walked.chosen
+
+pub returns-clause-derived : goal.returns-clause-derived
+returns-clause-derived g c = c.in_ok-sentence.ensures.walked.derived
+
+pub returns-clause-free : goal.returns-clause-free
+returns-clause-free g c = c.in_ok-sentence.ensures.walked.free
+
+pub returns-clause-content : goal.returns-clause-content
+returns-clause-content g c = c.walk_over.ensures.content ∙ sym c.requires.same
+
+pub returns-in_err-sentence-clause-content : goal.returns-in_err-sentence-clause-content
+returns-in_err-sentence-clause-content g c = c.walk_over.ensures.content ∙ sym c.requires.same
