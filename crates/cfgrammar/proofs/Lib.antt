@@ -1,6 +1,7 @@
 pub mod Built
 pub mod Counted
 pub mod OfItself
+pub mod OfParsed
 pub mod Shows
 pub mod Spans
 pub mod Tokens

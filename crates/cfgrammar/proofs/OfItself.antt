@@ -16,7 +16,7 @@ use Rattle.cfgrammar.specs.GrammarOf.{HoldsOfReading, HoldsOfNaming, HoldsOfItse
 use Rattle.cfgnumbers.specs.Numbered.{Numbered, numbered}
 
 module _ (text : List ℕ) (Holds : List GrammarError → Syntax → Numbered → Type 0) where
-  reading_holds : (kind : YaccKind) (parsed : Parsed) → IsParsedAs kind text parsed → Holds parsed.errors parsed.syntax (numbered parsed.kind parsed.syntax)
+  pub reading_holds : (kind : YaccKind) (parsed : Parsed) → IsParsedAs kind text parsed → Holds parsed.errors parsed.syntax (numbered parsed.kind parsed.syntax)
       → HoldsOfReading kind text Holds
   reading_holds kind parsed is holds = (
     is.one,

@@ -2,7 +2,7 @@
 
 ghost use Rattle.std.specs.Prelude.{◌≡◌, ◌↔◌, ◌==◌, ℕ, ◌+◌, ◌<◌, if◌then◌else◌, List};
 ghost use Rattle.std.specs.Prelude.{[], Some, map, length, position};
-ghost use Rattle.std.specs.Prelude.{option_map, All, IfOk, IfSome, IsSome};
+ghost use Rattle.std.specs.Prelude.{option_map, All, Err, IfErr, IfOk, IfSome, IsSome};
 ghost use Rattle.std.specs.HashMap.{get_by};
 ghost use Rattle.std.specs.Str.{IsUtf8, bytes_eq};
 ghost use Rattle.std.specs.String.{string_bytes};
@@ -33,6 +33,7 @@ use cfgsyntax::yacc::YaccKind;
 use cfgsyntax::yacc::ast::{ASTWithValidityInfo, GrammarAST};
 use cfgsyntax::yacc::parser::{YaccFault, YaccGrammarResult};
 use indexmap::IndexMap;
+use lending::lend;
 use std::alloc::{AllocError, Global};
 use std::collections::HashMap;
 use std::marker::Model;
@@ -101,8 +102,8 @@ impl<S: Storage> YaccGrammar<S> {
         ensures answer { IsGrammarOf kind text.now S.MAX result }
         ensures places { EachAnswerSpan (IsPiece text.now) (IsWithin text.now) result }
     {
-        let parsed = ASTWithValidityInfo::new(alloc, kind, text)?;
-        YaccGrammar::new_from_ast_with_validity_info(alloc, &parsed)
+        let parsed = ASTWithValidityInfo::new(alloc, kind, text);
+        YaccGrammar::of_parsed(alloc, parsed.map_err(YaccFault::from))
     }
 
     /// Reads a Yacc file of the kind that its section names as a grammar, as
@@ -116,8 +117,25 @@ impl<S: Storage> YaccGrammar<S> {
         ensures answer { IsGrammarOfItself text.now S.MAX result }
         ensures places { EachAnswerSpan (IsPiece text.now) (IsWithin text.now) result }
     {
-        let parsed = ASTWithValidityInfo::from_str(alloc, text)?;
-        YaccGrammar::new_from_ast_with_validity_info(alloc, &parsed)
+        YaccGrammar::of_parsed(alloc, ASTWithValidityInfo::from_str(alloc, text))
+    }
+
+    /// The grammar of a syntax, if one was read.
+    fn of_parsed(
+        alloc: Global,
+        parsed: YaccGrammarResult<ASTWithValidityInfo>,
+    ) -> YaccGrammarResult<Self>
+        ensures answer { IfOk parsed (λ parsed.
+            IsAnswer S.MAX parsed.errors (numbered parsed.kind parsed.syntax) result) }
+        ensures places { IfOk parsed (λ parsed. (text : List ℕ) → IsUtf8 text
+            → EachParsedSpan (IsPiece text) (IsWithin text) parsed
+            → EachAnswerSpan (IsPiece text) (IsWithin text) result) }
+        ensures refused { IfErr parsed (λ fault. result ≡ Err fault) }
+    {
+        lend(
+            parsed,
+            |parsed| YaccGrammar::new_from_ast_with_validity_info(alloc, parsed),
+        )
     }
 
     /// The grammar of a syntax that was read. Its spans, and those of errors, are places of the text where those of the

@@ -1,0 +1,68 @@
+-- What a constructor answers of a text, by what was parsed of it, if anything was.
+use Rattle.std.proofs.Common.{◌≡◌, ℕ, List, Option, Result, Ok, Err, IfOk, IfErr, MatchResult, IsErrAnd, sym, subst, ap, ◌∙◌}
+use Rattle.std.specs.Str.{IsUtf8}
+use Rattle.cfgwords.specs.Places.{IsPiece, IsWithin}
+use Rattle.cfgast.specs.Items.{Item}
+use Rattle.cfgast.specs.Syntax.{syntax_of}
+use Rattle.cfgheader.specs.declared.kind.YaccKind.{YaccKind}
+use Rattle.cfgheader.specs.Named.{HasOneNaming, Naming, Names}
+use Rattle.cfgerrors.specs.declared.error.YaccFault.{YaccFault}
+use Rattle.cfgerrors.specs.declared.error.YaccFault.TheVariants as faults
+use Rattle.cfgsyntax.specs.Faults.{errors_of}
+use Rattle.cfgsyntax.specs.OfItself.{AnswersNaming, IsParsedAs}
+use Rattle.cfgsyntax.specs.Parsed.{Parsed}
+use Rattle.cfgsyntax.specs.Spans.{EachFaultSpan, EachParsedSpan}
+use Rattle.cfgreader.specs.Reads.{HasOneReading, Reads, Stop}
+use Rattle.cfgrammar.specs.Answer.{IsAnswer}
+use Rattle.cfgrammar.specs.GrammarOf.{IsGrammarOf, IsGrammarOfItself}
+use Rattle.cfgrammar.specs.Spans.{EachAnswerSpan}
+use Rattle.cfgnumbers.specs.Numbered.{Numbered, numbered}
+use Rattle.cfgrammar.proofs.OfItself.{HoldsOfFault, parsed_itself, reading_holds, refusal_answers, refused_itself}
+
+-- a fault that is another kind of fault's, where a value stays
+pub carried : {T E D : Type 0} (P : T → Type 0) (Q : E → D → Type 0) (made : Result T E) (mapped : Result T D) → MatchResult made (λ x. mapped ≡ Ok x) (λ e. IsErrAnd mapped (Q e))
+    → IfOk made P → IfOk mapped P
+carried P Q (Ok x) mapped same holds = subst (λ r. IfOk r P) (sym same) holds
+carried P Q (Err e) (Ok x) same holds = absurd same
+carried P Q (Err e) (Err d) same holds = tt
+
+-- and what holds of that fault
+pub carried_fault : {T E D : Type 0} (Q : E → D → Type 0) (R : D → Type 0) (made : Result T E) (mapped : Result T D) → MatchResult made (λ x. mapped ≡ Ok x) (λ e. IsErrAnd mapped (Q e))
+    → ((e : E) (d : D) → Q e d → R d) → IfErr mapped R
+carried_fault Q R (Ok x) mapped same holds = subst (λ r. IfErr r R) (sym same) tt
+carried_fault Q R (Err e) (Ok x) same holds = absurd same
+carried_fault Q R (Err e) (Err d) same holds = holds e d same
+
+-- what was parsed as a file of a kind
+pub parsed_as : {E : Type 0} (kind : YaccKind) (text : List ℕ) (parsed : Result Parsed E) → HasOneReading kind text → IfOk parsed (λ p. p.kind ≡ kind)
+    → IfOk parsed (λ p. (items : List Item) (stop : Option Stop) → Reads kind text items stop → p.syntax ≡ syntax_of items)
+    → IfOk parsed (λ p. (items : List Item) (stop : Option Stop) → Reads kind text items stop → p.errors ≡ errors_of items stop) → IfOk parsed (IsParsedAs kind text)
+parsed_as kind text (Ok p) one kind_is syntax errors = record { one = one; kind_is = kind_is; syntax = syntax; errors = errors }
+parsed_as kind text (Err e) one kind_is syntax errors = tt
+
+module _ (text : List ℕ) (max : ℕ) (result : Result Numbered YaccFault) where
+  -- the answer is that of what was parsed, or the fault in its place
+  pub record IsOf (parsed : Result Parsed YaccFault) : Type 0 where
+    pub answer : IfOk parsed (λ p. IsAnswer max p.errors (numbered p.kind p.syntax) result)
+    pub refused : IfErr parsed (λ fault. result ≡ Err fault)
+
+  pub of_kind : (kind : YaccKind) (parsed : Result Parsed YaccFault) → HasOneReading kind text → IfOk parsed (IsParsedAs kind text) → IfErr parsed (λ fault. fault ≡ faults.OutOfMemory)
+      → IsOf parsed → IsGrammarOf kind text max result
+  of_kind kind (Ok parsed) one is memory of = reading_holds text (λ errors s g. IsAnswer max errors g result) kind parsed is of.answer
+  of_kind kind (Err fault) one is memory of = (one, λ items stop reads. subst (IsAnswer max (errors_of items stop) (numbered kind (syntax_of items))) (sym (of.refused ∙ ap Err memory)) tt)
+
+  pub of_itself : (parsed : Result Parsed YaccFault) → HasOneNaming text → ((naming : Naming) → Names text naming → AnswersNaming text naming parsed)
+      → IsOf parsed → IsGrammarOfItself text max result
+  of_itself (Ok parsed) one is of = parsed_itself text (λ errors s g. IsAnswer max errors g result) one parsed is of.answer
+  of_itself (Err fault) one is of =
+      refused_itself text (λ errors s g. IsAnswer max errors g result) one fault is
+      (subst (λ r. HoldsOfFault text (λ errors s g. IsAnswer max errors g r) fault) (sym of.refused) (refusal_answers max text fault))
+
+-- the spans of the answer
+pub answer_spans : (text : List ℕ) → IsUtf8 text → (parsed : Result Parsed YaccFault) (result : Result Numbered YaccFault)
+    → IfOk parsed (EachParsedSpan (IsPiece text) (IsWithin text)) → IfErr parsed (EachFaultSpan (IsPiece text))
+    → IfOk parsed (λ p. (text : List ℕ) → IsUtf8 text → EachParsedSpan (IsPiece text) (IsWithin text) p → EachAnswerSpan (IsPiece text) (IsWithin text) result)
+    → IfErr parsed (λ fault. result ≡ Err fault) → EachAnswerSpan (IsPiece text) (IsWithin text) result
+answer_spans text utf8 (Ok parsed) result placed fault_placed answer refused = answer text utf8 placed
+answer_spans text utf8 (Err faults.OutOfMemory) result placed fault_placed answer refused = subst (EachAnswerSpan (IsPiece text) (IsWithin text)) (sym refused) tt
+answer_spans text utf8 (Err (faults.Errors told)) result placed fault_placed answer refused = subst (EachAnswerSpan (IsPiece text) (IsWithin text)) (sym refused) fault_placed
