@@ -1,6 +1,1 @@
 pub mod OfText
-pub mod SentenceTexts
-pub mod SentenceTokens
-pub mod SentencesListed
-pub mod Told
-pub mod WarningPlaces

@@ -1,22 +1,14 @@
 -- What the program writes of a text.
-use Rattle.std.specs.Prelude.{◌≡◌, ℕ, ◌<◌, List, [], ◌++◌, All, length, Option, Result, Ok, Err, slice_get, codes}
-use Rattle.std.specs.List.{flat_map, enumerate_from}
-use Rattle.std.specs.Option.{option_map_or}
-use Rattle.std.specs.Fmt.{decimal}
+use Rattle.std.specs.Prelude.{◌≡◌, ℕ, List, [], Option, Result, Ok, Err}
 use Rattle.std.specs.Io.KnownBytes.{Appends, Keeps}
-use Rattle.cfgbase.specs.declared.span.Span.{Span}
-use Rattle.cfglines.specs.Lines.{line_number, column}
 use Rattle.cfgast.specs.Syntax.{Syntax}
-use Rattle.cfgast.specs.Unused.{AreWarnings}
 use Rattle.cfgerrors.specs.Errors.{GrammarError}
-use Rattle.cfgerrors.specs.Texts.{error_text}
-use Rattle.cfgwarnings.specs.Texts.{warning_text}
-use Rattle.cfgwarnings.specs.Warnings.{GrammarWarning}
+use Rattle.cfgerrors.specs.declared.error.YaccFault.{YaccFault}
+use Rattle.cfgerrors.specs.declared.error.YaccFault.TheVariants as refusals
 use Rattle.cfgrammar.specs.Answer.{IsRefused}
 use Rattle.cfgnumbers.specs.Fits.{Fits}
 use Rattle.cfgrammar.specs.GrammarOf.{HoldsOfItself, HoldsOfReading}
-use Rattle.cfgnumbers.specs.Numbered.{Numbered, NumberedProduction}
-use Rattle.cfgnumbers.specs.Shown.{production_text}
+use Rattle.cfgnumbers.specs.Numbered.{Numbered}
 use Rattle.cfgshell.specs.declared.outcome.Outcome.{Outcome}
 use Rattle.cfgshell.specs.declared.outcome.Outcome.TheVariants.{Done, Refused}
 use Rattle.cfgshell.specs.declared.outcome.ReportFault.{ReportFault}
@@ -25,10 +17,11 @@ use Rattle.cfgshell.specs.declared.words.Command.{Command}
 use Rattle.cfgshell.specs.declared.words.Command.TheVariants.{Grammar, Firsts, Follows, Sentences, Warnings}
 use Rattle.cfgshell.specs.declared.words.KindArg.{KindArg}
 use Rattle.cfgshell.specs.declared.words.KindArg.TheVariants.{Named, Section}
-use Rattle.cfgtool.specs.FirstLines.{AreFirstLines}
-use Rattle.cfgtool.specs.FollowLines.{AreFollowLines}
+use Rattle.cfglisting.specs.FirstLines.{AreFirstLines}
+use Rattle.cfglisting.specs.FollowLines.{AreFollowLines}
+use Rattle.cfglisting.specs.Lines.{AreWarningLines, error_lines, production_lines}
+use Rattle.cfglisting.specs.SentenceLines.{AreSentenceLines}
 use Rattle.cfgtool.specs.LexerLines.{lexer_lines, names_in}
-use Rattle.cfgtool.specs.SentenceLines.{AreSentenceLines}
 use Rattle.cfgtool.specs.declared.engine.Request.{Request}
 use Rattle.cfgtool.specs.declared.engine.Request.TheVariants as requests
 use Rattle.cfgshell.specs.Sinks.{AppendsBeginning}
@@ -41,44 +34,6 @@ HoldsOfText Section text Holds = HoldsOfItself text Holds
 -- the greatest index of the program's grammars
 abbrev pub greatest : ℕ
 greatest = 4294967295
-
--- `LINE:COLUMN: ` of a place in the text
-abbrev pub place_text : List ℕ → ℕ → List ℕ
-place_text text b = decimal (line_number text b) ++ (codes ":" ++ (decimal (column text b) ++ codes ": "))
-
--- the place where the first of these spans starts, and nothing where there is none
-abbrev pub first_place : List ℕ → List Span → List ℕ
-first_place text spans = option_map_or (λ span. place_text text span.start) (slice_get spans 0) []
-
--- an error's line: its place and its text
-abbrev pub error_line : List ℕ → GrammarError → List ℕ
-error_line text error = first_place text error.spans ++ (error_text error.kind ++ codes "\n")
-
-abbrev pub error_lines : List ℕ → List GrammarError → List ℕ
-error_lines text errors = flat_map (error_line text) errors
-
--- a warning's line, likewise
-abbrev pub warning_line : List ℕ → GrammarWarning → List ℕ
-warning_line text warning = first_place text warning.spans ++ (warning_text warning.kind ++ codes "\n")
-
-abbrev pub warning_lines : List ℕ → List GrammarWarning → List ℕ
-warning_lines text warnings = flat_map (warning_line text) warnings
-
--- a warning has a span, and P holds of each that it has
-pub record EachWarningSpan (P : Span → Type 0) (warning : GrammarWarning) : Type 0 where
-  pub some : 0 < length warning.spans
-  pub each : All P warning.spans
-
--- the lines of a syntax's warnings
-abbrev pub AreWarningLines : List ℕ → Syntax → List ℕ → Type 0
-AreWarningLines text s lines = (warnings : List GrammarWarning) × AreWarnings s warnings × (lines ≡ warning_lines text warnings)
-
--- a production's line: its index, a space and its text
-abbrev pub production_line : Numbered → ℕ × NumberedProduction → List ℕ
-production_line g production = decimal production.0 ++ (codes " " ++ (production_text g production.1 ++ codes "\n"))
-
-abbrev pub production_lines : Numbered → List ℕ
-production_lines g = flat_map (production_line g) (enumerate_from 0 g.productions)
 
 -- the lines that a command tells of a text with this syntax, which is this grammar in numbers
 abbrev pub AreLinesOf : Command → List ℕ → Syntax → Numbered → List ℕ → Type 0
@@ -96,6 +51,11 @@ AreLexerLines names s g lines = lines ≡ lexer_lines g (names_in names)
 abbrev pub AreAskedLines : Request → List ℕ → Syntax → Numbered → List ℕ → Type 0
 AreAskedLines (requests.Command command) text s g lines = AreLinesOf command text s g lines
 AreAskedLines (requests.Names names) text s g lines = AreLexerLines names.now s g lines
+
+-- what is told of a refusal: its lines, and nothing where memory ended
+abbrev pub TellsFault : List ℕ → YaccFault → Outcome → List ℕ → Type 0
+TellsFault text refusals.OutOfMemory outcome lines = ⊥
+TellsFault text (refusals.Errors told) outcome lines = (outcome ≡ Refused) × (lines ≡ error_lines text told.items)
 
 -- `AreLines` says of a syntax and of that in numbers which lines are told of them.
 module _ (AreLines : Syntax → Numbered → List ℕ → Type 0) where

@@ -2,14 +2,9 @@
 #![tactic(auto)]
 
 pub mod engine;
-pub mod first_lines;
-pub mod follow_lines;
 pub mod lexer_lines;
-pub mod lines;
 pub mod program;
-pub mod sentence_lines;
 pub mod system;
-pub mod token_sets;
 
 pub use cfgshell::{
     Command, Counted, Input, KindArg, Outcome, ReportFault, Sink, SinkFault, Source, laws, sink,

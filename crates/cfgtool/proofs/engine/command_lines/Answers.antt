@@ -3,8 +3,9 @@ use Rattle.std.proofs.lemmas.Result.{IfOk-weaker}
 use Rattle.cfgwords.specs.Places.{IsPiece, IsWithin}
 use Rattle.cfgast.specs.View.{syntax}
 use Rattle.cfgshell.specs.declared.words.Command.{Command}
-use Rattle.cfgtool.specs.Report.{AreLinesOf, AreWarningLines, EachWarningSpan, warning_lines}
-use Rattle.cfgtool.proofs.WarningPlaces.{warning_places}
+use Rattle.cfglisting.specs.Lines.{AreWarningLines, EachWarningSpan, warning_lines}
+use Rattle.cfglisting.proofs.WarningPlaces.{warning_places}
+use Rattle.cfgtool.specs.Report.{AreLinesOf}
 use Rattle.cfgtool.proofs.engine.command_lines.Goals as goal
 
 pub warning_lines-requires : goal.warning_lines-requires

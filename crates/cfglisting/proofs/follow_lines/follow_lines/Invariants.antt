@@ -1,0 +1,14 @@
+use Rattle.std.proofs.Common.{◌≡◌, ◌≤◌, length, take, string_bytes}
+use Rattle.std.specs.List.{enumerate_from, flat_map}
+use Rattle.cfganalysis.specs.Table.{bit}
+use Rattle.cfglisting.specs.FollowLines.{follow_line}
+use Rattle.cfglisting.proofs.follow_lines.follow_lines.Given as goal
+
+-- the indices that are left are those of rules, and the lines of those before them are made
+abbrev pub invariant-loop-ridx : goal.invariant-loop-ridx
+invariant-loop-ridx l = record {
+  all : l.ridx-iterator.end ≡ length l.grammar.rules;
+  within : l.ridx-iterator.start ≤ l.ridx-iterator.end;
+  told : string_bytes l.lines
+      ≡ flat_map (follow_line l.grammar (bit l.follows)) (take l.ridx-iterator.start (enumerate_from 0 l.grammar.rules));
+}

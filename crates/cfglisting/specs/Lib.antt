@@ -1,0 +1,5 @@
+pub mod Lines
+pub mod TokenSets
+pub mod FirstLines
+pub mod FollowLines
+pub mod SentenceLines
