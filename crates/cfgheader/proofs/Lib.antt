@@ -1,8 +1,5 @@
-pub mod KindLemmas
-pub mod KindPlaces
 pub mod NamedLemmas
 pub mod NamedPlaces
-pub mod SameLemmas
 pub mod SectionAnswers
 pub mod SectionElements
 pub mod SectionHeader
@@ -13,6 +10,3 @@ pub mod SectionParsed
 pub mod SectionPlaces
 pub mod SectionRepeats
 pub mod SectionSteps
-pub mod ValueKinds
-pub mod ValueLemmas
-pub mod ValuePlaces

@@ -10,16 +10,16 @@ use Rattle.cfgbase.specs.declared.span.Span.{Span}
 use Rattle.cfgmarks.specs.declared.markmap.marked.Marked.{Marked}
 use Rattle.cfgmarks.specs.declared.markmap.MarkMap.{MarkMap}
 use Rattle.cfgmarks.specs.Marks.{marks, unmarked, entry_at, value_at}
-use Rattle.cfgheader.specs.declared.kind.YaccKind.{YaccKind}
+use Rattle.cfgkinds.specs.declared.kind.YaccKind.{YaccKind}
 use Rattle.cfgheader.specs.declared.section.header_fault.HeaderFault.{HeaderFault}
 use Rattle.cfgheader.specs.declared.section.header_fault.HeaderFault.TheVariants as faults
-use Rattle.cfgheader.specs.declared.value.HeaderValue.{HeaderValue}
-use Rattle.cfgheader.specs.Values.{ShownHeaderValue, ShownValue, header_value_view}
+use Rattle.cfgkinds.specs.declared.value.HeaderValue.{HeaderValue}
+use Rattle.cfgkinds.specs.Values.{ShownHeaderValue, ShownValue, header_value_view}
 use Rattle.std.proofs.lemmas.List.Elements.{same_from_all_zip}
 use Rattle.cfgerrors.specs.declared.header.HeaderError.{HeaderError}
-use Rattle.cfgheader.specs.declared.fault.KindFault.TheVariants as kind_faults
+use Rattle.cfgkinds.specs.declared.fault.KindFault.TheVariants as kind_faults
 use Rattle.cfgerrors.specs.HeaderErrors.{ShownError, error_view}
-use Rattle.cfgheader.specs.Kinds.{Refuses, kind_of_value}
+use Rattle.cfgkinds.specs.Kinds.{Refuses, kind_of_value}
 use Rattle.cfgheader.specs.SectionGrammar.{Entry, Fault}
 use Rattle.cfgheader.specs.SectionErrors.{duplicate_errors, section_errors}
 use Rattle.cfgheader.specs.SectionReads.{section_of, section_answer, unless_errors, given, marked_view, bare_value}

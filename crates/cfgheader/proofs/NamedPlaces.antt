@@ -1,15 +1,15 @@
 -- The errors of a text that names no kind stand at places of the text.
-use Rattle.std.proofs.Common.{ℕ, ◌<◌, true, List, [], length, All, Option, Some, None, Result, Ok, Err, subst, arith, codes}
+use Rattle.std.proofs.Common.{ℕ, ◌<◌, Bool, true, false, List, [], ◌∷◌, fold, length, All, Option, Some, None, Result, Ok, Err, subst, arith, codes, if◌then◌else◌}
 use Rattle.std.specs.Prelude.{IfSome, IfErr}
-use Rattle.std.specs.Str.{IsUtf8, IsCharBoundary}
+use Rattle.std.specs.Str.{IsUtf8, IsCharBoundary, bytes_eq}
 use Rattle.std.proofs.lemmas.Str.{IsCharBoundary-start}
-use Rattle.std.proofs.lemmas.List.Elements.{All-nil, All-cons}
+use Rattle.std.proofs.lemmas.List.Elements.{All-nil, All-cons, All-head, All-tail}
 use Rattle.cfgbase.specs.declared.span.Span.{Span}
 use Rattle.cfgwords.specs.Places.{IsPiece}
-use Rattle.cfgheader.specs.declared.kind.YaccKind.{YaccKind}
+use Rattle.cfgkinds.specs.declared.kind.YaccKind.{YaccKind}
 use Rattle.cfgerrors.specs.HeaderErrors.{ShownError}
-use Rattle.cfgheader.specs.Values.{ShownHeaderValue}
-use Rattle.cfgheader.specs.Kinds.{kind_of_value}
+use Rattle.cfgkinds.specs.Values.{ShownHeaderValue, ShownValue}
+use Rattle.cfgkinds.specs.Kinds.{kind_of_value}
 use Rattle.cfgheader.specs.SectionGrammar.{Entry}
 use Rattle.cfgheader.specs.SectionReads.{given, section_answer}
 use Rattle.cfgheader.specs.declared.section.header_fault.HeaderFault.{HeaderFault}
@@ -17,10 +17,26 @@ use Rattle.cfgheader.specs.declared.section.header_fault.HeaderFault.TheVariants
 use Rattle.cfgheader.proofs.NamedLemmas.{one_naming}
 use Rattle.cfgheader.specs.Named.{IsNaming, Naming, unnamed, at_front, kind_or_places, kind_given, kind_in, Names}
 use Rattle.cfgheader.specs.SectionPlaces.{IsErrorAt, IsFaultAt}
-use Rattle.cfgheader.proofs.ValuePlaces.{EachKindPlace}
+use Rattle.cfgkinds.proofs.ValuePlaces.{EachKindPlace}
 use Rattle.cfgheader.proofs.SectionOne.{section_answered}
 use Rattle.cfgheader.proofs.SectionPlaces.{IsSectionAt, section_at}
-use Rattle.cfgheader.proofs.KindPlaces.{kind_places, given_placed}
+use Rattle.cfgkinds.proofs.KindPlaces.{kind_places}
+
+-- what the entries give a key
+given_from : (P : ShownValue Span → Type 0) (key : List ℕ) (entries : List Entry) (found : Option (ShownHeaderValue Span)) → IfSome found (λ v. P v.value)
+    → All (λ entry. P entry.value) entries
+    → IfSome (fold (λ found entry. if bytes_eq entry.key key then Some (record { place = entry.key_span; value = entry.value }) else found) found entries) (λ v. P v.value)
+given_from P key [] found h all = h
+given_from P key (entry ∷ entries) found h all =
+    given_from P key entries _ (go (bytes_eq entry.key key)) (All-tail (λ entry. P entry.value) entry entries all)
+  where
+    go : (same : Bool) → IfSome (if same then Some (record { place = entry.key_span; value = entry.value }) else found) (λ v. P v.value)
+    go true = All-head (λ entry. P entry.value) entry entries all
+    go false = h
+
+given_placed : (P : ShownValue Span → Type 0) (entries : List Entry) (key : List ℕ) → All (λ entry. P entry.value) entries → IfSome (given entries key) (λ v. P v.value)
+unfolding given
+given_placed P entries key all = given_from P key entries None tt all
 
 module _ (text : List ℕ) where
   -- what is told of a text that names no kind

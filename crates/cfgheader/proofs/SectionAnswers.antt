@@ -16,8 +16,8 @@ use Rattle.cfgwords.proofs.Cuts.{IsCut, cut_here, boundary_cut}
 use Rattle.cfgwords.proofs.WordPlaces.{IsReached, reached, reached_here, reached_on}
 use Rattle.cfgheader.specs.declared.section.header_fault.HeaderFault.{HeaderFault}
 use Rattle.cfgheader.specs.declared.section.header_fault.HeaderFault.TheVariants as faults
-use Rattle.cfgheader.specs.declared.value.HeaderValue.{HeaderValue}
-use Rattle.cfgheader.specs.declared.value.Value.{Value}
+use Rattle.cfgkinds.specs.declared.value.HeaderValue.{HeaderValue}
+use Rattle.cfgkinds.specs.declared.value.Value.{Value}
 use Rattle.cfgheader.specs.SectionGrammar.{Entry, Fault, entry}
 use Rattle.cfgheader.specs.SectionPlaces.{IsErrorAt, IsFaultAt}
 use Rattle.cfgheader.specs.SectionReads.{AnswersEntry, AnswersSection, IsEntryAnswer}

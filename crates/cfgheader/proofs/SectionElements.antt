@@ -5,10 +5,10 @@ use Rattle.cfgbase.specs.declared.span.Span.{Span}
 use Rattle.reading.specs.Read.{Read}
 use Rattle.reading.specs.Construct.{while_test, computes}
 use Rattle.reading.proofs.Agree.{leaves}
-use Rattle.cfgheader.specs.declared.value.Setting.{Setting}
+use Rattle.cfgkinds.specs.declared.value.Setting.{Setting}
 use Rattle.cfgheader.specs.declared.section.fault.ReadFault.{ReadFault}
 use Rattle.cfgheader.specs.declared.section.reader.Reader.{Reader}
-use Rattle.cfgheader.specs.Values.{ShownSetting, setting_view}
+use Rattle.cfgkinds.specs.Values.{ShownSetting, setting_view}
 use Rattle.cfgheader.specs.SectionGrammar.{Entry, Fault, Strict, Turn, goes_on_before, nesting_fault, element, elements, array, setting_by, setting, bracketed}
 use Rattle.cfgheader.specs.declared.section.fault.ReadFault.TheVariants as errors
 use Rattle.cfgheader.specs.SectionSteps.{Builds, Fails, Grows, noted, entries_of, settings_list}

@@ -17,8 +17,8 @@ use Rattle.cfgmarks.specs.declared.markmap.marked.Marked.{Marked}
 use Rattle.cfgmarks.specs.declared.markmap.MarkMap.{MarkMap}
 use Rattle.cfgmarks.specs.Marks.{Marks, marks, marks_at, unmarked, entry_at, changed, set_value}
 use Rattle.cfgheader.specs.declared.section.entry.Entry.{Entry as CodeEntry}
-use Rattle.cfgheader.specs.declared.value.HeaderValue.{HeaderValue}
-use Rattle.cfgheader.specs.Values.{ShownHeaderValue, header_value_view}
+use Rattle.cfgkinds.specs.declared.value.HeaderValue.{HeaderValue}
+use Rattle.cfgkinds.specs.Values.{ShownHeaderValue, header_value_view}
 use Rattle.cfgheader.specs.SectionGrammar.{Entry}
 use Rattle.cfgheader.specs.SectionReads.{IsHeaderOf, given, marked_view, bare_value}
 use Rattle.cfgheader.specs.SectionSteps.{entry_view}

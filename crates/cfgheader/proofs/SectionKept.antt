@@ -21,8 +21,8 @@ use Rattle.cfgwords.specs.Text.{place, span_of}
 use Rattle.cfgwords.proofs.Cuts.{IsCut, cut_on, cut_same, cut_word, cut_byte, cut_before, place_cut, boundary_cut}
 use Rattle.cfgwords.proofs.WordPlaces.{IsReached, reached, reached_piece, word_passed, integer_is_at}
 use Rattle.cfgerrors.specs.HeaderErrors.{ShownErrorKind, ExpectedToken}
-use Rattle.cfgheader.specs.Values.{Placed, ShownNamespaced, ShownSetting}
-use Rattle.cfgheader.proofs.ValuePlaces.{EachNamePlace, EachSettingPlace, EachKindPlace}
+use Rattle.cfgkinds.specs.Values.{Placed, ShownNamespaced, ShownSetting}
+use Rattle.cfgkinds.proofs.ValuePlaces.{EachNamePlace, EachSettingPlace, EachKindPlace}
 use Rattle.cfgheader.specs.SectionGrammar.{Entry, Fault, Strict, most_brackets, unexpected_star, error_over, fault_at, end_fault, wide_character, white_character, separator, white, separators, comma, name, namespaced, argument, applied, number, element, elements, array, bare_setting, setting_by, bracketed, setting, negated, value_of, affirmed, entry, entry_turn, entries, braced, missing, section}
 use Rattle.cfgheader.specs.SectionPlaces.{IsErrorAt}
 

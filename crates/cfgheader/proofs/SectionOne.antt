@@ -13,7 +13,7 @@ use Rattle.cfgerrors.specs.declared.header.HeaderError.{HeaderError}
 use Rattle.cfgheader.specs.declared.section.fault.Fault.{Fault as CodeFault}
 use Rattle.cfgheader.specs.declared.section.header_fault.HeaderFault.{HeaderFault}
 use Rattle.cfgheader.specs.declared.section.header_fault.HeaderFault.TheVariants as faults
-use Rattle.cfgheader.specs.declared.value.HeaderValue.{HeaderValue}
+use Rattle.cfgkinds.specs.declared.value.HeaderValue.{HeaderValue}
 use Rattle.cfgheader.specs.declared.section.entry.Entry.{Entry as CodeEntry}
 use Rattle.cfgheader.specs.declared.section.reader.Reader.{Reader}
 use Rattle.cfgheader.specs.SectionSteps.{Grows, noted, entry_view, entries_of, end_view}

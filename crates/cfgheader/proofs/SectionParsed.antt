@@ -5,7 +5,7 @@ use Rattle.std.specs.declared.alloc.Global.{Global}
 use Rattle.cfgbase.specs.declared.span.Span.{Span}
 use Rattle.cfgwords.specs.Text.{place}
 use Rattle.cfgmarks.specs.declared.markmap.MarkMap.{MarkMap}
-use Rattle.cfgheader.specs.declared.value.HeaderValue.{HeaderValue}
+use Rattle.cfgkinds.specs.declared.value.HeaderValue.{HeaderValue}
 use Rattle.cfgheader.specs.declared.section.header_fault.HeaderFault.{HeaderFault}
 use Rattle.cfgheader.specs.declared.section.header_fault.HeaderFault.TheVariants as faults
 use Rattle.cfgerrors.specs.HeaderErrors.{ShownError}

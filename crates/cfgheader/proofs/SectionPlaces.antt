@@ -19,7 +19,7 @@ use Rattle.cfgheader.specs.SectionGrammar.{Entry, Fault, section}
 use Rattle.cfgheader.specs.SectionPlaces.{IsErrorAt}
 use Rattle.cfgheader.specs.SectionReads.{end_of, unless_errors, section_of}
 use Rattle.cfgheader.proofs.SectionKept.{IsEntryAt, section_kept}
-use Rattle.cfgheader.proofs.ValuePlaces.{EachKindPlace}
+use Rattle.cfgkinds.proofs.ValuePlaces.{EachKindPlace}
 
 -- the places of a repeated key are more than none
 front_places : (front rest : List Entry) (key : List ℕ) → 0 < length (places_of front key) → 0 < length (places_of (front ++ rest) key)

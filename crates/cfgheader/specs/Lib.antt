@@ -1,11 +1,7 @@
-pub mod Kinds
 pub mod Named
-pub mod Same
 pub mod SectionErrors
 pub mod SectionGrammar
 pub mod SectionPlaces
 pub mod SectionReads
 pub mod SectionSteps
 pub mod SectionTexts
-pub mod Texts
-pub mod Values

@@ -1,14 +1,14 @@
 -- The kind of Yacc that the section of a text names, or the errors that keep it from naming one.
 use Rattle.std.specs.Prelude.{◌≡◌, ℕ, true, List, [], ◌∷◌, Option, Some, None, Result, Ok, Err, codes}
 use Rattle.cfgbase.specs.declared.span.Span.{Span}
-use Rattle.cfgheader.specs.declared.kind.YaccKind.{YaccKind}
+use Rattle.cfgkinds.specs.declared.kind.YaccKind.{YaccKind}
 use Rattle.cfgheader.specs.declared.section.header_fault.HeaderFault.{HeaderFault}
 use Rattle.cfgheader.specs.declared.section.header_fault.HeaderFault.TheVariants as faults
 use Rattle.cfgerrors.specs.HeaderErrors.{InvalidEntry, ShownError}
-use Rattle.cfgheader.specs.Kinds.{kind_of_value}
+use Rattle.cfgkinds.specs.Kinds.{kind_of_value}
 use Rattle.cfgheader.specs.SectionGrammar.{Entry, Fault}
 use Rattle.cfgheader.specs.SectionReads.{IsSection, section_answer, given, errors_view}
-use Rattle.cfgheader.specs.Values.{ShownHeaderValue}
+use Rattle.cfgkinds.specs.Values.{ShownHeaderValue}
 
 -- a kind, or why none is named
 abbrev pub Naming : Type 0

@@ -13,7 +13,7 @@ use Rattle.cfgwords.specs.SectionWords.{ascii_characters, wide_characters, IsNam
 use Rattle.cfgwords.proofs.Finders.{integer_finder, integer_shorter}
 use Rattle.cfgwords.proofs.SectionFinders.{name_finder, name_shorter, text_finder, text_shorter}
 use Rattle.cfgerrors.specs.HeaderErrors.{ShownErrorKind, MissingGrmtoolsSection, IllegalName, ExpectedToken, UnexpectedToken, InvalidEntry, ShownError}
-use Rattle.cfgheader.specs.Values.{Placed, ShownNamespaced, ShownSetting, Unitary, Constructor, Number, Text, Array, settings_of, ShownValue, Flag, Given}
+use Rattle.cfgkinds.specs.Values.{Placed, ShownNamespaced, ShownSetting, Unitary, Constructor, Number, Text, Array, settings_of, ShownValue, Flag, Given}
 
 -- an entry of a section: its key in lower case, the key's place, and what the key has
 pub record Entry : Type 0 where

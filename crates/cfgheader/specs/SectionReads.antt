@@ -15,10 +15,10 @@ use Rattle.cfgwords.specs.Text.{place}
 use Rattle.cfgerrors.specs.declared.header.HeaderError.{HeaderError}
 use Rattle.cfgheader.specs.declared.section.header_fault.HeaderFault.{HeaderFault}
 use Rattle.cfgheader.specs.declared.section.header_fault.HeaderFault.TheVariants as faults
-use Rattle.cfgheader.specs.declared.value.HeaderValue.{HeaderValue}
-use Rattle.cfgheader.specs.declared.value.Value.{Value}
+use Rattle.cfgkinds.specs.declared.value.HeaderValue.{HeaderValue}
+use Rattle.cfgkinds.specs.declared.value.Value.{Value}
 use Rattle.cfgerrors.specs.HeaderErrors.{ShownError, error_view}
-use Rattle.cfgheader.specs.Values.{ShownHeaderValue, header_value_view, value_view}
+use Rattle.cfgkinds.specs.Values.{ShownHeaderValue, header_value_view, value_view}
 use Rattle.cfgheader.specs.SectionGrammar.{Entry, Fault, entry, section}
 use Rattle.cfgheader.specs.SectionErrors.{section_errors}
 

@@ -15,8 +15,8 @@ use Rattle.cfgheader.specs.declared.section.fault.Fault.{Fault as CodeFault}
 use Rattle.cfgheader.specs.declared.section.fault.ReadFault.{ReadFault}
 use Rattle.cfgheader.specs.declared.section.fault.ReadFault.TheVariants as faults
 use Rattle.cfgerrors.specs.HeaderErrors.{DuplicateEntry, error_kind_view}
-use Rattle.cfgheader.specs.Values.{ShownSetting, value_view, setting_view}
-use Rattle.cfgheader.specs.declared.value.Setting.{Setting}
+use Rattle.cfgkinds.specs.Values.{ShownSetting, value_view, setting_view}
+use Rattle.cfgkinds.specs.declared.value.Setting.{Setting}
 use Rattle.cfgheader.specs.SectionGrammar.{Entry, Fault}
 
 abbrev pub entry_view : CodeEntry → Entry

@@ -1,18 +1,7 @@
-//! The `%grmtools` section of a file: its reader, its values, and the kinds of Yacc that it may name.
+//! The `%grmtools` section of a file: its reader, and the kind of Yacc that it names.
 #![tactic(auto)]
 
-pub mod fault;
-pub mod kind;
-mod kinds;
-pub mod laws;
-mod locations;
 pub mod named;
-mod same;
 pub mod section;
-pub mod value;
 
-pub use cfgerrors::{HeaderError, HeaderErrorKind};
-pub use fault::KindFault;
-pub use kind::{YaccKind, YaccOriginalActionKind};
-pub use section::{GrmtoolsSectionParser, HeaderFault};
-pub use value::{Header, HeaderValue, Namespaced, Setting, Value};
+pub use section::{GrmtoolsSectionParser, Header, HeaderFault};

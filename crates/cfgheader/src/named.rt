@@ -4,14 +4,12 @@ ghost use Rattle.std.specs.Prelude.{◌≡◌, option_map, IfOk, IfErr, codes};
 ghost use Rattle.cfgerrors.specs.HeaderErrors.{InvalidEntry, error_view};
 ghost use Rattle.cfgheader.specs.Named.{HasOneNaming, IsNaming, Naming, Names, at_front, kind_given};
 ghost use Rattle.cfgheader.specs.SectionPlaces.{IsFaultAt};
-ghost use Rattle.cfgheader.specs.Values.{header_value_view};
+ghost use Rattle.cfgkinds.specs.Values.{header_value_view};
 
-use crate::fault::KindFault;
-use crate::kind::YaccKind;
 use crate::section::{GrmtoolsSectionParser, HeaderFault};
-use crate::value::HeaderValue;
 use cfgbase::Span;
 use cfgerrors::{HeaderError, HeaderErrorKind};
+use cfgkinds::{HeaderValue, KindFault, YaccKind};
 use std::alloc::{AllocError, Global};
 
 /// The error of a section that has no key `yacckind`.

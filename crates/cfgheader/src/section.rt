@@ -17,10 +17,11 @@ ghost use Rattle.cfgwords.specs.Places.{IsPiece};
 ghost use Rattle.cfgheader.specs.SectionPlaces.{IsFaultAt};
 ghost use Rattle.cfgheader.specs.SectionReads.{AnswersEntry, AnswersSection, HasOneSection};
 
-use crate::value::{Header, Value};
 use cfgbase::Span;
+use cfgkinds::Value;
 use errors::{error_of, errors_found};
 use fault::ReadFault;
+pub use header::Header;
 use header::header_of;
 pub use header_fault::HeaderFault;
 pub use laws::{

@@ -10,8 +10,8 @@ use Rattle.lemmas.proofs.Passing.{places_from-within, places_from-contains}
 use Rattle.cfgbase.specs.declared.span.Span.{Span}
 use Rattle.cfgast.specs.Syntax.{Rule, Syntax, entry_name}
 use Rattle.cfgast.specs.WellFormed.{IsWellFormed}
-use Rattle.cfgheader.specs.declared.kind.YaccKind.{YaccKind}
-use Rattle.cfgheader.specs.declared.kind.YaccKind.TheVariants.{Original, Grmtools, Eco}
+use Rattle.cfgkinds.specs.declared.kind.YaccKind.{YaccKind}
+use Rattle.cfgkinds.specs.declared.kind.YaccKind.TheVariants.{Original, Grmtools, Eco}
 use Rattle.cfgnumbers.specs.Numbered.{implicit_of}
 use Rattle.cfgnumbers.specs.Resolved.{AreTokens}
 

@@ -10,8 +10,8 @@ use Rattle.cfgast.specs.Syntax as file
 use Rattle.cfgast.specs.declared.precedence.Precedence.{Precedence}
 use Rattle.cfgast.specs.Building.{has_entry}
 use Rattle.cfgast.specs.Syntax.{Settings, Syntax, RuleSymbol, TokenSymbol, entry_name, index_of, last_of}
-use Rattle.cfgheader.specs.declared.kind.YaccKind.{YaccKind}
-use Rattle.cfgheader.specs.declared.kind.YaccKind.TheVariants.{Eco}
+use Rattle.cfgkinds.specs.declared.kind.YaccKind.{YaccKind}
+use Rattle.cfgkinds.specs.declared.kind.YaccKind.TheVariants.{Eco}
 
 pub record NumberedRule : Type 0 where
   pub name : List ℕ

@@ -2,7 +2,7 @@
 use Rattle.std.proofs.Common.{◌≡◌, ℕ, ◌<◌, List, [], ◌∷◌, length, map, Result, Ok, Err, refl, ap, subst, arith}
 use Rattle.std.proofs.lemmas.List.{length-map}
 use Rattle.cfgast.specs.Syntax.{Syntax}
-use Rattle.cfgheader.specs.declared.kind.YaccKind.{YaccKind}
+use Rattle.cfgkinds.specs.declared.kind.YaccKind.{YaccKind}
 use Rattle.cfgheader.specs.Named.{HasOneNaming, Naming, Names}
 use Rattle.cfgheader.proofs.NamedLemmas.{errors_there}
 use Rattle.cfgerrors.specs.Errors.{GrammarError, header_error}

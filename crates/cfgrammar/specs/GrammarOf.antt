@@ -2,7 +2,7 @@
 use Rattle.std.specs.Prelude.{ℕ, List, map, Option, Result, Ok, Err}
 use Rattle.cfgast.specs.Items.{Item}
 use Rattle.cfgast.specs.Syntax.{Syntax, syntax_of}
-use Rattle.cfgheader.specs.declared.kind.YaccKind.{YaccKind}
+use Rattle.cfgkinds.specs.declared.kind.YaccKind.{YaccKind}
 use Rattle.cfgheader.specs.Named.{HasOneNaming, Names, Naming}
 use Rattle.cfgerrors.specs.Errors.{GrammarError, header_error}
 use Rattle.cfgsyntax.specs.Faults.{errors_of}

@@ -1,6 +1,5 @@
 //! The `%grmtools` section of a file: its reader, its values, and what is wrong with it.
 
-pub use cfgheader::{
-    GrmtoolsSectionParser, Header, HeaderError, HeaderErrorKind, HeaderFault, HeaderValue,
-    KindFault, Namespaced, Setting, Value,
-};
+pub use cfgerrors::{HeaderError, HeaderErrorKind};
+pub use cfgheader::{GrmtoolsSectionParser, Header, HeaderFault};
+pub use cfgkinds::{HeaderValue, KindFault, Namespaced, Setting, Value};

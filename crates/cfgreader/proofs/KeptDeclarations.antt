@@ -11,8 +11,8 @@ use Rattle.cfgwords.proofs.Cuts.{boundary_cut}
 use Rattle.cfgwords.proofs.WordPlaces.{IsReached, name_at, token_is_at, word_passed, fault_is_at, blank_is_at, line_rest_is_at, epp_string_is_at, colon_text_is_at, reached_piece}
 use Rattle.cfgast.specs.declared.precedence.AssocKind.{AssocKind}
 use Rattle.cfgast.specs.Items.{Item, ImplicitTokensBegun, ImplicitTokenDeclared, PrecedenceDeclared}
-use Rattle.cfgheader.specs.declared.kind.YaccKind.{YaccKind}
-use Rattle.cfgheader.specs.declared.kind.YaccKind.TheVariants.{Original, Grmtools, Eco}
+use Rattle.cfgkinds.specs.declared.kind.YaccKind.{YaccKind}
+use Rattle.cfgkinds.specs.declared.kind.YaccKind.TheVariants.{Original, Grmtools, Eco}
 use Rattle.cfgreader.specs.Here.{line_blank}
 use Rattle.cfgreader.specs.Declarations.{listed_token, token_declaration, start_declaration, action_type_declaration, printed_token, printed_form, epp_declaration, expect_declaration, expect_rr_declaration, unused_symbol, expect_unused_declaration, parse_param_declaration, parse_generics_declaration, line_token, level_token, precedence_declaration, marking_declaration, own_declaration, parser_declaration, expectation, precedence_or, declaration, separator_fault}
 use Rattle.cfgreader.proofs.Kept.{IsItemAt, IsAt, KeepsPlaces, name_goes, name_is, integer_goes, integer_is}

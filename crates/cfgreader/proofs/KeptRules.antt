@@ -14,7 +14,7 @@ use Rattle.cfgwords.proofs.Cuts.{IsCut, place_cut, boundary_cut}
 use Rattle.cfgwords.proofs.NameStarts.{name_begins}
 use Rattle.cfgwords.proofs.WordPlaces.{IsReached, IsTokenBehind, reached, reached_here, reached_on, name_at, token_is_at, word_passed, fault_is_at, blank_is_at, colon_text_is_at, action_is_at}
 use Rattle.cfgast.specs.Items.{Item, RuleHead}
-use Rattle.cfgheader.specs.declared.kind.YaccKind.{YaccKind}
+use Rattle.cfgkinds.specs.declared.kind.YaccKind.{YaccKind}
 use Rattle.cfgreader.specs.Here.{Turn}
 use Rattle.cfgreader.specs.Rules.{Part, SymbolPart, PrecedencePart, EmptyPart, Parts, no_parts, with_part, end_of, gather, precedence, empty, misplaced_empty, front_part, symbol_part, part, brace_fault, end_fault, another, finish, production_end, production, rule_type, rule_body, rule}
 use Rattle.cfgreader.specs.Grammar.{programs, file}

@@ -13,7 +13,7 @@ use Rattle.cfgast.specs.View.{syntax, syntax_built}
 use Rattle.cfgast.specs.declared.ast.GrammarAST.{GrammarAST}
 use Rattle.std.specs.Prelude.{IfOk}
 use Rattle.cfgreader.specs.declared.read.Stopped.{Stopped}
-use Rattle.cfgheader.specs.declared.kind.YaccKind.{YaccKind}
+use Rattle.cfgkinds.specs.declared.kind.YaccKind.{YaccKind}
 use Rattle.cfgerrors.specs.HeaderErrors.{ShownError}
 use Rattle.cfgheader.specs.SectionGrammar.{Entry}
 use Rattle.cfgheader.specs.SectionReads.{section_of}

@@ -16,7 +16,7 @@ use Rattle.cfgast.specs.Building.{adds}
 use Rattle.cfgast.specs.Syntax.{syntax_of}
 use Rattle.cfgast.specs.View.{syntax, syntax_built, word_view, token_view}
 use Rattle.cfgast.specs.declared.ast.GrammarAST.{GrammarAST}
-use Rattle.cfgheader.specs.declared.kind.YaccKind.{YaccKind}
+use Rattle.cfgkinds.specs.declared.kind.YaccKind.{YaccKind}
 use Rattle.cfgheader.specs.declared.section.header_fault.HeaderFault.{HeaderFault}
 use Rattle.cfgheader.specs.declared.section.header_fault.HeaderFault.TheVariants as header
 use Rattle.cfgheader.specs.SectionGrammar.{Entry}

@@ -2,7 +2,7 @@
 use Rattle.std.specs.Prelude.{ℕ, true, codes}
 use Rattle.reading.specs.Construct.{◌>>◌, case_of, here, repeat, while_test, gives, emits, expect}
 use Rattle.cfgast.specs.Items.{ProgramsGiven}
-use Rattle.cfgheader.specs.declared.kind.YaccKind.{YaccKind}
+use Rattle.cfgkinds.specs.declared.kind.YaccKind.{YaccKind}
 use Rattle.cfgreader.specs.Here.{Strict, Lax, blank_here}
 use Rattle.cfgreader.specs.Declarations.{declaration, separator_fault}
 use Rattle.cfgreader.specs.Rules.{is_rule_next, rule}

@@ -11,8 +11,8 @@ use Rattle.cfgwords.specs.Words.{Token, word_of}
 use Rattle.cfgwords.specs.Actions.{IsAction, action_of, action_at}
 use Rattle.cfgwords.proofs.ActionFinder.{action_finder, action_shorter}
 use Rattle.cfgast.specs.Items.{Item, RuleHead, Body, RuleBegun, RuleNamed, TokenQuoted, PrecedenceUsed, Alternative}
-use Rattle.cfgheader.specs.declared.kind.YaccKind.{YaccKind}
-use Rattle.cfgheader.specs.declared.kind.YaccKind.TheVariants.{Grmtools}
+use Rattle.cfgkinds.specs.declared.kind.YaccKind.{YaccKind}
+use Rattle.cfgkinds.specs.declared.kind.YaccKind.TheVariants.{Grmtools}
 use Rattle.cfgreader.specs.Here.{Strict, Lax, Turn, is_open, stands, blank_here, name_here, token_or, token_here, colon_text_here}
 
 -- a part of a production: a symbol, the token behind a `%prec`, or an `%empty`, by the place where it ends

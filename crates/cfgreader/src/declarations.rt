@@ -15,7 +15,7 @@ use super::lists::Marking;
 use super::reader::{ReadFault, Reader};
 use cfgast::AssocKind;
 use cfgbase::Span;
-use cfgheader::YaccKind;
+use cfgkinds::YaccKind;
 use cfgwords::fault::FaultKind;
 use cfgwords::words::Word;
 

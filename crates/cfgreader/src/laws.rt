@@ -4,7 +4,7 @@ ghost use Rattle.std.specs.Prelude.{ℕ};
 ghost use Rattle.reading.specs.Graph.{IsGraph};
 ghost use Rattle.reading.specs.Construct.{Says, computes};
 ghost use Rattle.cfgreader.specs.Grammar.{file};
-ghost use Rattle.cfgheader.specs.declared.kind.YaccKind.{YaccKind};
+ghost use Rattle.cfgkinds.specs.declared.kind.YaccKind.{YaccKind};
 
 /// The plain program `file`, a function on lists of bytes, reads just what the grammar relates a text to: so
 /// whatever stands behind the section of a text has a reading, and only one.

@@ -10,7 +10,9 @@ ghost use Rattle.cfgreader.specs.Reads.{Reads, HasOneReading, Stop};
 use super::reader::{ReadFault, Reader};
 use cfgast::{AstBuilder, GrammarAST};
 use cfgbase::Span;
-use cfgheader::{GrmtoolsSectionParser, HeaderError, HeaderFault, YaccKind};
+use cfgerrors::HeaderError;
+use cfgheader::{GrmtoolsSectionParser, HeaderFault};
+use cfgkinds::YaccKind;
 use cfgwords::fault::Fault;
 use std::alloc::{AllocError, Global};
 

@@ -13,7 +13,7 @@ use super::bodies::Parts;
 use super::reader::{ReadFault, Reader};
 use cfgast::{Body, RuleHead};
 use cfgbase::Span;
-use cfgheader::YaccKind;
+use cfgkinds::YaccKind;
 use cfgwords::actions::leading_action;
 use cfgwords::fault::FaultKind;
 

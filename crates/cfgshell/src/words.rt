@@ -3,7 +3,7 @@
 ghost use Rattle.std.specs.Prelude.{◌≡◌};
 ghost use Rattle.cfgshell.specs.Words.{asks_lexer, command_named, kind_named};
 
-use cfgheader::{YaccKind, YaccOriginalActionKind};
+use cfgkinds::{YaccKind, YaccOriginalActionKind};
 
 /// Which kind of Yacc a text is read as.
 #[derive(Clone, Copy, Debug, PartialEq, Eq)]

@@ -2,7 +2,7 @@
 use Rattle.std.proofs.Common.{◌≡◌, ℕ, true, List, [], ◌∷◌, ◌++◌, Option, Some, None, if◌then◌else◌, refl, sym, ap, ◌∙◌, subst, append_assoc}
 use Rattle.std.specs.Option.{option_to_list, option_or}
 use Rattle.cfgast.specs.Syntax.{Syntax, syntax_of}
-use Rattle.cfgheader.specs.declared.kind.YaccKind.{YaccKind}
+use Rattle.cfgkinds.specs.declared.kind.YaccKind.{YaccKind}
 use Rattle.cfgerrors.specs.Errors.{GrammarError, InvalidStartRule, error_at}
 use Rattle.cfgcheck.specs.Check.{is_rule, first_error, start_error, rule_error, printed_error, symbol_error, check_of}
 use Rattle.cfgsyntax.specs.Faults.{all_errors, errors_of}

@@ -2,7 +2,7 @@
 use Rattle.std.specs.Prelude.{List}
 use Rattle.cfgast.specs.Syntax.{Syntax}
 use Rattle.cfgerrors.specs.Errors.{GrammarError}
-use Rattle.cfgheader.specs.declared.kind.YaccKind.{YaccKind}
+use Rattle.cfgkinds.specs.declared.kind.YaccKind.{YaccKind}
 
 pub record Parsed : Type 0 where
   pub kind : YaccKind

@@ -1,7 +1,8 @@
 //! What the keys of a section have.
 
 use cfgbase::{Location, Span};
-use cfgheader::{HeaderError, HeaderValue, KindFault, Namespaced, Setting, Value, YaccKind};
+use cfgerrors::HeaderError;
+use cfgkinds::{HeaderValue, KindFault, Namespaced, Setting, Value, YaccKind};
 use rows::pen;
 use std::alloc::{AllocError, Global};
 

@@ -4,10 +4,9 @@ ghost use Rattle.std.specs.Str.{IsCharBoundary};
 
 use crate::held::{held_text, value_text};
 use cfgbase::{Location, Span, Spanned};
-use cfgheader::{
-    GrmtoolsSectionParser, Header, HeaderError, HeaderFault, HeaderValue, Value, YaccKind,
-    YaccOriginalActionKind,
-};
+use cfgerrors::HeaderError;
+use cfgheader::{GrmtoolsSectionParser, Header, HeaderFault};
+use cfgkinds::{HeaderValue, Value, YaccKind, YaccOriginalActionKind};
 use rows::row::Row;
 use rows::{pen, text};
 use std::alloc::{AllocError, Global};

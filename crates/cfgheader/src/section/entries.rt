@@ -5,14 +5,14 @@ ghost use Rattle.reading.specs.Construct.{goes_on};
 ghost use Rattle.cfgwords.specs.Text.{place};
 ghost use Rattle.cfgheader.specs.SectionGrammar.{end_fault, negated, value_of, affirmed, entry, entry_turn, entries};
 ghost use Rattle.cfgheader.specs.SectionGrammar.{braced, section};
-ghost use Rattle.cfgheader.specs.Values.{placed_view};
+ghost use Rattle.cfgkinds.specs.Values.{placed_view};
 
 use crate::section::entry::Entry;
 use crate::section::fault::{Fault, ReadFault};
 use crate::section::reader::{Reader, unexpected_star};
-use crate::value::Value;
 use cfgbase::Span;
 use cfgerrors::HeaderErrorKind;
+use cfgkinds::Value;
 
 /// How many brackets may be open at once.
 const MOST_BRACKETS: usize = 127;

@@ -1,7 +1,7 @@
 //! Entries of a section, as they are read.
 
-use crate::value::Value;
 use cfgbase::Span;
+use cfgkinds::Value;
 
 /// A key in lower case, its place, and what it has.
 #[derive(Drop)]

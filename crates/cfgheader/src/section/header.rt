@@ -7,10 +7,13 @@ ghost use Rattle.cfgheader.specs.SectionReads.{IsHeaderOf};
 ghost use Rattle.cfgheader.specs.SectionSteps.{entry_view};
 
 use crate::section::entry::Entry;
-use crate::value::{Header, HeaderValue};
 use cfgbase::Span;
+use cfgkinds::HeaderValue;
 use cfgmarks::markmap::MarkMap;
 use std::alloc::{AllocError, Global};
+
+/// The keys of a section, in order.
+pub type Header<T> = MarkMap<String, HeaderValue<T>>;
 
 /// Gives an entry's key its value, with no mark.
 fn put(header: &mut Header<Span>, entry: Entry) -> Result<(), AllocError>

@@ -10,7 +10,7 @@ ghost use Rattle.cfgerrors.specs.HeaderErrors.{error_kind_view};
 ghost use Rattle.cfgheader.specs.SectionGrammar.{begins, goes_on_before, unexpected_star, fault_at, wide_character};
 ghost use Rattle.cfgheader.specs.SectionGrammar.{white_character, separator, white, separators, comma, name};
 ghost use Rattle.cfgheader.specs.SectionGrammar.{name_fault};
-ghost use Rattle.cfgheader.specs.Values.{placed_view};
+ghost use Rattle.cfgkinds.specs.Values.{placed_view};
 
 use crate::section::entry::Entry;
 use crate::section::fault::{Fault, ReadFault};

@@ -3,13 +3,13 @@
 ghost use Rattle.std.specs.Prelude.{◌≡◌};
 ghost use Rattle.cfgheader.specs.SectionGrammar.{number_fault, namespaced, argument, applied, number, element};
 ghost use Rattle.cfgheader.specs.SectionGrammar.{elements, array, bare_setting, bracketed, setting};
-ghost use Rattle.cfgheader.specs.Values.{namespaced_view, setting_view};
+ghost use Rattle.cfgkinds.specs.Values.{namespaced_view, setting_view};
 
 use crate::section::fault::{Fault, ReadFault};
 use crate::section::reader::Reader;
-use crate::value::{Namespaced, Setting};
 use cfgbase::Span;
 use cfgerrors::HeaderErrorKind;
+use cfgkinds::{Namespaced, Setting};
 use cfgwords::bytes::ByteClass;
 use cfgwords::run::{run, starts};
 use cfgwords::section::leading_text;

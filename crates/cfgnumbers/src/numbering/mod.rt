@@ -16,8 +16,8 @@ ghost use Rattle.cfgnumbers.specs.View.{file_of, implicit_in};
 use cfgast::GrammarAST;
 use cfgbase::Span;
 use cfghash::NameHashes;
-use cfgheader::YaccKind;
 use cfgindex::{RIdx, Storage, to_storage};
+use cfgkinds::YaccKind;
 use indexmap::IndexMap;
 
 /// What a numbering goes by: the syntax of a file, and its implicit tokens, where it is an Eco file with lists of them.

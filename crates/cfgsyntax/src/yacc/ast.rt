@@ -24,7 +24,7 @@ use cfgast::clone_with_start;
 pub use cfgast::{GrammarAST, Production, Rule, Settings, Symbol};
 use cfgcheck::is_rule;
 use cfgerrors::{YaccGrammarError, YaccGrammarErrorKind, YaccGrammarResult};
-use cfgheader::YaccKind;
+use cfgkinds::YaccKind;
 use cfgreader::read::read;
 use errors::errors_found;
 use named::named_kind;

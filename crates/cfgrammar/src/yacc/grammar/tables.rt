@@ -10,7 +10,7 @@ ghost use Rattle.cfgwords.specs.Places.{IsPiece, IsWithin};
 ghost use Rattle.cfgast.specs.View.{pair_view, syntax};
 ghost use Rattle.cfgcheck.specs.Sound.{IsSound};
 ghost use Rattle.cfgsyntax.specs.Spans.{EachParsedSpan};
-ghost use Rattle.cfgheader.specs.declared.kind.YaccKind.{YaccKind};
+ghost use Rattle.cfgkinds.specs.declared.kind.YaccKind.{YaccKind};
 ghost use Rattle.cfgrammar.specs.Answer.{IsAnswer};
 ghost use Rattle.cfgrammar.specs.Counting.{YieldsNumbersInOrder};
 ghost use Rattle.cfgnumbers.specs.Fits.{LeavesRoom};

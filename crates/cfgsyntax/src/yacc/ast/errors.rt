@@ -18,9 +18,8 @@ use cfgerrors::YaccGrammarErrorKind::{
     DuplicateExpectDeclaration, DuplicateExpectRRDeclaration, DuplicateImplicitTokensDeclaration,
     DuplicatePrecedence, DuplicateStartDeclaration,
 };
-use cfgerrors::{YaccGrammarError, YaccGrammarErrorKind};
+use cfgerrors::{HeaderError, YaccGrammarError, YaccGrammarErrorKind};
 use cfghash::NameHashes;
-use cfgheader::HeaderError;
 use cfgreader::read::Stopped;
 use std::alloc::{AllocError, Global};
 

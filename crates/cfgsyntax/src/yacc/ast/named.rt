@@ -8,8 +8,9 @@ ghost use Rattle.cfgwords.specs.Places.{IsPiece};
 
 use super::errors::section_errors;
 use cfgerrors::{YaccFault, YaccGrammarResult};
+use cfgheader::HeaderFault;
 use cfgheader::named::kind_named;
-use cfgheader::{HeaderFault, YaccKind};
+use cfgkinds::YaccKind;
 use std::alloc::Global;
 
 /// The kind that the section of a text names, or the errors that keep it from naming one.

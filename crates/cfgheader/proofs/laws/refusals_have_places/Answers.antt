@@ -1,5 +1,0 @@
-use Rattle.cfgheader.proofs.ValueKinds.{refusal_somewhere}
-use Rattle.cfgheader.proofs.laws.refusals_have_places.Goals as goal
-
-pub returns : goal.returns
-returns g c = refusal_somewhere

@@ -1,0 +1,4 @@
+pub mod Kinds
+pub mod Same
+pub mod Texts
+pub mod Values
