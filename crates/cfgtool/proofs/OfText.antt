@@ -1,7 +1,7 @@
 -- What holds of a text for one reason, holds of it for whatever follows; what is told of a text, by what was parsed of it.
 use Rattle.std.proofs.Common.{◌≡◌, ℕ, List, [], map, Result, Ok, Err, IfOk, IfErr, String, Global, string_bytes, sym, subst}
 use Rattle.cfgast.specs.Syntax.{Syntax, syntax_of}
-use Rattle.cfgheader.specs.declared.kind.YaccKind.{YaccKind}
+use Rattle.cfgkinds.specs.declared.kind.YaccKind.{YaccKind}
 use Rattle.cfgheader.specs.Named.{HasOneNaming, Naming, Names}
 use Rattle.cfgerrors.specs.Errors.{GrammarError, header_error}
 use Rattle.cfgerrors.specs.declared.error.YaccFault.{YaccFault}
