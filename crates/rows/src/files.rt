@@ -30,17 +30,38 @@ pub fn write_files<A: Answers>(rt: &HostRuntime, answers: &A) -> io::Result<()> 
     Ok(())
 }
 
-/// What is written of a row, behind its name: its notes, and its answers, or their digest where it asks for that.
+/// How many bytes are reserved for what is written of a row, so that its lines take no memory while calls are made.
+const ROOM: usize = 1_048_573;
+
+/// What is written of a row, behind its name: its notes, and its answers. Where memory ended on the way, that is
+/// written behind the answers so far, and they are asked for again.
 fn answers_of<A: Answers>(rt: &HostRuntime, answers: &A, row: &Row<'_>) -> io::Result<String> {
-    let mut out = String::new(rt.alloc());
+    let mut out = String::with_capacity(rt.alloc(), ROOM)?;
     row.write_notes(&mut out)?;
+    match write_answers(&mut out, rt, answers, row) {
+        Err(fault) if fault.kind() == io::ErrorKind::OutOfMemory => {
+            out.push_str("out of memory\n")?;
+            write_answers(&mut out, rt, answers, row)?;
+        }
+        other => other?,
+    }
+    Ok(out)
+}
+
+/// Writes a row's answers, or their digest where the row asks for that.
+fn write_answers<A: Answers>(
+    out: &mut String,
+    rt: &HostRuntime,
+    answers: &A,
+    row: &Row<'_>,
+) -> io::Result<()> {
     let text = text::of_row(rt, row)?;
     if row.first("show") == Some("digest") {
         let mut whole = String::new(rt.alloc());
         answers.write(&mut whole, rt, row, text.as_str())?;
-        write_digest(&mut out, row, whole.as_str())?;
+        write_digest(out, row, whole.as_str())?;
     } else {
-        answers.write(&mut out, rt, row, text.as_str())?;
+        answers.write(out, rt, row, text.as_str())?;
     }
-    Ok(out)
+    Ok(())
 }

@@ -4,6 +4,7 @@ ghost use Rattle.std.specs.Prelude.{◌≤◌, IfOk, length};
 
 use crate::given::Given;
 use crate::narrow::Narrow;
+use rows::row::Row;
 use std::alloc::{AllocError, Allocator, Global};
 use std::cell::{Cell, RefCell};
 use std::env::FillError;
@@ -57,8 +58,26 @@ fn print<D: Display>(
     value: &D,
     end: &str,
 ) -> io::Result<()> {
-    let text = format!(in alloc; "{value}{end}")?;
-    write_all(writer, text.as_bytes())
+    match format!(in alloc; "{value}{end}") {
+        Ok(text) => write_all(writer, text.as_bytes()),
+        Err(fault) => {
+            if let Ok(mut writer) = writer.try_borrow_mut() {
+                writer.wants_memory = true;
+            }
+            Err(io::Error::from(fault))
+        }
+    }
+}
+
+impl<R> Desk<'_, R> {
+    /// Whether memory ended for a run with this status, and not as the row's standard input says.
+    pub(crate) fn is_wanted(&self, row: &Row<'_>, status: u8) -> bool {
+        let is_input = row.first("input") == Some("memory") && self.readers.get() > 0;
+        match (self.output.try_borrow(), self.errors.try_borrow()) {
+            (Ok(output), Ok(errors)) => !is_input && output.is_wanted(status, &errors),
+            _ => false,
+        }
+    }
 }
 
 impl<R: AllocGlobal> Alloc for Desk<'_, R> {

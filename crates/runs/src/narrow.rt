@@ -13,6 +13,8 @@ pub(crate) struct Narrow {
     takes_none: bool,
     /// How many faults it is known to have had.
     pub(crate) faults: u64,
+    /// Whether memory ended for what it took, which is no fault of the run.
+    pub(crate) wants_memory: bool,
 }
 
 impl Narrow {
@@ -23,6 +25,7 @@ impl Narrow {
             room,
             takes_none,
             faults: 0,
+            wants_memory: false,
         }
     }
 
@@ -41,6 +44,14 @@ impl Narrow {
     pub(crate) fn bytes(&self) -> &[u8] {
         self.taken.as_slice()
     }
+
+    /// Whether memory ended for a run with this status, of which this is the output: then nothing is written here, and
+    /// the other one says so.
+    pub(crate) fn is_wanted(&self, status: u8, errors: &Narrow) -> bool {
+        let says_so = b"cfgtool: out of memory\n".starts_with(errors.bytes());
+        let is_told = status == 3 && says_so && self.taken.is_empty();
+        is_told || self.wants_memory || errors.wants_memory
+    }
 }
 
 impl Write for Narrow {
@@ -49,8 +60,13 @@ impl Write for Narrow {
         if count == 0 && !self.takes_none {
             return Err(io::Error::from(io::ErrorKind::BrokenPipe));
         }
-        self.taken.extend_from_slice(&bytes[..count])?;
-        self.room -= count;
+        match self.taken.extend_from_slice(&bytes[..count]) {
+            Ok(()) => self.room -= count,
+            Err(fault) => {
+                self.wants_memory = true;
+                return Err(io::Error::from(fault));
+            }
+        }
         Ok(count)
     }
 

@@ -32,6 +32,9 @@ pub fn tell<R: Files + AllocGlobal>(
         readers: Cell::new(0),
     };
     let ended = run_over(&desk);
+    if desk.is_wanted(row, ended.status()) {
+        return Err(AllocError);
+    }
     writeln!(out, "cfgtool {given}")?;
     writeln!(out, "status {}", ended.status())?;
     write_taken(out, "output", &desk.output)?;

@@ -57,6 +57,9 @@ fn run_over(
     let (faults, more_faults) = (to_output.faults(), to_errors.faults());
     output.faults = faults;
     errors.faults = more_faults;
+    if row.first("input") != Some("memory") && output.is_wanted(status, errors) {
+        return Err(AllocError);
+    }
     Ok(status)
 }
 
