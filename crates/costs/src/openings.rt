@@ -6,8 +6,8 @@ ghost use Rattle.cfgnumbers.specs.Numbered.{core};
 use cfgrammar::yacc::YaccGrammar;
 use cfgrammar::yacc::firsts::firsts_over;
 use cfgrammar::yacc::grammar::Productions;
-use cfgrammar::yacc::sentences::{SentenceError, SentenceGenerator, min_sentence_over};
-use cfgrammar::{PIdx, Storage};
+use cfgrammar::yacc::sentences::{CostError, SentenceError, SentenceGenerator, min_sentence_over};
+use cfgrammar::{PIdx, RIdx, Storage};
 use std::alloc::{AllocError, Global};
 
 /// Writes how often each production is opened while the FIRST sets are found.
@@ -49,13 +49,23 @@ pub(crate) fn write_opened(
         return writeln!(out, "    opened {name}: no such rule");
     };
     let mut productions = grammar.productions(alloc)?;
-    if let Err(SentenceError::OutOfMemory) = min_sentence_over(
-        alloc,
-        &mut productions,
-        generator,
-        ridx,
-    ) {
+    let answer = min_sentence_over(alloc, &mut productions, generator, ridx);
+    let opened = productions.opened_all();
+    let most = most_openings(generator.min_sentence_cost(ridx), grammar.rules_len());
+    if is_refused(&answer) && u128::from(opened) <= most {
         return Err(AllocError);
     }
-    writeln!(out, "    opened {name}: {}", productions.opened_all())
+    writeln!(out, "    opened {name}: {opened}")
+}
+
+fn is_refused<T>(answer: &Result<T, SentenceError>) -> bool {
+    matches!(answer, Err(SentenceError::OutOfMemory))
+}
+
+/// How many productions may be opened, all together, where memory ends on the way to a sentence of this cost.
+fn most_openings(cost: Result<u16, CostError>, rules: RIdx<u32>) -> u128 {
+    match cost {
+        Ok(cost) => 1 + u128::from(cost) * u128::from(rules.0),
+        Err(_) => 0,
+    }
 }

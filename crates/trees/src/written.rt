@@ -36,7 +36,7 @@ impl Writer<ASTWithValidityInfo, AllocError> for Script<'_> {
 
 impl Writer<GrammarAST, AllocError> for Script<'_> {
     fn write(&self, out: &mut String, ast: &mut GrammarAST) -> Result<(), AllocError> {
-        change_tree(self.alloc, self.row, ast)?;
+        change_tree(out, self.alloc, self.row, ast)?;
         write_tree(out, self.alloc, ast)
     }
 
@@ -149,11 +149,38 @@ fn rule_of(alloc: Global, line: &str) -> Result<Rule, AllocError> {
 }
 
 /// Makes all calls of the row that write a tree.
-fn change_tree(alloc: Global, row: &Row<'_>, ast: &mut GrammarAST) -> Result<(), AllocError> {
+fn change_tree(
+    out: &mut String,
+    alloc: Global,
+    row: &Row<'_>,
+    ast: &mut GrammarAST,
+) -> Result<(), AllocError> {
     for (word, rest) in &row.lines {
-        change(alloc, ast, *word, *rest)?;
+        let before = tree_text(alloc, ast)?;
+        if change(alloc, ast, *word, *rest).is_err() {
+            write_want(out, alloc, ast, before.as_str())?;
+            change(alloc, ast, *word, *rest)?;
+        }
     }
     Ok(())
+}
+
+/// Writes that memory ended, and whether the tree isn't what it was before.
+fn write_want(
+    out: &mut String,
+    alloc: Global,
+    ast: &GrammarAST,
+    before: &str,
+) -> Result<(), AllocError> {
+    pen::text(out, "out of memory\n")?;
+    let is_same = tree_text(alloc, ast)?.as_str() == before;
+    pen::text_if(out, !is_same, "    with another tree\n")
+}
+
+fn tree_text(alloc: Global, ast: &GrammarAST) -> Result<String, AllocError> {
+    let mut out = String::new(alloc);
+    write_tree(&mut out, alloc, ast)?;
+    Ok(out)
 }
 
 fn change(alloc: Global, ast: &mut GrammarAST, word: &str, line: &str) -> Result<(), AllocError> {

@@ -1,6 +1,6 @@
 //! Rows on lines and columns, of texts that are fed whole and in pieces.
 
-ghost use Rattle.std.specs.Prelude.{IfOk, IfSome};
+ghost use Rattle.std.specs.Prelude.{◌++◌, IfOk, IfSome, List, OnOk, ℕ};
 ghost use Rattle.cfglines.specs.Lines.{StandsFor};
 
 use cfgbase::Span;
@@ -35,7 +35,7 @@ fn write_ways(
 ) -> Result<(), AllocError> {
     let ways = ways(alloc, row, text)?;
     for way in &ways {
-        if !answers_same(alloc, row, text, way, whole)? {
+        if !answers_same(out, alloc, row, text, way, whole)? {
             writeln!(
                 out,
                 "otherwise where it is fed by {way:?} bytes and the rest"
@@ -47,13 +47,14 @@ fn write_ways(
 
 /// Whether a cache of a text that is fed in pieces of these lengths, and then the rest, answers what the whole text does.
 fn answers_same(
+    out: &mut String,
     alloc: Global,
     row: &Row<'_>,
     text: &str,
     lengths: &[usize],
     whole: &str,
 ) -> Result<bool, AllocError> {
-    match feed_pieces(alloc, text, lengths) {
+    match feed_pieces(out, alloc, text, lengths) {
         Ok(Some(cache)) => Ok(answers(alloc, row, &cache, text)?.as_str() == whole),
         Ok(None) => Ok(false),
         Err(_) => Err(AllocError),
@@ -101,6 +102,7 @@ fn all_ways(alloc: Global, text: &str) -> Result<Vec<Vec<usize>>, AllocError> {
 /// The cache of a text that is fed in pieces: these lengths, and then the rest. There is none where a character would
 /// be cut.
 fn feed_pieces(
+    out: &mut String,
     alloc: Global,
     text: &str,
     lengths: &[usize],
@@ -113,11 +115,54 @@ fn feed_pieces(
         let Some((piece, behind)) = rest.split_at_checked(*length) else {
             return Ok(None);
         };
-        cache.feed(piece)?;
+        feed(out, alloc, &mut cache, before(text, rest), piece)?;
         rest = behind;
     }
-    cache.feed(rest)?;
+    feed(out, alloc, &mut cache, before(text, rest), rest)?;
     Ok(Some(cache))
+}
+
+/// What stands in a text before its end.
+fn before<'a>(text: &'a str, end: &str) -> &'a str {
+    let len = text.len().saturating_sub(end.len());
+    text.get(..len).unwrap_or("")
+}
+
+/// Feeds a piece behind what was fed. Where memory ended, that is written, and it is fed again.
+fn feed(
+    out: &mut String,
+    alloc: Global,
+    cache: &mut NewlineCache,
+    fed: &str,
+    piece: &str,
+) -> Result<(), FeedError>
+    ensures { OnOk result ((before : List ℕ) → StandsFor cache.old before
+        → StandsFor cache.new (before ++ piece.now)) }
+{
+    match cache.feed(piece) {
+        Err(FeedError::OutOfMemory) => {
+            write_want(out, alloc, cache, fed)?;
+            cache.feed(piece)
+        }
+        answer => answer,
+    }
+}
+
+/// Writes that memory ended, and whether the cache then isn't that of what was fed before.
+fn write_want(
+    out: &mut String,
+    alloc: Global,
+    cache: &NewlineCache,
+    fed: &str,
+) -> Result<(), FeedError> {
+    out.push_str("out of memory\n")?;
+    let other = NewlineCache::from_str(alloc, fed)?;
+    for byte in 0..fed.len().saturating_add(2) {
+        let is_same = cache.byte_to_line_num(byte) == other.byte_to_line_num(byte)
+            && cache.byte_to_line_byte(byte) == other.byte_to_line_byte(byte);
+        pen::text_if(out, !is_same, "with another cache\n")?;
+    }
+    Ok(())
 }
 
 /// What the four questions answer: of each byte, of the text's end and past it, and of the row's spans.

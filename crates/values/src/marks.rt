@@ -56,13 +56,15 @@ fn play<K: Key>(out: &mut String, alloc: Global, row: &Row<'_>) -> Result<(), Al
 {
     let mut map = MarkMap::<K, u32>::new(alloc);
     let mut other = MarkMap::<K, u32>::new(alloc);
+    let mut is_told = false;
     for (word, rest) in &row.lines {
-        play_line(out, alloc, row, &mut map, &mut other, (*word, *rest))?;
+        play_line(out, alloc, row, &mut map, &mut other, (*word, *rest), is_told)?;
+        is_told = *word == "call" || *word == "merge";
     }
     Ok(())
 }
 
-/// Runs a line of a script.
+/// Runs a line of a script. What a map has may stand in front of it.
 fn play_line<K: Key>(
     out: &mut String,
     alloc: Global,
@@ -70,14 +72,14 @@ fn play_line<K: Key>(
     map: &mut MarkMap<K, u32>,
     other: &mut MarkMap<K, u32>,
     line: (&str, &str),
+    is_told: bool,
 ) -> Result<(), AllocError>
     requires { IsFaithful K.cmp K.is_clone }
 {
     let (word, rest) = line;
     match word {
         "call" => {
-            write!(out, "    {rest}: ")?;
-            call(out, alloc, map, rest)?;
+            call_told(out, alloc, row, map, rest, is_told)?;
             write_map(out, alloc, row, map)
         }
         "calls" => calls(out, alloc, map, rest),
@@ -102,6 +104,30 @@ fn play_line<K: Key>(
         }
         _ => Ok(()),
     }
+}
+
+/// Makes a call, and writes it and what it answers. Where memory ended, that is written, and the call is made again.
+/// Between the two stands what the map then has, where that stands in front of the call too.
+fn call_told<K: Key>(
+    out: &mut String,
+    alloc: Global,
+    row: &Row<'_>,
+    map: &mut MarkMap<K, u32>,
+    line: &str,
+    is_told: bool,
+) -> Result<(), AllocError>
+    requires { IsFaithful K.cmp K.is_clone }
+{
+    write!(out, "    {line}: ")?;
+    if call(out, alloc, map, line).is_ok() {
+        return Ok(());
+    }
+    out.push_str("out of memory\n")?;
+    if is_told {
+        write_map(out, alloc, row, map)?;
+    }
+    write!(out, "    {line}: ")?;
+    call(out, alloc, map, line)
 }
 
 /// Makes a call as many times as the number in front of it says, with the turn's number for each `#`, and writes what
@@ -162,17 +188,24 @@ fn call_with<K: Key>(
     out.push_str("()\n")
 }
 
-/// Gives a key a value, and writes the value that it held.
+/// Gives a key a value, and writes the value that it held. Where memory ended, both come back.
 fn insert<K: Key>(
     out: &mut String,
     map: &mut MarkMap<K, u32>,
     key: K,
     value: u32,
 ) -> Result<(), AllocError> {
+    let handed = (key.clone()?, value);
     match map.insert(key, value) {
         Ok(old) => write_old(out, old),
-        Err(_) => Err(AllocError),
+        Err(back) => refused(out, back == handed),
     }
+}
+
+/// Want of memory, behind which key and value came back, or others.
+fn refused(out: &mut String, is_handed_back: bool) -> Result<(), AllocError> {
+    pen::text_if(out, !is_handed_back, "another key and value come back, ")?;
+    Err(AllocError)
 }
 
 /// Marks a key.

@@ -43,16 +43,24 @@ fn is_expected(grammar: &YaccGrammar<u32>, most: u64) -> bool {
 /// The greatest count of a production's openings, after the FIRST sets were found.
 fn opened_by_firsts(alloc: Global, grammar: &YaccGrammar<u32>) -> Result<u64, AllocError> {
     let mut productions = grammar.productions(alloc)?;
-    let _firsts = firsts_over(alloc, &mut productions)?;
-    Ok(greatest_count(&productions))
+    let is_refused = firsts_over(alloc, &mut productions).is_err();
+    counted(grammar, is_refused, greatest_count(&productions))
 }
 
 /// The greatest count of a production's openings, after the FOLLOW sets were found.
 fn opened_by_follows(alloc: Global, grammar: &YaccGrammar<u32>) -> Result<u64, AllocError> {
     let firsts = grammar.firsts(alloc)?;
     let mut productions = grammar.productions(alloc)?;
-    let _follows = follows_over(alloc, &mut productions, &firsts)?;
-    Ok(greatest_count(&productions))
+    let is_refused = follows_over(alloc, &mut productions, &firsts).is_err();
+    counted(grammar, is_refused, greatest_count(&productions))
+}
+
+/// A count, or want of memory where an analysis was refused. Then too no production may have been opened more often.
+fn counted(grammar: &YaccGrammar<u32>, is_refused: bool, most: u64) -> Result<u64, AllocError> {
+    if is_refused && (most == 0 || is_expected(grammar, most)) {
+        return Err(AllocError);
+    }
+    Ok(most)
 }
 
 /// The greatest count of a production's openings.

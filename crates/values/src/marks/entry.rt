@@ -2,7 +2,7 @@
 
 ghost use Rattle.cfgmarks.specs.Marks.{IsFaithful};
 
-use super::{Key, behavior, small};
+use super::{Key, behavior, refused, small};
 use cfgmarks::markmap::{Entry, MarkMap, OccupiedEntry};
 use rows::pen;
 use rows::row::words;
@@ -87,16 +87,17 @@ fn call_vacant<K: Key>(
     requires { IsFaithful K.cmp K.is_clone }
 {
     let (name, word, _) = words(line);
+    let handed = (key.clone()?, small(word));
     match map.entry(key) {
         Entry::Occupied(_entry) => out.push_str("occupied\n"),
         Entry::Vacant(mut entry) => match name {
             "insert" => match entry.insert(small(word)) {
                 Ok(lent) => end(out, "vacant, lends ", *lent as usize),
-                Err(_) => Err(AllocError),
+                Err(back) => refused(out, back == handed),
             },
             "insert_entry" => match entry.insert_entry(small(word)) {
                 Ok(occupied) => end(out, "vacant, mark ", usize::from(occupied.get_mark())),
-                Err(_) => Err(AllocError),
+                Err(back) => refused(out, back == handed),
             },
             "mark_required" => {
                 entry.mark_required()?;
