@@ -58,7 +58,15 @@ fn play<K: Key>(out: &mut String, alloc: Global, row: &Row<'_>) -> Result<(), Al
     let mut other = MarkMap::<K, u32>::new(alloc);
     let mut is_told = false;
     for (word, rest) in &row.lines {
-        play_line(out, alloc, row, &mut map, &mut other, (*word, *rest), is_told)?;
+        play_line(
+            out,
+            alloc,
+            row,
+            &mut map,
+            &mut other,
+            (*word, *rest),
+            is_told,
+        )?;
         is_told = *word == "call" || *word == "merge";
     }
     Ok(())
