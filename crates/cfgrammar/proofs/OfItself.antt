@@ -10,7 +10,7 @@ use Rattle.cfgerrors.specs.declared.error.YaccFault.{YaccFault}
 use Rattle.cfgerrors.specs.declared.error.YaccFault.TheVariants as faults
 use Rattle.cfgsyntax.specs.OfItself.{IsParsedAs, AnswersNaming}
 use Rattle.cfgsyntax.specs.Parsed.{Parsed}
-use Rattle.cfgreader.proofs.OneReading.{one_reading}
+use Rattle.cfgsyntax.proofs.OneReading.{one_reading}
 use Rattle.cfgrammar.specs.Answer.{IsAnswer, IsRefused}
 use Rattle.cfgrammar.specs.GrammarOf.{HoldsOfReading, HoldsOfNaming, HoldsOfItself}
 use Rattle.cfgnumbers.specs.Numbered.{Numbered, numbered}

@@ -6,7 +6,7 @@ use Rattle.cfgkinds.specs.declared.kind.YaccKind.{YaccKind}
 use Rattle.cfgheader.specs.Named.{HasOneNaming, Names, Naming}
 use Rattle.cfgerrors.specs.Errors.{GrammarError, header_error}
 use Rattle.cfgsyntax.specs.Faults.{errors_of}
-use Rattle.cfgreader.specs.Reads.{HasOneReading, Reads, Stop}
+use Rattle.cfgsyntax.specs.Reads.{HasOneReading, Reads, Stop}
 use Rattle.cfgerrors.specs.declared.error.YaccFault.{YaccFault}
 use Rattle.cfgrammar.specs.Answer.{IsAnswer}
 use Rattle.cfgnumbers.specs.Numbered.{Numbered, numbered}

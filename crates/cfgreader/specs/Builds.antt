@@ -1,5 +1,5 @@
 -- What a step of the reader does, told by what reading gives there.
-use Rattle.std.specs.Prelude.{◌≡◌, ℕ, Bool, false, List, map, Option, Some, None, option_map, Result, Ok, Err}
+use Rattle.std.specs.Prelude.{◌≡◌, ℕ, Bool, List, map, Option, Some, None, option_map, Result, Ok, Err}
 use denote.Ref.{Bor}
 use Rattle.cfgwords.specs.declared.fault.FaultKind.{FaultKind}
 use Rattle.cfgbase.specs.declared.span.Span.{Span}
@@ -17,16 +17,9 @@ use Rattle.cfgast.specs.Syntax.{syntax_of}
 use Rattle.cfgast.specs.View.{syntax, syntax_built, word_view, token_view}
 use Rattle.cfgast.specs.declared.ast.GrammarAST.{GrammarAST}
 use Rattle.cfgkinds.specs.declared.kind.YaccKind.{YaccKind}
-use Rattle.cfgheader.specs.declared.section.header_fault.HeaderFault.{HeaderFault}
-use Rattle.cfgheader.specs.declared.section.header_fault.HeaderFault.TheVariants as header
-use Rattle.cfgheader.specs.SectionGrammar.{Entry}
-use Rattle.cfgheader.specs.SectionReads.{section_of, errors_view}
 use Rattle.reading.specs.Construct.{Construct, computes}
 use Rattle.reading.specs.Read.{stop_of}
 use Rattle.cfgreader.specs.Grammar.{file}
-use Rattle.cfgreader.specs.Reads as reads
-use Rattle.cfgreader.specs.declared.read.Stopped.{Stopped}
-use Rattle.cfgreader.specs.declared.read.Stopped.TheVariants as stops
 use Rattle.cfgreader.specs.declared.bodies.Part.{Part as CodePart}
 use Rattle.cfgreader.specs.declared.bodies.Part.TheVariants as code_parts
 use Rattle.cfgreader.specs.declared.bodies.Parts.{Parts as CodeParts}
@@ -90,18 +83,7 @@ IsActionHere old new (Some action) = (action_of old.rest.now ≡ Some (action.0.
     × (action_at old.len old.rest.now action.0.now new.rest.now ≡ (action.0.now, action.1)) × (new.len ≡ old.len) × (new.tree ≡ old.tree)
 IsActionHere old new None = (action_of old.rest.now ≡ None) × (new ≡ old)
 
--- what stopped a reading
-abbrev pub stop_view : Stopped → reads.Stop
-stop_view (stops.Section errors) = reads.InSection (errors_view errors.items)
-stop_view (stops.File fault) = reads.InFile fault
-
--- what is left behind the section of a text, or the errors of that
-abbrev pub IsBehindSection : List ℕ → Result (Bor (List ℕ)) HeaderFault → Type 0
-IsBehindSection text (Ok rest) = (entries : List Entry) × (section_of false text ≡ Ok (entries, rest.now))
-IsBehindSection text (Err (header.Errors errors)) = section_of false text ≡ Err (errors_view errors.items)
-IsBehindSection text (Err header.OutOfMemory) = Unit {0}
-
 -- the tree of a file, and what stopped its reading
-abbrev pub IsFile : YaccKind → ℕ → List ℕ → GrammarAST × Option Stopped → Type 0
+abbrev pub IsFile : YaccKind → ℕ → List ℕ → GrammarAST × Option Fault → Type 0
 IsFile kind len rest (tree, stop) = (syntax tree ≡ syntax_of (computes (file kind len) rest).items)
-    × (option_map stop_view stop ≡ option_map reads.InFile (stop_of (computes (file kind len) rest).outcome))
+    × (stop ≡ stop_of (computes (file kind len) rest).outcome)

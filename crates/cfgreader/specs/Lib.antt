@@ -3,5 +3,4 @@ pub mod Declarations
 pub mod Grammar
 pub mod Here
 pub mod Lists
-pub mod Reads
 pub mod Rules

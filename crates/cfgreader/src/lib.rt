@@ -1,12 +1,13 @@
-//! The reader of Yacc files: the grammar of a file, and what is read of a text, its section and the file behind that.
+//! The reader of Yacc files: the grammar of a file, as it stands behind a section, and what is read of one.
 #![tactic(auto)]
 
 mod bodies;
 mod declarations;
 mod laws;
 mod lists;
-pub mod read;
+mod read;
 mod reader;
 mod rules;
 
 pub use laws::file_is_graph;
+pub use read::read_file;

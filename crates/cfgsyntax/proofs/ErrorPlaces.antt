@@ -33,7 +33,7 @@ use Rattle.cfgerrors.specs.Errors.{ErrorKind, GrammarError, header_error, Invali
 use Rattle.cfgcheck.specs.Check.{is_rule, is_token, nowhere, first_error, start_error, symbol_error, precedence_error, production_error, printed_error, place_error, rule_error, check_of}
 use Rattle.cfgsyntax.specs.Faults.{kind_of, error_of, duplicate_error, stop_errors, errors_of}
 use Rattle.cfgwords.specs.Places.{IsPiece, IsWithin, IsWordAt}
-use Rattle.cfgreader.specs.Reads.{Stop, InSection, InFile, ReadsFile, ReadsBehind, Reads}
+use Rattle.cfgsyntax.specs.Reads.{Stop, InSection, InFile, ReadsFile, ReadsBehind, Reads}
 use Rattle.cfgsyntax.specs.Spans.{EachErrorSpan}
 use Rattle.cfgreader.proofs.Kept.{IsItemAt}
 use Rattle.cfgreader.proofs.KeptRules.{file_kept}

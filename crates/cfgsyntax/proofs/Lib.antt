@@ -1,3 +1,5 @@
+mod Behind
 pub mod ErrorPlaces
 pub mod OfItselfLemmas
+pub mod OneReading
 pub mod SoundLemmas

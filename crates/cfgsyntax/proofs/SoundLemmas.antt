@@ -6,7 +6,7 @@ use Rattle.cfgkinds.specs.declared.kind.YaccKind.{YaccKind}
 use Rattle.cfgerrors.specs.Errors.{GrammarError, InvalidStartRule, error_at}
 use Rattle.cfgcheck.specs.Check.{is_rule, first_error, start_error, rule_error, printed_error, symbol_error, check_of}
 use Rattle.cfgsyntax.specs.Faults.{all_errors, errors_of}
-use Rattle.cfgreader.specs.Reads.{Stop, Reads, HasOneReading}
+use Rattle.cfgsyntax.specs.Reads.{Stop, Reads, HasOneReading}
 use Rattle.cfgast.specs.Items.{Item}
 use Rattle.cfgwords.specs.Words.{Word}
 use Rattle.cfgast.specs.Writing.{started_at}

@@ -13,7 +13,7 @@ use Rattle.cfgast.specs.Syntax.{Syntax, syntax_of}
 use Rattle.cfgerrors.specs.Errors.{ErrorKind, GrammarError, Nameless, error_at, header_error}
 use Rattle.cfgerrors.specs.declared.error.YaccGrammarErrorKind.TheVariants as kinds
 use Rattle.cfgcheck.specs.Check.{check_of}
-use Rattle.cfgreader.specs.Reads.{Stop, InSection, InFile}
+use Rattle.cfgsyntax.specs.Reads.{Stop, InSection, InFile}
 
 abbrev pub kind_of : FaultKind → ErrorKind
 kind_of faults.IllegalInteger = Nameless kinds.IllegalInteger

@@ -9,7 +9,7 @@ use Rattle.cfgerrors.specs.declared.error.YaccFault.{YaccFault}
 use Rattle.cfgerrors.specs.declared.error.YaccFault.TheVariants as faults
 use Rattle.cfgsyntax.specs.Faults.{errors_of}
 use Rattle.cfgsyntax.specs.Parsed.{Parsed}
-use Rattle.cfgreader.specs.Reads.{Stop, Reads, HasOneReading}
+use Rattle.cfgsyntax.specs.Reads.{Stop, Reads, HasOneReading}
 
 -- This was parsed from the text as a file of this kind: the text has one reading, and the syntax and the errors are that's.
 pub record IsParsedAs (kind : YaccKind) (text : List ℕ) (parsed : Parsed) : Type 0 where

@@ -5,10 +5,11 @@ ghost use Rattle.cfgast.specs.Occurrences.{duplicates};
 ghost use Rattle.cfgast.specs.View.{syntax, occurrence_view};
 ghost use Rattle.cfgheader.specs.SectionReads.{errors_view};
 ghost use Rattle.cfgerrors.specs.Errors.{kind_view, header_error};
-ghost use Rattle.cfgreader.specs.Builds.{stop_view};
 ghost use Rattle.cfgsyntax.specs.Faults.{repeated_kind, duplicate_error, stop_errors, all_errors};
+ghost use Rattle.cfgsyntax.specs.Steps.{stop_view};
 
 use super::fault::error_of;
+use crate::read::Stopped;
 use cfgast::duplicates::duplicates;
 use cfgast::{GrammarAST, Occurrence, UniqueKind};
 use cfgbase::Span;
@@ -20,7 +21,6 @@ use cfgerrors::YaccGrammarErrorKind::{
 };
 use cfgerrors::{HeaderError, YaccGrammarError, YaccGrammarErrorKind};
 use cfghash::NameHashes;
-use cfgreader::read::Stopped;
 use std::alloc::{AllocError, Global};
 
 /// The kind of error for what is declared more than once.

@@ -1,8 +1,8 @@
 use Rattle.std.proofs.Common.{Ok, Err}
 use Rattle.std.proofs.lemmas.Result.{err_from_is_err_and}
 use Rattle.cfgheader.proofs.SectionParsed.{parsed}
-use Rattle.cfgreader.proofs.Behind.{end_at, faulty, rest_is}
-use Rattle.cfgreader.proofs.read.behind_section.Goals as goal
+use Rattle.cfgsyntax.proofs.Behind.{end_at, faulty, rest_is}
+use Rattle.cfgsyntax.proofs.read.behind_section.Goals as goal
 
 pub split_at-requires : goal.split_at-requires
 split_at-requires c =

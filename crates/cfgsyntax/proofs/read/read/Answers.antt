@@ -1,6 +1,6 @@
 use Rattle.std.proofs.Common.{refl, ◌∙◌, Err, option_map}
-use Rattle.cfgreader.proofs.OneReading.{one_reading, read_by, read_on}
-use Rattle.cfgreader.proofs.read.read.Goals as goal
+use Rattle.cfgsyntax.proofs.OneReading.{one_reading, read_by, read_on}
+use Rattle.cfgsyntax.proofs.read.read.Goals as goal
 
 pub returns-in-Ok-clause-one : goal.returns-in-Ok-clause-one
 returns-in-Ok-clause-one c = one_reading c.args.kind c.args.text.now
@@ -14,7 +14,7 @@ returns-in-Err-OutOfMemory-clause-one c = one_reading c.args.kind c.args.text.no
 pub returns-in-Ok-clause-read : goal.returns-in-Ok-clause-read
 returns-in-Ok-clause-read c =
     let behind = c.in-Ok.ensures.rest in
-    read_on c.args.kind c.args.text.now c.in-Ok.rest.now _ refl behind.0 behind.1 c.read_file.result c.read_file.ensures
+    read_on c.args.kind c.args.text.now c.in-Ok.rest.now _ refl behind.0 behind.1 c.read_behind.result c.read_behind.ensures
 
 pub returns-in-Err-Errors-clause-read : goal.returns-in-Err-Errors-clause-read
 returns-in-Err-Errors-clause-read c =

@@ -1,5 +1,6 @@
 -- A text has exactly one reading: that of its section, and then the one that the functions on lists compute.
 use Rattle.std.proofs.Common.{◌≡◌, ℕ, false, List, [], length, Option, Some, Result, Ok, Err, option_map, refl, sym, subst, ◌∙◌, ap}
+use Rattle.std.specs.Prelude.{IfOk}
 use Rattle.reading.specs.Construct.{computes}
 use Rattle.reading.specs.Read.{Read, stop_of}
 use Rattle.reading.proofs.Agree.{agree}
@@ -7,21 +8,17 @@ use Rattle.cfgbase.specs.declared.span.Span.{Span}
 use Rattle.cfgwords.specs.declared.fault.Fault.{Fault}
 use Rattle.cfgast.specs.Items.{Item}
 use Rattle.cfgast.specs.Syntax.{Syntax, syntax_of}
-use Rattle.cfgast.proofs.Law.{adds_syntax_of}
-use Rattle.cfgast.specs.Building.{adds}
-use Rattle.cfgast.specs.View.{syntax, syntax_built}
+use Rattle.cfgast.specs.View.{syntax}
 use Rattle.cfgast.specs.declared.ast.GrammarAST.{GrammarAST}
-use Rattle.std.specs.Prelude.{IfOk}
-use Rattle.cfgreader.specs.declared.read.Stopped.{Stopped}
 use Rattle.cfgkinds.specs.declared.kind.YaccKind.{YaccKind}
 use Rattle.cfgerrors.specs.HeaderErrors.{ShownError}
 use Rattle.cfgheader.specs.SectionGrammar.{Entry}
 use Rattle.cfgheader.specs.SectionReads.{section_of}
 use Rattle.cfgheader.proofs.SectionOne.{one_section, section_answered}
-use Rattle.cfgreader.specs.declared.reader.Reader.{Reader}
-use Rattle.cfgreader.specs.Builds.{Grows, IsFile, stop_view}
 use Rattle.cfgreader.specs.Grammar.{file}
-use Rattle.cfgreader.specs.Reads.{Stop, InSection, InFile, ReadsFile, ReadsBehind, Reads, HasOneReading}
+use Rattle.cfgsyntax.specs.declared.read.Stopped.{Stopped}
+use Rattle.cfgsyntax.specs.Steps.{IsReadBehind, stop_view}
+use Rattle.cfgsyntax.specs.Reads.{Stop, InSection, InFile, ReadsFile, ReadsBehind, Reads, HasOneReading}
 
 module _ (kind : YaccKind) (len : ℕ) where
   -- what is read behind such a section, and where that stops
@@ -76,20 +73,6 @@ one_reading kind text =
       only = λ xs s reads. let is = read_is kind text xs s reads in (sym is.0, sym is.1);
     }
 
--- what the reader built of a file, where it began with no items
-pub file_built : (kind : YaccKind) (len : ℕ) (rest : List ℕ) (old new : Reader) (made : Syntax)
-    → old.rest.now ≡ rest → old.len ≡ len → syntax_built old.tree ≡ syntax_of [] → made ≡ syntax_built new.tree
-    → Grows old new (computes (file kind old.len) old.rest.now).items → made ≡ syntax_of (computes (file kind len) rest).items
-file_built kind len rest old new made whole long tree is grown =
-    is ∙ grown ∙ ap (λ s. adds s (computes (file kind old.len) old.rest.now).items) tree
-    ∙ (λ i. adds (syntax_of []) (computes (file kind (long i)) (whole i)).items) ∙ adds_syntax_of (computes (file kind len) rest).items
-
-pub file_stopped : (kind : YaccKind) (len : ℕ) (rest : List ℕ) (old : Reader) (found : Option Fault) → old.rest.now ≡ rest → old.len ≡ len
-    → stop_of (computes (file kind old.len) old.rest.now).outcome ≡ found
-    → option_map InFile found ≡ option_map InFile (stop_of (computes (file kind len) rest).outcome)
-file_stopped kind len rest old found whole long stops =
-    ap (option_map InFile) (sym stops ∙ (λ i. stop_of (computes (file kind (long i)) (whole i)).outcome))
-
 -- what was read of a text, by its section
 pub read_by : (kind : YaccKind) (text : List ℕ) (section : Result (List Entry × List ℕ) (List (ShownError Span))) (made : Syntax) (found : Option Stop)
     → section_of false text ≡ section → made ≡ syntax_of (items_behind kind (length text) section) → found ≡ stop_behind kind (length text) section
@@ -102,9 +85,9 @@ read_by kind text section made found is built stopped items stop reads =
 
 -- where the file was read
 pub read_on : {E : Type 0} (kind : YaccKind) (text rest : List ℕ) (len : ℕ) → len ≡ length text → (entries : List Entry) → section_of false text ≡ Ok (entries, rest)
-    → (r : Result (GrammarAST × Option Stopped) E) → IfOk r (IsFile kind len rest)
+    → (r : Result (GrammarAST × Option Stopped) E) → IfOk r (IsReadBehind kind len rest)
     → IfOk r (λ x. (items : List Item) (stop : Option Stop) → Reads kind text items stop → (syntax x.0 ≡ syntax_of items) × (option_map stop_view x.1 ≡ stop))
 read_on kind text rest len long entries section (Err refused) h = tt
 read_on kind text rest len long entries section (Ok (tree, stop)) h =
-    let built = subst (λ n. IsFile kind n rest (tree, stop)) long h in
+    let built = subst (λ n. IsReadBehind kind n rest (tree, stop)) long h in
     read_by kind text (Ok (entries, rest)) (syntax tree) (option_map stop_view stop) section built.0 built.1

@@ -1,0 +1,33 @@
+-- What the steps of reading a text do, told by its section.
+use Rattle.std.specs.Prelude.{◌≡◌, ℕ, false, List, Option, option_map, Result, Ok, Err}
+use denote.Ref.{Bor}
+use Rattle.reading.specs.Construct.{computes}
+use Rattle.reading.specs.Read.{stop_of}
+use Rattle.cfgast.specs.Syntax.{syntax_of}
+use Rattle.cfgast.specs.View.{syntax}
+use Rattle.cfgast.specs.declared.ast.GrammarAST.{GrammarAST}
+use Rattle.cfgkinds.specs.declared.kind.YaccKind.{YaccKind}
+use Rattle.cfgheader.specs.declared.section.header_fault.HeaderFault.{HeaderFault}
+use Rattle.cfgheader.specs.declared.section.header_fault.HeaderFault.TheVariants as header
+use Rattle.cfgheader.specs.SectionGrammar.{Entry}
+use Rattle.cfgheader.specs.SectionReads.{section_of, errors_view}
+use Rattle.cfgreader.specs.Grammar.{file}
+use Rattle.cfgsyntax.specs.Reads.{Stop, InSection, InFile}
+use Rattle.cfgsyntax.specs.declared.read.Stopped.{Stopped}
+use Rattle.cfgsyntax.specs.declared.read.Stopped.TheVariants as stops
+
+-- what stopped a reading
+abbrev pub stop_view : Stopped → Stop
+stop_view (stops.Section errors) = InSection (errors_view errors.items)
+stop_view (stops.File fault) = InFile fault
+
+-- what is left behind the section of a text, or the errors of that
+abbrev pub IsBehindSection : List ℕ → Result (Bor (List ℕ)) HeaderFault → Type 0
+IsBehindSection text (Ok rest) = (entries : List Entry) × (section_of false text ≡ Ok (entries, rest.now))
+IsBehindSection text (Err (header.Errors errors)) = section_of false text ≡ Err (errors_view errors.items)
+IsBehindSection text (Err header.OutOfMemory) = Unit {0}
+
+-- the tree of what is left behind it, and what stopped the reading
+abbrev pub IsReadBehind : YaccKind → ℕ → List ℕ → GrammarAST × Option Stopped → Type 0
+IsReadBehind kind len rest (tree, stop) = (syntax tree ≡ syntax_of (computes (file kind len) rest).items)
+    × (option_map stop_view stop ≡ option_map InFile (stop_of (computes (file kind len) rest).outcome))

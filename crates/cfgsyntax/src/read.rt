@@ -1,0 +1,78 @@
+//! The reading of a whole text: its section, and the file behind that.
+
+ghost use Rattle.std.specs.Prelude.{◌≡◌, ◌≤◌, length, List, Option, IfOk, option_map};
+ghost use Rattle.cfgast.specs.Items.{Item};
+ghost use Rattle.cfgast.specs.Syntax.{syntax_of};
+ghost use Rattle.cfgast.specs.View.{syntax};
+ghost use Rattle.cfgsyntax.specs.Reads.{HasOneReading, InFile, Reads, Stop};
+ghost use Rattle.cfgsyntax.specs.Steps.{IsBehindSection, IsReadBehind, stop_view};
+
+use cfgast::{AstBuilder, GrammarAST};
+use cfgbase::Span;
+use cfgerrors::HeaderError;
+use cfgheader::{GrmtoolsSectionParser, HeaderFault};
+use cfgkinds::YaccKind;
+use cfgreader::read_file;
+use cfgwords::fault::Fault;
+use std::alloc::{AllocError, Global};
+
+/// What stopped the reading of a text.
+#[derive(Drop)]
+pub(crate) enum Stopped {
+    /// The errors of its section.
+    Section(Vec<HeaderError<Span>>),
+    /// A fault of its file.
+    File(Fault),
+}
+
+/// What is left of a text behind its section, which may be missing.
+fn behind_section<'a>(alloc: Global, text: &'a str) -> Result<&'a str, HeaderFault>
+    ensures rest { IsBehindSection text.now result }
+    ensures shorter { IfOk result (λ rest. length rest.now ≤ length text.now) }
+{
+    let (_, end) = GrmtoolsSectionParser::new(text, false).parse(alloc)?;
+    Ok(text.split_at(end).1)
+}
+
+/// What stopped the reading of a text, by what stopped that of its file.
+fn stop_in_file(fault: Option<Fault>) -> Option<Stopped>
+    ensures { option_map stop_view result ≡ option_map InFile fault }
+{
+    fault.map(Stopped::File)
+}
+
+/// Reads what is left of a text of `len` bytes behind its section: what was read, and what stopped the reading, if
+/// anything did.
+fn read_behind(
+    alloc: Global,
+    kind: YaccKind,
+    len: usize,
+    rest: &str,
+) -> Result<(GrammarAST, Option<Stopped>), AllocError>
+    requires { length rest.now ≤ len }
+    ensures { IfOk result (IsReadBehind kind len rest.now) }
+{
+    let (tree, fault) = read_file(alloc, kind, len, rest)?;
+    Ok((tree, stop_in_file(fault)))
+}
+
+/// Reads a text as a grammar file of the kind, behind its section: what was read, and what stopped the reading, if
+/// anything did. Behind a section with errors nothing is read.
+pub(crate) fn read(
+    alloc: Global,
+    kind: YaccKind,
+    text: &str,
+) -> Result<(GrammarAST, Option<Stopped>), AllocError>
+    ensures one { HasOneReading kind text.now }
+    ensures read { IfOk result (λ x. (items : List Item) (stop : Option Stop) → Reads kind text.now items stop
+        → (syntax x.0 ≡ syntax_of items) × (option_map stop_view x.1 ≡ stop)) }
+{
+    match behind_section(alloc, text) {
+        Ok(rest) => read_behind(alloc, kind, text.len(), rest),
+        Err(HeaderFault::Errors(errors)) => {
+            let nothing = AstBuilder::new(alloc, text).finish();
+            Ok((nothing, Some(Stopped::Section(errors))))
+        }
+        Err(HeaderFault::OutOfMemory) => Err(AllocError),
+    }
+}
