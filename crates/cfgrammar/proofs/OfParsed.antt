@@ -12,7 +12,7 @@ use Rattle.cfgsyntax.specs.Faults.{errors_of}
 use Rattle.cfgsyntax.specs.OfItself.{AnswersNaming, IsParsedAs}
 use Rattle.cfgsyntax.specs.Parsed.{Parsed}
 use Rattle.cfgsyntax.specs.Spans.{EachFaultSpan, EachParsedSpan}
-use Rattle.cfgreader.specs.Reads.{HasOneReading, Reads, Stop}
+use Rattle.cfgsyntax.specs.Reads.{HasOneReading, Reads, Stop}
 use Rattle.cfgrammar.specs.Answer.{IsAnswer}
 use Rattle.cfgrammar.specs.GrammarOf.{IsGrammarOf, IsGrammarOfItself}
 use Rattle.cfgrammar.specs.Spans.{EachAnswerSpan}

@@ -9,7 +9,7 @@ use Rattle.cfgerrors.specs.declared.error.YaccFault.TheVariants as refusals
 use Rattle.cfgsyntax.specs.Faults.{errors_of}
 use Rattle.cfgsyntax.specs.OfItself.{AnswersNaming, IsParsedAs}
 use Rattle.cfgsyntax.specs.Parsed.{Parsed}
-use Rattle.cfgreader.specs.Reads.{HasOneReading}
+use Rattle.cfgsyntax.specs.Reads.{HasOneReading}
 use Rattle.cfgrammar.specs.Answer.{IsAnswer, IsRefused}
 use Rattle.cfgrammar.specs.GrammarOf.{HoldsOfItself, HoldsOfNaming, HoldsOfReading}
 use Rattle.cfgrammar.proofs.OfItself.{HoldsOfFault, parsed_itself, reading_holds, refused_itself, refuses}
