@@ -1,5 +1,5 @@
 -- What is left behind the section of a text.
-use Rattle.std.proofs.Common.{◌≡◌, ℕ, ◌≤◌, Bool, false, List, Result, Ok, Err, length, drop, sym, ap, subst, ◌∙◌, arith, length-append, drop_at}
+use Rattle.std.proofs.Common.{◌≡◌, ℕ, Bool, false, List, Ok, Err, length, drop, sym, ap, subst, ◌∙◌, arith, length-append, drop_at}
 use Rattle.std.specs.Borrow.{Bor}
 use Rattle.std.specs.Str.{IsUtf8, IsCharBoundary}
 use Rattle.cfgwords.specs.Text.{place}

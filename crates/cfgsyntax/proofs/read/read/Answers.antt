@@ -1,4 +1,4 @@
-use Rattle.std.proofs.Common.{refl, ◌∙◌, Err, option_map}
+use Rattle.std.proofs.Common.{refl, ◌∙◌, Err}
 use Rattle.cfgsyntax.proofs.OneReading.{one_reading, read_by, read_on}
 use Rattle.cfgsyntax.proofs.read.read.Goals as goal
 

@@ -1,5 +1,5 @@
 use Rattle.std.proofs.lemmas.Result.{err_from_is_err_and}
-use Rattle.cfgsyntax.proofs.OfItselfLemmas.{refusal, no_memory, parsed_as}
+use Rattle.cfgsyntax.proofs.OfItselfLemmas.{refusal, parsed_as}
 use Rattle.cfgsyntax.proofs.yacc.ast.ASTWithValidityInfo.from_str.Goals as goal
 
 pub returns-in_err-kind-clause-answer : goal.returns-in_err-kind-clause-answer
