@@ -9,6 +9,7 @@ use std::alloc::AllocError;
 use std::io;
 use trees::{kinds, written};
 use values::{lines, marks, numbers};
+use vectors::every;
 
 /// What is answered of rows of all kinds.
 struct All;
@@ -23,6 +24,7 @@ impl Answers for All {
     ) -> Result<(), AllocError> {
         match row.tries {
             "row" => vectors::tell(out, rt.alloc(), row, text),
+            "cuts" => every::tell(out, rt, text),
             "section" => sections::tell(out, rt.alloc(), row, text),
             "generator" => costs::tell(out, rt.alloc(), row, text),
             "lines" => lines::tell(out, rt.alloc(), row, text),

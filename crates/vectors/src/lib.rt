@@ -2,6 +2,7 @@
 #![tactic(auto)]
 
 mod accessors;
+pub mod every;
 mod grammar;
 mod names;
 mod openings;
