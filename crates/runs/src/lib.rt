@@ -5,4 +5,6 @@ mod desk;
 mod given;
 mod narrow;
 pub mod programs;
+pub mod reports;
+mod rooms;
 pub mod runs;

@@ -2,15 +2,23 @@
 
 use rows::row::Row;
 use std::alloc::Global;
-use std::io::{self, Write};
+use std::io::{self, ErrorKind, Write};
 
-/// A writer that takes few bytes at a time, and so many in all; then it fails, or takes none.
+/// What a writer does where its room ends.
+#[derive(Clone, Copy)]
+pub(crate) enum End {
+    Fails,
+    IsInterrupted,
+    TakesNone,
+}
+
+/// A writer that takes few bytes at a time, and so many in all; then it ends.
 #[derive(Drop)]
 pub(crate) struct Narrow {
     taken: Vec<u8>,
     step: usize,
     room: usize,
-    takes_none: bool,
+    end: End,
     /// How many faults it is known to have had.
     pub(crate) faults: u64,
     /// Whether memory ended for what it took, which is no fault of the run.
@@ -18,26 +26,32 @@ pub(crate) struct Narrow {
 }
 
 impl Narrow {
-    pub(crate) fn new(alloc: Global, step: usize, room: usize, takes_none: bool) -> Self {
+    pub(crate) fn new(alloc: Global, step: usize, room: usize, end: End) -> Self {
         Narrow {
             taken: Vec::new(alloc),
             step,
             room,
-            takes_none,
+            end,
             faults: 0,
             wants_memory: false,
         }
     }
 
     /// The writer that a row describes: `room NAME N` says how many bytes it takes, `step NAME N` how many of them at a
-    /// time, and `full NAME` that it takes none where its room ends. Else it takes all.
+    /// time; `full NAME` that it takes none where its room ends, and `interrupts NAME` that it is interrupted there. Else it
+    /// takes all.
     pub(crate) fn of_row(alloc: Global, row: &Row<'_>, name: &str) -> Self {
         Narrow::new(
             alloc,
             row.number_of("step", name).unwrap_or(usize::MAX),
             row.number_of("room", name).unwrap_or(usize::MAX),
-            row.number_of("full", name).is_some(),
+            end_of_row(row, name),
         )
+    }
+
+    /// A writer that takes all.
+    pub(crate) fn wide(alloc: Global) -> Self {
+        Narrow::new(alloc, usize::MAX, usize::MAX, End::Fails)
     }
 
     /// What it took.
@@ -54,11 +68,24 @@ impl Narrow {
     }
 }
 
+/// What the writer of a row does where its room ends.
+fn end_of_row(row: &Row<'_>, name: &str) -> End {
+    if row.number_of("full", name).is_some() {
+        End::TakesNone
+    } else if row.number_of("interrupts", name).is_some() {
+        End::IsInterrupted
+    } else {
+        End::Fails
+    }
+}
+
 impl Write for Narrow {
     fn write(&mut self, bytes: &[u8]) -> io::Result<usize> {
         let count = bytes.len().min(self.step).min(self.room);
-        if count == 0 && !self.takes_none {
-            return Err(io::Error::from(io::ErrorKind::BrokenPipe));
+        match self.end {
+            End::Fails if count == 0 => return Err(ErrorKind::BrokenPipe.into()),
+            End::IsInterrupted if count == 0 => return Err(ErrorKind::Interrupted.into()),
+            _ => {}
         }
         match self.taken.extend_from_slice(&bytes[..count]) {
             Ok(()) => self.room -= count,

@@ -1,21 +1,25 @@
 //! Rows on runs of the program.
 
 use crate::narrow::Narrow;
+use crate::rooms::{Run, write_rooms};
 use cfgtool::{Counted, Input, Sink, Source, run};
-use rows::pen;
 use rows::row::Row;
-use rows::text::write_text;
+use rows::text::{push_turn, write_text};
 use std::alloc::{AllocError, Global};
 
-/// One file, under every name.
+/// Two files, of which the first that is asked for is `first`, under every name.
 #[derive(Drop)]
-struct OneFile {
-    input: Option<Input>,
+struct TwoFiles {
+    first: Option<Input>,
+    second: Option<Input>,
 }
 
-impl Source for OneFile {
+impl Source for TwoFiles {
     fn fetch(&mut self, _name: &str) -> Input {
-        self.input.take().unwrap_or(Input::Unreadable)
+        let next = self.second.take();
+        let input = self.first.take();
+        self.first = next;
+        input.unwrap_or(Input::Unreadable)
     }
 }
 
@@ -30,13 +34,59 @@ pub fn tell(out: &mut String, alloc: Global, row: &Row<'_>, text: &str) -> Resul
     writeln!(out, "status {status}")?;
     write_taken(out, "output", &output)?;
     write_taken(out, "errors", &errors)?;
-    if row.first("rooms").is_some() {
-        for step in [1, 4, usize::MAX] {
-            write_rooms(out, alloc, row, text, (step, false), output.bytes())?;
-            write_rooms(out, alloc, row, text, (step, true), output.bytes())?;
-        }
+    write_asked_rooms(out, alloc, row, text, (output.bytes(), errors.bytes()))
+}
+
+/// Writes how the program ends on outputs of every room, where the row asks for one of the two.
+fn write_asked_rooms(
+    out: &mut String,
+    alloc: Global,
+    row: &Row<'_>,
+    text: &str,
+    (output, errors): (&[u8], &[u8]),
+) -> Result<(), AllocError> {
+    let is_errors = row.first("rooms") == Some("err");
+    let run = OneOutput {
+        alloc,
+        row,
+        text,
+        is_errors,
+    };
+    match row.first("rooms") {
+        Some(_) => write_rooms(out, alloc, &run, if is_errors { errors } else { output }),
+        None => Ok(()),
     }
-    Ok(())
+}
+
+/// A run of the program in which one of the two outputs is a given writer.
+#[derive(Drop)]
+struct OneOutput<'a> {
+    alloc: Global,
+    row: &'a Row<'a>,
+    text: &'a str,
+    is_errors: bool,
+}
+
+impl Run for OneOutput<'_> {
+    fn ended(&self, writer: &mut Narrow) -> Result<&'static str, AllocError> {
+        let mut other = Narrow::wide(self.alloc);
+        let status = if self.is_errors {
+            run_over(self.alloc, self.row, self.text, &mut other, writer)?
+        } else {
+            run_over(self.alloc, self.row, self.text, writer, &mut other)?
+        };
+        Ok(word_of(status))
+    }
+}
+
+/// A status in a word.
+fn word_of(status: u8) -> &'static str {
+    match status {
+        0 => "0",
+        1 => "1",
+        2 => "2",
+        _ => "3",
+    }
 }
 
 /// Runs the program over two writers, and answers its status. The writers then know their faults.
@@ -49,8 +99,9 @@ fn run_over(
 ) -> Result<u8, AllocError> {
     let words = row.first("words").unwrap_or("");
     let args: Vec<&str> = words.split_whitespace().collect(alloc)?;
-    let input = Some(input(alloc, row, text)?);
-    let mut source = OneFile { input };
+    let first = Some(input(alloc, row, text)?);
+    let second = second_input(alloc, row)?;
+    let mut source = TwoFiles { first, second };
     let mut to_output = Counted::new(&mut *output);
     let mut to_errors = Counted::new(&mut *errors);
     let status = run(alloc, &args, &mut source, &mut to_output, &mut to_errors);
@@ -63,33 +114,6 @@ fn run_over(
     Ok(status)
 }
 
-/// Writes how the program ends on outputs with room for none of the bytes, for one, and so on up to all of them: how
-/// many bytes each took, and the status.
-fn write_rooms(
-    out: &mut String,
-    alloc: Global,
-    row: &Row<'_>,
-    text: &str,
-    (step, takes_none): (usize, bool),
-    whole: &[u8],
-) -> Result<(), AllocError> {
-    let end = if takes_none { "takes none" } else { "fails" };
-    write!(
-        out,
-        "    at most {step} bytes at a time, and {end} at the end:"
-    )?;
-    for room in 0..=whole.len() {
-        let mut output = Narrow::new(alloc, step, room, takes_none);
-        let mut errors = Narrow::new(alloc, usize::MAX, usize::MAX, false);
-        let status = run_over(alloc, row, text, &mut output, &mut errors)?;
-        pen::numbers(out, (" ", output.bytes().len()), (":", usize::from(status)))?;
-        if !whole.starts_with(output.bytes()) {
-            out.push_str(" (no beginning)")?;
-        }
-    }
-    out.push('\n')
-}
-
 /// What the row's file holds.
 fn input(alloc: Global, row: &Row<'_>, text: &str) -> Result<Input, AllocError> {
     Ok(match row.first("input") {
@@ -100,8 +124,20 @@ fn input(alloc: Global, row: &Row<'_>, text: &str) -> Result<Input, AllocError> 
     })
 }
 
+/// What the second file holds, where the row says that: a lexer's names.
+fn second_input(alloc: Global, row: &Row<'_>) -> Result<Option<Input>, AllocError> {
+    match row.first("names") {
+        Some(line) => {
+            let mut names = String::new(alloc);
+            push_turn(&mut names, line, 0)?;
+            Ok(Some(Input::Bytes(names.into_bytes())))
+        }
+        None => Ok(None),
+    }
+}
+
 /// Writes what an output took.
-fn write_taken(out: &mut String, name: &str, taken: &Narrow) -> Result<(), AllocError> {
+pub(crate) fn write_taken(out: &mut String, name: &str, taken: &Narrow) -> Result<(), AllocError> {
     let (bytes, faults) = (taken.bytes(), taken.faults);
     writeln!(out, "{name} of {} bytes, {faults} faults", bytes.len())?;
     match std::str::from_utf8(bytes) {

@@ -32,6 +32,7 @@ impl Answers for All {
             "values" => numbers::tell(out, rt.alloc(), row, text),
             "errors" => kinds::tell(out, rt.alloc(), row, text),
             "tree" => written::tell(out, rt.alloc(), row, text),
+            "report" => runs::reports::tell(out, rt.alloc(), row, text),
             "run" => runs::runs::tell(out, rt.alloc(), row, text),
             "program" => runs::programs::tell(out, rt, row, text),
             _ => writeln!(out, "no such row: {}", row.tries),

@@ -1,0 +1,73 @@
+//! Rows on the reports of a text.
+
+use crate::narrow::Narrow;
+use crate::rooms::{Run, write_rooms};
+use crate::runs::write_taken;
+use cfgtool::words::{command_of, kind_of};
+use cfgtool::{Counted, KindArg, Outcome, ReportFault, Sink, report, report_lex};
+use rows::row::Row;
+use rows::text::push_turn;
+use std::alloc::{AllocError, Global};
+
+/// A report of a text: what the command tells, or else where its tokens and the names differ.
+#[derive(Drop)]
+struct Report<'a> {
+    alloc: Global,
+    kind: KindArg,
+    command: &'a str,
+    names: &'a str,
+    text: &'a str,
+}
+
+impl Run for Report<'_> {
+    fn ended(&self, writer: &mut Narrow) -> Result<&'static str, AllocError> {
+        let mut counted = Counted::new(&mut *writer);
+        let answer = match command_of(self.command) {
+            Some(command) => report(self.alloc, self.kind, command, self.text, &mut counted),
+            None => report_lex(self.alloc, self.kind, self.text, self.names, &mut counted),
+        };
+        let faults = counted.faults();
+        writer.faults = faults;
+        match answer {
+            Ok(Outcome::Done) => Ok("Done"),
+            Ok(Outcome::Refused) => Ok("Refused"),
+            Err(ReportFault::Write) => Ok("Write"),
+            Err(ReportFault::OutOfMemory) => Err(AllocError),
+        }
+    }
+}
+
+/// Writes what is answered of the report that the row's words ask for, and what was written; and over writers of every
+/// room, where the row asks for that.
+pub fn tell(out: &mut String, alloc: Global, row: &Row<'_>, text: &str) -> Result<(), AllocError> {
+    let words = row.first("words").unwrap_or("");
+    let (kind, command) = words.split_once(' ').unwrap_or((words, ""));
+    let mut names = String::new(alloc);
+    push_turn(&mut names, row.first("names").unwrap_or(""), 0)?;
+    match kind_of(kind) {
+        Some(kind) => {
+            let names = names.as_str();
+            let asked = Report {
+                alloc,
+                kind,
+                command,
+                names,
+                text,
+            };
+            tell_report(out, row, &asked)
+        }
+        None => out.push_str("no such kind\n"),
+    }
+}
+
+/// Writes what is answered of a report.
+fn tell_report(out: &mut String, row: &Row<'_>, asked: &Report<'_>) -> Result<(), AllocError> {
+    let mut output = Narrow::of_row(asked.alloc, row, "out");
+    let word = asked.ended(&mut output)?;
+    writeln!(out, "report {}: {word}", asked.command)?;
+    write_taken(out, "output", &output)?;
+    match row.first("rooms") {
+        Some(_) => write_rooms(out, asked.alloc, asked, output.bytes()),
+        None => Ok(()),
+    }
+}
