@@ -3,8 +3,6 @@ use Rattle.std.specs.Prelude.{◌≡◌, ℕ, List, [], Option, Result, Ok, Err}
 use Rattle.std.specs.Io.KnownBytes.{Appends, Keeps}
 use Rattle.cfgast.specs.Syntax.{Syntax}
 use Rattle.cfgerrors.specs.Errors.{GrammarError}
-use Rattle.cfgerrors.specs.declared.error.YaccFault.{YaccFault}
-use Rattle.cfgerrors.specs.declared.error.YaccFault.TheVariants as refusals
 use Rattle.cfgrammar.specs.Answer.{IsRefused}
 use Rattle.cfgnumbers.specs.Fits.{Fits}
 use Rattle.cfgrammar.specs.GrammarOf.{HoldsOfItself, HoldsOfReading}
@@ -51,11 +49,6 @@ AreLexerLines names s g lines = lines ≡ lexer_lines g (names_in names)
 abbrev pub AreAskedLines : Request → List ℕ → Syntax → Numbered → List ℕ → Type 0
 AreAskedLines (requests.Command command) text s g lines = AreLinesOf command text s g lines
 AreAskedLines (requests.Names names) text s g lines = AreLexerLines names.now s g lines
-
--- what is told of a refusal: its lines, and nothing where memory ended
-abbrev pub TellsFault : List ℕ → YaccFault → Outcome → List ℕ → Type 0
-TellsFault text refusals.OutOfMemory outcome lines = ⊥
-TellsFault text (refusals.Errors told) outcome lines = (outcome ≡ Refused) × (lines ≡ error_lines text told.items)
 
 -- `AreLines` says of a syntax and of that in numbers which lines are told of them.
 module _ (AreLines : Syntax → Numbered → List ℕ → Type 0) where

@@ -4,13 +4,12 @@ ghost use Rattle.std.specs.Prelude.{◌≡◌, ◌+◌, ◌-◌, ◌^◌, ◌<�
 ghost use Rattle.cfgwords.specs.Places.{IsPiece, IsWithin};
 ghost use Rattle.cfgast.specs.Syntax.{EachSpan};
 ghost use Rattle.cfgast.specs.View.{syntax};
-ghost use Rattle.cfgsyntax.specs.Spans.{EachFaultSpan, EachParsedSpan};
+ghost use Rattle.cfgsyntax.specs.Spans.{EachParsedSpan};
 ghost use Rattle.cfgrammar.specs.GrammarOf.{HoldsOfItself, HoldsOfReading};
 ghost use Rattle.cfgnumbers.specs.Numbered.{numbered};
 ghost use Rattle.cfgtool.specs.Report.{AreAskedLines, AreLinesOf, HoldsOfText, IsReport, Tells};
-ghost use Rattle.cfgtool.specs.Report.{TellsFault, TellsLexer, TellsText};
+ghost use Rattle.cfgtool.specs.Report.{TellsLexer, TellsText};
 ghost use Rattle.cfgshell.specs.Endings.{faults_met};
-ghost use Rattle.cfgshell.specs.declared.outcome.Outcome.TheVariants.{Done};
 ghost use Rattle.cfgshell.specs.declared.outcome.ReportFault.TheVariants as variants;
 
 use crate::lexer_lines::lexer_lines;
@@ -24,7 +23,6 @@ use cfgrammar::yacc::{YaccGrammar, YaccKind};
 pub use cfgshell::outcome::{Outcome, ReportFault};
 use cfgshell::sink::{Sink, write_whole};
 use cfgshell::words::{Command, KindArg};
-use lending::{lend, lend_either};
 use std::alloc::{AllocError, Global};
 
 /// Writes what the command tells of the text's grammar, whose indices have 32 bits, or else the errors of the text,
@@ -124,9 +122,8 @@ fn report_as(
     ensures { HoldsOfReading kind text.now (λ errors s g. IfOk result (λ told.
         IsReport (AreAskedLines request.entry text.now) text.now errors s g told.0 (string_bytes told.1))) }
 {
-    lend(ASTWithValidityInfo::new(alloc, kind, text), |parsed| {
-        report_parsed(alloc, request, text, parsed)
-    })
+    let parsed = ASTWithValidityInfo::new(alloc, kind, text)?;
+    report_parsed(alloc, request, text, &parsed)
 }
 
 /// The report of a text as a file of the kind that it names.
@@ -138,11 +135,14 @@ fn report_itself(
     ensures { HoldsOfItself text.now (λ errors s g. IfOk result (λ told.
         IsReport (AreAskedLines request.entry text.now) text.now errors s g told.0 (string_bytes told.1))) }
 {
-    lend_either(
-        ASTWithValidityInfo::from_str(alloc, text),
-        |parsed| report_parsed(alloc, request, text, parsed),
-        |fault| report_fault(alloc, text, fault),
-    )
+    match ASTWithValidityInfo::from_str(alloc, text) {
+        Ok(parsed) => report_parsed(alloc, request, text, &parsed),
+        Err(YaccFault::Errors(errors)) => {
+            let lines = error_lines(alloc, text, &errors)?;
+            Ok((Outcome::Refused, lines))
+        }
+        Err(YaccFault::OutOfMemory) => Err(AllocError),
+    }
 }
 
 /// The report of a text that was read.
@@ -156,42 +156,15 @@ fn report_parsed(
     ensures { IfOk result (λ told. IsReport (AreAskedLines request.entry text.now) text.now parsed.now.errors
         parsed.now.syntax (numbered parsed.now.kind parsed.now.syntax) told.0 (string_bytes told.1)) }
 {
-    let ast = parsed.ast();
-    lend_either(
-        YaccGrammar::new_from_ast_with_validity_info(alloc, parsed),
-        |grammar| report_grammar(alloc, request, text, ast, grammar),
-        |fault| report_fault(alloc, text, fault),
-    )
-}
-
-/// The report of a text that is this tree, and this grammar.
-fn report_grammar(
-    alloc: Global,
-    request: Request<'_>,
-    text: &str,
-    ast: &GrammarAST,
-    grammar: &YaccGrammar<u32>,
-) -> Result<(Outcome, String), AllocError>
-    requires { EachSpan (IsPiece text.now) (IsWithin text.now) (syntax ast.now) }
-    ensures { IfOk result (λ told. (told.0 ≡ Done)
-        × AreAskedLines request.entry text.now (syntax ast.now) grammar.now (string_bytes told.1)) }
-{
-    let lines = request_lines(alloc, request, text, ast, grammar)?;
-    Ok((Outcome::Done, lines))
-}
-
-/// The report of a text that has errors.
-fn report_fault(
-    alloc: Global,
-    text: &str,
-    fault: &YaccFault,
-) -> Result<(Outcome, String), AllocError>
-    requires { EachFaultSpan (IsPiece text.now) fault.now }
-    ensures { IfOk result (λ told. TellsFault text.now fault.now told.0 (string_bytes told.1)) }
-{
-    match fault {
-        YaccFault::Errors(errors) => Ok((Outcome::Refused, error_lines(alloc, text, errors)?)),
-        YaccFault::OutOfMemory => Err(AllocError),
+    match YaccGrammar::new_from_ast_with_validity_info(alloc, parsed) {
+        Ok(grammar) => {
+            let lines = request_lines(alloc, request, text, parsed.ast(), &grammar)?;
+            Ok((Outcome::Done, lines))
+        }
+        Err(YaccFault::Errors(errors)) => {
+            Ok((Outcome::Refused, error_lines(alloc, text, &errors)?))
+        }
+        Err(YaccFault::OutOfMemory) => Err(AllocError),
     }
 }
 

@@ -1,20 +1,16 @@
-use Rattle.std.proofs.Common.{rules}
-use Rattle.std.proofs.lemmas.Result.{IfOk-weaker}
+use Rattle.std.proofs.Common.{IfOk, string_bytes, subst}
 use Rattle.cfgsyntax.specs.Parsed.{Parsed}
-use Rattle.cfgrammar.proofs.OfParsed.{parsed_as}
 use Rattle.cfgnumbers.specs.Numbered.{numbered}
-use Rattle.cfgtool.specs.Report.{AreAskedLines}
-use Rattle.cfgtool.proofs.OfText.{IsTold, told_as}
+use Rattle.cfgtool.specs.Report.{AreAskedLines, IsReport}
 use Rattle.cfgtool.proofs.engine.report_as.Goals as goal
-
-pub lend-requires : goal.lend-requires
-lend-requires c = IfOk-weaker c.new.result _ _ (λ parsed placed p same. search rules) c.new.ensures.places
 
 pub returns : goal.returns
 returns c =
-    let text = c.args.text.now in
-    let AreLines = AreAskedLines c.args.request text in
-    let parsed = c.new.ensures in
-    told_as text AreLines c.args.kind c.new.result c.lend.result parsed.one (parsed_as c.args.kind text c.new.result parsed.one parsed.kind parsed.syntax parsed.errors)
-    (IfOk-weaker c.new.result _ (λ (p : Parsed). IsTold AreLines text c.lend.result p.errors p.syntax (numbered p.kind p.syntax)) (λ p lent. search rules) c.lend.ensures.lent)
-    c.lend.ensures.refused
+    let parsed = c.in_ok-parsed.ensures in (
+      parsed.one,
+      λ items stop reads.
+          subst (λ (p : Parsed). IfOk c.report_parsed.result (λ told.
+          IsReport (AreAskedLines c.args.request c.args.text.now) c.args.text.now p.errors p.syntax (numbered p.kind p.syntax) told.0 (string_bytes told.1)))
+          (λ i. record { kind = parsed.kind i; syntax = parsed.syntax items stop reads i; errors = parsed.errors items stop reads i })
+          c.report_parsed.ensures,
+    )

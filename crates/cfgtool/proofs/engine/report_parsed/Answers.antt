@@ -1,23 +1,35 @@
-use Rattle.std.proofs.Common.{◌≡◌, IfOk, string_bytes, rules, sym, subst}
-use Rattle.std.proofs.lemmas.Result.{IfOk-weaker, IfErr-weaker}
+use Rattle.std.proofs.Common.{All, string_bytes, sym, subst, ap, ◌∙◌}
 use Rattle.cfgwords.specs.Places.{IsPiece, IsWithin}
 use Rattle.cfgast.specs.Syntax.{Syntax, EachSpan}
 use Rattle.cfgast.specs.View.{syntax}
-use Rattle.cfgerrors.specs.declared.error.YaccFault.{YaccFault}
+use Rattle.cfgsyntax.specs.Spans.{EachErrorSpan}
 use Rattle.cfgnumbers.specs.Numbered.{Numbered, numbered}
-use Rattle.cfgshell.specs.declared.outcome.Outcome.TheVariants.{Done}
-use Rattle.cfgtool.specs.Report.{AreAskedLines, TellsFault}
-use Rattle.cfgtool.proofs.OfText.{IsTold, told_of}
+use Rattle.cfglisting.specs.Lines.{error_lines}
+use Rattle.cfgtool.specs.Report.{AreAskedLines}
 use Rattle.cfgtool.proofs.engine.report_parsed.Goals as goal
 
-pub returns : goal.returns
-returns c =
-    let text = c.args.text.now in
-    let AreLines = AreAskedLines c.args.request text in
-    let parsed = c.args.parsed.now in
-    let made = c.new_from_ast_with_validity_info.result in
-    let result = c.lend_either.result in
-    subst (λ (s : Syntax). IsTold AreLines text result parsed.errors s (numbered parsed.kind parsed.syntax)) c.ast-ast.ensures.value
-    (told_of text AreLines parsed.errors (syntax c.ast-ast.result.now) (numbered parsed.kind parsed.syntax) made result c.new_from_ast_with_validity_info.ensures.answer
-    (IfOk-weaker made _ (λ (grammar : Numbered). IfOk result (λ told. (told.0 ≡ Done) × AreLines (syntax c.ast-ast.result.now) grammar (string_bytes told.1))) (λ grammar lent. search rules) c.lend_either.ensures.lent)
-    (IfErr-weaker made _ (λ (fault : YaccFault). IfOk result (λ told. TellsFault text fault told.0 (string_bytes told.1))) (λ fault refused. search rules) c.lend_either.ensures.refused))
+pub request_lines-requires : goal.request_lines-requires
+request_lines-requires c =
+    subst (EachSpan (IsPiece c.args.text.now) (IsWithin c.args.text.now)) (sym c.ast.ensures.value) c.requires.syntax
+
+pub error_lines-requires : goal.error_lines-requires
+error_lines-requires c =
+    let placed = rw c.in-Err-Errors.field-0-is at (c.in-Err-Errors.ensures.places c.args.text.now c.utf8.text c.requires) in
+    let errors = rw c.in-Err-Errors.errors-is at c.deref.ensures.value in
+    subst (All (EachErrorSpan (IsPiece c.args.text.now))) (sym errors) placed
+
+pub returns-in_ok-lines-in-Ok : goal.returns-in_ok-lines-in-Ok
+returns-in_ok-lines-in-Ok c =
+    let answer = c.in-Ok.ensures.answer in
+    let lines = string_bytes c.in_ok-lines-in-Ok.lines in (
+      answer.0,
+      answer.1,
+      subst (λ (s : Syntax). AreAskedLines c.args.request c.args.text.now s (numbered c.args.parsed.now.kind c.args.parsed.now.syntax) lines) c.ast.ensures.value
+          (subst (λ (g : Numbered). AreAskedLines c.args.request c.args.text.now (syntax c.ast.result.now) g lines) answer.2 c.in_ok-lines-in-Ok.ensures),
+    )
+
+pub returns-in_ok-error_lines-in-Err-Errors : goal.returns-in_ok-error_lines-in-Err-Errors
+returns-in_ok-error_lines-in-Err-Errors c =
+    let refused = rw c.in-Err-Errors.field-0-is at c.in-Err-Errors.ensures.answer in
+    let errors = rw c.in-Err-Errors.errors-is at c.deref.ensures.value in
+    (c.in-Err-Errors.errors.items, refused, c.in_ok-error_lines-in-Err-Errors.ensures ∙ ap (error_lines c.args.text.now) errors)
