@@ -20,6 +20,7 @@
 #include <time.h>
 #include <unistd.h>
 
+/* ROOM is that of crates/rows/src/files.rt. */
 enum { ROOM = 1048573, MOST_WRITTEN = 1 << 26, CHILD_SECONDS = 60 };
 enum { TOLD = 41, UNNEEDED = 42, WRONG = 43 };
 
@@ -27,6 +28,7 @@ void *__libc_malloc(size_t), *__libc_realloc(void *, size_t), *__libc_calloc(siz
 
 static const char WANT[] = "out of memory\n", WANT_OF_PROGRAM[] = "cfgtool: out of memory\n";
 
+/* Of a row: its requests, the bytes of its answers, how long it takes, and that each stride-th request is refused. */
 typedef struct { long requests, bytes, micros, stride; } row_table;
 
 /* What the tool asks for: to count the requests of rows, to refuse those of rows, or to refuse those of a program. */
@@ -123,7 +125,6 @@ static int judge_program(int status)
 /* Refuses a request in a child, and waits for what comes of it. Answers whether this is the child. */
 static int refused(void)
 {
-    fflush(0);
     pid_t child = fork();
     if (!child) {
         is_child = 1, is_armed = 0;

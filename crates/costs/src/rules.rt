@@ -107,12 +107,12 @@ fn write_sentences(
     out: &mut String,
     sentences: Result<Vec<Vec<TIdx<u32>>>, SentenceError>,
 ) -> Result<(), AllocError> {
-    out.push_str("; all")?;
     match sentences {
-        Ok(sentences) if sentences.len() > MOST => write!(out, " {}", sentences.len()),
+        Ok(sentences) if sentences.len() > MOST => write!(out, "; all {}", sentences.len()),
         Ok(sentences) => write_each(out, &sentences),
+        Err(SentenceError::OutOfMemory) => Err(AllocError),
         Err(error) => {
-            out.push(' ')?;
+            out.push_str("; all ")?;
             write_refusal(out, error)
         }
     }
@@ -120,6 +120,7 @@ fn write_sentences(
 
 /// Writes sentences, each behind a space.
 fn write_each(out: &mut String, sentences: &[Vec<TIdx<u32>>]) -> Result<(), AllocError> {
+    out.push_str("; all")?;
     for sentence in sentences {
         out.push(' ')?;
         write_sentence(out, sentence)?;

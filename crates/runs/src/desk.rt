@@ -74,7 +74,7 @@ impl<R> Desk<'_, R> {
     pub(crate) fn is_wanted(&self, row: &Row<'_>, status: u8) -> bool {
         let is_input = row.first("input") == Some("memory") && self.readers.get() > 0;
         match (self.output.try_borrow(), self.errors.try_borrow()) {
-            (Ok(output), Ok(errors)) => !is_input && output.is_wanted(status, &errors),
+            (Ok(output), Ok(errors)) => output.is_wanted(status, &errors, is_input),
             _ => false,
         }
     }

@@ -60,11 +60,11 @@ impl Narrow {
     }
 
     /// Whether memory ended for a run with this status, of which this is the output: then nothing is written here, and
-    /// the other one says so.
-    pub(crate) fn is_wanted(&self, status: u8, errors: &Narrow) -> bool {
+    /// the other one says so. Nothing is told by that where the input is one for which memory ended.
+    pub(crate) fn is_wanted(&self, status: u8, errors: &Narrow, is_input: bool) -> bool {
         let says_so = b"cfgtool: out of memory\n".starts_with(errors.bytes());
         let is_told = status == 3 && says_so && self.taken.is_empty();
-        is_told || self.wants_memory || errors.wants_memory
+        self.wants_memory || errors.wants_memory || (is_told && !is_input)
     }
 }
 

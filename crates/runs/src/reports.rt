@@ -28,11 +28,15 @@ impl Run for Report<'_> {
         };
         let faults = counted.faults();
         writer.faults = faults;
+        if writer.wants_memory {
+            return Err(AllocError);
+        }
         match answer {
             Ok(Outcome::Done) => Ok("Done"),
             Ok(Outcome::Refused) => Ok("Refused"),
             Err(ReportFault::Write) => Ok("Write"),
-            Err(ReportFault::OutOfMemory) => Err(AllocError),
+            Err(ReportFault::OutOfMemory) if writer.bytes().is_empty() => Err(AllocError),
+            Err(ReportFault::OutOfMemory) => Ok("OutOfMemory behind a beginning"),
         }
     }
 }

@@ -108,7 +108,7 @@ fn run_over(
     let (faults, more_faults) = (to_output.faults(), to_errors.faults());
     output.faults = faults;
     errors.faults = more_faults;
-    if row.first("input") != Some("memory") && output.is_wanted(status, errors) {
+    if output.is_wanted(status, errors, row.first("input") == Some("memory")) {
         return Err(AllocError);
     }
     Ok(status)
