@@ -9,7 +9,7 @@ KEYWORDS = ('%token', '%start', '%left', '%right', '%nonassoc', '%epp', '%expect
             '%avoid_insert', '%implicit_tokens', '%actiontype', '%parse-param', '%parse-generics', '%prec', '%empty', '%%')
 OWN = {'%actiontype': 'original', '%implicit_tokens': 'eco'}
 MARKS = ('%', ':', '::', ';', '|', '{', '}', '->', "'", '"', '\\', '/', '*', '//', '/*', '*/', ',', '(', ')', '[', ']', '!', '-')
-BLANKS = (' ', ' ', ' ', '\n', '\t', '\r\n', '\r', '  ', '/* c */', '// c\n', '/*\n*/', '// é\r', '', '')
+BLANKS = (' ', ' ', ' ', '\n', '\t', '\r\n', '\r', '  ', '/* c */', '// c\n', '// c\r\n', '/*\n*/', '/*/*/', '// é\r', '', '')
 CHARACTERS = ('é', 'ß', '日', '♠', '𝄞', '🂡', '\u0085', '\u00a0', '\u2028', '\u200e', '\u3000', '\0', '\x0b', '\x0c')
 NUMBERS = ('0', '1', '42', '18446744073709551615', '18446744073709551616', '007')
 SECTIONS = ('%grmtools', '%grmtools {', 'yacckind', 'YaccKind::', 'Original', '(NoAction)', '(YaccOriginalActionKind::UserAction)',
