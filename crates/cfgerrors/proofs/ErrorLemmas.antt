@@ -1,5 +1,5 @@
 -- Two errors are told apart by `==` exactly where callers see two.
-use Rattle.std.proofs.Common.{◌≡◌, ◌↔◌, ◌∙◌, refl, ap, sym, subst, IsTrue, true, ℕ, List, String, Global, string_bytes, string_eq, ◌==◌, ◌&&◌, rules}
+use Rattle.std.proofs.Common.{◌≡◌, ◌↔◌, ◌∙◌, refl, ap, sym, subst, Bool, IsTrue, true, false, ℕ, List, String, Global, string_bytes, string_eq, ◌==◌, ◌&&◌, rules}
 use Rattle.std.proofs.lemmas.Bool.{and_parts, eqb-true, false≢true}
 use Rattle.std.proofs.Math.Bool.{and-true, and-false}
 use lib.Pointwise.{bytes_decides}
@@ -38,23 +38,7 @@ in_sections kind other Error Error = alike kind other
 in_sections kind other DuplicationError Error = and-false (header_kinds.eq kind other)
 in_sections kind other Error DuplicationError = and-false (header_kinds.eq kind other)
 
--- the derived `==` of kinds compares what callers see of them
-pub eq_kind_view : (x y : YaccGrammarErrorKind) → kinds.eq x y ≡ same_kind (kind_view x) (kind_view y)
-eq_kind_view (rust.InvalidStartRule x) (rust.InvalidStartRule y) = sym (and-true _)
-eq_kind_view (rust.UnknownRuleRef x) (rust.UnknownRuleRef y) = sym (and-true _)
-eq_kind_view (rust.UnknownToken x) (rust.UnknownToken y) = sym (and-true _)
-eq_kind_view (rust.NoPrecForToken x) (rust.NoPrecForToken y) = sym (and-true _)
-eq_kind_view (rust.UnknownEPP x) (rust.UnknownEPP y) = sym (and-true _)
-eq_kind_view (rust.Header kind spanskind) (rust.Header other stands) = in_sections kind other spanskind stands
-eq_kind_view (rust.InvalidStartRule x) y = refl
-eq_kind_view (rust.UnknownRuleRef x) y = refl
-eq_kind_view (rust.UnknownToken x) y = refl
-eq_kind_view (rust.NoPrecForToken x) y = refl
-eq_kind_view (rust.UnknownEPP x) y = refl
-eq_kind_view (rust.Header kind spanskind) y = refl
-eq_kind_view x y = elim y as (λ z. kinds.eq x z ≡ same_kind (kind_view x) (kind_view z)) [ rust.IllegalInteger ↦ refl | _ ↦ refl ]
-
--- and where it finds two the same, so do callers
+-- where the derived `==` finds two kinds the same, so do callers
 kind_view-eq : (x y : YaccGrammarErrorKind) → kinds.eq x y ≡ true → kind_view x ≡ kind_view y
 kind_view-eq x y h =
     sym (ap kind_view (enum.eta x))
@@ -74,6 +58,41 @@ kind_view-eq x y h =
     in_section a b h =
         let both = and_parts (header_kinds.eq a.0 b.0) (spanskinds.eq a.1.0 b.1.0) h in
         λ i. Header (error_kind_view-eq a.0 b.0 both.0 i) (same_spanskind a.1.0 b.1.0 both.1 i)
+
+-- a test that says no where another does, and yes only where it does, is that one
+told_by : (a b : Bool) → (a ≡ true → b ≡ true) → b ≡ false → a ≡ b
+told_by true b so not = sym (so refl)
+told_by false b so not = sym not
+
+apart : (x y : YaccGrammarErrorKind) → same_kind (kind_view x) (kind_view y) ≡ false → kinds.eq x y ≡ same_kind (kind_view x) (kind_view y)
+apart x y = told_by (kinds.eq x y) (same_kind (kind_view x) (kind_view y))
+    (λ h. subst (λ kind. same_kind (kind_view x) kind ≡ true) (kind_view-eq x y h) (same_kind-equivalence.refl (kind_view x)))
+
+-- a kind that shows itself
+eq_nameless : (x y : YaccGrammarErrorKind) → kind_view x ≡ Nameless x → kinds.eq x y ≡ same_kind (kind_view x) (kind_view y)
+eq_nameless x (rust.InvalidStartRule y) is = apart x (rust.InvalidStartRule y) (ap (λ kind. same_kind kind (InvalidStartRule (string_bytes y))) is)
+eq_nameless x (rust.UnknownRuleRef y) is = apart x (rust.UnknownRuleRef y) (ap (λ kind. same_kind kind (UnknownRuleRef (string_bytes y))) is)
+eq_nameless x (rust.UnknownToken y) is = apart x (rust.UnknownToken y) (ap (λ kind. same_kind kind (UnknownToken (string_bytes y))) is)
+eq_nameless x (rust.NoPrecForToken y) is = apart x (rust.NoPrecForToken y) (ap (λ kind. same_kind kind (NoPrecForToken (string_bytes y))) is)
+eq_nameless x (rust.UnknownEPP y) is = apart x (rust.UnknownEPP y) (ap (λ kind. same_kind kind (UnknownEPP (string_bytes y))) is)
+eq_nameless x (rust.Header kind spanskind) is = apart x (rust.Header kind spanskind) (ap (λ other. same_kind other (Header (error_kind_view kind) spanskind)) is)
+eq_nameless x y is = ap (λ kind. same_kind kind (Nameless y)) (sym is)
+
+-- the derived `==` of kinds compares what callers see of them
+pub eq_kind_view : (x y : YaccGrammarErrorKind) → kinds.eq x y ≡ same_kind (kind_view x) (kind_view y)
+eq_kind_view (rust.InvalidStartRule x) (rust.InvalidStartRule y) = sym (and-true _)
+eq_kind_view (rust.UnknownRuleRef x) (rust.UnknownRuleRef y) = sym (and-true _)
+eq_kind_view (rust.UnknownToken x) (rust.UnknownToken y) = sym (and-true _)
+eq_kind_view (rust.NoPrecForToken x) (rust.NoPrecForToken y) = sym (and-true _)
+eq_kind_view (rust.UnknownEPP x) (rust.UnknownEPP y) = sym (and-true _)
+eq_kind_view (rust.Header kind spanskind) (rust.Header other stands) = in_sections kind other spanskind stands
+eq_kind_view (rust.InvalidStartRule x) y = refl
+eq_kind_view (rust.UnknownRuleRef x) y = refl
+eq_kind_view (rust.UnknownToken x) y = refl
+eq_kind_view (rust.NoPrecForToken x) y = refl
+eq_kind_view (rust.UnknownEPP x) y = refl
+eq_kind_view (rust.Header kind spanskind) y = refl
+eq_kind_view x y = eq_nameless x y refl
 
 pub kind_view_iff : (x y : YaccGrammarErrorKind) → IsTrue (kinds.eq x y) ↔ (kind_view x ≡ kind_view y)
 kind_view_iff x y =

@@ -1,5 +1,5 @@
 use Rattle.std.proofs.Common.{refl}
-use Rattle.std.proofs.Output.{has_written_styled_append}
+use Rattle.std.proofs.Output.{has_written_append, has_written_styled_append}
 use Rattle.cfgerrors.proofs.header.write_unexpected.Goals as goal
 
 pub returns-clause-styled : goal.returns-clause-styled
@@ -8,3 +8,10 @@ returns-clause-styled g c = λ flush ok.
     let hint = c.in_ok-write_str.ensures.styled placed.flush refl in
     let behind = c.write_str-2.ensures.styled hint.flush ok in
     has_written_styled_append _ _ _ _ _ _ placed (has_written_styled_append _ _ _ _ _ _ hint behind)
+
+pub returns-clause-plain : goal.returns-clause-plain
+returns-clause-plain g c = λ plain ok.
+    let placed = c.in_ok-write_parts.ensures.plain plain refl in
+    let hint = c.in_ok-write_str.ensures.writes placed.plain refl in
+    let behind = c.write_str-2.ensures.writes hint.plain ok in
+    has_written_append _ _ _ _ _ _ placed (has_written_append _ _ _ _ _ _ hint behind)
