@@ -1,15 +1,16 @@
 -- What the reader built of a file, where it began with no items, and what stopped it.
-use Rattle.std.proofs.Common.{◌≡◌, ℕ, List, [], Option, sym, ◌∙◌, ap}
+use Rattle.std.proofs.Common.{◌≡◌, ℕ, List, [], Option, Result, Ok, Err, IfOk, sym, subst, ◌∙◌, ap}
 use Rattle.reading.specs.Construct.{computes}
 use Rattle.reading.specs.Read.{stop_of}
 use Rattle.cfgwords.specs.declared.fault.Fault.{Fault}
 use Rattle.cfgast.specs.Building.{adds}
 use Rattle.cfgast.specs.Syntax.{Syntax, syntax_of}
-use Rattle.cfgast.specs.View.{syntax_built}
+use Rattle.cfgast.specs.View.{syntax, syntax_built}
+use Rattle.cfgast.specs.declared.ast.GrammarAST.{GrammarAST}
 use Rattle.cfgast.proofs.Law.{adds_syntax_of}
 use Rattle.cfgkinds.specs.declared.kind.YaccKind.{YaccKind}
 use Rattle.cfgreader.specs.declared.reader.Reader.{Reader}
-use Rattle.cfgreader.specs.Builds.{Grows}
+use Rattle.cfgreader.specs.Builds.{Grows, IsFile}
 use Rattle.cfgreader.specs.Grammar.{file}
 
 module _ (kind : YaccKind) (len : ℕ) (rest : List ℕ) (old : Reader) (whole : old.rest.now ≡ rest) (long : old.len ≡ len) where
@@ -21,3 +22,15 @@ module _ (kind : YaccKind) (len : ℕ) (rest : List ℕ) (old : Reader) (whole :
 
   pub file_stopped : (found : Option Fault) → stop_of (computes (file kind old.len) old.rest.now).outcome ≡ found → found ≡ stop_of (computes (file kind len) rest).outcome
   file_stopped found stops = sym stops ∙ (λ i. stop_of (computes (file kind (long i)) (whole i)).outcome)
+
+  -- what the reader built, and how the reading ended
+  abbrev pub Ends : Reader → Option Fault → Type 0
+  Ends new stop = Grows old new (computes (file kind old.len) old.rest.now).items × (stop ≡ stop_of (computes (file kind old.len) old.rest.now).outcome)
+
+  pub file_read : {E : Type 0} (new : Reader) (tree : GrammarAST) (stop : Result (Option Fault) E) (both : Result (GrammarAST × Option Fault) E)
+      → syntax_built old.tree ≡ syntax_of [] → syntax tree ≡ syntax_built new.tree
+      → IfOk stop (Ends new) → IfOk both (λ both. (both.0 ≡ tree) × (stop ≡ Ok both.1)) → IfOk both (IsFile kind len rest)
+  file_read new tree stop (Ok (made, end)) began built ended same =
+      let ends : Ends new end = subst (λ stop. IfOk stop (Ends new)) same.1 ended in
+      (file_built new (syntax made) began (ap syntax same.0 ∙ built) ends.0, file_stopped end (sym ends.1))
+  file_read new tree stop (Err e) began built ended same = tt

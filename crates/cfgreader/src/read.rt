@@ -1,7 +1,10 @@
 //! The reading of a file, behind a text's section.
 
-ghost use Rattle.std.specs.Prelude.{◌≤◌, length, IfOk};
-ghost use Rattle.cfgreader.specs.Builds.{IsFile};
+ghost use Rattle.std.specs.Prelude.{◌≡◌, ◌≤◌, Err, IfErr, IfOk, Ok, length};
+ghost use Rattle.reading.specs.Construct.{computes};
+ghost use Rattle.reading.specs.Read.{stop_of};
+ghost use Rattle.cfgreader.specs.Builds.{Grows, IsFile};
+ghost use Rattle.cfgreader.specs.Grammar.{file};
 
 use super::reader::{ReadFault, Reader};
 use cfgast::GrammarAST;
@@ -21,10 +24,30 @@ pub fn read_file(
     ensures { IfOk result (IsFile kind len rest.now) }
 {
     let mut reader = Reader::new(alloc, len, rest);
-    let stop = match reader.file(kind) {
-        Ok(()) => None,
-        Err(ReadFault::Fault(fault)) => Some(fault),
-        Err(ReadFault::OutOfMemory) => return Err(AllocError),
-    };
-    Ok((reader.into_tree(), stop))
+    let stop = stop_in(&mut reader, kind);
+    with_end(reader.into_tree(), stop)
+}
+
+/// Passes a whole file, or as much of it as can be read: what stopped the reading, if anything did.
+fn stop_in(reader: &mut Reader<'_>, kind: YaccKind) -> Result<Option<Fault>, AllocError>
+    ensures { IfOk result (λ stop.
+        Grows reader.old reader.new (computes (file kind reader.old.len) reader.old.rest.now).items
+        × (stop ≡ stop_of (computes (file kind reader.old.len) reader.old.rest.now).outcome)) }
+{
+    match reader.file(kind) {
+        Ok(()) => Ok(None),
+        Err(ReadFault::Fault(fault)) => Ok(Some(fault)),
+        Err(ReadFault::OutOfMemory) => Err(AllocError),
+    }
+}
+
+/// What was made, with how its making ended, or else what failed.
+fn with_end<T: Drop, S, E>(made: T, end: Result<S, E>) -> Result<(T, S), E>
+    ensures both { IfOk result (λ both. (both.0 ≡ made) × (end ≡ Ok both.1)) }
+    ensures failed { IfErr result (λ fault. end ≡ Err fault) }
+{
+    match end {
+        Ok(end) => Ok((made, end)),
+        Err(fault) => Err(fault),
+    }
 }
