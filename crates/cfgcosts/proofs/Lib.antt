@@ -16,6 +16,7 @@ pub mod Refused
 pub mod TokenCosts
 pub mod Steps
 pub mod Lengths
+pub mod Levels
 pub mod Choices
 pub mod Sentences
 pub mod Tokens
@@ -25,6 +26,7 @@ pub mod LeastSentences
 pub mod Contained
 pub mod Joins
 pub mod Tables
+pub mod Firsts
 pub mod Marks
 pub mod Popped
 pub mod Inserted

@@ -8,5 +8,6 @@ pub mod Generator
 pub mod Sentences
 pub mod Splits
 pub mod Passes
+pub mod Levels
 pub mod Minimal
 pub mod DerivedBy

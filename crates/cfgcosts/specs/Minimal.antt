@@ -1,6 +1,7 @@
 -- All minimal sentences of a rule, from a table that grows till it has them.
 use Rattle.std.specs.Prelude.{◌≡◌, ◌↔◌, ℕ, ◌+◌, ◌-◌, ◌^◌, ◌<◌, ◌⊎◌, List, [], ◌∷◌, ◌++◌, Some, Bool, true, false, All, Contains, length, map, sum_by, slice_index_or, slice_set}
 use Rattle.std.specs.declared.cmp.Ordering.{Ordering}
+use Rattle.std.specs.declared.cmp.Ordering.TheVariants.{Greater}
 use Rattle.std.specs.Ordering.{nat_cmp}
 use Rattle.std.specs.Cmp.Lexicographic.{slice_cmp}
 use Rattle.std.specs.BTreeSet.{BTreeSet, insert_key}
@@ -9,6 +10,7 @@ use Rattle.std.specs.declared.alloc.Global.{Global}
 use Rattle.cfgindex.specs.declared.idxnewtype.TIdx.{TIdx}
 use Rattle.derivation.specs.Grammar.{Sym, Rule, Token, HasProduction}
 use Rattle.derivation.specs.Sentence.{Sentence, cost_of}
+use Rattle.derivation.specs.Costs.{Minimal}
 use Rattle.cfganalysis.specs.Openings.{nth_production}
 use Rattle.cfgsums.specs.Sums.{sum_of, symbol_cost}
 use Rattle.cfgsums.specs.Lists.{rule_cost}
@@ -19,6 +21,10 @@ use Rattle.cfgcosts.specs.Passes.{Passes}
 -- the order of a dictionary, by the numbers of the tokens; a beginning comes first
 abbrev pub dictionary : List ℕ → List ℕ → Ordering
 dictionary = slice_cmp nat_cmp
+
+-- before each other minimal sentence of the rule
+abbrev pub FirstMinimal : (ℕ → List Sym → Type 0) → (ℕ → ℕ) → ℕ → List ℕ → Type 0
+FirstMinimal P cost r w = Minimal P cost r w × ((v : List ℕ) → Minimal P cost r v → dictionary w v ≡ Greater → ⊥)
 
 -- a sentence that costs what the table of least costs says
 abbrev pub IsLeastSentence : CostTables → ℕ → List ℕ → Type 0

@@ -1,14 +1,19 @@
 //! Laws of least costs, which hold of every grammar, and of what is told where there are none.
 
-ghost use Rattle.std.specs.Prelude.{◌≡◌, ◌↔◌, ℕ, ◌<◌, ◌≤◌, List, Option, Some, All, EachIndex, IfSome, IsTrue};
+ghost use Rattle.std.specs.Prelude.{◌≡◌, ◌↔◌, ℕ, ◌<◌, ◌≤◌, [], ◌++◌, List, Option, Some, All, EachIndex};
+ghost use Rattle.std.specs.Prelude.{IfSome, IsTrue};
 ghost use Rattle.std.specs.Prelude.{length, slice_index};
+ghost use Rattle.std.specs.declared.cmp.Ordering.TheVariants.{Greater};
 ghost use Rattle.derivation.specs.Grammar.{Grammar, IsGrammar, HasProduction, Sym};
 ghost use Rattle.derivation.specs.Sentence.{Sentence, cost_of};
-ghost use Rattle.derivation.specs.Costs.{Least};
+ghost use Rattle.derivation.specs.Costs.{Least, Minimal};
 ghost use Rattle.cfgsums.specs.Lists.{rule_cost};
 ghost use Rattle.cfgcosts.specs.Certificate.{IsCovered, IsReached};
 ghost use Rattle.cfgcosts.specs.Choices.{ChoicesGive};
 ghost use Rattle.cfgcosts.specs.Generator.{CostTables};
+ghost use Rattle.cfgcosts.specs.Levels.{IsHandedDown};
+ghost use Rattle.cfgcosts.specs.Minimal.{FirstMinimal, dictionary};
+ghost use Rattle.cfgcosts.specs.Splits.{Split};
 ghost use Rattle.cfgcosts.specs.declared.errors.SentenceError.{SentenceError};
 
 use crate::errors::SentenceError;
@@ -25,6 +30,29 @@ pub fn certificates_show_least()
 pub fn sentences_cost_their_length()
     ensures { (g : Grammar) (costs : List ℕ) → IsGrammar g → length costs ≡ g.tokens → All (λ c. 0 < c) costs
         → (r : ℕ) (w : List ℕ) → Sentence (HasProduction g) r w → length w ≤ cost_of (slice_index costs) w }
+{}
+
+/// A minimal sentence of a rule is what a production makes of minimal sentences of its symbols, a production whose rules
+/// all cost less than its own: that of the rule, or of one that it hands on to. And each such word is one.
+pub fn minimal_sentences_are_handed_down()
+    ensures { (g : Grammar) (costs : List ℕ) → IsGrammar g → length costs ≡ g.tokens → All (λ c. 0 < c) costs
+        → (r : ℕ) (w : List ℕ) → Minimal (HasProduction g) (slice_index costs) r w
+        ↔ IsHandedDown (HasProduction g) (slice_index costs) r w }
+{}
+
+/// No minimal sentence of a rule is a beginning of another.
+pub fn no_minimal_sentence_begins_another()
+    ensures { (g : Grammar) (costs : List ℕ) → IsGrammar g → length costs ≡ g.tokens → All (λ c. 0 < c) costs
+        → (r : ℕ) (w rest : List ℕ) → Minimal (HasProduction g) (slice_index costs) r w
+        → Minimal (HasProduction g) (slice_index costs) r (w ++ rest) → rest ≡ [] }
+{}
+
+/// The first minimal sentences of a row's symbols, one after the other, come first among all that their minimal
+/// sentences make.
+pub fn first_sentences_make_the_first()
+    ensures { (g : Grammar) (costs : List ℕ) → IsGrammar g → length costs ≡ g.tokens → All (λ c. 0 < c) costs
+        → (row : List Sym) (w v : List ℕ) → Split (FirstMinimal (HasProduction g) (slice_index costs)) row w
+        → Split (Minimal (HasProduction g) (slice_index costs)) row v → dictionary w v ≡ Greater → ⊥ }
 {}
 
 /// The choices give a list of symbols one list of tokens at most: so what they give a rule is one sentence, whoever
