@@ -1,4 +1,4 @@
-use Rattle.std.proofs.Common.{if◌then◌else◌, Some, None, [], ◌∷◌, ◌++◌, map, sym, ap, ◌∙◌}
+use Rattle.std.proofs.Common.{if◌then◌else◌, Some, None, [], ◌∷◌, ◌++◌, map, filter_map, append-nil, sym, ap, ◌∙◌}
 use Rattle.std.proofs.lemmas.List.{map-append}
 use Rattle.std.specs.Map.Iter.{deref_pair}
 use Rattle.cfgmarks.specs.Marks.{missing_key}
@@ -23,3 +23,8 @@ pub returns-in_err-push-clause-not_empty : goal.returns-in_err-push-clause-not_e
 returns-in_err-push-clause-not_empty g c =
     on_err c.from_residual.result (found_one deref_pair missing_key c.args.self.now.contents.entries c.loop-key.yielded (c.in-Some.key, c.in-Some.marked) c.loop-key.key-iterator c.next.new.self c.in-Some.key.now c.loop-key.invariant.given
     c.in-Some.ensures.steps (ap (λ b. if b then Some c.in-Some.key.now else None) (sym c.is_missing.ensures ∙ c.if-is_missing.true)))
+
+pub returns-clause-ok : goal.returns-clause-ok
+returns-clause-ok g c =
+    let all = c.loop-key.invariant.given ∙ ap (λ rest. map deref_pair c.loop-key.yielded ++ rest) c.in-None.ensures.steps.0 ∙ append-nil (map deref_pair c.loop-key.yielded) in
+    c.loop-key.invariant.kept ∙ sym (ap (filter_map missing_key) all)

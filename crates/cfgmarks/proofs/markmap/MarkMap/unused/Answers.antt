@@ -1,4 +1,5 @@
-use Rattle.std.proofs.Common.{if◌then◌else◌, Some, None, sym, ap, ◌∙◌}
+use Rattle.std.proofs.Common.{if◌then◌else◌, Some, None, ◌++◌, map, filter_map, append-nil, sym, subst, ap, ◌∙◌}
+use Rattle.std.specs.List.{AllZip}
 use Rattle.std.specs.Map.Iter.{deref_pair}
 use Rattle.cfgmarks.specs.Marks.{unused_key}
 use Rattle.lemmas.proofs.Growing.{given_step, picked, passed_over}
@@ -28,3 +29,8 @@ pub returns-in_err-push-clause-not_empty : goal.returns-in_err-push-clause-not_e
 returns-in_err-push-clause-not_empty g c =
     on_err c.from_residual-in_err-push.result (found_one deref_pair unused_key c.args.self.now.contents.entries c.loop-key.yielded (c.in-Some.key, c.in-Some.marked) c.loop-key.key-iterator c.next.new.self c.in-Some.key.now c.loop-key.invariant.given
     c.in-Some.ensures.steps (ap (λ b. if b then Some c.in-Some.key.now else None) (sym c.is_unused.ensures ∙ c.if-is_unused.true)))
+
+pub returns-clause-ok : goal.returns-clause-ok
+returns-clause-ok g c =
+    let all = c.loop-key.invariant.given ∙ ap (λ rest. map deref_pair c.loop-key.yielded ++ rest) c.in-None.ensures.steps.0 ∙ append-nil (map deref_pair c.loop-key.yielded) in
+    subst (λ entries. AllZip g.K.Clone.is_clone (filter_map unused_key entries) c.loop-key.keys.items) (sym all) c.loop-key.invariant.kept
