@@ -6,6 +6,7 @@ ghost use Rattle.cfgsums.specs.Lists.{rule_cost};
 ghost use Rattle.cfggreatest.specs.Rows.{in_set};
 ghost use Rattle.cfggreatest.specs.Tops.{AreReached, live_in, positive_in};
 ghost use Rattle.cfggreatest.specs.Peel.{AreSigns};
+ghost use Rattle.cfggreatest.specs.Uses.{AreListsBelow};
 ghost use Rattle.cfggreatest.specs.Words.{AreReadOff, AreTold, read_off};
 
 use crate::order::rule_groups;
@@ -14,7 +15,7 @@ use crate::stages::bounded_rules;
 use crate::tables::{signs, tops};
 use crate::uses::uses;
 use cfganalysis::Tables;
-use cfgindex::Storage;
+use cfgindex::{PIdx, Storage};
 use cfgsums::CostError;
 use std::alloc::{AllocError, Global};
 
@@ -68,6 +69,34 @@ fn greatest_each(
     Ok(answers)
 }
 
+/// What is told of each rule, by the signs of the rules, the productions that hold them, and their groups.
+///
+/// # Errors
+///
+/// Want of memory.
+fn greatest_by_groups<S: Storage, T: Tables<S>>(
+    alloc: Global,
+    grm: &T,
+    costs: &[u8],
+    signs: &[Option<u32>],
+    users: &[Vec<PIdx<S>>],
+    groups: &[Vec<usize>],
+) -> Result<Vec<Result<Option<u16>, CostError>>, AllocError>
+    requires costs { length costs.now ≡ (T.grammar grm.now).tokens }
+    requires positive { All (λ c. 1 ≤ c) costs.now }
+    requires reached { AreReached (T.grammar grm.now) (slice_index costs.now) 1 signs.now }
+    requires signs { AreSigns (HasProduction (T.grammar grm.now)) (slice_index costs.now)
+        (live_in signs.now) (positive_in signs.now) }
+    requires users { length users.now ≡ (T.grammar grm.now).rules }
+    requires places { AreListsBelow (λ p. S.number p.0) (length (T.grammar grm.now).productions) users.now }
+    requires groups { AreListsBelow (λ r. r) (T.grammar grm.now).rules groups.now }
+    ensures { IfOk result (λ x. AreTold (T.grammar grm.now) (slice_index costs.now) x.items) }
+{
+    let bounded = bounded_rules(alloc, grm, signs, users, groups)?;
+    let table = tops(alloc, grm, costs, signs, &bounded, users, groups)?;
+    greatest_each(alloc, &bounded, &table)
+}
+
 /// What is told of each rule, by the signs of the rules.
 ///
 /// # Errors
@@ -88,9 +117,7 @@ fn greatest_by_signs<S: Storage, T: Tables<S>>(
 {
     let users = uses(alloc, grm, signs)?;
     let groups = rule_groups(alloc, grm, signs, &users)?;
-    let bounded = bounded_rules(alloc, grm, signs, &users, &groups)?;
-    let table = tops(alloc, grm, costs, signs, &bounded, &users, &groups)?;
-    greatest_each(alloc, &bounded, &table)
+    greatest_by_groups(alloc, grm, costs, signs, &users, &groups)
 }
 
 /// For each rule the greatest cost of its sentences, where a sentence costs what its tokens cost together: `None` where

@@ -16,6 +16,7 @@ use crate::uses::uses;
 use cfganalysis::Tables;
 use cfgindex::{PIdx, Storage};
 use std::alloc::{AllocError, Global};
+use std::slice::from_ref;
 
 /// What no answer of a greatest cost is above.
 const TOO_LARGE: u32 = 65536;
@@ -38,33 +39,84 @@ pub(crate) fn numbers(alloc: Global, set: &[bool], has: bool) -> Result<Vec<usiz
     Ok(numbers)
 }
 
-/// For each rule the greatest cost that a sentence of it reaches, cut down to 1.
+/// Raises the costs of the rules in the set, cut down to the limit, group by group.
 ///
 /// # Errors
 ///
 /// Want of memory.
-fn sign_table<S: Storage, T: Tables<S>>(
+fn raise_groups<S: Storage, T: Tables<S>>(
     alloc: Global,
     grm: &T,
     costs: &[u8],
-    everything: &[bool],
-) -> Result<Vec<Option<u32>>, AllocError>
+    set: &[bool],
+    limit: u32,
+    users: &[Vec<PIdx<S>>],
+    groups: &[Vec<usize>],
+    table: &mut [Option<u32>],
+) -> Result<(), AllocError>
     requires costs { length costs.now ≡ (T.grammar grm.now).tokens }
-    requires set { length everything.now ≡ (T.grammar grm.now).rules }
-    ensures reached { IfOk result (λ x. AreReached (T.grammar grm.now) (slice_index costs.now) 1 x.items) }
-    ensures topped { IfOk result (λ x.
-        AreTopped (T.grammar grm.now) (slice_index costs.now) 1 (in_set everything.now) x.items) }
+    requires set { length set.now ≡ (T.grammar grm.now).rules }
+    requires limit { limit < 4294967295 }
+    requires reached { AreReached (T.grammar grm.now) (slice_index costs.now) limit table.old }
+    requires users { length users.now ≡ (T.grammar grm.now).rules }
+    requires places { AreListsBelow (λ p. S.number p.0) (length (T.grammar grm.now).productions) users.now }
+    requires groups { AreListsBelow (λ r. r) (T.grammar grm.now).rules groups.now }
+    ensures reached { OnOk result (AreReached (T.grammar grm.now) (slice_index costs.now) limit table.new) }
+    ensures topped { OnOk result
+        (AreTopped (T.grammar grm.now) (slice_index costs.now) limit (in_set set.now) table.new) }
 {
     let rules_len = grm.rules_len().0.to_usize();
-    let rules = numbers(alloc, everything, true)?;
-    let some = vec![in alloc; Some(0); rules_len]?;
-    let users = uses(alloc, grm, &some)?;
-    let mut table = vec![in alloc; None; rules_len]?;
+    let mut known = rule_set(alloc, false, rules_len)?;
     let mut waiting = Vec::new(alloc);
-    visit_rules(grm, costs, everything, 1, &rules, &mut table, &mut waiting)?;
-    spread(grm, costs, everything, 1, &users, &mut table, &mut waiting)?;
-    settle(grm, costs, everything, 1, &mut table);
-    Ok(table)
+    for group in groups {
+        copy_group(set, &mut known, group);
+        visit_rules(grm, costs, &known, limit, group, table, &mut waiting)?;
+        spread(grm, costs, &known, limit, users, table, &mut waiting)?;
+    }
+    settle(grm, costs, set, limit, table);
+    Ok(())
+}
+
+/// The productions that hold each rule.
+///
+/// # Errors
+///
+/// Want of memory.
+fn all_uses<S: Storage, T: Tables<S>>(
+    alloc: Global,
+    grm: &T,
+) -> Result<Vec<Vec<PIdx<S>>>, AllocError>
+    ensures rules { IfOk result (λ lists. length lists.items ≡ (T.grammar grm.now).rules) }
+    ensures places { IfOk result (λ lists.
+        AreListsBelow (λ p. S.number p.0) (length (T.grammar grm.now).productions) lists.items) }
+{
+    let rules_len = grm.rules_len().0.to_usize();
+    let some = vec![in alloc; Some(0); rules_len]?;
+    uses(alloc, grm, &some)
+}
+
+/// Raises the costs of the rules in the set, cut down to 1, as one group.
+///
+/// # Errors
+///
+/// Want of memory.
+fn raise_signs<S: Storage, T: Tables<S>>(
+    alloc: Global,
+    grm: &T,
+    costs: &[u8],
+    set: &[bool],
+    table: &mut [Option<u32>],
+) -> Result<(), AllocError>
+    requires costs { length costs.now ≡ (T.grammar grm.now).tokens }
+    requires set { length set.now ≡ (T.grammar grm.now).rules }
+    requires reached { AreReached (T.grammar grm.now) (slice_index costs.now) 1 table.old }
+    ensures reached { OnOk result (AreReached (T.grammar grm.now) (slice_index costs.now) 1 table.new) }
+    ensures topped { OnOk result
+        (AreTopped (T.grammar grm.now) (slice_index costs.now) 1 (in_set set.now) table.new) }
+{
+    let users = all_uses(alloc, grm)?;
+    let rules = numbers(alloc, set, true)?;
+    raise_groups(alloc, grm, costs, set, 1, &users, from_ref(&rules), table)
 }
 
 /// For each rule that has a sentence 1 if some sentence of it costs something, and else 0.
@@ -85,7 +137,8 @@ pub(crate) fn signs<S: Storage, T: Tables<S>>(
 {
     let rules_len = grm.rules_len().0.to_usize();
     let everything = rule_set(alloc, true, rules_len)?;
-    let table = sign_table(alloc, grm, costs, &everything)?;
+    let mut table = vec![in alloc; None; rules_len]?;
+    raise_signs(alloc, grm, costs, &everything, &mut table)?;
     Ok(table)
 }
 
@@ -108,39 +161,6 @@ fn free_table(alloc: Global, signs: &[Option<u32>]) -> Result<Vec<Option<u32>>, 
     ensures { IfOk result (λ x. x.items ≡ map free_of signs.now) }
 {
     signs.iter().map(|sign| free_cost(*sign)).collect(alloc)
-}
-
-/// Raises the costs of bounded rules, cut down to 65536, group by group.
-///
-/// # Errors
-///
-/// Want of memory.
-fn raise_groups<S: Storage, T: Tables<S>>(
-    alloc: Global,
-    grm: &T,
-    costs: &[u8],
-    bounded: &[bool],
-    users: &[Vec<PIdx<S>>],
-    groups: &[Vec<usize>],
-    table: &mut [Option<u32>],
-) -> Result<(), AllocError>
-    requires costs { length costs.now ≡ (T.grammar grm.now).tokens }
-    requires bounded { length bounded.now ≡ (T.grammar grm.now).rules }
-    requires reached { AreReached (T.grammar grm.now) (slice_index costs.now) 65536 table.old }
-    requires users { length users.now ≡ (T.grammar grm.now).rules }
-    requires places { AreListsBelow (λ p. S.number p.0) (length (T.grammar grm.now).productions) users.now }
-    requires groups { AreListsBelow (λ r. r) (T.grammar grm.now).rules groups.now }
-    ensures { OnOk result (AreReached (T.grammar grm.now) (slice_index costs.now) 65536 table.new) }
-{
-    let rules_len = grm.rules_len().0.to_usize();
-    let mut known = rule_set(alloc, false, rules_len)?;
-    let mut waiting = Vec::new(alloc);
-    for group in groups {
-        copy_group(bounded, &mut known, group);
-        visit_rules(grm, costs, &known, TOO_LARGE, group, table, &mut waiting)?;
-        spread(grm, costs, &known, TOO_LARGE, users, table, &mut waiting)?;
-    }
-    Ok(())
 }
 
 /// For each bounded rule the greatest cost that a sentence of it reaches, cut down to 65536.
@@ -167,9 +187,9 @@ pub(crate) fn tops<S: Storage, T: Tables<S>>(
     ensures topped { IfOk result (λ x.
         AreTopped (T.grammar grm.now) (slice_index costs.now) 65536 (in_set bounded.now) x.items) }
 {
-    let _rules_len = grm.rules_len();
     let mut table = free_table(alloc, signs)?;
-    raise_groups(alloc, grm, costs, bounded, users, groups, &mut table)?;
-    settle(grm, costs, bounded, TOO_LARGE, &mut table);
+    raise_groups(
+        alloc, grm, costs, bounded, TOO_LARGE, users, groups, &mut table,
+    )?;
     Ok(table)
 }

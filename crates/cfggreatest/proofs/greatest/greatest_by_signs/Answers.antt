@@ -1,20 +1,30 @@
-use Rattle.std.proofs.Common.{subst}
-use Rattle.std.specs.List.{slice_index}
-use Rattle.std.proofs.lemmas.Result.{IfOk-weaker}
-use Rattle.cfggreatest.specs.Rows.{in_set}
-use Rattle.cfggreatest.specs.Tops.{AreTopped}
-use Rattle.cfggreatest.specs.Words.{AreReadOff}
-use Rattle.cfggreatest.proofs.Telling.{answers_mean}
+use Rattle.std.proofs.Common.{length, sym, ap, subst, ◌∙◌}
+use Rattle.cfggreatest.specs.Uses.{AreListsBelow}
 use Rattle.cfggreatest.proofs.greatest.greatest_by_signs.Goals as goal
 
+pub uses-requires : goal.uses-requires
+uses-requires g c = c.requires.reached.rules
+
+pub rule_groups-requires-clause-signs : goal.rule_groups-requires-clause-signs
+rule_groups-requires-clause-signs g c = c.requires.reached.rules
+
+pub rule_groups-requires-clause-users : goal.rule_groups-requires-clause-users
+rule_groups-requires-clause-users g c = ap length c.deref.ensures.value ∙ c.in_ok-users.ensures.rules
+
+pub rule_groups-requires-clause-places : goal.rule_groups-requires-clause-places
+rule_groups-requires-clause-places g c =
+    subst (AreListsBelow (λ p. g.S.Storage.number p.0) (length (g.T.Tables.grammar c.args.grm.now).productions)) (sym c.deref.ensures.value) c.in_ok-users.ensures.places
+
+pub greatest_by_groups-requires-clause-users : goal.greatest_by_groups-requires-clause-users
+greatest_by_groups-requires-clause-users g c = ap length c.deref-2.ensures.value ∙ c.in_ok-users.ensures.rules
+
+pub greatest_by_groups-requires-clause-places : goal.greatest_by_groups-requires-clause-places
+greatest_by_groups-requires-clause-places g c =
+    subst (AreListsBelow (λ p. g.S.Storage.number p.0) (length (g.T.Tables.grammar c.args.grm.now).productions)) (sym c.deref-2.ensures.value) c.in_ok-users.ensures.places
+
+pub greatest_by_groups-requires-clause-groups : goal.greatest_by_groups-requires-clause-groups
+greatest_by_groups-requires-clause-groups g c =
+    subst (AreListsBelow (λ r. r) (g.T.Tables.grammar c.args.grm.now).rules) (sym c.deref-3.ensures.value) c.in_ok-groups.ensures
+
 pub returns : goal.returns
-returns g c =
-    let grammar = g.T.Tables.grammar c.args.grm.now in
-    IfOk-weaker c.greatest_each.result _ _ (λ x read.
-    answers_mean grammar c.args.costs.now c.args.signs.now c.in_ok-table.table.items c.in_ok-bounded.bounded.items x.items
-    c.in_ok-bounded.ensures.content c.requires.costs c.requires.positive c.requires.signs c.in_ok-bounded.ensures.found c.in_ok-bounded.ensures.rest
-    c.in_ok-table.ensures.reached
-    (subst (λ l. AreTopped grammar (slice_index c.args.costs.now) 65536 (in_set l) c.in_ok-table.table.items) c.deref-4.ensures.value c.in_ok-table.ensures.topped)
-    (subst (λ l. AreReadOff l c.in_ok-table.table.items x.items) c.deref-7.ensures.value
-    (subst (λ l. AreReadOff c.deref-7.result.now l x.items) c.deref-8.ensures.value read)))
-    c.greatest_each.ensures
+returns g c = c.greatest_by_groups.ensures
