@@ -1,6 +1,6 @@
 //! FOLLOW: the tokens that stand right after rules (Aho, Lam, Sethi and Ullman, 4.4.2).
 
-ghost use Rattle.std.specs.Prelude.{◌≡◌, ◌<◌, ◌≤◌, ◌↔◌, ℕ, [], ◌∷◌, Contains, length};
+ghost use Rattle.std.specs.Prelude.{◌≡◌, ◌-◌, ◌<◌, ◌≤◌, ◌↔◌, ℕ, [], ◌∷◌, Contains, length};
 ghost use Rattle.std.specs.Prelude.{map, IfOk, IsTrue};
 ghost use Rattle.derivation.specs.Grammar.{Grammar, IsGrammar, IsSymbolOf, Rule};
 ghost use Rattle.cfganalysis.specs.Firsts.{AreFirsts};
@@ -10,7 +10,7 @@ ghost use Rattle.cfganalysis.specs.Follows.{SayFollows, StepsBack, count_follows
 ghost use Rattle.cfganalysis.specs.Openings.{most_openings, most_openings_all};
 ghost use Rattle.cfganalysis.specs.Growth.{TakesIn};
 ghost use Rattle.cfganalysis.specs.Symbols.{sym_of};
-ghost use Rattle.cfganalysis.specs.Table.{HasBit, row_of};
+ghost use Rattle.cfganalysis.specs.Table.{HasBit, no_bits, row_of, with_bit};
 ghost use Rattle.cfganalysis.specs.Bounds.{follows_bounded};
 ghost use Rattle.cfganalysis.specs.Waiting.{NoneWaits, Waits};
 ghost use Rattle.cfganalysis.specs.Work.{Notes};
@@ -277,6 +277,30 @@ impl<'a, S: Storage> Model for FollowAnalysis<'a, S> {
     ghost invariant = { λ x. length x.gathered ≡ x.sets.follows.columns };
 }
 
+impl<'a, S: Storage> FollowAnalysis<'a, S> {
+    /// Sets in which the end token stands after the start rule, and nothing else.
+    fn new(
+        alloc: Global,
+        firsts: &'a YaccFirsts<S>,
+        rules: usize,
+        tokens: usize,
+    ) -> Result<Self, AllocError>
+        requires rules { 1 ≤ rules }
+        requires tokens { 1 ≤ tokens }
+        ensures { IfOk result (λ x. x ≡ record {
+          firsts = firsts.now;
+          follows = with_bit (no_bits rules tokens) 0 (tokens - 1);
+        }) }
+    {
+        let mut follows = BitTable::new(alloc, rules, tokens)?;
+        let _ = follows.set(0, tokens - 1);
+        Ok(FollowAnalysis {
+            sets: GrowingFollows { firsts, follows },
+            gathered: Vob::from_elem(alloc, false, tokens)?,
+        })
+    }
+}
+
 impl<'a, S: Storage> Analysis<S> for FollowAnalysis<'a, S> {
     ghost holds = { SayFollows };
 
@@ -342,12 +366,7 @@ pub fn follows_over<S: Storage, P: Productions<S>>(
 {
     let rules = productions.rules_len().0.to_usize();
     let tokens = productions.tokens_len().0.to_usize();
-    let mut follows = BitTable::new(alloc, rules, tokens)?;
-    let _ = follows.set(0, tokens - 1);
-    let mut analysis = FollowAnalysis {
-        sets: GrowingFollows { firsts, follows },
-        gathered: Vob::from_elem(alloc, false, tokens)?,
-    };
+    let mut analysis = FollowAnalysis::new(alloc, firsts, rules, tokens)?;
     settle(alloc, productions, &mut analysis)?;
     Ok(YaccFollows {
         follows: analysis.sets.follows,

@@ -1,5 +1,6 @@
-use Rattle.std.proofs.Common.{length, arith, refl, ap, length-set, false}
-use Rattle.cfganalysis.proofs.Visiting.{all_again, visited_next, visited_less}
+use Rattle.std.proofs.Common.{◌<◌, length, arith, refl, sym, subst, ap, length-set, false}
+use Rattle.cfganalysis.proofs.Settling.{at_place}
+use Rattle.cfganalysis.proofs.Visiting.{all_again, few_opened, visited_next, visited_less}
 use Rattle.cfganalysis.proofs.visits.visit_next.Goals as goal
 
 pub open-requires-clause-all_countable : goal.open-requires-clause-all_countable
@@ -23,3 +24,39 @@ pub returns-clause-less : goal.returns-clause-less
 returns-clause-less g c =
     visited_less _ _ _ _ _ _ _ _ _ _ _ _ c.requires.visited _ _ _ _ _ _ (g.met.A.Analysis.bounded _ _ (returns-clause-visited g c).sound)
     c.in-Some.ensures c.take_in.ensures.takes
+
+pub to_storage-requires : goal.to_storage-requires
+to_storage-requires g c = omega (arith, c.requires.visited.known c.in-Some.number c.in-Some.ensures.waited, c.requires.fits)
+
+pub rule_of-rule-requires : goal.rule_of-rule-requires
+rule_of-rule-requires g c = subst (λ n. n < length (g.P.Productions.content c.args.productions.now).productions) (sym c.to_storage.ensures)
+    (c.requires.visited.known c.in-Some.number c.in-Some.ensures.waited)
+
+pub open-requires-clause-in_range : goal.open-requires-clause-in_range
+open-requires-clause-in_range g c = subst (λ n. n < length (g.P.Productions.content c.args.productions.now).productions) (sym c.to_storage.ensures)
+    (c.requires.visited.known c.in-Some.number c.in-Some.ensures.waited)
+
+pub open-requires-clause-countable : goal.open-requires-clause-countable
+open-requires-clause-countable g c =
+    let w = c.requires.visited in
+    let place = subst (λ n. n < length (g.P.Productions.content c.args.productions.now).productions) (sym c.to_storage.ensures)
+    (w.known c.in-Some.number c.in-Some.ensures.waited) in
+    let few = few_opened _ _ _ _ _ _ _ _ _ _ _ _ w _ (g.S.Storage.number c.to_storage.result) (g.met.A.Analysis.bounded _ _ w.sound) place in
+    omega (arith, few, c.requires.small)
+
+pub take_in-requires-clause-grammar : goal.take_in-requires-clause-grammar
+take_in-requires-clause-grammar g c =
+    let w = c.requires.visited in
+    let place = subst (λ n. n < length (g.P.Productions.content c.args.productions.now).productions) (sym c.to_storage.ensures)
+    (w.known c.in-Some.number c.in-Some.ensures.waited) in (
+      g.P.Productions.content c.args.productions.now,
+      c.requires.grammar,
+      w.sound,
+      w.idle,
+      w.gains,
+      w.rules,
+      at_place (g.P.Productions.content c.args.productions.now) (g.S.Storage.number c.to_storage.result) _ place c.rule_of-rule.ensures c.open.ensures.symbols,
+    )
+
+pub returns-clause-content : goal.returns-clause-content
+returns-clause-content g c = c.open.follows.holds-at-none.stays
