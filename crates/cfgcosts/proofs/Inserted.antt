@@ -1,7 +1,6 @@
 -- Sets of words of the code, seen through their numbers.
-use Rattle.std.proofs.Common.{◌≡◌, ℕ, ◌+◌, ◌^◌, ◌<◌, List, [], ◌∷◌, length, map, get_or, slice_set, Bool, cond, refl, sym, ap, subst, ◌∙◌}
+use Rattle.std.proofs.Common.{◌≡◌, ℕ, ◌<◌, List, [], ◌∷◌, length, map, get_or, slice_set, refl, sym, ap, ◌∙◌}
 use Rattle.std.specs.Prelude.{Vec}
-use Rattle.std.specs.Bool.{OnFalse}
 use Rattle.std.specs.declared.alloc.Global.{Global}
 use Rattle.std.specs.declared.cmp.Ordering.{Ordering}
 use Rattle.std.specs.declared.cmp.Ordering.TheVariants.{Less, Equal, Greater}
@@ -10,7 +9,6 @@ use Rattle.std.specs.Cmp.Lexicographic.{slice_cmp}
 use Rattle.std.specs.List.Sorted.{IsStrictlySortedBy}
 use Rattle.std.specs.List.{AllByRecursion}
 use Rattle.std.specs.BTreeSet.{BTreeSet, insert_key}
-use Rattle.std.proofs.lemmas.List.{length-map, set-get_or}
 use Rattle.cfgindex.specs.declared.idxnewtype.TIdx.{TIdx}
 use Rattle.cfgcosts.specs.Minimal.{AddsSentence, dictionary, numbers_of, sentences_of, set_of}
 use Rattle.cfgsums.proofs.Rows.{item_shown, set_shown}
@@ -36,22 +34,14 @@ module _ {K : Type 0} (cmp : K → K → Ordering) (f : K → List ℕ) (shown :
 
 module _ {S : Type 0} (number : S → ℕ) (cmp : Vec (TIdx S) Global → Vec (TIdx S) Global → Ordering)
     (shown : (v w : Vec (TIdx S) Global) → cmp v w ≡ dictionary (numbers_of number v) (numbers_of number w)) where
-  pub added_shown : (sets : List (BTreeSet (Vec (TIdx S) Global))) (table : List (List (List ℕ))) (r : ℕ) (k : Vec (TIdx S) Global) (old new : BTreeSet (Vec (TIdx S) Global)) (added : Bool) (len : ℕ)
-      → map (set_of number) sets ≡ table → r < length table → old ≡ get_or sets r old → new.keys ≡ insert_key cmp old.keys k → OnFalse added (new.keys ≡ old.keys)
-      → length new.keys ≡ length old.keys + cond added 1 0 → len ≡ length old.keys → len < 2 ^ 63
-      → AddsSentence r (numbers_of number k) table (map (set_of number) (slice_set sets r new)) added
-  added_shown sets table r k old new added len view within at keys same more counted small =
+  pub added_shown : (sets : List (BTreeSet (Vec (TIdx S) Global))) (table : List (List (List ℕ))) (r : ℕ) (k : Vec (TIdx S) Global) (old new : BTreeSet (Vec (TIdx S) Global))
+      → map (set_of number) sets ≡ table → r < length table → old ≡ get_or sets r old → new.keys ≡ insert_key cmp old.keys k
+      → AddsSentence r (numbers_of number k) table (map (set_of number) (slice_set sets r new))
+  added_shown sets table r k old new view within at keys =
       let item : sentences_of table r ≡ set_of number old = item_shown (set_of number) sets table r old [] view within at in
       let put = set_shown (set_of number) sets table r new view in
       let inserted = ap (map (numbers_of number)) keys ∙ inserted_shown cmp (numbers_of number) shown k old.keys in
-      let now : set_of number new ≡ insert_key dictionary (sentences_of table r) (numbers_of number k) = inserted ∙ ap (λ l. insert_key dictionary l (numbers_of number k)) (sym item) in
-      let long : length (sentences_of table r) ≡ length old.keys = ap length item ∙ length-map old.keys (numbers_of number) in
-      record {
-        set = put ∙ ap (slice_set table r) now;
-        same = λ e. put ∙ ap (slice_set table r) (ap (map (numbers_of number)) (subst (λ b. OnFalse b (new.keys ≡ old.keys)) e same) ∙ sym item) ∙ set-get_or table r [];
-        more = λ e. ap length (sym now) ∙ length-map new.keys (numbers_of number) ∙ more ∙ ap (λ b. length old.keys + cond b 1 0) e ∙ ap (λ n. n + 1) (sym long);
-        few = subst (λ n. n < 2 ^ 63) (counted ∙ sym long) small;
-      }
+      put ∙ ap (slice_set table r) (inserted ∙ ap (λ l. insert_key dictionary l (numbers_of number k)) (sym item))
 
 module _ {K : Type 0} (cmp : K → K → Ordering) (f : K → List ℕ) (shown : (v w : K) → cmp v w ≡ dictionary (f v) (f w)) where
   all_less : (k : K) (xs : List K) → AllByRecursion (λ y. cmp k y ≡ Less) xs → AllByRecursion (λ y. dictionary (f k) y ≡ Less) (map f xs)

@@ -1,16 +1,13 @@
 -- Tables of sentences: a sentence more, and what stays.
-use Rattle.std.proofs.Common.{◌≡◌, ℕ, ◌-◌, ◌^◌, ◌<◌, ◌⊎◌, inl, inr, List, [], ◌∷◌, length, Bool, Contains, arith, refl, sym, ap, subst, ◌∙◌}
+use Rattle.std.proofs.Common.{◌≡◌, ℕ, ◌<◌, ◌⊎◌, inl, inr, List, [], ◌∷◌, length, Contains, refl, sym, ap, subst, ◌∙◌}
 use Rattle.std.specs.declared.cmp.Ordering.{Ordering}
 use Rattle.std.specs.declared.cmp.Ordering.TheVariants.{Less, Equal, Greater}
 use Rattle.std.specs.Ordering.{match_ordering, ordering_then, nat_cmp}
 use Rattle.std.specs.BTreeSet.{insert_key}
 use Rattle.std.proofs.lemmas.Cmp.{ranked, by_ranked}
 use Rattle.std.proofs.lemmas.List.{length-set, get_or-set_same}
-use Rattle.std.proofs.lemmas.List.Sums.{sum_by-set}
-use Rattle.std.proofs.lemmas.List.Elements.{All-cons, All-nil}
 use Rattle.lemmas.proofs.Elements.{get_or-set}
-use Rattle.cfgcosts.specs.Passes.{Passes}
-use Rattle.cfgcosts.specs.Minimal.{AddsSentence, AreLeastSentences, Extends, HasSentence, IsLeastSentence, dictionary, room_for_sentences, sentences_of}
+use Rattle.cfgcosts.specs.Minimal.{AddsMinimal, AddsSentence, AreMinimal, Extends, HasSentence, dictionary, sentences_of}
 use Rattle.cfgcosts.specs.Generator.{CostTables}
 use Rattle.cfgcosts.proofs.Contained.{contains_first, contains_later, contains_cases}
 
@@ -56,45 +53,33 @@ module _ (w : List ℕ) where
   inserts [] = record { has = contains_first w []; kept = λ v k. contains_later w v [] k; only = λ v k. elim (contains_cases w v [] k) [ inl is ↦ inr (sym is) | inr old ↦ inl old ] }
   inserts (x ∷ xs) = in_order (dictionary w x) x xs (insert_key dictionary xs w) (dictionary_same w x) (inserts xs)
 
-  -- a sentence was added to the table
-  pub adds : (r : ℕ) (table table' : Table) (added : Bool) → r < length table → AddsSentence r w table table' added
-      → Passes (Extends (λ q v. (q ≡ r) × (v ≡ w))) room_for_sentences (λ v table. HasSentence table r v) (w ∷ []) table table' added
-  adds r table table' added within a =
-      let new = insert_key dictionary (sentences_of table r) w in
-      let at : sentences_of table' r ≡ new = ap (λ t. sentences_of t r) a.set ∙ get_or-set_same table r new [] within in
-      let i = inserts (sentences_of table r) in
-      let here = subst (Inserts (sentences_of table r)) (sym at) i in
-      record {
-        keeps = record {
-          rules = ap length a.set ∙ length-set table r new;
-          kept = λ q v h. elim (get_or-set table r q new []) [
-            | inl same ↦ subst (λ l. Contains l v) (sym (ap (λ t. sentences_of t q) a.set ∙ same)) h
-            | inr is ↦ subst (λ n. HasSentence table' n v) (sym is.0) (here.kept v (subst (λ n. HasSentence table n v) is.0 h))
-          ];
-          only = λ q v h. elim (get_or-set table r q new []) [
-            | inl same ↦ inl (subst (λ l. Contains l v) (ap (λ t. sentences_of t q) a.set ∙ same) h)
-            | inr is ↦ elim (here.only v (subst (λ n. HasSentence table' n v) is.0 h)) [
-              | inl old ↦ inl (subst (λ n. HasSentence table n v) (sym is.0) old)
-              | inr it ↦ inr (is.0, it)
-            ]
-          ];
-        };
-        less = λ e.
-            let more = a.more e in
-            let few = a.few in
-            let change = sum_by-set (λ sentences. 2 ^ 63 - length sentences) table r new [] within in
-            let there = ap room_for_sentences a.set in
-            omega (arith, more, few, change, there);
-        same = a.same;
-        all = λ e. All-cons (λ v. HasSentence table r v) w [] (subst (λ t. HasSentence t r w) (a.same e) here.has) (All-nil (λ v. HasSentence table r v));
-      }
+  module _ (r : ℕ) (table table' : Table) (within : r < length table) (a : AddsSentence r w table table') where
+    abbrev new : List (List ℕ)
+    new = insert_key dictionary (sentences_of table r) w
 
-  -- which then has it
-  pub added_has : (r : ℕ) (table table' : Table) (added : Bool) → r < length table → AddsSentence r w table table' added → HasSentence table' r w
-  added_has r table table' added within a =
-      let new = insert_key dictionary (sentences_of table r) w in
-      let at : sentences_of table' r ≡ new = ap (λ t. sentences_of t r) a.set ∙ get_or-set_same table r new [] within in
-      subst (λ l. Contains l w) (sym at) (inserts (sentences_of table r)).has
+    there : Inserts (sentences_of table r) (sentences_of table' r)
+    there = subst (Inserts (sentences_of table r)) (sym (ap (λ t. sentences_of t r) a ∙ get_or-set_same table r new [] within)) (inserts (sentences_of table r))
+
+    -- a sentence was added to the table
+    pub adds : Extends (λ q v. (q ≡ r) × (v ≡ w)) table table'
+    adds = record {
+      rules = ap length a ∙ length-set table r new;
+      kept = λ q v h. elim (get_or-set table r q new []) [
+        | inl same ↦ subst (λ l. Contains l v) (sym (ap (λ t. sentences_of t q) a ∙ same)) h
+        | inr is ↦ subst (λ n. HasSentence table' n v) (sym is.0) (there.kept v (subst (λ n. HasSentence table n v) is.0 h))
+      ];
+      only = λ q v h. elim (get_or-set table r q new []) [
+        | inl same ↦ inl (subst (λ l. Contains l v) (ap (λ t. sentences_of t q) a ∙ same) h)
+        | inr is ↦ elim (there.only v (subst (λ n. HasSentence table' n v) is.0 h)) [
+          | inl old ↦ inl (subst (λ n. HasSentence table n v) (sym is.0) old)
+          | inr it ↦ inr (is.0, it)
+        ]
+      ];
+    }
+
+    -- which then has it
+    pub added_has : HasSentence table' r w
+    added_has = there.has
 
 module _ (Q : ℕ → List ℕ → Type 0) where
   pub extends_none : (table : Table) → Extends Q table table
@@ -110,6 +95,6 @@ module _ (Q : ℕ → List ℕ → Type 0) where
   pub extends_as : (R : ℕ → List ℕ → Type 0) → ((r : ℕ) (w : List ℕ) → Q r w → R r w) → (t t' : Table) → Extends Q t t' → Extends R t t'
   extends_as R turn t t' h = record { rules = h.rules; kept = h.kept; only = λ r w m. elim (h.only r w m) [ inl old ↦ inl old | inr new ↦ inr (turn r w new) ] }
 
--- what is added is of least cost
-pub still_least : (x : CostTables) (t t' : Table) → AreLeastSentences x t → Extends (IsLeastSentence x) t t' → AreLeastSentences x t'
-still_least x t t' least h r w m = elim (h.only r w m) [ inl old ↦ least r w old | inr new ↦ new ]
+-- what is added is minimal
+pub still_minimal : (x : CostTables) (t t' : Table) → AreMinimal x t → AddsMinimal x t t' → AreMinimal x t'
+still_minimal x t t' all h r w m = elim (h.only r w m) [ inl old ↦ all r w old | inr new ↦ new ]

@@ -7,7 +7,6 @@ pub mod Settled
 pub mod Generator
 pub mod Sentences
 pub mod Splits
-pub mod Passes
 pub mod Levels
 pub mod Minimal
 pub mod DerivedBy

@@ -1,5 +1,5 @@
--- All minimal sentences of a rule, from a table that grows till it has them.
-use Rattle.std.specs.Prelude.{◌≡◌, ◌↔◌, ℕ, ◌+◌, ◌-◌, ◌^◌, ◌<◌, ◌⊎◌, List, [], ◌∷◌, ◌++◌, Some, Bool, true, false, All, Contains, length, map, sum_by, slice_index_or, slice_set}
+-- All minimal sentences of a rule, from a table that is filled by rising costs.
+use Rattle.std.specs.Prelude.{◌≡◌, ◌↔◌, ℕ, ◌<◌, ◌⊎◌, List, [], ◌∷◌, ◌++◌, Some, Contains, length, map, slice_index_or, slice_set}
 use Rattle.std.specs.declared.cmp.Ordering.{Ordering}
 use Rattle.std.specs.declared.cmp.Ordering.TheVariants.{Greater}
 use Rattle.std.specs.Ordering.{nat_cmp}
@@ -7,16 +7,15 @@ use Rattle.std.specs.Cmp.Lexicographic.{slice_cmp}
 use Rattle.std.specs.BTreeSet.{BTreeSet, insert_key}
 use Rattle.std.specs.Prelude.{Vec}
 use Rattle.std.specs.declared.alloc.Global.{Global}
+use Rattle.cfgindex.specs.declared.idxnewtype.PIdx.{PIdx}
 use Rattle.cfgindex.specs.declared.idxnewtype.TIdx.{TIdx}
-use Rattle.derivation.specs.Grammar.{Sym, Rule, Token, HasProduction}
-use Rattle.derivation.specs.Sentence.{Sentence, cost_of}
+use Rattle.derivation.specs.Grammar.{Sym, Rule, Token, Grammar, HasProduction}
 use Rattle.derivation.specs.Costs.{Minimal}
 use Rattle.cfganalysis.specs.Openings.{nth_production}
 use Rattle.cfgsums.specs.Sums.{sum_of, symbol_cost}
 use Rattle.cfgsums.specs.Lists.{rule_cost}
 use Rattle.cfgcosts.specs.Generator.{CostTables, cost_answer, token_cost}
-use Rattle.cfgcosts.specs.Splits.{Split}
-use Rattle.cfgcosts.specs.Passes.{Passes}
+use Rattle.cfgcosts.specs.Levels.{Along}
 
 -- the order of a dictionary, by the numbers of the tokens; a beginning comes first
 abbrev pub dictionary : List ℕ → List ℕ → Ordering
@@ -26,9 +25,9 @@ dictionary = slice_cmp nat_cmp
 abbrev pub FirstMinimal : (ℕ → List Sym → Type 0) → (ℕ → ℕ) → ℕ → List ℕ → Type 0
 FirstMinimal P cost r w = Minimal P cost r w × ((v : List ℕ) → Minimal P cost r v → dictionary w v ≡ Greater → ⊥)
 
--- a sentence that costs what the table of least costs says
-abbrev pub IsLeastSentence : CostTables → ℕ → List ℕ → Type 0
-IsLeastSentence x r w = Sentence (HasProduction x.grammar) r w × (rule_cost x.least r ≡ Some (cost_of (token_cost x) w))
+-- a minimal sentence of a rule
+abbrev pub IsMinimal : CostTables → ℕ → List ℕ → Type 0
+IsMinimal x = Minimal (HasProduction x.grammar) (token_cost x)
 
 -- a production that costs just what its rule does, where that isn't 0
 pub record IsTight (x : CostTables) (p : ℕ) : Type 0 where
@@ -38,19 +37,59 @@ pub record IsTight (x : CostTables) (p : ℕ) : Type 0 where
   pub rule : cost_answer x (nth_production x.grammar p).rule ≡ Some cost
   pub sum : sum_of (symbol_cost (token_cost x) (rule_cost x.least)) (nth_production x.grammar p).symbols ≡ Some cost
 
--- the numbers of a word's tokens, of a set of words, and of a production with the number of its rule's settling
+-- a rule in such a production that costs as much
+pub record IsHeir (x : CostTables) (p q : ℕ) : Type 0 where
+  pub tight : IsTight x p
+  pub among : Contains (nth_production x.grammar p).symbols (Rule q)
+  pub same : cost_answer x q ≡ Some tight.cost
+
+-- such a production without a rule that costs as much
+pub record HasNoHeir (x : CostTables) (p : ℕ) : Type 0 where
+  pub tight : IsTight x p
+  pub none : (q : ℕ) → IsHeir x p q → ⊥
+
+-- a rule that is an heir in a production of the rule
+pub record HasHeir (x : CostTables) (r q : ℕ) : Type 0 where
+  pub place : ℕ
+  pub owner : (nth_production x.grammar place).rule ≡ r
+  pub heir : IsHeir x place q
+
+-- a production without an heir, of the rule, or of a rule to which heirs lead from it
+pub record IsOwnBelow (x : CostTables) (r p : ℕ) : Type 0 where
+  pub leads : Along (HasHeir x) r (nth_production x.grammar p).rule
+  pub own : HasNoHeir x p
+
+-- one of these productions has the link
+pub record IsLinked (Link : ℕ → ℕ → Type 0) (places : List ℕ) (q : ℕ) : Type 0 where
+  pub place : ℕ
+  pub among : Contains places place
+  pub link : Link place q
+
+-- a production holds the rule
+abbrev pub Holds : Grammar → ℕ → ℕ → Type 0
+Holds g p q = Contains (nth_production g p).symbols (Rule q)
+
+-- the numbers of productions
+abbrev pub places_of : {S : Type 0} → (S → ℕ) → List (PIdx S) → List ℕ
+places_of number productions = map (λ p. number p.0) productions
+
+-- what was listed, and what is so, are listed now
+abbrev pub Lists : (ℕ → Type 0) → List ℕ → List ℕ → Type 0
+Lists Is old new = (p : ℕ) → Contains new p ↔ (Contains old p ⊎ Is p)
+
+-- the rule, and the rules that own productions below listed ones hold, are listed, each with its cost
+pub record AreAsked (x : CostTables) (r : ℕ) (listed : List (ℕ × ℕ)) : Type 0 where
+  pub costs : (c q : ℕ) → Contains listed (c, q) → cost_answer x q ≡ Some c
+  pub first : (c : ℕ) × Contains listed (c, r)
+  pub below : (c q p s : ℕ) → Contains listed (c, q) → IsOwnBelow x q p → Contains (nth_production x.grammar p).symbols (Rule s)
+      → (d : ℕ) × Contains listed (d, s)
+
+-- the numbers of a word's tokens, and of a set of words
 abbrev pub numbers_of : {S : Type 0} → (S → ℕ) → Vec (TIdx S) Global → List ℕ
 numbers_of number word = map (λ t. number t.0) word.items
 
 abbrev pub set_of : {S : Type 0} → (S → ℕ) → BTreeSet (Vec (TIdx S) Global) → List (List ℕ)
 set_of number set = map (numbers_of number) set.keys
-
-abbrev pub place_of : ℕ × ℕ → ℕ
-place_of tight = tight.1
-
--- these are the tight productions
-abbrev pub AreTightProductions : CostTables → List ℕ → Type 0
-AreTightProductions x places = (p : ℕ) → Contains places p ↔ IsTight x p
 
 -- a word of one list, and behind it one of the other
 pub record IsJoined (fronts backs : List (List ℕ)) (w : List ℕ) : Type 0 where
@@ -67,14 +106,14 @@ sentences_of table r = slice_index_or table r []
 abbrev pub HasSentence : List (List (List ℕ)) → ℕ → List ℕ → Type 0
 HasSentence table r w = Contains (sentences_of table r) w
 
--- how many more sentences the lists of a table can hold
-abbrev pub room_for_sentences : List (List (List ℕ)) → ℕ
-room_for_sentences table = sum_by (λ sentences. 2 ^ 63 - length sentences) table
-
 -- the words that a symbol stands for
 abbrev pub words_of_symbol : List (List (List ℕ)) → Sym → List (List ℕ)
 words_of_symbol table (Token t) = (t ∷ []) ∷ []
 words_of_symbol table (Rule r) = sentences_of table r
+
+-- a sentence went to its place among those of the rule, or was there
+abbrev pub AddsSentence : ℕ → List ℕ → List (List (List ℕ)) → List (List (List ℕ)) → Type 0
+AddsSentence r w table table' = table' ≡ slice_set table r (insert_key dictionary (sentences_of table r) w)
 
 -- the table has what it had, and beside that only what is Added
 pub record Extends (Added : ℕ → List ℕ → Type 0) (table table' : List (List (List ℕ))) : Type 0 where
@@ -82,68 +121,22 @@ pub record Extends (Added : ℕ → List ℕ → Type 0) (table table' : List (L
   pub kept : (r : ℕ) (w : List ℕ) → HasSentence table r w → HasSentence table' r w
   pub only : (r : ℕ) (w : List ℕ) → HasSentence table' r w → HasSentence table r w ⊎ Added r w
 
--- a sentence went to its place among those of the rule, or was there
-pub record AddsSentence (r : ℕ) (w : List ℕ) (table table' : List (List (List ℕ))) (added : Bool) : Type 0 where
-  pub set : table' ≡ slice_set table r (insert_key dictionary (sentences_of table r) w)
-  pub same : added ≡ false → table' ≡ table
-  pub more : added ≡ true → length (insert_key dictionary (sentences_of table r) w) ≡ length (sentences_of table r) + 1
-  pub few : length (sentences_of table r) < 2 ^ 63
+-- the table has these words of the rule, and what it had
+pub record AddsSentences (r : ℕ) (words : List (List ℕ)) (table table' : List (List (List ℕ))) : Type 0 where
+  pub extends : Extends (λ q w. (q ≡ r) × Contains words w) table table'
+  pub all : (w : List ℕ) → Contains words w → HasSentence table' r w
 
--- sentences of a rule were added, or were there
-abbrev pub AddsSentences : ℕ → List (List ℕ) → List (List (List ℕ)) → List (List (List ℕ)) → Bool → Type 0
-AddsSentences r words = Passes (Extends (λ q w. (q ≡ r) × Contains words w)) room_for_sentences (λ w table. HasSentence table r w) words
+-- all that a table has are minimal sentences, and it has all of a rule
+abbrev pub AreMinimal : CostTables → List (List (List ℕ)) → Type 0
+AreMinimal x table = (r : ℕ) (w : List ℕ) → HasSentence table r w → IsMinimal x r w
 
--- a rule is marked
-abbrev pub IsMarked : List Bool → ℕ → Type 0
-IsMarked marks r = slice_index_or marks r false ≡ true
+abbrev pub HasAllMinimal : CostTables → List (List (List ℕ)) → ℕ → Type 0
+HasAllMinimal x table r = (w : List ℕ) → IsMinimal x r w → HasSentence table r w
 
--- the table has what a production makes of the table's sentences
-abbrev pub HasAllOf : CostTables → ℕ → List (List (List ℕ)) → Type 0
-HasAllOf x p table = (w : List ℕ) → Split (HasSentence table) (nth_production x.grammar p).symbols w → HasSentence table (nth_production x.grammar p).rule w
+-- the table has all of each rule that stands in an own production below the rule
+abbrev pub IsReadyFor : CostTables → List (List (List ℕ)) → ℕ → Type 0
+IsReadyFor x table r = (p q : ℕ) → IsOwnBelow x r p → Contains (nth_production x.grammar p).symbols (Rule q) → HasAllMinimal x table q
 
--- if the rule of a production is marked
-abbrev pub HasAllOfMarked : CostTables → List Bool → ℕ → List (List (List ℕ)) → Type 0
-HasAllOfMarked x marks p table = IsMarked marks (nth_production x.grammar p).rule → HasAllOf x p table
-
--- what productions of marked rules make of the table's sentences was added
-abbrev pub AddsProducts : CostTables → List Bool → List ℕ → List (List (List ℕ)) → List (List (List ℕ)) → Bool → Type 0
-AddsProducts x marks = Passes (Extends (IsLeastSentence x)) room_for_sentences (HasAllOfMarked x marks)
-
--- all that the table has are sentences of least cost
-abbrev pub AreLeastSentences : CostTables → List (List (List ℕ)) → Type 0
-AreLeastSentences x table = (r : ℕ) (w : List ℕ) → HasSentence table r w → IsLeastSentence x r w
-
--- one for a rule that isn't marked
-abbrev pub unmarked : Bool → ℕ
-unmarked true = 0
-unmarked false = 1
-
-abbrev pub count_unmarked : List Bool → ℕ
-count_unmarked marks = sum_by unmarked marks
-
--- marks stay
-pub record KeepsMarks (marks marks' : List Bool) : Type 0 where
-  pub rules : length marks' ≡ length marks
-  pub kept : (r : ℕ) → IsMarked marks r → IsMarked marks' r
-
--- a rule that costs something is marked
-abbrev pub IsNoted : CostTables → Sym → List Bool → Type 0
-IsNoted x (Token t) marks = Unit {0}
-IsNoted x (Rule r) marks = (cost_answer x r ≡ Some 0) ⊎ IsMarked marks r
-
--- rules were marked, or were so
-abbrev pub MarksRules : CostTables → List Sym → List Bool → List Bool → Bool → Type 0
-MarksRules x = Passes KeepsMarks count_unmarked (IsNoted x)
-
--- if the rule of a production is marked, then so are the rules in it that cost something
-abbrev pub AllNoted : CostTables → ℕ → List Bool → Type 0
-AllNoted x p marks = IsMarked marks (nth_production x.grammar p).rule → All (λ s. IsNoted x s marks) (nth_production x.grammar p).symbols
-
-abbrev pub MarksOn : CostTables → List ℕ → List Bool → List Bool → Bool → Type 0
-MarksOn x = Passes KeepsMarks count_unmarked (AllNoted x)
-
--- the rule is marked, and what tight productions of marked rules need
-pub record MarksNeeded (x : CostTables) (r : ℕ) (marks : List Bool) : Type 0 where
-  pub rules : length marks ≡ x.grammar.rules
-  pub asked : IsMarked marks r
-  pub on : (p : ℕ) → IsTight x p → AllNoted x p marks
+-- minimal sentences were added
+abbrev pub AddsMinimal : CostTables → List (List (List ℕ)) → List (List (List ℕ)) → Type 0
+AddsMinimal x = Extends (IsMinimal x)

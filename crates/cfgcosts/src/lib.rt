@@ -9,6 +9,7 @@ mod minimal;
 mod over;
 mod partial;
 mod queue;
+mod search;
 mod sentence;
 mod settle;
 mod waiting;

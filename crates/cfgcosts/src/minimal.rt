@@ -1,7 +1,7 @@
 //! All minimal sentences of a rule.
 
 mod all;
-mod needed;
+mod asked;
+mod levels;
 mod products;
 mod table;
-mod tight;

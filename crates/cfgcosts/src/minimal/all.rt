@@ -1,13 +1,12 @@
 //! All minimal sentences of a rule, made of those of the rules that it needs.
 
-ghost use Rattle.std.specs.Prelude.{◌≡◌, ◌↔◌, ℕ, ◌<◌, [], ◌∷◌, List, Bool, All, Contains, Err};
-ghost use Rattle.std.specs.Prelude.{IfOk, Some, length, map};
+ghost use Rattle.std.specs.Prelude.{◌≡◌, ◌↔◌, ℕ, ◌<◌, List, Contains, Err, IfOk, OnOk, Some, length, map};
 ghost use Rattle.std.specs.List.Sorted.{IsStrictlySortedBy};
 ghost use Rattle.derivation.specs.Grammar.{HasProduction};
 ghost use Rattle.derivation.specs.Costs.{Minimal};
 ghost use Rattle.cfgcosts.specs.Generator.{HasNone, IsTooDear, cost_answer, token_cost};
-ghost use Rattle.cfgcosts.specs.Minimal.{AddsProducts, AreLeastSentences, AreTightProductions, HasAllOfMarked};
-ghost use Rattle.cfgcosts.specs.Minimal.{HasSentence, IsTight, dictionary, numbers_of, place_of};
+ghost use Rattle.cfgcosts.specs.Minimal.{AddsMinimal, AreMinimal, HasAllMinimal, HasSentence, IsOwnBelow};
+ghost use Rattle.cfgcosts.specs.Minimal.{IsReadyFor, dictionary, numbers_of, places_of};
 
 use crate::errors::SentenceError;
 use crate::generator::SentenceGenerator;
@@ -18,108 +17,80 @@ use cfgindex::{PIdx, RIdx, Storage, TIdx, to_storage};
 use std::alloc::{AllocError, Global};
 
 impl<'a, S: Storage, T: Tables<S>> SentenceGenerator<'a, S, T> {
-    /// A table in which the rules that cost nothing have the empty sentence.
+    /// Adds what the productions make of the table's sentences to those of the rule.
     ///
     /// # Errors
     ///
     /// Want of memory.
-    fn empty_sentences(&self, alloc: Global) -> Result<SentenceTable<S>, AllocError>
-        ensures rules { IfOk result (λ table. length table ≡ self.now.grammar.rules) }
-        ensures least { IfOk result (AreLeastSentences self.now) }
-        ensures free { IfOk result (λ table. (r : ℕ) → cost_answer self.now r ≡ Some 0
-            → HasSentence table r []) }
-    {
-        let rules_len = self.tables.rules_len().0.to_usize();
-        let mut table = SentenceTable::new(alloc, rules_len)?;
-        for number in 0..rules_len {
-            if !self.is_free(RIdx(to_storage(number))) {
-                continue;
-            }
-            table.add(number, Vec::new(alloc))?;
-        }
-        Ok(table)
-    }
-
-    /// Adds the sentences that a production makes of those in the table, if its rule is marked, and tells whether one
-    /// is new.
-    ///
-    /// # Errors
-    ///
-    /// Want of memory.
-    fn add_products(
+    fn add_made(
         &self,
         alloc: Global,
-        p: PIdx<S>,
-        marks: &[bool],
+        own: &[PIdx<S>],
+        rule: RIdx<S>,
         table: &mut SentenceTable<S>,
-    ) -> Result<bool, AllocError>
-        requires tight { IsTight self.now (S.number p.0) }
-        requires marks { length marks.now ≡ self.now.grammar.rules }
+    ) -> Result<(), AllocError>
+        requires rule { S.number rule.0 < self.now.grammar.rules }
+        requires cost { (c : ℕ) × (0 < c) × (cost_answer self.now (S.number rule.0) ≡ Some c) }
+        requires own { (p : ℕ) → Contains (places_of S.number own.now) p ↔ IsOwnBelow self.now (S.number rule.0) p }
         requires rules { length table.old ≡ self.now.grammar.rules }
-        requires least { AreLeastSentences self.now table.old }
-        ensures { IfOk result (AddsProducts self.now marks.now (S.number p.0 ∷ []) table.old table.new) }
+        requires minimal { AreMinimal self.now table.old }
+        requires ready { IsReadyFor self.now table.old (S.number rule.0) }
+        ensures adds { OnOk result (AddsMinimal self.now table.old table.new) }
+        ensures all { OnOk result (HasAllMinimal self.now table.new (S.number rule.0)) }
     {
         let _rules = self.tables.rules_len();
-        let rule = usize::from(self.tables.prod_to_rule(p));
-        if !marks[rule] {
-            return Ok(false);
+        for p in own {
+            let words = row_words(alloc, table, self.tables.prod(*p))?;
+            table.add_all(usize::from(rule), words)?;
         }
-        let words = row_words(alloc, table, self.tables.prod(p))?;
-        let added = table.add_all(rule, words)?;
-        Ok(added)
+        Ok(())
     }
 
-    /// Adds the sentences that the productions of marked rules make, and tells whether one is new.
+    /// Adds all minimal sentences of the rule, where the table has those of the rules that they are made of.
     ///
     /// # Errors
     ///
     /// Want of memory.
-    fn add_round(
+    fn add_level(
         &self,
         alloc: Global,
-        tight: &[(u32, u32)],
-        marks: &[bool],
+        rule: RIdx<S>,
         table: &mut SentenceTable<S>,
-    ) -> Result<bool, AllocError>
-        requires tight { All (IsTight self.now) (map place_of tight.now) }
-        requires marks { length marks.now ≡ self.now.grammar.rules }
+    ) -> Result<(), AllocError>
+        requires rule { S.number rule.0 < self.now.grammar.rules }
+        requires known { (c : ℕ) × (cost_answer self.now (S.number rule.0) ≡ Some c) }
         requires rules { length table.old ≡ self.now.grammar.rules }
-        requires least { AreLeastSentences self.now table.old }
-        ensures { IfOk result (AddsProducts self.now marks.now (map place_of tight.now) table.old table.new) }
+        requires minimal { AreMinimal self.now table.old }
+        requires ready { IsReadyFor self.now table.old (S.number rule.0) }
+        ensures adds { OnOk result (AddsMinimal self.now table.old table.new) }
+        ensures all { OnOk result (HasAllMinimal self.now table.new (S.number rule.0)) }
     {
-        let _prods = self.tables.prods_len().0.to_usize();
-        let mut changed = false;
-        for entry in tight {
-            let p = PIdx(to_storage(entry.1 as usize));
-            changed |= self.add_products(alloc, p, marks, table)?;
+        let _rules = self.tables.rules_len();
+        if self.is_free(rule) {
+            table.add(usize::from(rule), Vec::new(alloc))?;
+            return Ok(());
         }
-        Ok(changed)
+        let own = self.own_productions(alloc, rule)?;
+        self.add_made(alloc, &own, rule, table)?;
+        Ok(())
     }
 
-    /// A table that has all that the productions of marked rules make of it.
+    /// A table that has all minimal sentences of the rule.
     ///
     /// # Errors
     ///
     /// Want of memory.
-    fn closed_table(
-        &self,
-        alloc: Global,
-        tight: &[(u32, u32)],
-        marks: &[bool],
-    ) -> Result<SentenceTable<S>, AllocError>
-        requires tight { All (IsTight self.now) (map place_of tight.now) }
-        requires marks { length marks.now ≡ self.now.grammar.rules }
+    fn full_table(&self, alloc: Global, rule: RIdx<S>) -> Result<SentenceTable<S>, AllocError>
+        requires rule { S.number rule.0 < self.now.grammar.rules }
+        requires known { (c : ℕ) × (cost_answer self.now (S.number rule.0) ≡ Some c) }
         ensures rules { IfOk result (λ table. length table ≡ self.now.grammar.rules) }
-        ensures least { IfOk result (AreLeastSentences self.now) }
-        ensures free { IfOk result (λ table. (r : ℕ) → cost_answer self.now r ≡ Some 0
-            → HasSentence table r []) }
-        ensures closed { IfOk result (λ table. All (λ p. HasAllOfMarked self.now marks.now p table)
-            (map place_of tight.now)) }
+        ensures all { IfOk result (λ table. (w : List ℕ) → HasSentence table (S.number rule.0) w
+            ↔ Minimal (HasProduction self.now.grammar) (token_cost self.now) (S.number rule.0) w) }
     {
-        let mut table = self.empty_sentences(alloc)?;
-        let mut changed = true;
-        while changed {
-            changed = self.add_round(alloc, tight, marks, &mut table)?;
+        let mut table = SentenceTable::new(alloc, self.tables.rules_len().0.to_usize())?;
+        let mut asked = self.asked_rules(alloc, rule)?;
+        while let Some((_, number)) = asked.pop() {
+            self.add_level(alloc, RIdx(to_storage(number as usize)), &mut table)?;
         }
         Ok(table)
     }
@@ -147,11 +118,8 @@ impl<'a, S: Storage, T: Tables<S>> SentenceGenerator<'a, S, T> {
         ensures dear { (result ≡ Err SentenceError.CostTooLarge)
             ↔ IsTooDear (HasProduction self.now.grammar) (token_cost self.now) (S.number rule.0) }
     {
-        let _rules = self.tables.rules_len();
         self.min_sentence_cost(rule)?;
-        let tight = self.tight_productions(alloc)?;
-        let marks = self.needed_rules(alloc, &tight, rule)?;
-        let table = self.closed_table(alloc, &tight, &marks)?;
+        let table = self.full_table(alloc, rule)?;
         let sentences = table.take(alloc, usize::from(rule))?;
         Ok(sentences)
     }

@@ -1,6 +1,6 @@
 //! A table of sentences.
 
-ghost use Rattle.std.specs.Prelude.{◌≡◌, ◌<◌, [], IfOk, length, map, replicate};
+ghost use Rattle.std.specs.Prelude.{◌≡◌, ◌<◌, [], IfOk, OnOk, length, map, replicate};
 ghost use Rattle.std.specs.List.Sorted.{IsStrictlySortedBy};
 ghost use Rattle.cfgcosts.specs.Minimal.{AddsSentence, AddsSentences, dictionary, numbers_of, sentences_of};
 
@@ -49,22 +49,20 @@ impl<S: Storage> SentenceTable<S> {
         &self.sets[rule]
     }
 
-    /// Adds a sentence of the rule, and tells whether it is new.
+    /// Adds a sentence of the rule, unless it is there.
     ///
     /// # Errors
     ///
     /// Want of memory.
-    pub(crate) fn add(&mut self, rule: usize, sentence: Vec<TIdx<S>>) -> Result<bool, AllocError>
+    pub(crate) fn add(&mut self, rule: usize, sentence: Vec<TIdx<S>>) -> Result<(), AllocError>
         requires { rule < length self.old }
-        ensures { IfOk result (λ added. AddsSentence rule (numbers_of S.number sentence) self.old self.new added) }
+        ensures { OnOk result (AddsSentence rule (numbers_of S.number sentence) self.old self.new) }
     {
-        let set = &mut self.sets[rule];
-        let _len = set.len();
-        let added = set.insert(sentence)?;
-        Ok(added)
+        self.sets[rule].insert(sentence)?;
+        Ok(())
     }
 
-    /// Adds sentences of the rule, and tells whether one is new.
+    /// Adds the sentences of the rule that aren't there.
     ///
     /// # Errors
     ///
@@ -73,15 +71,14 @@ impl<S: Storage> SentenceTable<S> {
         &mut self,
         rule: usize,
         mut sentences: Vec<Vec<TIdx<S>>>,
-    ) -> Result<bool, AllocError>
+    ) -> Result<(), AllocError>
         requires { rule < length self.old }
-        ensures { IfOk result (AddsSentences rule (map (numbers_of S.number) sentences.items) self.old self.new) }
+        ensures { OnOk result (AddsSentences rule (map (numbers_of S.number) sentences.items) self.old self.new) }
     {
-        let mut changed = false;
         while let Some(sentence) = sentences.pop() {
-            changed |= self.add(rule, sentence)?;
+            self.add(rule, sentence)?;
         }
-        Ok(changed)
+        Ok(())
     }
 
     /// The sentences of the rule, in the order of a dictionary.

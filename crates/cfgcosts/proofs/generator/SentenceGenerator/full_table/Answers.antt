@@ -1,0 +1,84 @@
+use Rattle.std.proofs.Common.{◌≡◌, ◌<◌, ℕ, [], ◌∷◌, Some, length, sym, ap, subst, ◌∙◌, arith}
+use Rattle.std.proofs.lemmas.List.Sorted.{length_permutation}
+use Rattle.derivation.specs.Grammar.{IsGrammar}
+use Rattle.cfgcosts.specs.Generator.{CostTables, IsGenerator, cost_answer}
+use Rattle.cfgcosts.specs.Minimal.{HasAllMinimal, IsReadyFor}
+use Rattle.cfgcosts.proofs.Filled.{Filling, filling_begins, filling_goes_on, filling_ends, popped_answer, popped_ready}
+use Rattle.cfgcosts.proofs.Tight.{answered_within}
+use Rattle.cfgcosts.proofs.generator.SentenceGenerator.full_table.Goals as goal
+
+pub loop-number-init : goal.loop-number-init
+loop-number-init g c =
+    let rules = c.to_usize.ensures.value ∙ c.rules_len.ensures.value ∙ ap (λ (x : CostTables). x.grammar.rules) c.self.view_is in
+    (c.in_ok-asked.asked, c.in_ok-asked.ensures, filling_begins c.args.self.now c.in_ok-asked.asked c.to_usize.result c.in_ok-table.table rules c.in_ok-table.ensures)
+
+pub returns-clause-rules : goal.returns-clause-rules
+returns-clause-rules g c = let (all, asked, filling) = c.loop-number.invariant in filling.rules
+
+pub returns-clause-all : goal.returns-clause-all
+returns-clause-all g c =
+    let (all, asked, filling) = c.loop-number.invariant in
+    filling_ends c.args.self.now (g.S.Storage.number c.args.rule.0) all c.loop-number.table asked
+    (subst (λ l. Filling c.args.self.now all l c.loop-number.table) c.in_default.ensures.none filling)
+
+pub to_storage-requires : goal.to_storage-requires
+to_storage-requires g c =
+    let (all, asked, filling) = c.loop-number.invariant in
+    let n = c.self.inside.settled.number in
+    let is = subst (λ (x : CostTables). IsGenerator x n) c.self.view_is c.self.invariant.0 in
+    let within = answered_within c.args.self.now n is c.in-Some.number c.in-Some.field-0-0
+    (popped_answer c.args.self.now (g.S.Storage.number c.args.rule.0) all c.loop-number.asked c.pop.new.self (c.in-Some.field-0-0, c.in-Some.number) c.loop-number.table asked filling
+    c.in-Some.ensures.out c.in-Some.ensures.least) in
+    let rules = ap (λ (x : CostTables). x.grammar.rules) c.self.view_is in
+    let counted = c.rules_len.ensures.value in
+    let value = c.to_usize.ensures.value in
+    let range = c.to_usize.ensures.range in
+    omega (arith, within, rules, counted, value, range)
+
+pub add_level-requires-clause-rule : goal.add_level-requires-clause-rule
+add_level-requires-clause-rule g c =
+    let (all, asked, filling) = c.loop-number.invariant in
+    let n = c.self.inside.settled.number in
+    let is = subst (λ (x : CostTables). IsGenerator x n) c.self.view_is c.self.invariant.0 in
+    subst (λ m. m < c.args.self.now.grammar.rules) (sym c.to_storage.ensures) (answered_within c.args.self.now n is c.in-Some.number c.in-Some.field-0-0
+    (popped_answer c.args.self.now (g.S.Storage.number c.args.rule.0) all c.loop-number.asked c.pop.new.self (c.in-Some.field-0-0, c.in-Some.number) c.loop-number.table asked filling
+    c.in-Some.ensures.out c.in-Some.ensures.least))
+
+pub add_level-requires-clause-known : goal.add_level-requires-clause-known
+add_level-requires-clause-known g c =
+    let (all, asked, filling) = c.loop-number.invariant in
+    subst (λ m. (d : ℕ) × (cost_answer c.args.self.now m ≡ Some d)) (sym c.to_storage.ensures) (
+      c.in-Some.field-0-0,
+      popped_answer c.args.self.now (g.S.Storage.number c.args.rule.0) all c.loop-number.asked c.pop.new.self (c.in-Some.field-0-0, c.in-Some.number) c.loop-number.table asked filling
+          c.in-Some.ensures.out c.in-Some.ensures.least,
+    )
+
+pub add_level-requires-clause-rules : goal.add_level-requires-clause-rules
+add_level-requires-clause-rules g c = let (all, asked, filling) = c.loop-number.invariant in filling.rules
+
+pub add_level-requires-clause-minimal : goal.add_level-requires-clause-minimal
+add_level-requires-clause-minimal g c = let (all, asked, filling) = c.loop-number.invariant in filling.minimal
+
+pub add_level-requires-clause-ready : goal.add_level-requires-clause-ready
+add_level-requires-clause-ready g c =
+    let (all, asked, filling) = c.loop-number.invariant in
+    let n = c.self.inside.settled.number in
+    let is = subst (λ (x : CostTables). IsGenerator x n) c.self.view_is c.self.invariant.0 in
+    let grammar = subst (λ (x : CostTables). IsGrammar x.grammar) c.self.view_is c.rules_len.ensures.content in
+    subst (IsReadyFor c.args.self.now c.loop-number.table) (sym c.to_storage.ensures)
+    (popped_ready c.args.self.now (g.S.Storage.number c.args.rule.0) all c.loop-number.asked c.pop.new.self (c.in-Some.field-0-0, c.in-Some.number) c.loop-number.table asked filling
+    c.in-Some.ensures.out c.in-Some.ensures.least n is grammar)
+
+pub loop-number-preserved : goal.loop-number-preserved
+loop-number-preserved g c =
+    let (all, asked, filling) = c.loop-number.invariant in (
+      all,
+      asked,
+      filling_goes_on c.args.self.now (g.S.Storage.number c.args.rule.0) all c.loop-number.asked c.pop.new.self (c.in-Some.field-0-0, c.in-Some.number) c.loop-number.table asked filling
+          c.in-Some.ensures.out c.in-Some.ensures.least c.add_level.new.table c.in_ok-add_level.ensures.adds
+          (subst (HasAllMinimal c.args.self.now c.add_level.new.table) c.to_storage.ensures c.in_ok-add_level.ensures.all),
+    )
+
+pub loop-number-smaller : goal.loop-number-smaller
+loop-number-smaller g c =
+    let long = length_permutation c.loop-number.asked ((c.in-Some.field-0-0, c.in-Some.number) ∷ c.pop.new.self) c.in-Some.ensures.out in omega (arith, long)

@@ -1,0 +1,50 @@
+use Rattle.std.proofs.Common.{◌<◌, length, sym, ap, subst, ◌∙◌, arith}
+use Rattle.std.proofs.lemmas.List.{length-map}
+use Rattle.cfganalysis.specs.Paths.{Reaches, ArePlacesOf}
+use Rattle.cfganalysis.proofs.Slices.{mapped_within, mapped_at, mapped_all}
+use Rattle.cfgcosts.specs.Generator.{CostTables}
+use Rattle.cfgcosts.specs.Minimal.{IsHeir, places_of}
+use Rattle.cfgcosts.proofs.OwnBelow.{links_begin, links_more, heirs_end, owns_begin, owns_more, owns_end}
+use Rattle.cfgcosts.proofs.generator.SentenceGenerator.go_through.Goals as goal
+
+pub rule_to_prods-p-items-requires : goal.rule_to_prods-p-items-requires
+rule_to_prods-p-items-requires g c = subst (λ (x : CostTables). g.S.Storage.number c.args.rule.0 < x.grammar.rules) (sym c.self.view_is) c.requires.rule
+
+pub loop-p-init : goal.loop-p-init
+loop-p-init g c =
+    let places = places_of g.S.Storage.number c.rule_to_prods-p-items.result.now in
+    record { heirs = links_begin (IsHeir c.args.self.now) places c.args.search.now; own = owns_begin c.args.self.now places (places_of g.S.Storage.number c.args.own.now.items) }
+
+pub take_in-requires-clause-place : goal.take_in-requires-clause-place
+take_in-requires-clause-place g c = subst (λ (x : CostTables). g.S.Storage.number c.p-item.result.0 < length x.grammar.productions) c.self.view_is
+    (mapped_all (λ p. g.S.Storage.number p.0) _ _ _ c.p-item.is (omega (arith, c.loop-p-test.true))
+    (λ p. p < length (g.T.Tables.grammar c.self.inside.tables.now).productions) c.rule_to_prods-p-items.ensures.within)
+
+pub take_in-requires-clause-rules : goal.take_in-requires-clause-rules
+take_in-requires-clause-rules g c = c.loop-p.invariant.heirs.shape ∙ c.requires.rules
+
+pub loop-p-preserved : goal.loop-p-preserved
+loop-p-preserved g c =
+    let x = c.args.self.now in
+    let places = places_of g.S.Storage.number c.rule_to_prods-p-items.result.now in
+    let lt : c.loop-p.p-index < length c.rule_to_prods-p-items.result.now = omega (arith, c.loop-p-test.true) in
+    let within = mapped_within (λ p. g.S.Storage.number p.0) _ _ _ c.p-item.is lt in
+    let at = mapped_at (λ p. g.S.Storage.number p.0) _ _ _ c.p-item.is lt in
+    record {
+      heirs = links_more (IsHeir x) places c.loop-p.p-index (g.S.Storage.number c.p-item.result.0) within at _ _ _ c.loop-p.invariant.heirs c.in_ok-take_in.ensures.heir;
+      own = owns_more x places c.loop-p.p-index (g.S.Storage.number c.p-item.result.0) within at _ _ _ c.loop-p.invariant.own c.in_ok-take_in.ensures.own;
+    }
+
+pub returns-clause-heirs : goal.returns-clause-heirs
+returns-clause-heirs g c =
+    let are = subst (λ (x : CostTables). ArePlacesOf x.grammar (g.S.Storage.number c.args.rule.0) (places_of g.S.Storage.number c.rule_to_prods-p-items.result.now)) c.self.view_is
+    c.rule_to_prods-p-items.ensures in
+    heirs_end c.args.self.now (places_of g.S.Storage.number c.rule_to_prods-p-items.result.now) c.loop-p.p-index (g.S.Storage.number c.args.rule.0)
+    (simp length-map (omega (arith, c.loop-p-test.false, c.loop-p.auto.p-index-end))) are c.args.search.now c.loop-p.search c.loop-p.invariant.heirs
+
+pub returns-clause-own : goal.returns-clause-own
+returns-clause-own g c =
+    let are = subst (λ (x : CostTables). ArePlacesOf x.grammar (g.S.Storage.number c.args.rule.0) (places_of g.S.Storage.number c.rule_to_prods-p-items.result.now)) c.self.view_is
+    c.rule_to_prods-p-items.ensures in
+    owns_end c.args.self.now (places_of g.S.Storage.number c.rule_to_prods-p-items.result.now) c.loop-p.p-index (g.S.Storage.number c.args.rule.0)
+    (simp length-map (omega (arith, c.loop-p-test.false, c.loop-p.auto.p-index-end))) are _ _ c.loop-p.invariant.own

@@ -1,0 +1,12 @@
+use Rattle.std.proofs.Common.{take}
+use Rattle.cfganalysis.specs.Paths.{Reaches}
+use Rattle.cfgcosts.specs.Minimal.{IsHeir, IsLinked, Lists, places_of}
+use Rattle.cfgcosts.proofs.OwnBelow.{OwnAmong}
+use Rattle.cfgcosts.proofs.generator.SentenceGenerator.go_through.Given as goal
+
+abbrev pub invariant-loop-p : goal.invariant-loop-p
+invariant-loop-p g l = record {
+  heirs : Reaches (IsLinked (IsHeir l.self) (take l.p-index (places_of g.S.Storage.number l.p-items))) l.fn.search l.search;
+  own : Lists (OwnAmong l.self (take l.p-index (places_of g.S.Storage.number l.p-items))) (places_of g.S.Storage.number l.fn.own.items)
+      (places_of g.S.Storage.number l.own.items);
+}
