@@ -7,6 +7,9 @@ ghost use Rattle.cfgast.specs.View.{syntax};
 ghost use Rattle.cfgsyntax.specs.Spans.{EachParsedSpan};
 ghost use Rattle.cfgrammar.specs.GrammarOf.{HoldsOfItself, HoldsOfReading};
 ghost use Rattle.cfgnumbers.specs.Numbered.{numbered};
+ghost use Rattle.cfglisting.specs.FirstLines.{AreFirstLines};
+ghost use Rattle.cfglisting.specs.FollowLines.{AreFollowLines};
+ghost use Rattle.cfglisting.specs.Lines.{AreWarningLines};
 ghost use Rattle.cfgtool.specs.Report.{AreAskedLines, AreLinesOf, HoldsOfText, IsReport, Tells};
 ghost use Rattle.cfgtool.specs.Report.{TellsLexer, TellsText};
 ghost use Rattle.cfgshell.specs.Endings.{faults_met};
@@ -199,9 +202,34 @@ fn command_lines(
 {
     match command {
         Command::Grammar => production_lines(alloc, grammar),
-        Command::Firsts => first_lines(alloc, grammar, &grammar.firsts(alloc)?),
-        Command::Follows => follow_lines(alloc, grammar, &grammar.follows(alloc)?),
+        Command::Firsts => told_firsts(alloc, grammar),
+        Command::Follows => told_follows(alloc, grammar),
         Command::Sentences => sentence_lines(alloc, grammar),
-        Command::Warnings => warning_lines(alloc, text, &ast.warnings(alloc)?),
+        Command::Warnings => told_warnings(alloc, text, ast),
     }
+}
+
+/// The lines of a grammar's FIRST sets.
+fn told_firsts(alloc: Global, grammar: &YaccGrammar<u32>) -> Result<String, AllocError>
+    ensures { IfOk result (λ lines. AreFirstLines grammar.now (string_bytes lines)) }
+{
+    let firsts = grammar.firsts(alloc)?;
+    first_lines(alloc, grammar, &firsts)
+}
+
+/// The lines of a grammar's FOLLOW sets.
+fn told_follows(alloc: Global, grammar: &YaccGrammar<u32>) -> Result<String, AllocError>
+    ensures { IfOk result (λ lines. AreFollowLines grammar.now (string_bytes lines)) }
+{
+    let follows = grammar.follows(alloc)?;
+    follow_lines(alloc, grammar, &follows)
+}
+
+/// The lines of the warnings of a text that is this tree.
+fn told_warnings(alloc: Global, text: &str, ast: &GrammarAST) -> Result<String, AllocError>
+    requires { EachSpan (IsPiece text.now) (IsWithin text.now) (syntax ast.now) }
+    ensures { IfOk result (λ lines. AreWarningLines text.now (syntax ast.now) (string_bytes lines)) }
+{
+    let warnings = ast.warnings(alloc)?;
+    warning_lines(alloc, text, &warnings)
 }

@@ -1,0 +1,18 @@
+use Rattle.std.proofs.Common.{◌≡◌, All, string_bytes, sym, subst, ap, ◌∙◌}
+use Rattle.std.proofs.lemmas.Result.{IfOk-weaker}
+use Rattle.cfgwords.specs.Places.{IsPiece, IsWithin}
+use Rattle.cfgast.specs.View.{syntax}
+use Rattle.cfglisting.specs.Lines.{AreWarningLines, EachWarningSpan, warning_lines}
+use Rattle.cfglisting.proofs.WarningPlaces.{warning_places}
+use Rattle.cfgtool.proofs.engine.told_warnings.Goals as goal
+
+pub warning_lines-requires : goal.warning_lines-requires
+warning_lines-requires c =
+    subst (All (EachWarningSpan (IsPiece c.args.text.now))) (sym c.deref.ensures.value)
+    (warning_places (IsPiece c.args.text.now) (IsWithin c.args.text.now) (syntax c.args.ast.now) c.in_ok-warnings.warnings.items c.in_ok-warnings.ensures c.requires)
+
+pub returns : goal.returns
+returns c =
+    IfOk-weaker c.warning_lines.result (λ lines. string_bytes lines ≡ warning_lines c.args.text.now c.deref.result.now)
+    (λ lines. AreWarningLines c.args.text.now (syntax c.args.ast.now) (string_bytes lines))
+    (λ lines lined. (c.in_ok-warnings.warnings.items, c.in_ok-warnings.ensures, lined ∙ ap (warning_lines c.args.text.now) c.deref.ensures.value)) c.warning_lines.ensures
