@@ -1,0 +1,16 @@
+use Rattle.std.proofs.Common.{sym, subst}
+use Rattle.cfgnumbers.specs.Fits.{LeavesRoom}
+use Rattle.cfgnumbers.specs.View.{file_of}
+use Rattle.cfgnumbers.proofs.numbering.Numbering.push_for_implicit.Goals as goal
+
+pub push_implicit-requires-clause-implicit : goal.push_implicit-requires-clause-implicit
+push_implicit-requires-clause-implicit g c = c.requires.implicit
+
+pub push_implicit-requires-clause-room : goal.push_implicit-requires-clause-room
+push_implicit-requires-clause-room g c = subst (λ implicit. LeavesRoom g.S.Storage.MAX implicit (file_of c.args.self.now)) (sym c.requires.own) c.requires.room
+
+pub start_symbol-requires-clause-resolved : goal.start_symbol-requires-clause-resolved
+start_symbol-requires-clause-resolved g c = c.requires.resolved
+
+pub start_symbol-requires-clause-room : goal.start_symbol-requires-clause-room
+start_symbol-requires-clause-room g c = subst (λ implicit. LeavesRoom g.S.Storage.MAX implicit (file_of c.args.self.now)) (sym c.requires.own) c.requires.room
