@@ -1,5 +1,5 @@
 -- What holds of a text for one reason, holds of it for whatever follows.
-use Rattle.std.proofs.Common.{ℕ, List, map, Result, Ok, Err, IfOk, String, Global, string_bytes}
+use Rattle.std.proofs.Common.{◌≡◌, ℕ, List, map, Result, Ok, Err, IfOk, String, Global, string_bytes, sym, subst}
 use Rattle.cfgast.specs.Syntax.{Syntax}
 use Rattle.cfgheader.specs.Named.{Naming}
 use Rattle.cfgerrors.specs.Errors.{GrammarError, header_error}
@@ -22,3 +22,11 @@ module _ (text : List ℕ) (A B : List GrammarError → Syntax → Numbered → 
 -- what is told of a text with these errors, this syntax and this numbering, if anything is
 abbrev pub IsTold : {E : Type 0} → (Syntax → Numbered → List ℕ → Type 0) → List ℕ → Result (Outcome × String Global) E → List GrammarError → Syntax → Numbered → Type 0
 IsTold AreLines text result errors s g = IfOk result (λ told. IsReport AreLines text errors s g told.0 (string_bytes told.1))
+
+-- what is known of the lines holds of the report that has them
+pub ended_told : {E : Type 0} (Holds : Outcome → List ℕ → Type 0) (outcome : Outcome) (lines : Result (String Global) E) (told : Result (Outcome × String Global) E)
+    → IfOk told (λ told. (told.0 ≡ outcome) × (lines ≡ Ok told.1)) → IfOk lines (λ lines. Holds outcome (string_bytes lines)) → IfOk told (λ told. Holds told.0 (string_bytes told.1))
+ended_told Holds outcome lines (Ok told) is holds =
+    let lined : Holds outcome (string_bytes told.1) = subst (λ lines. IfOk lines (λ lines. Holds outcome (string_bytes lines))) is.1 holds in
+    subst (λ outcome. Holds outcome (string_bytes told.1)) (sym is.0) lined
+ended_told Holds outcome lines (Err e) is holds = tt

@@ -1,6 +1,6 @@
 //! The report of a text.
 
-ghost use Rattle.std.specs.Prelude.{◌≡◌, ◌+◌, ◌-◌, ◌^◌, ◌<◌, Some, IfOk, IsErrOf, string_bytes};
+ghost use Rattle.std.specs.Prelude.{◌≡◌, ◌+◌, ◌-◌, ◌^◌, ◌<◌, Some, Ok, IfOk, IsErrOf, string_bytes};
 ghost use Rattle.cfgwords.specs.Places.{IsPiece, IsWithin};
 ghost use Rattle.cfgast.specs.Syntax.{EachSpan};
 ghost use Rattle.cfgast.specs.View.{syntax};
@@ -161,14 +161,24 @@ fn report_parsed(
 {
     match YaccGrammar::new_from_ast_with_validity_info(alloc, parsed) {
         Ok(grammar) => {
-            let lines = request_lines(alloc, request, text, parsed.ast(), &grammar)?;
-            Ok((Outcome::Done, lines))
+            let lines = request_lines(alloc, request, text, parsed.ast(), &grammar);
+            ended(Outcome::Done, lines)
         }
         Err(YaccFault::Errors(errors)) => {
-            Ok((Outcome::Refused, error_lines(alloc, text, &errors)?))
+            ended(Outcome::Refused, error_lines(alloc, text, &errors))
         }
         Err(YaccFault::OutOfMemory) => Err(AllocError),
     }
+}
+
+/// The report that ends so, if there are lines.
+fn ended(
+    outcome: Outcome,
+    lines: Result<String, AllocError>,
+) -> Result<(Outcome, String), AllocError>
+    ensures { IfOk result (λ told. (told.0 ≡ outcome) × (lines ≡ Ok told.1)) }
+{
+    Ok((outcome, lines?))
 }
 
 /// The lines that are asked of a text that is this tree, and this grammar.

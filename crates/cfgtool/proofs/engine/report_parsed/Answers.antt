@@ -1,15 +1,18 @@
-use Rattle.std.proofs.Common.{All, string_bytes, sym, subst, ap, ◌∙◌}
+use Rattle.std.proofs.Common.{◌≡◌, All, string_bytes, sym, subst, ap, ◌∙◌}
+use Rattle.std.proofs.lemmas.Result.{IfOk-weaker}
 use Rattle.cfgwords.specs.Places.{IsPiece, IsWithin}
 use Rattle.cfgast.specs.Syntax.{Syntax, EachSpan}
 use Rattle.cfgast.specs.View.{syntax}
 use Rattle.cfgsyntax.specs.Spans.{EachErrorSpan}
 use Rattle.cfgnumbers.specs.Numbered.{Numbered, numbered}
 use Rattle.cfglisting.specs.Lines.{error_lines}
-use Rattle.cfgtool.specs.Report.{AreAskedLines}
+use Rattle.cfgshell.specs.declared.outcome.Outcome.TheVariants.{Done, Refused}
+use Rattle.cfgtool.specs.Report.{AreAskedLines, IsReport}
+use Rattle.cfgtool.proofs.OfText.{ended_told}
 use Rattle.cfgtool.proofs.engine.report_parsed.Goals as goal
 
-pub request_lines-requires : goal.request_lines-requires
-request_lines-requires c =
+pub request_lines-lines-requires : goal.request_lines-lines-requires
+request_lines-lines-requires c =
     subst (EachSpan (IsPiece c.args.text.now) (IsWithin c.args.text.now)) (sym c.ast.ensures.value) c.requires.syntax
 
 pub error_lines-requires : goal.error_lines-requires
@@ -18,18 +21,27 @@ error_lines-requires c =
     let errors = rw c.in-Err-Errors.errors-is at c.deref.ensures.value in
     subst (All (EachErrorSpan (IsPiece c.args.text.now))) (sym errors) placed
 
-pub returns-in_ok-lines-in-Ok : goal.returns-in_ok-lines-in-Ok
-returns-in_ok-lines-in-Ok c =
+pub returns-in-Ok : goal.returns-in-Ok
+returns-in-Ok c =
     let answer = c.in-Ok.ensures.answer in
-    let lines = string_bytes c.in_ok-lines-in-Ok.lines in (
+    let g = numbered c.args.parsed.now.kind c.args.parsed.now.syntax in
+    let Asked = AreAskedLines c.args.request c.args.text.now in
+    let Report = IsReport Asked c.args.text.now c.args.parsed.now.errors c.args.parsed.now.syntax g in
+    ended_told Report Done c.request_lines-lines.result c.ended.result c.ended.ensures
+    (IfOk-weaker c.request_lines-lines.result (λ lines. Asked (syntax c.ast.result.now) c.in-Ok.grammar (string_bytes lines)) (λ lines. Report Done (string_bytes lines)) (λ lines told. (
       answer.0,
       answer.1,
-      subst (λ (s : Syntax). AreAskedLines c.args.request c.args.text.now s (numbered c.args.parsed.now.kind c.args.parsed.now.syntax) lines) c.ast.ensures.value
-          (subst (λ (g : Numbered). AreAskedLines c.args.request c.args.text.now (syntax c.ast.result.now) g lines) answer.2 c.in_ok-lines-in-Ok.ensures),
-    )
+      subst (λ (s : Syntax). Asked s g (string_bytes lines)) c.ast.ensures.value
+          (subst (λ (g : Numbered). Asked (syntax c.ast.result.now) g (string_bytes lines)) answer.2 told),
+    )) c.request_lines-lines.ensures)
 
-pub returns-in_ok-error_lines-in-Err-Errors : goal.returns-in_ok-error_lines-in-Err-Errors
-returns-in_ok-error_lines-in-Err-Errors c =
+pub returns-in-Err-Errors : goal.returns-in-Err-Errors
+returns-in-Err-Errors c =
     let refused = rw c.in-Err-Errors.field-0-is at c.in-Err-Errors.ensures.answer in
     let errors = rw c.in-Err-Errors.errors-is at c.deref.ensures.value in
-    (c.in-Err-Errors.errors.items, refused, c.in_ok-error_lines-in-Err-Errors.ensures ∙ ap (error_lines c.args.text.now) errors)
+    let text = c.args.text.now in
+    let g = numbered c.args.parsed.now.kind c.args.parsed.now.syntax in
+    let Report = IsReport (AreAskedLines c.args.request text) text c.args.parsed.now.errors c.args.parsed.now.syntax g in
+    ended_told Report Refused c.error_lines.result c.ended-in-Err-Errors.result c.ended-in-Err-Errors.ensures
+    (IfOk-weaker c.error_lines.result (λ lines. string_bytes lines ≡ error_lines text c.deref.result.now) (λ lines. Report Refused (string_bytes lines))
+    (λ lines lined. (c.in-Err-Errors.errors.items, refused, lined ∙ ap (error_lines text) errors)) c.error_lines.ensures)
