@@ -2,13 +2,15 @@
 
 ghost use Rattle.std.specs.Prelude.{◌≡◌, ◌++◌, ◌<◌, All, length, IfOk, OnOk, string_bytes};
 ghost use Rattle.cfgwords.specs.Places.{IsPiece};
+ghost use Rattle.cfgnumbers.specs.Shown.{production_part};
 ghost use Rattle.cfgsyntax.specs.Spans.{EachErrorSpan};
-ghost use Rattle.cfglisting.specs.Lines.{EachWarningSpan, error_line, error_lines, first_place, production_lines};
-ghost use Rattle.cfglisting.specs.Lines.{warning_line, warning_lines};
+ghost use Rattle.cfglisting.specs.Lines.{EachWarningSpan, error_line, error_lines, first_place, production_line};
+ghost use Rattle.cfglisting.specs.Lines.{production_lines, warning_line, warning_lines};
+ghost use Rattle.cfglisting.specs.TokenSets.{Adds};
 
 use cfglines::Places;
 use cfgrammar::yacc::{YaccGrammar, YaccGrammarError, YaccGrammarWarning};
-use cfgrammar::{Span, Spanned};
+use cfgrammar::{PIdx, Span, Spanned};
 use std::alloc::{AllocError, Global};
 
 /// The productions of a grammar, each as a line: its index, a space and its text.
@@ -17,10 +19,25 @@ pub fn production_lines(alloc: Global, grammar: &YaccGrammar<u32>) -> Result<Str
 {
     let mut lines = String::new(alloc);
     for pidx in grammar.iter_pidxs() {
-        let text = grammar.pp_prod(alloc, pidx)?;
-        writeln!(lines, "{} {text}", usize::from(pidx))?;
+        write_production(alloc, &mut lines, grammar, pidx)?;
     }
     Ok(lines)
+}
+
+/// Writes the line of a production.
+fn write_production(
+    alloc: Global,
+    lines: &mut String,
+    grammar: &YaccGrammar<u32>,
+    pidx: PIdx<u32>,
+) -> Result<(), AllocError>
+    requires { pidx.0 < length grammar.now.productions }
+    ensures { OnOk result (Adds (production_part
+        (λ production. production_line grammar.now (pidx.0, production)) grammar.now pidx.0)
+        (string_bytes lines.old) (string_bytes lines.new)) }
+{
+    let text = grammar.pp_prod(alloc, pidx)?;
+    writeln!(lines, "{} {text}", usize::from(pidx))
 }
 
 /// The errors of a text, each as a line: its place and what it says.
