@@ -21,6 +21,7 @@ const SMALL: usize = 32;
 pub struct Crowd {
     fill: Vec<u8>,
     hashes: Vec<u32>,
+    room: usize,
 }
 
 impl Crowd {
@@ -29,19 +30,18 @@ impl Crowd {
         Crowd {
             fill: Vec::new(alloc),
             hashes: Vec::new(alloc),
+            room: LOAD * SMALL,
         }
     }
 
     /// Takes in the hash of one more key: whether the keys crowd where it falls.
     pub fn takes(&mut self, hash: u64) -> Result<bool, AllocError> {
         let place = ((hash ^ (hash >> 32)) & 0xFFFF_FFFF) as u32;
-        if self.hashes.len() / LOAD >= self.fill.len().max(SMALL) {
+        if self.hashes.len() >= self.room {
             self.widen()?;
         }
         self.hashes.push(place)?;
-        let fill = self.fill.as_mut_slice();
-        let group = seat(fill, place);
-        Ok(is_full(fill, group) && is_crowd(fill, group))
+        Ok(seat(self.fill.as_mut_slice(), place))
     }
 
     // Doubles the groups.
@@ -49,6 +49,7 @@ impl Crowd {
         let count = self.fill.len().max(SMALL).saturating_mul(2);
         self.fill.clear();
         self.fill.resize(count, 0)?;
+        self.room = count.saturating_mul(LOAD);
         for place in &self.hashes {
             seat(self.fill.as_mut_slice(), *place);
         }
@@ -56,14 +57,27 @@ impl Crowd {
     }
 }
 
-// Puts a key into the first group from its place on that isn't full, which is answered.
-fn seat(fill: &mut [u8], place: u32) -> usize {
-    let place = place as usize;
-    let group = place.wrapping_add(full_in_a_row(fill, place, 1));
-    if let Some(taken) = fill.get_mut(group & fill.len().saturating_sub(1)) {
+// Puts a key into the first group from its place on that isn't full: whether that one is full now, and the groups that
+// are full in a row with it are a crowd. There are a power of two of them, and behind the last comes the first.
+fn seat(fill: &mut [u8], place: u32) -> bool {
+    let group = place as usize & fill.len().wrapping_sub(1);
+    match fill.get_mut(group) {
+        Some(taken) if *taken < LANES - 1 => {
+            *taken += 1;
+            false
+        }
+        Some(_) => seat_from(fill, group),
+        None => false,
+    }
+}
+
+// The same from a group on that one more key fills, or that is full.
+fn seat_from(fill: &mut [u8], group: usize) -> bool {
+    let group = group.wrapping_add(full_in_a_row(fill, group, 1));
+    if let Some(taken) = fill.get_mut(group & fill.len().wrapping_sub(1)) {
         *taken = taken.saturating_add(1);
     }
-    group
+    is_full(fill, group) && is_crowd(fill, group)
 }
 
 // Whether the groups that are full in a row with this one are a crowd.
@@ -83,9 +97,9 @@ fn full_in_a_row(fill: &[u8], group: usize, step: usize) -> usize {
     ROW
 }
 
-// Whether the group is full. There are a power of two of them, and behind the last comes the first.
+// Whether the group is full.
 fn is_full(fill: &[u8], group: usize) -> bool {
-    match fill.get(group & fill.len().saturating_sub(1)) {
+    match fill.get(group & fill.len().wrapping_sub(1)) {
         Some(taken) => *taken >= LANES,
         None => false,
     }
