@@ -1,16 +1,30 @@
 //! Words and needles in a text.
 
-ghost use Rattle.std.specs.Prelude.{◌≡◌, ◌+◌, length, IfSome};
+ghost use Rattle.std.specs.Prelude.{◌≡◌, ◌==◌, ◌+◌, length, IfSome};
 ghost use Rattle.std.specs.Option.{option_map};
-ghost use Rattle.reading.specs.Pieces.{strip, split_first};
+ghost use Rattle.reading.specs.Pieces.{starts, strip, split_first};
 
-/// What is left of a text behind a word at its front; `None` where another thing stands there.
+/// Whether the text begins with the byte.
+fn begins_with(text: &str, byte: u8) -> bool
+    ensures { result ≡ starts (λ b. byte == b) text.now }
+{
+    match text.as_bytes() {
+        [] => false,
+        [b, ..] => byte == *b,
+    }
+}
+
+/// What is left of a text behind a word at its front; `None` where another thing stands there. Mostly the first byte
+/// tells that.
 #[tactic(auto, using(crate::proofs::TextLemmas::strip_prefix_strip))]
 pub fn after_word<'a>(text: &'a str, word: &str) -> Option<&'a str>
     ensures rest { option_map (λ x. x.now) result ≡ strip word.now text.now }
     ensures shorter { IfSome result (λ x. length x.now + length word.now ≡ length text.now) }
 {
-    text.strip_prefix(word)
+    match word.as_bytes() {
+        [b, ..] if !begins_with(text, *b) => None,
+        _ => text.strip_prefix(word),
+    }
 }
 
 /// What stands before the first needle of a text, and what is left behind that needle; `None` where there is no needle.
