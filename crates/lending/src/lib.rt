@@ -18,20 +18,3 @@ pub fn lend<T: Drop, E, R, F: FnOnce(&T) -> Result<R, E>>(
         Err(fault) => Err(fault),
     }
 }
-
-/// What `next` answers of the value, or `otherwise` of the fault in its place.
-pub fn lend_either<T: Drop, E: Drop, R, F: FnOnce(&T) -> R, G: FnOnce(&E) -> R>(
-    made: Result<T, E>,
-    next: F,
-    otherwise: G,
-) -> R
-    requires value { IfOk made (FnOnceTakesAt F.FnOnce next) }
-    requires fault { IfErr made (FnOnceTakesAt G.FnOnce otherwise) }
-    ensures lent { IfOk made (λ value. FnOnceReturnsAt F.FnOnce next value result) }
-    ensures refused { IfErr made (λ fault. FnOnceReturnsAt G.FnOnce otherwise fault result) }
-{
-    match made {
-        Ok(value) => next(&value),
-        Err(fault) => otherwise(&fault),
-    }
-}
