@@ -1,11 +1,13 @@
 -- What is found among rules and tokens by a name, and at a place.
-use Rattle.std.proofs.Common.{◌≡◌, ℕ, List, map, position, slice_get, String, Global, string_bytes, string_eq, false, [], ◌∷◌, Some, None, sym, ap, ◌∙◌}
-use Rattle.std.specs.List.{IsDistinct, AllByRecursion}
+use Rattle.std.proofs.Common.{◌≡◌, ℕ, ◌==◌, Option, List, length, refl, arith, map, position, slice_get, String, Global, string_bytes, string_eq, false, [], ◌∷◌, Some, None, sym, ap, ◌∙◌}
+use Rattle.std.specs.List.{IsDistinct, AllByRecursion, list_any}
+use Rattle.std.specs.Option.{option_map_or}
 use Rattle.std.specs.Map.{keys_of}
 use Rattle.std.specs.Str.{bytes_eq}
 use Rattle.std.proofs.lemmas.Simd.{map-map}
 use Rattle.lemmas.proofs.Places.{position-map}
-use Rattle.cfgast.specs.Syntax.{entry_name}
+use Rattle.cfgast.specs.Syntax.{Syntax, entry_name}
+use Rattle.cfgast.specs.Building.{is_declared}
 use Rattle.cfgast.specs.View.{rule_entry}
 use Rattle.cfgast.specs.declared.rule.Rule as source
 use Rattle.cfgast.proofs.Marking.{found_at}
@@ -36,3 +38,13 @@ names_differ (key ∷ keys) h = (others keys h.0, names_differ keys h.1)
     others : (rest : List (String Global)) → AllByRecursion (λ k. string_eq key k ≡ false) rest → AllByRecursion (λ n. bytes_eq (string_bytes key) n ≡ false) (map string_bytes rest)
     others [] h = tt
     others (k ∷ rest) h = (h.0, others rest h.1)
+
+-- where no `%token` is there, it declares no name
+pub none_declared : (s : Syntax) (name : List ℕ) → length s.token_directives ≡ 0 → false ≡ is_declared s name
+unfolding is_declared
+none_declared s name empty = go s.token_directives (position (bytes_eq name) s.tokens) empty
+  where
+    go : (directives : List ℕ) (place : Option ℕ) → length directives ≡ 0 → false ≡ option_map_or (λ i. list_any (λ j. i == j) directives) place false
+    go [] None e = refl
+    go [] (Some i) e = refl
+    go (directive ∷ directives) place e = absurd (omega arith)

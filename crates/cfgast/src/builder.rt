@@ -528,6 +528,9 @@ impl<'text> AstBuilder<'text> {
     fn is_declared(&self, name: &str) -> bool
         ensures { result ≡ is_declared (syntax_built self.now) name.now }
     {
+        if self.ast.token_directives.is_empty() {
+            return false;
+        }
         match self.ast.tokens.get_index_of(name) {
             Some(index) => self.ast.token_directives.contains(&index),
             None => false,

@@ -16,15 +16,14 @@ pub(crate) enum New<'a> {
     Declared(&'a Unique),
 }
 
-/// How full the tables of a tree are, whose names are hashed plainly, and that of all that is declared of tokens.
+/// How full the tables of a tree are, whose names are hashed plainly, and that of all that is declared of tokens. Tokens
+/// that are marked are counted as tokens: their tables hold a part of those.
 #[derive(Drop)]
 pub(crate) struct Crowds {
     rules: Crowd,
     tokens: Crowd,
     precs: Crowd,
     epp: Crowd,
-    avoid_insert: Crowd,
-    implicit_tokens: Crowd,
     declared: Crowd,
 }
 
@@ -36,8 +35,6 @@ impl Crowds {
             tokens: Crowd::new(alloc),
             precs: Crowd::new(alloc),
             epp: Crowd::new(alloc),
-            avoid_insert: Crowd::new(alloc),
-            implicit_tokens: Crowd::new(alloc),
             declared: Crowd::new(alloc),
         }
     }
@@ -60,12 +57,9 @@ impl Crowds {
         let Some(name) = &what.token else {
             return Ok(false);
         };
-        let hash = NameHashes::plain().hash_one(name);
         match what.kind {
-            UniqueKind::PrintedForm => self.epp.takes(hash),
-            UniqueKind::Precedence => self.precs.takes(hash),
-            UniqueKind::AvoidInsert => self.avoid_insert.takes(hash),
-            UniqueKind::ImplicitToken => self.implicit_tokens.takes(hash),
+            UniqueKind::PrintedForm => self.epp.takes(NameHashes::plain().hash_one(name)),
+            UniqueKind::Precedence => self.precs.takes(NameHashes::plain().hash_one(name)),
             _ => Ok(false),
         }
     }

@@ -39,7 +39,7 @@ fn repeated(
         ≡ map (λ what. record { what = what; spans = [] })
         (each_once is_same (repeats (map occurrence_view occurrences.now)))) }
 {
-    let mut declared = IndexSet::with_hasher(alloc, hashes);
+    let mut declared = IndexSet::with_capacity_and_hasher(alloc, occurrences.len(), hashes)?;
     let mut again = IndexMap::with_hasher(alloc, hashes);
     for occurrence in occurrences {
         if !declared.insert(&occurrence.what)? {

@@ -4,7 +4,12 @@ use Rattle.std.specs.Option.{option_map_or}
 use Rattle.lemmas.proofs.Places.{position-map}
 use Rattle.cfgast.specs.Building.{is_declared}
 use Rattle.cfgast.specs.View.{syntax, syntax_built}
+use Rattle.cfgast.proofs.Found.{none_declared}
 use Rattle.cfgast.proofs.builder.AstBuilder.is_declared.Goals as goal
+
+pub returns-then-is_empty : goal.returns-then-is_empty
+unfolding syntax_built syntax
+returns-then-is_empty c = none_declared (syntax_built c.args.self.now) c.args.name.now (c.is_empty.ensures.0 c.if-is_empty.true)
 
 pub returns-in-Some : goal.returns-in-Some
 unfolding syntax_built syntax is_declared
