@@ -1,5 +1,5 @@
 -- The rules whose sentences those of a rule are made of are found by a search along own productions.
-use Rattle.std.proofs.Common.{◌≡◌, ◌↔◌, ℕ, ◌<◌, ◌≤◌, ◌⊎◌, inl, inr, false, List, [], ◌∷◌, ◌++◌, Some, All, Contains, length, replicate, arith, refl, sym, ap, subst, ◌∙◌}
+use Rattle.std.proofs.Common.{◌≡◌, ◌↔◌, ℕ, inl, inr, false, List, [], ◌∷◌, ◌++◌, Some, Contains, replicate, refl, sym, ap, subst}
 use Rattle.std.specs.List.Sorted.{IsPermutation}
 use Rattle.std.proofs.lemmas.List.Elements.{Contains-push}
 use Rattle.std.proofs.lemmas.List.Sorted.{Contains-permutation, IsPermutation-sym}
@@ -11,7 +11,7 @@ use Rattle.cfgcosts.specs.Generator.{CostTables, IsGenerator, cost_answer}
 use Rattle.cfgcosts.specs.Levels.{Along, here, next}
 use Rattle.cfgcosts.specs.Minimal.{AreAsked, Holds, IsLinked, IsOwnBelow}
 use Rattle.cfgcosts.proofs.Contained.{contains_cases, contains_first, contains_later, contains_none}
-use Rattle.cfgcosts.proofs.Searches.{Searching, popped_is, search_begins, search_ends, search_goes_on, still_reached}
+use Rattle.cfgcosts.proofs.Searches.{Searching, search_begins, search_ends, search_goes_on, still_reached}
 use Rattle.cfgcosts.proofs.Tight.{own_costs}
 
 module _ (x : CostTables) (r : ℕ) where

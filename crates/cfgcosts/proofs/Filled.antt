@@ -1,15 +1,14 @@
 -- A table that is filled rule by rule, by rising costs, has all minimal sentences of the rules that were asked for.
-use Rattle.std.proofs.Common.{◌≡◌, ◌↔◌, ℕ, ◌+◌, ◌<◌, ◌≤◌, ◌⊎◌, inl, inr, List, [], ◌∷◌, ◌++◌, Some, All, Contains, get_or, length, take, replicate, arith, refl, sym, ap, subst, ◌∙◌}
+use Rattle.std.proofs.Common.{◌≡◌, ◌↔◌, ℕ, ◌<◌, ◌≤◌, ◌⊎◌, inl, inr, List, [], ◌∷◌, ◌++◌, Some, All, Contains, length, replicate, arith, sym, ap, subst, ◌∙◌}
 use Rattle.std.specs.List.Sorted.{IsPermutation}
-use Rattle.std.proofs.lemmas.List.{length-replicate, take_all, take_more}
+use Rattle.std.proofs.lemmas.List.{length-replicate}
 use Rattle.std.proofs.lemmas.List.Elements.{All-contains, Contains-push_cases}
 use Rattle.std.proofs.lemmas.List.Sorted.{Contains-permutation, IsPermutation-sym}
 use Rattle.lemmas.proofs.Elements.{get_or-replicate_default}
-use Rattle.derivation.specs.Grammar.{Sym, Rule, IsGrammar, HasProduction}
-use Rattle.derivation.specs.Costs.{Minimal}
+use Rattle.derivation.specs.Grammar.{Sym, Rule, IsGrammar}
 use Rattle.cfganalysis.specs.Openings.{nth_production}
-use Rattle.cfgcosts.specs.Generator.{CostTables, IsGenerator, cost_answer, token_cost}
-use Rattle.cfgcosts.specs.Minimal.{AddsMinimal, AddsSentence, AddsSentences, AreAsked, AreMinimal, Extends, HasAllMinimal, HasSentence, IsMinimal, IsOwnBelow, IsReadyFor, sentences_of}
+use Rattle.cfgcosts.specs.Generator.{CostTables, IsGenerator, cost_answer}
+use Rattle.cfgcosts.specs.Minimal.{AddsMinimal, AddsSentence, AddsSentences, AreAsked, AreMinimal, HasAllMinimal, HasSentence, IsMinimal, IsOwnBelow, IsReadyFor, sentences_of}
 use Rattle.cfgcosts.specs.Splits.{Split, done, itself, part}
 use Rattle.cfgcosts.proofs.Contained.{contains_cases, contains_first, contains_later, contains_none}
 use Rattle.cfgcosts.proofs.Splits.{Split-map}

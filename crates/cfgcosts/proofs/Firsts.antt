@@ -1,13 +1,12 @@
 -- No minimal sentence begins another, so the first sentences of a row's symbols make the first of the row.
-use Rattle.std.proofs.Common.{◌≡◌, ℕ, ◌<◌, ◌≤◌, List, [], ◌∷◌, ◌++◌, All, arith, refl, sym, ap, subst, ◌∙◌}
+use Rattle.std.proofs.Common.{◌≡◌, ℕ, ◌<◌, List, [], ◌∷◌, ◌++◌, All, arith, refl, sym, ap, subst, ◌∙◌}
 use Rattle.std.specs.declared.cmp.Ordering.{Ordering}
 use Rattle.std.specs.declared.cmp.Ordering.TheVariants.{Less, Equal, Greater}
 use Rattle.std.specs.Ordering.{nat_cmp, ordering_then}
 use Rattle.std.specs.Cmp.{nat_cmp_is}
 use Rattle.std.proofs.lemmas.Cmp.{ranked, by_ranked}
 use Rattle.std.proofs.lemmas.List.Sums.{sum_by-append}
-use Rattle.derivation.specs.Grammar.{Sym, Rule, Token}
-use Rattle.derivation.specs.Sentence.{cost_of}
+use Rattle.derivation.specs.Grammar.{Sym}
 use Rattle.derivation.specs.Costs.{Minimal}
 use Rattle.cfgcosts.specs.Splits.{Split, done, itself, part}
 use Rattle.cfgcosts.specs.Minimal.{FirstMinimal, dictionary}

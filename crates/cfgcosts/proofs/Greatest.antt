@@ -1,5 +1,5 @@
 -- What is answered of a rule's greatest cost, as it is read from the table at its place, is answered exactly where it is true.
-use Rattle.std.proofs.Common.{◌≡◌, ◌↔◌, ℕ, ◌<◌, List, Option, Result, Err, length, get_or, sym, subst, ◌∙◌}
+use Rattle.std.proofs.Common.{◌≡◌, ◌↔◌, ℕ, ◌<◌, List, Option, Result, Err, get_or, sym, subst, ◌∙◌}
 use Rattle.std.proofs.lemmas.List.{get_or_default}
 use Rattle.derivation.specs.Grammar.{HasProduction}
 use Rattle.cfgsums.specs.declared.errors.CostError.{CostError}

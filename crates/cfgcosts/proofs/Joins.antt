@@ -4,14 +4,11 @@ use Rattle.std.proofs.lemmas.List.Elements.{Contains-append_left, Contains-appen
 use Rattle.derivation.specs.Grammar.{Sym, Rule, Token}
 use Rattle.cfgcosts.specs.Splits.{Split, done, itself, part}
 use Rattle.cfgcosts.specs.Minimal.{HasSentence, IsJoined, words_of_symbol}
-use Rattle.cfgcosts.proofs.Contained.{contains_first, contains_later, contains_none, contains_one, contains_cases, contains_mapped, contains_source}
+use Rattle.cfgcosts.proofs.Contained.{contains_first, contains_later, contains_one, contains_cases, contains_mapped, contains_source}
 
 -- a list of words holds just those that are joined
 abbrev pub AreJoined : List (List ℕ) → List (List ℕ) → List (List ℕ) → Type 0
 AreJoined words fronts backs = (w : List ℕ) → Contains words w ↔ IsJoined fronts backs w
-
-pub joined_none : (backs : List (List ℕ)) → AreJoined [] [] backs
-joined_none backs w = ((λ h. absurd (contains_none w h)), (λ j. absurd (contains_none j.front j.first)))
 
 joined_later : (front : List ℕ) (fronts backs : List (List ℕ)) (w : List ℕ) → IsJoined fronts backs w → IsJoined (front ∷ fronts) backs w
 joined_later front fronts backs w j = record { front = j.front; back = j.back; first = contains_later front j.front fronts j.first; second = j.second; whole = j.whole }
@@ -30,13 +27,6 @@ joined_front words more front fronts backs all e w = (
         (subst (Contains (map (λ back. front ++ back) backs)) (ap (λ l. l ++ j.back) same ∙ sym j.whole) (contains_mapped (λ back. front ++ back) backs j.back j.second))
     | inr later ↦ Contains-append_left words (map (λ back. front ++ back) backs) w ((all w).1 (record { front = j.front; back = j.back; first = later; second = j.second; whole = j.whole }))
   ])),
-)
-
--- fronts in another order
-pub joined_same : (words fronts others backs : List (List ℕ)) → ((u : List ℕ) → Contains fronts u ↔ Contains others u) → AreJoined words fronts backs → AreJoined words others backs
-joined_same words fronts others backs same all w = (
-  (λ h. let j = (all w).0 h in record { front = j.front; back = j.back; first = (same j.front).0 j.first; second = j.second; whole = j.whole }),
-  (λ j. (all w).1 (record { front = j.front; back = j.back; first = (same j.front).1 j.first; second = j.second; whole = j.whole })),
 )
 
 -- a row with a symbol more

@@ -10,7 +10,7 @@ use Rattle.derivation.specs.Tree.{Yields, empty, token, opened}
 use Rattle.derivation.proofs.Trees.{trees_join, trees_from_derivation, derivation_from_trees}
 use Rattle.derivation.proofs.Costs.{least_is_one, minimal_costs_least}
 use Rattle.cfgcosts.specs.Splits.{Split, done, itself, part}
-use Rattle.cfgcosts.specs.Levels.{Along, here, next, CostsAsItsRule, HandsOn, IsOwn, IsHandedDown}
+use Rattle.cfgcosts.specs.Levels.{Along, here, next, CostsAsItsRule, HandsOn, IsHandedDown}
 use Rattle.cfgsums.proofs.Made.{cost_of-token}
 use Rattle.cfgcosts.proofs.Contained.{contains_first, contains_later, contains_none, contains_cases}
 use Rattle.cfgcosts.proofs.Lengths.{IsPaid, dear_empty, sentence_dear, tokens_dear}

@@ -1,5 +1,5 @@
 -- A search along links: what is reached, what was gone through, and what waits.
-use Rattle.std.proofs.Common.{◌≡◌, ℕ, ◌<◌, ◌⊎◌, inl, inr, false, List, [], ◌∷◌, ◌++◌, Contains, IsTrue, get_or, length, replicate, arith, refl, sym, ap, subst, ◌∙◌, true≢false}
+use Rattle.std.proofs.Common.{◌≡◌, ℕ, ◌<◌, ◌⊎◌, inl, inr, false, [], ◌∷◌, ◌++◌, Contains, IsTrue, get_or, length, replicate, arith, sym, ap, subst, ◌∙◌, true≢false}
 use Rattle.std.proofs.lemmas.List.{length-replicate}
 use Rattle.std.proofs.lemmas.List.Elements.{Contains-append_left, Contains-push, Contains-push_cases}
 use Rattle.lemmas.proofs.Elements.{get_or-replicate_default, within_from_get_or}

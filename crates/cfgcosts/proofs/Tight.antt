@@ -1,10 +1,10 @@
 -- What the generator's tables tell of productions that cost what their rules do, and what derivations tell of them.
-use Rattle.std.proofs.Common.{◌≡◌, ◌↔◌, ℕ, ◌+◌, ◌<◌, ◌≤◌, inl, inr, List, [], ◌∷◌, ◌++◌, Option, Some, None, Result, Ok, Err, All, Contains, arith, refl, sym, ap, subst, ◌∙◌}
+use Rattle.std.proofs.Common.{◌≡◌, ℕ, ◌<◌, ◌≤◌, inl, inr, List, [], ◌∷◌, ◌++◌, Option, Some, None, Result, Ok, Err, All, Contains, arith, refl, sym, ap, subst, ◌∙◌}
 use Rattle.std.specs.Prelude.{MatchOption}
 use Rattle.std.proofs.lemmas.Bool.{cases_lt}
 use Rattle.std.proofs.lemmas.List.{get_or_default}
 use Rattle.lemmas.proofs.Elements.{within_from_get_or}
-use Rattle.std.proofs.lemmas.List.Elements.{All-get_or, All-head, All-tail}
+use Rattle.std.proofs.lemmas.List.Elements.{All-get_or}
 use Rattle.std.proofs.lemmas.List.Sums.{sum_by-append}
 use Rattle.derivation.specs.Grammar.{Sym, Rule, Token, Production, IsGrammar, HasProduction}
 use Rattle.derivation.specs.Sentence.{cost_of}
@@ -19,7 +19,7 @@ use Rattle.cfgsums.specs.Lists.{rule_cost}
 use Rattle.cfgsums.proofs.Sums.{plus_parts, plus_both}
 use Rattle.cfgsums.proofs.Made.{cost_of-token}
 use Rattle.cfgcosts.specs.Generator.{CostTables, IsGenerator, cost_answer, token_cost}
-use Rattle.cfgcosts.specs.Levels.{Along, here, next, CostsAsItsRule, HandsOn, IsOwn, IsHandedDown}
+use Rattle.cfgcosts.specs.Levels.{Along, here, next, CostsAsItsRule, HandsOn, IsOwn}
 use Rattle.cfgcosts.specs.Minimal.{HasHeir, HasNoHeir, IsHeir, IsMinimal, IsOwnBelow, IsTight}
 use Rattle.cfgcosts.specs.Open.{StopsAt}
 use Rattle.cfgcosts.specs.Splits.{Split, done, itself, part}
@@ -28,7 +28,7 @@ use Rattle.cfgcosts.proofs.Contained.{contains_cases, contains_none}
 use Rattle.cfgcosts.proofs.Gains.{HasCost, all_have_costs}
 use Rattle.cfgcosts.proofs.Generated.{answered_some, some_answered, reads_cost, reads_dear, reads_none}
 use Rattle.cfgcosts.proofs.Lengths.{IsPaid, productions_paid}
-use Rattle.cfgcosts.proofs.Levels.{along_back, at_least, handed_down_minimal, made_minimal, minimal_handed_down, no_rule, rule_nothing}
+use Rattle.cfgcosts.proofs.Levels.{at_least, handed_down_minimal, minimal_handed_down, rule_nothing}
 
 -- where a rule has no cost, the row has none
 pub stops_none : (cost : ℕ → ℕ) (settled : ℕ → Option ℕ) (symbols : List Sym) (r : ℕ) (x : Partial) → StopsAt cost settled symbols r x → sum_of (symbol_cost cost settled) symbols ≡ None

@@ -32,8 +32,8 @@ pub fn sentences_cost_their_length()
         → (r : ℕ) (w : List ℕ) → Sentence (HasProduction g) r w → length w ≤ cost_of (slice_index costs) w }
 {}
 
-/// A minimal sentence of a rule is what a production makes of minimal sentences of its symbols, a production whose rules
-/// all cost less than its own: that of the rule, or of one that it hands on to. And each such word is one.
+/// A minimal sentence of a rule is what a production makes of minimal sentences of its symbols, where its rules all
+/// cost less than its own: that is the rule, or one that it hands on to. And each such word is one.
 pub fn minimal_sentences_are_handed_down()
     ensures { (g : Grammar) (costs : List ℕ) → IsGrammar g → length costs ≡ g.tokens → All (λ c. 0 < c) costs
         → (r : ℕ) (w : List ℕ) → Minimal (HasProduction g) (slice_index costs) r w

@@ -1,4 +1,4 @@
-//! A queue of productions whose sums are known, the cheapest first.
+//! A queue by cost, the cheapest first: of productions whose sums are known, or of rules that are asked for.
 
 ghost use Rattle.std.specs.Prelude.{◌≡◌, ℕ, ◌≤◌, [], ◌∷◌, All, IfNone, IfSome, OnOk};
 ghost use Rattle.std.specs.List.Sorted.{IsPermutation};
@@ -8,7 +8,7 @@ use std::cmp::Reverse;
 use std::collections::BinaryHeap;
 use std::marker::Model;
 
-/// Sums of productions, each with its production.
+/// Sums of productions, each with its production; or costs of rules, each with its rule.
 #[derive(Drop)]
 pub(crate) struct Queue {
     sums: BinaryHeap<Reverse<(u32, u32)>>,

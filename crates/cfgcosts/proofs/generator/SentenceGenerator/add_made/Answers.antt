@@ -1,12 +1,11 @@
-use Rattle.std.proofs.Common.{◌≡◌, ◌↔◌, ◌<◌, ◌+◌, ◌++◌, ◌∷◌, ℕ, List, [], All, Contains, length, map, take, sym, ap, subst, ◌∙◌, arith}
+use Rattle.std.proofs.Common.{◌↔◌, ◌<◌, ◌++◌, ◌∷◌, ℕ, List, [], All, Contains, length, map, take, sym, ap, subst, ◌∙◌, arith}
 use Rattle.std.proofs.lemmas.List.{length-map, take_all, take_more}
 use Rattle.std.proofs.lemmas.List.Elements.{Contains-get_or}
-use Rattle.derivation.specs.Grammar.{Grammar, IsGrammar, IsSymbolOf}
+use Rattle.derivation.specs.Grammar.{IsGrammar, IsSymbolOf}
 use Rattle.cfganalysis.specs.Openings.{nth_production}
-use Rattle.cfganalysis.specs.Symbols.{sym_of}
 use Rattle.cfganalysis.proofs.Slices.{mapped_within, mapped_at}
 use Rattle.cfgcosts.specs.Generator.{CostTables, IsGenerator}
-use Rattle.cfgcosts.specs.Minimal.{AddsSentences, HasAllMinimal, HasSentence, IsOwnBelow, numbers_of, places_of}
+use Rattle.cfgcosts.specs.Minimal.{AddsSentences, HasSentence, numbers_of, places_of}
 use Rattle.cfgcosts.specs.Splits.{Split}
 use Rattle.cfgcosts.proofs.Filled.{Making, making_begins, making_more, making_ends}
 use Rattle.cfgcosts.proofs.generator.SentenceGenerator.add_made.Goals as goal

@@ -1,7 +1,7 @@
-use Rattle.std.proofs.Common.{◌≡◌, ◌+◌, ◌++◌, ◌∷◌, ℕ, [], inl, inr, Some, All, Contains, map, take, length, arith, sym, ap, subst, ◌∙◌}
+use Rattle.std.proofs.Common.{◌≡◌, ◌++◌, ◌∷◌, ℕ, [], inl, inr, Some, Contains, map, take, arith, sym, ap, subst, ◌∙◌}
 use Rattle.std.proofs.lemmas.List.{length-map, take_all, take_more}
 use Rattle.std.proofs.lemmas.List.Elements.{Contains-get_or, Contains-push_cases}
-use Rattle.derivation.specs.Grammar.{Sym, Rule, IsSymbolOf}
+use Rattle.derivation.specs.Grammar.{Rule, IsSymbolOf}
 use Rattle.cfganalysis.specs.Symbols.{sym_of}
 use Rattle.cfganalysis.proofs.Slices.{mapped_within, mapped_at, mapped_all}
 use Rattle.cfgcosts.specs.Generator.{cost_answer}

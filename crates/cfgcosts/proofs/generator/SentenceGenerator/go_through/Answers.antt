@@ -1,6 +1,6 @@
-use Rattle.std.proofs.Common.{◌<◌, length, sym, ap, subst, ◌∙◌, arith}
+use Rattle.std.proofs.Common.{◌<◌, length, sym, subst, ◌∙◌, arith}
 use Rattle.std.proofs.lemmas.List.{length-map}
-use Rattle.cfganalysis.specs.Paths.{Reaches, ArePlacesOf}
+use Rattle.cfganalysis.specs.Paths.{ArePlacesOf}
 use Rattle.cfganalysis.proofs.Slices.{mapped_within, mapped_at, mapped_all}
 use Rattle.cfgcosts.specs.Generator.{CostTables}
 use Rattle.cfgcosts.specs.Minimal.{IsHeir, places_of}

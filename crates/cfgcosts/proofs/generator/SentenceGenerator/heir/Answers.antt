@@ -1,4 +1,4 @@
-use Rattle.std.proofs.Common.{◌≡◌, ◌<◌, All, [], Some, None, Option, length, map, sym, ap, subst, ◌∙◌}
+use Rattle.std.proofs.Common.{◌≡◌, ◌<◌, All, [], Some, None, length, map, sym, ap, subst, ◌∙◌}
 use Rattle.derivation.specs.Grammar.{Grammar, IsSymbolOf}
 use Rattle.cfganalysis.specs.Openings.{nth_production}
 use Rattle.cfganalysis.specs.Symbols.{sym_of}

@@ -1,6 +1,6 @@
-use Rattle.std.proofs.Common.{◌≡◌, ◌<◌, All, Contains, length, sym, ap, subst, ◌∙◌, arith}
+use Rattle.std.proofs.Common.{◌<◌, Contains, length, sym, ap, subst, ◌∙◌, arith}
 use Rattle.std.proofs.lemmas.List.{length-map}
-use Rattle.derivation.specs.Grammar.{Rule, IsSymbolOf}
+use Rattle.derivation.specs.Grammar.{Rule}
 use Rattle.cfganalysis.specs.Openings.{nth_production}
 use Rattle.cfganalysis.specs.Paths.{Reaches}
 use Rattle.cfganalysis.proofs.Searching.{symbols_there}

@@ -1,5 +1,5 @@
-use Rattle.std.proofs.Common.{◌≡◌, Some, refl, sym, ap, subst, ◌∙◌, true≢false}
-use Rattle.derivation.specs.Grammar.{Sym, Rule, Token, IsSymbolOf}
+use Rattle.std.proofs.Common.{◌≡◌, sym, ap, subst, ◌∙◌, true≢false}
+use Rattle.derivation.specs.Grammar.{Rule, IsSymbolOf}
 use Rattle.cfganalysis.specs.Symbols.{sym_of}
 use Rattle.cfgcosts.specs.Generator.{cost_answer}
 use Rattle.cfgcosts.proofs.Levels.{no_rule}

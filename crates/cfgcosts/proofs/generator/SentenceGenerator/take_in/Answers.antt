@@ -1,8 +1,7 @@
-use Rattle.std.proofs.Common.{◌≡◌, ◌<◌, length, map, sym, ap, subst, ◌∙◌, true≢false}
+use Rattle.std.proofs.Common.{◌<◌, sym, ap, subst, ◌∙◌, true≢false}
 use Rattle.std.proofs.lemmas.List.{map-append}
-use Rattle.cfganalysis.specs.Paths.{Reaches}
 use Rattle.cfgcosts.specs.Generator.{CostTables, IsGenerator}
-use Rattle.cfgcosts.specs.Minimal.{IsTight, places_of}
+use Rattle.cfgcosts.specs.Minimal.{places_of}
 use Rattle.cfgcosts.proofs.OwnBelow.{heir_lists, heir_reaches, own_lists, own_reaches, slack_lists, slack_reaches}
 use Rattle.cfgcosts.proofs.Tight.{answered_within}
 use Rattle.cfgcosts.proofs.generator.SentenceGenerator.take_in.Goals as goal

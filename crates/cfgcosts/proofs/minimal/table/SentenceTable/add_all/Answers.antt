@@ -1,6 +1,6 @@
-use Rattle.std.proofs.Common.{◌≡◌, ℕ, ◌∷◌, ◌++◌, ◌-◌, ◌<◌, List, [], All, append-nil, map, take, Contains, sym, ap, subst, ◌∙◌}
+use Rattle.std.proofs.Common.{◌≡◌, ◌∷◌, ◌++◌, ◌-◌, ◌<◌, [], append-nil, map, take, Contains, sym, ap, subst, ◌∙◌}
 use Rattle.std.proofs.lemmas.List.Elements.{All-cons, All-contains, All-nil, All-weaker, Contains-append_right}
-use Rattle.cfgcosts.specs.Minimal.{Extends, HasSentence, numbers_of}
+use Rattle.cfgcosts.specs.Minimal.{HasSentence, numbers_of}
 use Rattle.cfgcosts.proofs.Contained.{contains_first, contains_mapped}
 use Rattle.cfgcosts.proofs.Popped.{popped, all_popped}
 use Rattle.cfgcosts.proofs.Tables.{adds, added_has, extends_none, extends_both, extends_as}
