@@ -66,6 +66,9 @@ pub fn warning_lines(
     requires { All (EachWarningSpan (IsPiece text.now)) warnings.now }
     ensures { IfOk result (λ lines. string_bytes lines ≡ warning_lines text.now warnings.now) }
 {
+    if warnings.is_empty() {
+        return Ok(String::new(alloc));
+    }
     let places = Places::new(alloc, text)?;
     let mut lines = String::new(alloc);
     for warning in warnings {
