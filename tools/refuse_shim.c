@@ -5,7 +5,8 @@
    not again for each one.
 
    The program of rows asks for a block of ROOM bytes for the answers of each row. Requests are refused from there on, until
-   the row is written, and how much is written in that block tells at which call a request was refused. Another program is
+   the row is written, and how much is written in that block tells at which call a request was refused. Behind the line
+   `without memory` all requests are refused from the first one on, and the row has to be answered as ever. Another program is
    refused its requests from the start. Nothing here asks for memory by malloc. */
 #define _GNU_SOURCE
 #include <fcntl.h>
@@ -26,15 +27,16 @@ enum { TOLD = 41, UNNEEDED = 42, WRONG = 43 };
 
 void *__libc_malloc(size_t), *__libc_realloc(void *, size_t), *__libc_calloc(size_t, size_t), *__libc_memalign(size_t, size_t);
 
-static const char WANT[] = "out of memory\n", WANT_OF_PROGRAM[] = "cfgtool: out of memory\n";
+static const char WANT[] = "out of memory\n", WANT_OF_PROGRAM[] = "cfgtool: out of memory\n", WITHOUT[] = "\nwithout memory\n";
 
-/* Of a row: its requests, the bytes of its answers, how long it takes, and that each stride-th request is refused. */
+/* Of a row: its requests, the bytes of its answers, how long it takes, and that each stride-th request is refused; where rows
+   are counted, in place of that the requests behind the line `without memory`, or -1 where there is no such line. */
 typedef struct { long requests, bytes, micros, stride; } row_table;
 
 /* What the tool asks for: to count the requests of rows, to refuse those of rows, or to refuse those of a program. */
 static enum { NOTHING, COUNT, ROWS, PROGRAM } mode;
-static int results = -1, counts = -1, is_armed, is_child, rows_begun, wanted_status;
-static long share, shares, request, written, row_at, told, unneeded, wrong;
+static int results = -1, counts = -1, is_armed, is_child, rows_begun, wanted_status, is_without, refuses_all;
+static long share, shares, request, requests_without, written, row_at, told, unneeded, wrong;
 static char *block, *answers, *taken, *taken_errors;
 static size_t block_used, answers_len, taken_len, taken_errors_len;
 static row_table *rows, here;
@@ -66,11 +68,13 @@ static char *contents(const char *path, size_t *len)
     return it;
 }
 
-/* How much of the row's answers is written. */
-static size_t used(void)
+/* Sees how much of the row's answers is written, and whether memory may still be taken. */
+static void look(void)
 {
-    if (block) block_used += strnlen(block + block_used, ROOM - block_used);
-    return block_used;
+    if (!block) return;
+    size_t from = block_used < sizeof WITHOUT ? 0 : block_used - sizeof WITHOUT;
+    block_used += strnlen(block + block_used, ROOM - block_used);
+    is_without |= !!memmem(block + from, block_used - from, WITHOUT, sizeof WITHOUT - 1);
 }
 
 static int is_text(const char *at, size_t len, const char *text) { return len == strlen(text) && !memcmp(at, text, len); }
@@ -98,6 +102,7 @@ static int judge_row(void)
     if (got_len == len && !memcmp(got, whole, len)) return UNNEEDED;
     size_t begins = 0;
     while (begins < got_len && begins < len && got[begins] == whole[begins]) begins++;
+    if (is_without) return is_wrong("memory is wanted where none is taken", got + begins, got_len - begins);
     if (got_len < head || begins < head) return is_wrong("other answers before the call", got + begins, got_len - begins);
     const char *rest = got + head;
     size_t rest_len = got_len - head, want = strlen(WANT);
@@ -127,9 +132,8 @@ static int refused(void)
 {
     pid_t child = fork();
     if (!child) {
-        is_child = 1, is_armed = 0;
+        is_child = 1, is_armed = 0, refuses_all = is_without;
         taken = room(MOST_WRITTEN), taken_errors = room(MOST_WRITTEN);
-        used();
         alarm(CHILD_SECONDS);
         return 1;
     }
@@ -150,10 +154,13 @@ static int refused(void)
 /* Notes a request. Answers whether it is to be refused. */
 static int is_refused(void)
 {
-    if (!is_armed) return 0;
-    long number = request++;
+    if (!is_armed) return refuses_all;
+    long number = request++, stride = here.stride;
+    look();
+    requests_without += is_without;
     if (mode == COUNT) return 0;
-    if (number / here.stride % shares != share || number % here.stride) return 0;
+    if (is_without) stride = 1;
+    if (number / stride % shares != share || number % stride) return 0;
     return refused();
 }
 
@@ -163,7 +170,7 @@ static void row_ends(void)
     if (is_child) _exit(judge_row());
     if (!rows_begun) return;
     if (mode == COUNT) {
-        row_table it = {request, written, now() - here.micros, 0};
+        row_table it = {request, written, now() - here.micros, is_without ? requests_without : -1};
         syscall(SYS_write, counts, &it, sizeof it);
     }
     row_at += written;
@@ -173,7 +180,7 @@ static void row_ends(void)
 static void row_begins(char *given)
 {
     row_ends();
-    block = given, block_used = 0, written = 0, request = 0, is_armed = 1;
+    block = given, block_used = 0, written = 0, request = 0, requests_without = 0, is_without = 0, is_armed = 1;
     if (mode == ROWS) here = rows[rows_begun];
     else here.micros = now();
     rows_begun++;
@@ -215,9 +222,9 @@ static void take(char *into, size_t *len, const void *bytes, size_t count)
 
 ssize_t write(int file, const void *bytes, size_t count)
 {
-    if (is_child && file == 1) return take(taken, &taken_len, bytes, count), count;
+    if (is_child && file == 1) return refuses_all = 0, take(taken, &taken_len, bytes, count), count;
     if (is_child && file == 2) return take(taken_errors, &taken_errors_len, bytes, count), count;
-    if (file == 1 && mode != PROGRAM) is_armed = 0, written += count;
+    if (file == 1 && mode != PROGRAM) look(), is_armed = 0, written += count;
     return syscall(SYS_write, file, bytes, count);
 }
 

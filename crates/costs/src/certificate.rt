@@ -17,7 +17,7 @@ pub(crate) struct Certificate {
 
 impl Certificate {
     /// What the generator answers.
-    fn of_generator(
+    pub(crate) fn of_generator(
         alloc: Global,
         grammar: &YaccGrammar<u32>,
         generator: &SentenceGenerator<'_, u32, YaccGrammar<u32>>,

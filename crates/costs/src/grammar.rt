@@ -3,7 +3,7 @@
 ghost use Rattle.std.specs.Prelude.{◌≡◌, ◌<◌};
 ghost use Rattle.cfgnumbers.specs.Numbered.{core};
 
-use crate::{asked, certificate, rules};
+use crate::{asked, certificate, plain, rules};
 use cfgrammar::TIdx;
 use cfgrammar::yacc::sentences::SentenceGenerator;
 use cfgrammar::yacc::{YaccFault, YaccGrammar, YaccKind, YaccOriginalActionKind};
@@ -88,6 +88,9 @@ fn tell_costs(
 ) -> Result<(), AllocError>
     requires { generator.now.grammar ≡ core grammar.now }
 {
+    if row.first("show") == Some("without-memory") {
+        return plain::write_without_memory(out, alloc, grammar, generator);
+    }
     write_tokens(out, grammar, generator.token_costs())?;
     rules::write_rules(out, alloc, row, grammar, generator)?;
     certificate::write_failures(out, alloc, grammar, generator)?;

@@ -5,6 +5,7 @@ mod asked;
 mod certificate;
 mod grammar;
 mod openings;
+mod plain;
 mod rules;
 
 pub use grammar::tell;

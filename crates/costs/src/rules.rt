@@ -64,7 +64,10 @@ fn write_rule(
 }
 
 /// Writes a cost, or why there is none.
-fn write_cost(out: &mut String, cost: Result<Option<u16>, CostError>) -> Result<(), AllocError> {
+pub(crate) fn write_cost(
+    out: &mut String,
+    cost: Result<Option<u16>, CostError>,
+) -> Result<(), AllocError> {
     match cost {
         Ok(Some(cost)) => write!(out, "{cost}"),
         Ok(None) => out.push_str("unbounded"),
@@ -73,7 +76,7 @@ fn write_cost(out: &mut String, cost: Result<Option<u16>, CostError>) -> Result<
 }
 
 /// Writes why there is no cost or no sentence.
-fn write_refusal(out: &mut String, error: SentenceError) -> Result<(), AllocError> {
+pub(crate) fn write_refusal(out: &mut String, error: SentenceError) -> Result<(), AllocError> {
     match error {
         SentenceError::NoSentence => out.push_str("none"),
         SentenceError::CostTooLarge => out.push_str("too large"),
@@ -82,7 +85,10 @@ fn write_refusal(out: &mut String, error: SentenceError) -> Result<(), AllocErro
 }
 
 /// Writes a choice: a production, and its number.
-fn write_choice(out: &mut String, choice: Option<(PIdx<u32>, u32)>) -> Result<(), AllocError> {
+pub(crate) fn write_choice(
+    out: &mut String,
+    choice: Option<(PIdx<u32>, u32)>,
+) -> Result<(), AllocError> {
     match choice {
         Some((pidx, number)) => write!(out, "; production {} at {number}", usize::from(pidx)),
         None => out.push_str("; production none"),

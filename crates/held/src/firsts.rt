@@ -52,7 +52,7 @@ fn tokens_in<S: Storage>(grammar: &YaccGrammar<S>, firsts: &YaccFirsts<S>, ridx:
 }
 
 /// Writes each rule's set: the tokens by their indices, where the two accessors differ, and whether the rule is empty.
-fn write_sets<S: Storage>(
+pub(crate) fn write_sets<S: Storage>(
     out: &mut String,
     grammar: &YaccGrammar<S>,
     firsts: &YaccFirsts<S>,
@@ -130,7 +130,7 @@ fn write_with_bit(
     rule: u32,
     token: u32,
 ) -> Result<(), AllocError> {
-    let mut firsts = grammar.firsts(alloc)?;
+    let mut firsts = YaccFirsts::new(alloc, grammar)?;
     if rule < grammar.rules_len().0 && token < grammar.tokens_len().0 {
         let was_set = firsts.set(RIdx(rule), TIdx(token));
         let is_set = firsts.set(RIdx(rule), TIdx(token));

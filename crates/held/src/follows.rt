@@ -19,7 +19,8 @@ pub fn write_follows<S: Storage>(
     write_sets(out, grammar, &follows)
 }
 
-fn write_sets<S: Storage>(
+/// Writes each rule's set.
+pub(crate) fn write_sets<S: Storage>(
     out: &mut String,
     grammar: &YaccGrammar<S>,
     follows: &YaccFollows<S>,
@@ -68,7 +69,7 @@ pub fn write_lengths<S: Storage>(
     alloc: Global,
     grammar: &YaccGrammar<S>,
 ) -> Result<(), AllocError> {
-    let follows = grammar.follows(alloc)?;
+    let follows = YaccFollows::new(alloc, grammar)?;
     let tokens = tokens_of_all(grammar, &follows);
     writeln!(out, "    follows of {tokens} tokens")
 }

@@ -4,4 +4,5 @@
 pub mod firsts;
 pub mod follows;
 pub mod pen;
+pub mod plain;
 pub mod tables;

@@ -1,7 +1,9 @@
 //! Pieces of what is written: those of `rows::pen`, and indices.
 
 use cfgrammar::{PIdx, RIdx, Storage, TIdx};
-pub use rows::pen::{end_line, flag, line, name, number, numbers, span, text, text_if};
+pub use rows::pen::{
+    end_line, flag, line, name, number, numbers, span, text, text_if, unless_copied, without_memory,
+};
 use std::alloc::AllocError;
 
 /// Writes a text and a rule's number.

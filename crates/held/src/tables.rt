@@ -27,6 +27,19 @@ pub fn write_grammar<S: Storage>(
     write_follows(out, alloc, grammar)
 }
 
+/// Writes all that a grammar holds and that takes no memory to be told.
+pub(crate) fn write_plain<S: Storage>(
+    out: &mut String,
+    grammar: &YaccGrammar<S>,
+) -> Result<(), AllocError> {
+    write_lengths(out, grammar)?;
+    write_rules(out, grammar)?;
+    write_plain_productions(out, grammar)?;
+    write_tokens(out, grammar)?;
+    write_rule_names(out, grammar)?;
+    write_token_names(out, grammar)
+}
+
 /// Writes how many rules, productions and tokens there are, which of them are the start's and the end's, and what is
 /// said of the grammar as a whole.
 pub fn write_lengths<S: Storage>(
@@ -149,6 +162,19 @@ fn write_productions<S: Storage>(
 ) -> Result<(), AllocError> {
     for pidx in grammar.iter_pidxs() {
         write_production(out, alloc, grammar, pidx)?;
+    }
+    Ok(())
+}
+
+/// Writes a line for each production, but not the production as text.
+fn write_plain_productions<S: Storage>(
+    out: &mut String,
+    grammar: &YaccGrammar<S>,
+) -> Result<(), AllocError> {
+    for pidx in grammar.iter_pidxs() {
+        write_place(out, grammar, pidx)?;
+        write_body(out, grammar.prod(pidx))?;
+        write_action(out, grammar, pidx)?;
     }
     Ok(())
 }

@@ -30,6 +30,21 @@ pub fn line(out: &mut String, before: &str, rest: &str) -> Result<(), AllocError
     end_line(out)
 }
 
+/// Writes a text where a value isn't the same as a copy of it.
+pub fn unless_copied<T: Clone + PartialEq + Drop>(
+    out: &mut String,
+    value: &T,
+    word: &str,
+) -> Result<(), AllocError> {
+    let is_same = value.clone()? == *value;
+    text_if(out, !is_same, word)
+}
+
+/// Writes that no call behind this line takes memory.
+pub fn without_memory(out: &mut String) -> Result<(), AllocError> {
+    text(out, "without memory\n")
+}
+
 /// Writes a text and a number.
 pub fn number(out: &mut String, before: &str, number: usize) -> Result<(), AllocError> {
     write!(out, "{before}{number}")

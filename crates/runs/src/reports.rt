@@ -1,10 +1,11 @@
 //! Rows on the reports of a text.
 
-use crate::narrow::Narrow;
+use crate::narrow::{End, Narrow};
 use crate::rooms::{Run, write_rooms};
 use crate::runs::write_taken;
 use cfgtool::words::{command_of, kind_of};
 use cfgtool::{Counted, KindArg, Outcome, ReportFault, Sink, report, report_lex};
+use rows::pen;
 use rows::row::Row;
 use rows::text::push_turn;
 use std::alloc::{AllocError, Global};
@@ -64,8 +65,21 @@ pub fn tell(out: &mut String, alloc: Global, row: &Row<'_>, text: &str) -> Resul
     }
 }
 
+/// Writes how many faults a writer that takes nothing had before it is asked, and then.
+fn write_counted(out: &mut String, writer: &mut Narrow) -> Result<(), AllocError> {
+    pen::without_memory(out)?;
+    let mut counted = Counted::new(writer);
+    write!(out, "    faults {}", counted.faults())?;
+    let is_taken = counted.write(b"a").is_ok();
+    pen::flag(out, ", taken: ", is_taken)?;
+    writeln!(out, ", faults {}", counted.faults())
+}
+
 /// Writes what is answered of a report.
 fn tell_report(out: &mut String, row: &Row<'_>, asked: &Report<'_>) -> Result<(), AllocError> {
+    if row.first("show") == Some("without-memory") {
+        return write_counted(out, &mut Narrow::new(asked.alloc, 1, 0, End::Fails));
+    }
     let mut output = Narrow::of_row(asked.alloc, row, "out");
     let word = asked.ended(&mut output)?;
     writeln!(out, "report {}: {word}", asked.command)?;

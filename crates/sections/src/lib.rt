@@ -2,6 +2,7 @@
 #![tactic(auto)]
 
 mod held;
+mod plain;
 mod section;
 
 pub use section::tell;

@@ -3,6 +3,7 @@
 ghost use Rattle.std.specs.Str.{IsCharBoundary};
 
 use crate::held::{held_text, value_text};
+use crate::plain;
 use cfgbase::{Location, Span, Spanned};
 use cfgerrors::HeaderError;
 use cfgheader::{GrmtoolsSectionParser, Header, HeaderFault};
@@ -21,6 +22,7 @@ pub fn tell(out: &mut String, alloc: Global, row: &Row<'_>, text: &str) -> Resul
         Some("cuts") => write_cuts(out, alloc, text),
         Some("entries") => write_entries(out, alloc, text),
         Some("kinds") => write_kinds(out, alloc),
+        Some("without-memory") => plain::write_section(out, alloc, text),
         _ => write_whole(out, alloc, text),
     }
 }

@@ -61,7 +61,11 @@ fn write_refused(out: &mut String, errors: &[YaccGrammarError]) -> Result<(), Al
     pen::text(out, "; no kind\n")
 }
 
-fn write_errors(out: &mut String, errors: &[YaccGrammarError]) -> Result<(), AllocError> {
+/// Writes errors, each as its kind and its spans.
+pub(crate) fn write_errors(
+    out: &mut String,
+    errors: &[YaccGrammarError],
+) -> Result<(), AllocError> {
     for error in errors {
         write_error(out, error)?;
     }

@@ -11,10 +11,27 @@ use std::alloc::{AllocError, Global};
 /// holds a name holds the row's text, or else `µ`.
 pub fn tell(out: &mut String, alloc: Global, row: &Row<'_>, text: &str) -> Result<(), AllocError> {
     let held = if text.is_empty() { "µ" } else { text };
+    if row.first("show") == Some("without-memory") {
+        return tell_without_memory(out, alloc, held, row.first("error").unwrap_or(""));
+    }
     for (word, rest) in &row.lines {
         tell_line(out, alloc, held, (*word, *rest))?;
     }
     Ok(())
+}
+
+/// Makes an error of its parts, and writes it.
+fn tell_without_memory(
+    out: &mut String,
+    alloc: Global,
+    held: &str,
+    line: &str,
+) -> Result<(), AllocError> {
+    let (kind, spans) = parts_of(alloc, held, line)?;
+    pen::without_memory(out)?;
+    let error = YaccGrammarError::new(kind, spans);
+    write_parts(out, &error)?;
+    pen::end_line(out)
 }
 
 fn tell_line(
@@ -35,7 +52,9 @@ fn tell_warning(out: &mut String, name: &str) -> Result<(), AllocError> {
         "UnusedRule" => YaccGrammarWarningKind::UnusedRule,
         _ => YaccGrammarWarningKind::UnusedToken,
     };
-    writeln!(out, "    {kind:?}: {kind}")
+    write!(out, "    {kind:?}: {kind}")?;
+    pen::unless_copied(out, &kind, ", and a copy that isn't the same")?;
+    pen::end_line(out)
 }
 
 fn tell_error(out: &mut String, alloc: Global, held: &str, line: &str) -> Result<(), AllocError> {
@@ -45,10 +64,20 @@ fn tell_error(out: &mut String, alloc: Global, held: &str, line: &str) -> Result
 
 /// The error that a line tells, by its kind and the two ends of its span.
 fn error_of(alloc: Global, held: &str, line: &str) -> Result<YaccGrammarError, AllocError> {
+    let (kind, spans) = parts_of(alloc, held, line)?;
+    Ok(YaccGrammarError::new(kind, spans))
+}
+
+/// The kind and the spans of the error that a line tells.
+fn parts_of(
+    alloc: Global,
+    held: &str,
+    line: &str,
+) -> Result<(YaccGrammarErrorKind, Vec<Span>), AllocError> {
     let (name, rest) = line.split_once(' ').unwrap_or((line, ""));
     let spans = spans_of(alloc, numbers(rest))?;
     let kind = kind_of(alloc, name, held)?;
-    Ok(YaccGrammarError::new(kind, spans))
+    Ok((kind, spans))
 }
 
 /// A span and its end, or no spans where they would end before they start.
@@ -60,18 +89,22 @@ fn spans_of(alloc: Global, (start, end): (usize, usize)) -> Result<Vec<Span>, Al
 }
 
 fn write_error(out: &mut String, error: &YaccGrammarError) -> Result<(), AllocError> {
-    write!(out, "    {:?}", error.kind())?;
-    write_spans(out, error)?;
-    write!(out, " {:?}: {error}", error.spanskind())?;
-    let is_same = is_its_copy(error)?;
-    pen::text_if(out, !is_same, ", and a copy that isn't the same")?;
+    write_parts(out, error)?;
+    write!(out, ": {error}")?;
+    pen::unless_copied(out, error, ", and a copy that isn't the same")?;
+    pen::unless_copied(
+        out,
+        error.kind(),
+        ", and a copy of its kind that isn't the same",
+    )?;
     pen::end_line(out)
 }
 
-/// Whether a copy of an error is the same.
-fn is_its_copy(error: &YaccGrammarError) -> Result<bool, AllocError> {
-    let copy = error.clone()?;
-    Ok(copy == *error)
+/// Writes the kind of an error, its spans, and what they stand for.
+fn write_parts(out: &mut String, error: &YaccGrammarError) -> Result<(), AllocError> {
+    write!(out, "    {:?}", error.kind())?;
+    write_spans(out, error)?;
+    write!(out, " {:?}", error.spanskind())
 }
 
 /// The kind of this name. A kind that holds a name holds this one; a kind that holds a character, `µ`.

@@ -2,6 +2,7 @@
 //! a tree.
 #![tactic(auto)]
 
+mod copies;
 pub mod cuts;
 pub mod errors;
 pub mod kinds;

@@ -1,5 +1,6 @@
 //! The syntax of a text, by what its readers answer.
 
+use crate::cuts::write_errors;
 use crate::made::{Writer, write_made};
 use crate::said::{write_precedence, write_settings};
 use cfgast::Precedence;
@@ -20,6 +21,20 @@ pub fn write_syntax(
     let shown = syntax_text(alloc, parsed.ast())?;
     let of_copy = copy_text(alloc, parsed.ast())?;
     write_shown(out, shown.as_str(), of_copy.as_str())
+}
+
+/// Writes what is answered of a text that was read, by calls that take no memory: whether it is valid, its kind, its
+/// errors, and all that its syntax holds.
+pub fn write_without_memory(
+    out: &mut String,
+    parsed: &ASTWithValidityInfo,
+) -> Result<(), AllocError> {
+    pen::without_memory(out)?;
+    pen::flag(out, "valid: ", parsed.is_valid())?;
+    write!(out, ", {:?}, errors:", parsed.yacc_kind())?;
+    write_errors(out, parsed.errors())?;
+    pen::end_line(out)?;
+    write_parts(out, parsed.ast())
 }
 
 fn write_shown(out: &mut String, shown: &str, of_copy: &str) -> Result<(), AllocError> {

@@ -31,5 +31,5 @@ fn write_warning(
     for span in warning.spans() {
         pen::span(out, *span)?;
     }
-    Ok(())
+    pen::unless_copied(out, warning, ", and a copy that isn't the same")
 }

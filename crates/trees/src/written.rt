@@ -1,9 +1,11 @@
 //! Rows on what writes a syntax: another start, rules, productions and programs.
 
 use crate::made::{Writer, write_made};
-use crate::warnings;
+use crate::{copies, warnings};
 use cfgbase::Span;
-use cfgsyntax::yacc::ast::{ASTWithValidityInfo, GrammarAST, Rule, StartFault};
+use cfgsyntax::yacc::ast::{
+    ASTModificationError, ASTWithValidityInfo, GrammarAST, Rule, StartFault,
+};
 use cfgsyntax::yacc::{YaccKind, YaccOriginalActionKind};
 use rows::pen;
 use rows::row::{Row, number, words};
@@ -36,6 +38,9 @@ impl Writer<ASTWithValidityInfo, AllocError> for Script<'_> {
 
 impl Writer<GrammarAST, AllocError> for Script<'_> {
     fn write(&self, out: &mut String, ast: &mut GrammarAST) -> Result<(), AllocError> {
+        if self.row.first("show") == Some("without-memory") {
+            return set_programs_twice(out, self.alloc, self.row, ast);
+        }
         change_tree(out, self.alloc, self.row, ast)?;
         write_tree(out, self.alloc, ast)
     }
@@ -54,6 +59,7 @@ fn tell_read(
     write_start(out, alloc, parsed)?;
     change_starts(out, alloc, row, parsed)?;
     write_start(out, alloc, parsed)?;
+    copies::write_copies(out, alloc, parsed)?;
     write_made(out, &Script { alloc, row }, parsed.ast().clone())
 }
 
@@ -94,10 +100,16 @@ impl Writer<ASTWithValidityInfo, StartFault> for Start {
 
     fn refuse(&self, out: &mut String, fault: &StartFault) -> Result<(), AllocError> {
         match fault {
-            StartFault::Modification(error) => writeln!(out, "    {error}"),
+            StartFault::Modification(error) => write_refused(out, error),
             StartFault::OutOfMemory => Err(AllocError),
         }
     }
+}
+
+fn write_refused(out: &mut String, error: &ASTModificationError) -> Result<(), AllocError> {
+    write!(out, "    {error}")?;
+    pen::unless_copied(out, error, ", and a copy that isn't the same")?;
+    pen::end_line(out)
 }
 
 fn restarted(
@@ -177,7 +189,7 @@ fn write_want(
     pen::text_if(out, !is_same, "    with another tree\n")
 }
 
-fn tree_text(alloc: Global, ast: &GrammarAST) -> Result<String, AllocError> {
+pub(crate) fn tree_text(alloc: Global, ast: &GrammarAST) -> Result<String, AllocError> {
     let mut out = String::new(alloc);
     write_tree(&mut out, alloc, ast)?;
     Ok(out)
@@ -208,6 +220,22 @@ fn add_rule(alloc: Global, ast: &mut GrammarAST, line: &str) -> Result<(), Alloc
 fn set_programs(alloc: Global, ast: &mut GrammarAST, text: &str) -> Result<(), AllocError> {
     ast.set_programs(String::from_str(alloc, text)?);
     Ok(())
+}
+
+/// Sets the row's programs, and others in their place, by the two calls that do so.
+fn set_programs_twice(
+    out: &mut String,
+    alloc: Global,
+    row: &Row<'_>,
+    ast: &mut GrammarAST,
+) -> Result<(), AllocError> {
+    let first = String::from_str(alloc, row.first("programs").unwrap_or(""))?;
+    let second = String::from_str(alloc, row.first("add-programs").unwrap_or(""))?;
+    pen::without_memory(out)?;
+    ast.set_programs(first);
+    writeln!(out, "    programs {:?}", ast.programs())?;
+    ast.add_programs(second);
+    writeln!(out, "    programs {:?}", ast.programs())
 }
 
 /// Adds an empty production to the rule of this name, where it is there.

@@ -19,10 +19,41 @@ pub fn tell(out: &mut String, alloc: Global, row: &Row<'_>, text: &str) -> Resul
         Ok(cache) => cache,
         Err(_) => return Err(AllocError),
     };
-    let answers = answers(alloc, row, &whole, text)?;
+    match row.first("show") {
+        Some("without-memory") => tell_without_memory(out, alloc, row, &whole, text),
+        _ => tell_ways(out, alloc, row, &whole, text),
+    }
+}
+
+/// Writes what a cache of a text answers, and what others do that are fed in pieces.
+fn tell_ways(
+    out: &mut String,
+    alloc: Global,
+    row: &Row<'_>,
+    whole: &NewlineCache,
+    text: &str,
+) -> Result<(), AllocError>
+    requires { StandsFor whole.now text.now }
+{
+    let answers = answers(alloc, row, whole, text)?;
     out.push_str(answers.as_str())?;
     write_ways(out, alloc, row, text, answers.as_str())?;
     write_joined(out, alloc, text)
+}
+
+/// Writes what a cache of a text answers, and what one does that was fed nothing.
+fn tell_without_memory(
+    out: &mut String,
+    alloc: Global,
+    row: &Row<'_>,
+    whole: &NewlineCache,
+    text: &str,
+) -> Result<(), AllocError>
+    requires { StandsFor whole.now text.now }
+{
+    pen::without_memory(out)?;
+    write_answers(out, row, whole, text)?;
+    write_answers(out, row, &NewlineCache::new(alloc), "")
 }
 
 /// Writes the ways to feed a text in pieces by which a cache answers something else, and how many ways were tried.
@@ -54,7 +85,7 @@ fn answers_same(
     lengths: &[usize],
     whole: &str,
 ) -> Result<bool, AllocError> {
-    match feed_pieces(out, alloc, text, lengths) {
+    match feed_pieces(out, alloc, row, text, lengths) {
         Ok(Some(cache)) => Ok(answers(alloc, row, &cache, text)?.as_str() == whole),
         Ok(None) => Ok(false),
         Err(_) => Err(AllocError),
@@ -104,6 +135,7 @@ fn all_ways(alloc: Global, text: &str) -> Result<Vec<Vec<usize>>, AllocError> {
 fn feed_pieces(
     out: &mut String,
     alloc: Global,
+    row: &Row<'_>,
     text: &str,
     lengths: &[usize],
 ) -> Result<Option<NewlineCache>, FeedError>
@@ -115,10 +147,10 @@ fn feed_pieces(
         let Some((piece, behind)) = rest.split_at_checked(*length) else {
             return Ok(None);
         };
-        feed(out, alloc, &mut cache, before(text, rest), piece)?;
+        feed(out, alloc, row, &mut cache, before(text, rest), piece)?;
         rest = behind;
     }
-    feed(out, alloc, &mut cache, before(text, rest), rest)?;
+    feed(out, alloc, row, &mut cache, before(text, rest), rest)?;
     Ok(Some(cache))
 }
 
@@ -128,10 +160,12 @@ fn before<'a>(text: &'a str, end: &str) -> &'a str {
     text.get(..len).unwrap_or("")
 }
 
-/// Feeds a piece behind what was fed. Where memory ended, that is written, and it is fed again.
+/// Feeds a piece behind what was fed. Where memory ended, that is written, and it is fed again; but not where a digest
+/// would hide it.
 fn feed(
     out: &mut String,
     alloc: Global,
+    row: &Row<'_>,
     cache: &mut NewlineCache,
     fed: &str,
     piece: &str,
@@ -140,7 +174,7 @@ fn feed(
         → StandsFor cache.new (before ++ piece.now)) }
 {
     match cache.feed(piece) {
-        Err(FeedError::OutOfMemory) => {
+        Err(FeedError::OutOfMemory) if row.first("show") != Some("digest") => {
             write_want(out, alloc, cache, fed)?;
             cache.feed(piece)
         }
@@ -175,18 +209,30 @@ fn answers(
     requires { StandsFor cache.now text.now }
 {
     let mut out = String::new(alloc);
+    write_answers(&mut out, row, cache, text)?;
+    Ok(out)
+}
+
+/// Writes what the four questions answer.
+fn write_answers(
+    out: &mut String,
+    row: &Row<'_>,
+    cache: &NewlineCache,
+    text: &str,
+) -> Result<(), AllocError>
+    requires { StandsFor cache.now text.now }
+{
     for byte in 0..text.len().saturating_add(2) {
-        pen::number(&mut out, "    ", byte)?;
+        pen::number(out, "    ", byte)?;
         out.push(':')?;
-        write_line(&mut out, cache, byte)?;
+        write_line(out, cache, byte)?;
         match cache.byte_to_line_num_and_col_num(text, byte) {
-            Some((line, column)) => pen::numbers(&mut out, (", at ", line), (":", column))?,
+            Some((line, column)) => pen::numbers(out, (", at ", line), (":", column))?,
             None => out.push_str(", no column")?,
         }
         out.push('\n')?;
     }
-    write_spans(&mut out, row, cache)?;
-    Ok(out)
+    write_spans(out, row, cache)
 }
 
 /// Writes the line of a byte, and where that line starts.

@@ -3,6 +3,7 @@
 ghost use Rattle.cfgmarks.specs.Marks.{IsFaithful};
 
 mod entry;
+mod stops;
 
 use cfgmarks::markmap::{MarkMap, MergeBehavior, MergeError, MergeFault};
 use rows::pen;
@@ -50,35 +51,61 @@ pub fn tell(out: &mut String, alloc: Global, row: &Row<'_>) -> Result<(), AllocE
     }
 }
 
+/// The map of a script, and the other one that is merged into it.
+#[derive(Drop)]
+struct Maps<K: Key> {
+    map: MarkMap<K, u32>,
+    other: MarkMap<K, u32>,
+}
+
+impl<K: Key> Maps<K> {
+    fn new(alloc: Global) -> Self {
+        Maps {
+            map: MarkMap::new(alloc),
+            other: MarkMap::new(alloc),
+        }
+    }
+}
+
 /// Runs a script on two maps, of which the second is merged into the first.
 fn play<K: Key>(out: &mut String, alloc: Global, row: &Row<'_>) -> Result<(), AllocError>
     requires { IsFaithful K.cmp K.is_clone }
 {
-    let mut map = MarkMap::<K, u32>::new(alloc);
-    let mut other = MarkMap::<K, u32>::new(alloc);
+    let mut maps = Maps::<K>::new(alloc);
+    play_lines(out, alloc, row, &mut maps)
+}
+
+/// Runs all lines of a script. Where memory ends while maps are merged, what is then there is looked at.
+fn play_lines<K: Key>(
+    out: &mut String,
+    alloc: Global,
+    row: &Row<'_>,
+    maps: &mut Maps<K>,
+) -> Result<(), AllocError>
+    requires { IsFaithful K.cmp K.is_clone }
+{
     let mut is_told = false;
-    for (word, rest) in &row.lines {
-        play_line(
-            out,
-            alloc,
-            row,
-            &mut map,
-            &mut other,
-            (*word, *rest),
-            is_told,
-        )?;
+    for (place, (word, rest)) in row.lines.iter().enumerate() {
+        if *word == "merge" {
+            write!(out, "    merge {rest}: ")?;
+            if merge(out, alloc, maps, *rest).is_err() {
+                return stops::tell_stop(out, alloc, row, place, &maps.map);
+            }
+            write_map(out, alloc, row, &mut maps.map)?;
+        } else {
+            play_line(out, alloc, row, maps, (*word, *rest), is_told)?;
+        }
         is_told = *word == "call" || *word == "merge";
     }
     Ok(())
 }
 
-/// Runs a line of a script. What a map has may stand in front of it.
+/// Runs a line of a script that merges nothing. What a map has may stand in front of it.
 fn play_line<K: Key>(
     out: &mut String,
     alloc: Global,
     row: &Row<'_>,
-    map: &mut MarkMap<K, u32>,
-    other: &mut MarkMap<K, u32>,
+    maps: &mut Maps<K>,
     line: (&str, &str),
     is_told: bool,
 ) -> Result<(), AllocError>
@@ -87,27 +114,26 @@ fn play_line<K: Key>(
     let (word, rest) = line;
     match word {
         "call" => {
-            call_told(out, alloc, row, map, rest, is_told)?;
-            write_map(out, alloc, row, map)
+            call_told(out, alloc, row, &mut maps.map, rest, is_told)?;
+            write_map(out, alloc, row, &mut maps.map)
         }
-        "calls" => calls(out, alloc, map, rest),
-        "others" => calls(out, alloc, other, rest),
+        "calls" => calls(out, alloc, &mut maps.map, rest),
+        "others" => calls(out, alloc, &mut maps.other, rest),
         "other" => {
             write!(out, "    other {rest}: ")?;
-            call(out, alloc, other, rest)
-        }
-        "merge" => {
-            write!(out, "    merge {rest}: ")?;
-            merge(
-                out,
-                map,
-                mem::replace(other, MarkMap::new(alloc)),
-                number(rest),
-            )?;
-            write_map(out, alloc, row, map)
+            call(out, alloc, &mut maps.other, rest)
         }
         "compare" => {
-            pen::flag(out, "    equal to the other: ", *map == *other)?;
+            pen::flag(out, "    equal to the other: ", maps.map == maps.other)?;
+            out.push('\n')
+        }
+        "show" if rest == "without-memory" => {
+            pen::without_memory(out)?;
+            pen::flag(
+                out,
+                "    equal to a new map: ",
+                maps.map == MarkMap::new(alloc),
+            )?;
             out.push('\n')
         }
         _ => Ok(()),
@@ -251,13 +277,15 @@ fn behavior(word: &str) -> MergeBehavior {
     }
 }
 
-/// Merges a map into another, where one value isn't converted, and writes how that ended.
+/// Merges the other map, where one value isn't converted, and writes how that ended.
 fn merge<K: Key>(
     out: &mut String,
-    map: &mut MarkMap<K, u32>,
-    theirs: MarkMap<K, u32>,
-    refused: usize,
+    alloc: Global,
+    maps: &mut Maps<K>,
+    refused: &str,
 ) -> Result<(), AllocError> {
+    let theirs = mem::replace(&mut maps.other, MarkMap::new(alloc));
+    let refused = number(refused);
     let convert = |value: u32| {
         if value as usize == refused {
             Err("not converted")
@@ -265,7 +293,7 @@ fn merge<K: Key>(
             Ok(value)
         }
     };
-    match map.merge_from(theirs, convert) {
+    match maps.map.merge_from(theirs, convert) {
         Ok(()) => out.push_str("()\n"),
         Err(MergeFault::Convert(key, refused)) => writeln!(out, "{refused} at {key:?}"),
         Err(MergeFault::OutOfMemory) => Err(AllocError),
@@ -294,7 +322,7 @@ fn write_map<K: Key>(
         entry::write_mark(out, map, key)?;
     }
     out.push('\n')?;
-    write_lists(out, alloc, map)
+    write_lists(out, alloc, row, map)
 }
 
 /// Writes the value of a key and its marks.
@@ -315,10 +343,11 @@ fn write_marks<K: Key>(out: &mut String, map: &MarkMap<K, u32>, key: &K) -> Resu
     Ok(())
 }
 
-/// Writes the keys and the entries, the unused keys and the missing ones.
+/// Writes the keys and the entries, and, where the row may take memory, the unused keys and the missing ones.
 fn write_lists<K: Key>(
     out: &mut String,
     alloc: Global,
+    row: &Row<'_>,
     map: &MarkMap<K, u32>,
 ) -> Result<(), AllocError> {
     out.push_str("        keys")?;
@@ -330,7 +359,10 @@ fn write_lists<K: Key>(
         key.tell(out, " ")?;
         pen::number(out, " ", *value as usize)?;
     }
-    write_marked(out, alloc, map)
+    match row.first("show") {
+        Some("without-memory") => out.push('\n'),
+        _ => write_marked(out, alloc, map),
+    }
 }
 
 /// Writes the unused keys and the missing ones.

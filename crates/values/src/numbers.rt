@@ -11,6 +11,9 @@ use std::alloc::{AllocError, Global};
 /// Writes what is answered of each value of the row. The row's text, or else `a script`, is the place that no span is.
 pub fn tell(out: &mut String, alloc: Global, row: &Row<'_>, text: &str) -> Result<(), AllocError> {
     let script = if text.is_empty() { "a script" } else { text };
+    if row.first("show") == Some("without-memory") {
+        return tell_without_memory(out, alloc, row);
+    }
     for (word, rest) in &row.lines {
         match *word {
             "span" => write_span(out, alloc, script, numbers(*rest))?,
@@ -22,7 +25,46 @@ pub fn tell(out: &mut String, alloc: Global, row: &Row<'_>, text: &str) -> Resul
     Ok(())
 }
 
-/// Writes the parts of a span, and of the place that it is.
+/// Writes what is answered of each value of the row, and of the row's list of bits, all of them made before.
+fn tell_without_memory(out: &mut String, alloc: Global, row: &Row<'_>) -> Result<(), AllocError> {
+    let (len, first) = numbers(row.first("bits").unwrap_or(""));
+    let mut bits = Vob::from_elem(alloc, first == 1, len)?;
+    let others = Vob::from_elem(alloc, true, len)?;
+    pen::without_memory(out)?;
+    write_values(out, row, &mut bits, &others)
+}
+
+/// Writes what is answered of each span and each number of the row, and of a list of bits.
+fn write_values(
+    out: &mut String,
+    row: &Row<'_>,
+    bits: &mut Vob,
+    others: &Vob,
+) -> Result<(), AllocError> {
+    for (word, rest) in &row.lines {
+        let (first, second) = numbers(*rest);
+        match *word {
+            "span" => write_plain_span(out, first, second)?,
+            "number" => write_number(out, first)?,
+            "set" if first < bits.len() => write_set(out, bits, first, second)?,
+            "get" => writeln!(out, "    get({first}): {:?}", bits.get(first))?,
+            "or" if others.len() == bits.len() => write_or(out, bits, 1, others)?,
+            _ => {}
+        }
+    }
+    Ok(())
+}
+
+/// Writes the parts of a span, and of the place that it is, as a line.
+fn write_plain_span(out: &mut String, start: usize, end: usize) -> Result<(), AllocError> {
+    if start > end {
+        return out.push_str("    no span\n");
+    }
+    write_parts(out, Span::new(start, end))?;
+    out.push('\n')
+}
+
+/// Writes the parts of a span, and of the place that it is, and whether other places equal their copies.
 fn write_span(
     out: &mut String,
     alloc: Global,
@@ -32,15 +74,19 @@ fn write_span(
     if start > end {
         return out.push_str("    no span\n");
     }
-    let span = Span::new(start, end);
+    write_parts(out, Span::new(start, end))?;
+    write_other(out, &Location::Other(String::from_str(alloc, script)?))
+}
+
+/// Writes the parts of a span, and of the place that it is.
+fn write_parts(out: &mut String, span: Span) -> Result<(), AllocError> {
     pen::numbers(out, ("    (", span.start()), (",", span.end()))?;
     pen::number(out, ") has ", span.len())?;
     out.push_str(" bytes")?;
     if span.is_empty() {
         out.push_str(", is empty")?;
     }
-    write_place(out, &Location::from(span))?;
-    write_other(out, &Location::Other(String::from_str(alloc, script)?))
+    write_place(out, &Location::from(span))
 }
 
 /// Writes a place that a span is, and whether it equals a copy, and the command line.

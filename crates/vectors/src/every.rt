@@ -4,6 +4,7 @@ use cfgrammar::yacc::{YaccKind, YaccOriginalActionKind};
 use rows::row::{Row, rows};
 use rows::text::of_row;
 use std::alloc::{AllocError, Global};
+use std::io::ErrorKind;
 use trees::cuts::write_cuts;
 
 /// How many bytes the texts have at most that are cut.
@@ -22,6 +23,7 @@ pub fn tell(out: &mut String, rt: &HostRuntime, file: &str) -> Result<(), AllocE
 fn tell_row(out: &mut String, rt: &HostRuntime, row: &Row<'_>) -> Result<(), AllocError> {
     match of_row(rt, row) {
         Ok(text) => tell_text(out, rt.alloc(), text.as_str()),
+        Err(fault) if fault.kind() == ErrorKind::OutOfMemory => Err(AllocError),
         Err(fault) => writeln!(out, "no text: {fault}"),
     }
 }

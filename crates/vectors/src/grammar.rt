@@ -1,9 +1,9 @@
 //! Rows on the texts of grammars.
 
-use crate::{accessors, names, openings, paths, starts, tables};
+use crate::{accessors, names, openings, paths, rendered, starts, tables};
 use cfgrammar::yacc::ast::ASTWithValidityInfo;
 use cfgrammar::yacc::{YaccFault, YaccGrammar, YaccGrammarError, YaccGrammarResult, YaccKind};
-use held::{firsts, pen};
+use held::{firsts, pen, plain};
 use rows::row::{Row, numbers};
 use rows::text;
 use std::alloc::{AllocError, Global};
@@ -75,6 +75,8 @@ fn tell_parsed(
         Some("cuts") => tell_cuts(out, alloc, row, text),
         Some("brief") => tell_brief(out, alloc, row, text, parsed),
         Some("accessors") => tell_accessors(out, alloc, row, text),
+        Some("rendered") => rendered::tell(out, alloc, text, parsed),
+        Some("without-memory") => tell_without_memory(out, alloc, row, text, parsed),
         _ => tell_whole(out, alloc, row, text, parsed),
     }
 }
@@ -111,6 +113,22 @@ fn tell_accessors(
         Ok(grammar) => accessors::write_accessors(out, &grammar),
         Err(fault) => refused(&fault),
     }
+}
+
+/// Writes a text, and what takes no memory to be told of its grammar, where it has one, and of what was read.
+fn tell_without_memory(
+    out: &mut String,
+    alloc: Global,
+    row: &Row<'_>,
+    text: &str,
+    parsed: &ASTWithValidityInfo,
+) -> Result<(), AllocError> {
+    text::write_text(out, text)?;
+    match grammar_of(alloc, kind_of(row), text) {
+        Ok(grammar) => plain::write_without_memory(out, alloc, &grammar)?,
+        Err(fault) => refused(&fault)?,
+    }
+    syntax::write_without_memory(out, parsed)
 }
 
 /// Writes a text and all that is answered of it.

@@ -7,6 +7,7 @@ mod grammar;
 mod names;
 mod openings;
 mod paths;
+mod rendered;
 mod starts;
 mod tables;
 

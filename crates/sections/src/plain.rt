@@ -1,0 +1,75 @@
+//! What is answered of a section, once that is read, by calls that take no memory.
+
+use cfgbase::{Location, Span, Spanned};
+use cfgerrors::{HeaderError, YaccGrammarError};
+use cfgheader::{GrmtoolsSectionParser, Header, HeaderFault};
+use cfgkinds::{HeaderValue, KindFault, YaccKind};
+use rows::pen;
+use std::alloc::{AllocError, Global};
+
+/// Reads a section that must be there, and writes a line for each key, or for each error.
+pub(crate) fn write_section(out: &mut String, alloc: Global, text: &str) -> Result<(), AllocError> {
+    match GrmtoolsSectionParser::new(text, true).parse(alloc) {
+        Ok(parsed) => write_parsed(out, alloc, &parsed),
+        Err(HeaderFault::Errors(errors)) => write_errors(out, errors),
+        Err(HeaderFault::OutOfMemory) => Err(AllocError),
+    }
+}
+
+/// Writes a line for each key, and how a section begins again to be read.
+fn write_parsed(
+    out: &mut String,
+    alloc: Global,
+    (header, _): &(Header<Span>, usize),
+) -> Result<(), AllocError> {
+    pen::without_memory(out)?;
+    let _parser = GrmtoolsSectionParser::new("", false);
+    for (key, held) in header {
+        write_held(out, alloc, key.as_str(), held)?;
+    }
+    Ok(())
+}
+
+/// Writes a key, the place that speaks for its value, and the kind that the value names where the key is `yacckind`.
+fn write_held(
+    out: &mut String,
+    alloc: Global,
+    key: &str,
+    held: &HeaderValue<Span>,
+) -> Result<(), AllocError> {
+    let place = *held.1.primary_location();
+    pen::name(out, "    ", key)?;
+    pen::span(out, place)?;
+    write!(out, " {:?}", Location::from(place))?;
+    if key == "yacckind" {
+        write_kind(out, YaccKind::try_from_value(alloc, &held.1))?;
+    }
+    pen::end_line(out)
+}
+
+/// Writes a kind.
+fn write_kind(out: &mut String, kind: Result<YaccKind, KindFault<Span>>) -> Result<(), AllocError> {
+    match kind {
+        Ok(kind) => write!(out, "; kind {kind:?}"),
+        Err(KindFault::Error(_)) => out.push_str("; no kind"),
+        Err(KindFault::OutOfMemory) => Err(AllocError),
+    }
+}
+
+/// Writes errors, each as that of a whole text.
+fn write_errors(out: &mut String, errors: Vec<HeaderError<Span>>) -> Result<(), AllocError> {
+    pen::without_memory(out)?;
+    for error in errors {
+        write_error(out, &YaccGrammarError::from(error))?;
+    }
+    Ok(())
+}
+
+/// Writes the kind of an error, its spans, and what they stand for.
+fn write_error(out: &mut String, error: &YaccGrammarError) -> Result<(), AllocError> {
+    write!(out, "    {:?}", error.kind())?;
+    for span in error.spans() {
+        pen::span(out, *span)?;
+    }
+    writeln!(out, " {:?}", error.spanskind())
+}

@@ -1,0 +1,117 @@
+//! Where merging stops for want of memory.
+
+ghost use Rattle.cfgmarks.specs.Marks.{IsFaithful};
+
+use super::{Key, Maps, merge, play_line};
+use cfgmarks::markmap::MarkMap;
+use rows::row::Row;
+use std::alloc::{AllocError, Global};
+
+/// Want of memory while the other map was merged by the line at this place; and before that, that the map isn't one
+/// into which just the keys below one of the other map's are merged. A row of which a digest is written doesn't watch
+/// all keys, and isn't looked at.
+pub(super) fn tell_stop<K: Key>(
+    out: &mut String,
+    alloc: Global,
+    row: &Row<'_>,
+    place: usize,
+    map: &MarkMap<K, u32>,
+) -> Result<(), AllocError>
+    requires { IsFaithful K.cmp K.is_clone }
+{
+    if row.first("show") != Some("digest") && !is_merged_so_far(alloc, row, place, map)? {
+        out.push_str("other keys are merged, ")?;
+    }
+    Err(AllocError)
+}
+
+/// Whether a map is one into which just the keys below one of the other map's are merged. The row watches all keys, in
+/// order.
+fn is_merged_so_far<K: Key>(
+    alloc: Global,
+    row: &Row<'_>,
+    place: usize,
+    map: &MarkMap<K, u32>,
+) -> Result<bool, AllocError>
+    requires { IsFaithful K.cmp K.is_clone }
+{
+    let watched = row.first("watch").unwrap_or("");
+    for (below, _) in watched.split(' ').enumerate() {
+        if is_merged_below(alloc, row, place, below, map)? {
+            return Ok(true);
+        }
+    }
+    Ok(false)
+}
+
+/// Whether a map is one into which just so many of the keys that are watched are merged, where the next is one of the
+/// other map's.
+fn is_merged_below<K: Key>(
+    alloc: Global,
+    row: &Row<'_>,
+    place: usize,
+    below: usize,
+    map: &MarkMap<K, u32>,
+) -> Result<bool, AllocError>
+    requires { IsFaithful K.cmp K.is_clone }
+{
+    let mut maps = Maps::<K>::new(alloc);
+    let is_theirs = merge_below(alloc, row, place, below, &mut maps)?;
+    Ok(is_theirs && maps.map == *map)
+}
+
+/// Runs the lines of a script in front of a place, and merges just so many of the keys that are watched. Whether the next
+/// is one of the other map's.
+fn merge_below<K: Key>(
+    alloc: Global,
+    row: &Row<'_>,
+    place: usize,
+    below: usize,
+    maps: &mut Maps<K>,
+) -> Result<bool, AllocError>
+    requires { IsFaithful K.cmp K.is_clone }
+{
+    let mut unread = String::new(alloc);
+    play_before(&mut unread, alloc, row, place, maps)?;
+    let is_theirs = remove_from(alloc, row, below, &mut maps.other)?;
+    merge(&mut unread, alloc, maps, "")?;
+    Ok(is_theirs)
+}
+
+/// Runs the lines of a script in front of a place.
+fn play_before<K: Key>(
+    out: &mut String,
+    alloc: Global,
+    row: &Row<'_>,
+    place: usize,
+    maps: &mut Maps<K>,
+) -> Result<(), AllocError>
+    requires { IsFaithful K.cmp K.is_clone }
+{
+    for (word, rest) in row.lines.iter().take(place) {
+        match *word {
+            "merge" => merge(out, alloc, maps, *rest)?,
+            _ => play_line(out, alloc, row, maps, (*word, *rest), false)?,
+        }
+    }
+    Ok(())
+}
+
+/// Removes the keys that are watched, but for so many of them, and answers whether the first of these was known.
+fn remove_from<K: Key>(
+    alloc: Global,
+    row: &Row<'_>,
+    below: usize,
+    map: &mut MarkMap<K, u32>,
+) -> Result<bool, AllocError> {
+    let mut is_known = false;
+    let watched = row.first("watch").unwrap_or("");
+    for (number, word) in watched.split(' ').enumerate().skip(below) {
+        let key = K::of(alloc, word)?;
+        if number == below {
+            is_known = map.contains_key(&key) || map.is_used(&key) || map.is_required(&key);
+        }
+        map.remove(&key);
+    }
+    Ok(is_known)
+}

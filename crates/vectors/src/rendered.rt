@@ -1,0 +1,50 @@
+//! Errors and warnings as people read them.
+
+use cfgrammar::yacc::ast::ASTWithValidityInfo;
+use cfgrammar::{Spanned, render};
+use rows::text::write_text;
+use std::alloc::{AllocError, Global};
+
+/// Writes a text, and each of its errors and warnings as a person reads it.
+pub(crate) fn tell(
+    out: &mut String,
+    alloc: Global,
+    text: &str,
+    parsed: &ASTWithValidityInfo,
+) -> Result<(), AllocError> {
+    write_text(out, text)?;
+    write_all(out, alloc, text, parsed.errors())?;
+    write_warnings(out, alloc, text, parsed)
+}
+
+fn write_warnings(
+    out: &mut String,
+    alloc: Global,
+    text: &str,
+    parsed: &ASTWithValidityInfo,
+) -> Result<(), AllocError> {
+    let warnings = parsed.ast().warnings(alloc)?;
+    write_all(out, alloc, text, &warnings)
+}
+
+fn write_all<E: Spanned>(
+    out: &mut String,
+    alloc: Global,
+    text: &str,
+    errors: &[E],
+) -> Result<(), AllocError> {
+    for error in errors {
+        write_rendered(out, alloc, text, error)?;
+    }
+    Ok(())
+}
+
+fn write_rendered<E: Spanned>(
+    out: &mut String,
+    alloc: Global,
+    text: &str,
+    error: &E,
+) -> Result<(), AllocError> {
+    let told = render(alloc, "g.y", text, error)?;
+    out.push_str(told.as_str())
+}
