@@ -73,3 +73,11 @@ pub fn flag(out: &mut String, before: &str, flag: bool) -> Result<(), AllocError
 pub fn span(out: &mut String, span: Span) -> Result<(), AllocError> {
     write!(out, " ({},{})", span.start(), span.end())
 }
+
+/// Writes spans, each behind a space.
+pub fn spans(out: &mut String, spans: &[Span]) -> Result<(), AllocError> {
+    for place in spans {
+        span(out, *place)?;
+    }
+    Ok(())
+}

@@ -7,8 +7,8 @@ use rows::files::{Answers, write_files};
 use rows::row::Row;
 use std::alloc::AllocError;
 use std::io;
-use trees::{kinds, written};
-use values::{lines, marks, numbers};
+use trees::written;
+use values::{kinds, lines, marks, numbers};
 use vectors::every;
 
 /// What is answered of rows of all kinds.

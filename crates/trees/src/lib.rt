@@ -5,7 +5,6 @@
 mod copies;
 pub mod cuts;
 pub mod errors;
-pub mod kinds;
 mod made;
 pub mod read;
 pub mod said;

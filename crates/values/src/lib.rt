@@ -1,6 +1,7 @@
-//! Worked rows on lines, on maps, and on plain values.
+//! Worked rows on lines, on maps, on plain values, and on the texts of errors and warnings.
 #![tactic(auto)]
 
+pub mod kinds;
 pub mod lines;
 pub mod marks;
 pub mod numbers;

@@ -13,20 +13,16 @@ use std::alloc::{AllocError, Global};
 /// Writes what a cache of the text's newlines answers, of the text fed whole; and the ways to feed it in pieces by
 /// which it answers something else.
 pub fn tell(out: &mut String, alloc: Global, row: &Row<'_>, text: &str) -> Result<(), AllocError> {
-    writeln!(out, "text of {} bytes", text.len())?;
+    pen::number(out, "text of ", text.len())?;
+    pen::text(out, " bytes\n")?;
     write_text(out, text)?;
-    let whole = match NewlineCache::from_str(alloc, text) {
-        Ok(cache) => cache,
-        Err(_) => return Err(AllocError),
-    };
-    match row.first("show") {
-        Some("without-memory") => tell_without_memory(out, alloc, row, &whole, text),
-        _ => tell_ways(out, alloc, row, &whole, text),
+    match NewlineCache::from_str(alloc, text) {
+        Ok(cache) => tell_cache(out, alloc, row, &cache, text),
+        Err(_) => Err(AllocError),
     }
 }
 
-/// Writes what a cache of a text answers, and what others do that are fed in pieces.
-fn tell_ways(
+fn tell_cache(
     out: &mut String,
     alloc: Global,
     row: &Row<'_>,
@@ -35,9 +31,23 @@ fn tell_ways(
 ) -> Result<(), AllocError>
     requires { StandsFor whole.now text.now }
 {
+    if row.first("show") == Some("without-memory") {
+        return tell_without_memory(out, alloc, row, whole, text);
+    }
     let answers = answers(alloc, row, whole, text)?;
-    out.push_str(answers.as_str())?;
-    write_ways(out, alloc, row, text, answers.as_str())?;
+    tell_ways(out, alloc, row, text, answers.as_str())
+}
+
+/// Writes what a cache of a text answers, and what others do that are fed in pieces.
+fn tell_ways(
+    out: &mut String,
+    alloc: Global,
+    row: &Row<'_>,
+    text: &str,
+    whole: &str,
+) -> Result<(), AllocError> {
+    pen::text(out, whole)?;
+    write_ways(out, alloc, row, text, whole)?;
     write_joined(out, alloc, text)
 }
 
@@ -56,7 +66,8 @@ fn tell_without_memory(
     write_answers(out, row, &NewlineCache::new(alloc), "")
 }
 
-/// Writes the ways to feed a text in pieces by which a cache answers something else, and how many ways were tried.
+/// Writes the ways to feed a text in pieces by which a cache answers something else, and how many ways were tried. A
+/// text of which a digest is written is only fed as the row says.
 fn write_ways(
     out: &mut String,
     alloc: Global,
@@ -64,16 +75,74 @@ fn write_ways(
     text: &str,
     whole: &str,
 ) -> Result<(), AllocError> {
-    let ways = ways(alloc, row, text)?;
-    for way in &ways {
-        if !answers_same(out, alloc, row, text, way, whole)? {
-            writeln!(
-                out,
-                "otherwise where it is fed by {way:?} bytes and the rest"
-            )?;
+    let cuts = match row.first("show") {
+        Some("digest") => 0,
+        _ => try_cuts(out, alloc, row, text, whole)?,
+    };
+    let told = try_told(out, alloc, row, text, whole)?;
+    pen::number(out, "fed in ", cuts.saturating_add(told))?;
+    pen::text(out, " ways\n")
+}
+
+/// Feeds a text in two pieces, cut before each character and at the end, and in pieces of one character. How many ways
+/// these are.
+fn try_cuts(
+    out: &mut String,
+    alloc: Global,
+    row: &Row<'_>,
+    text: &str,
+    whole: &str,
+) -> Result<usize, AllocError> {
+    for place in 0..=text.len() {
+        if text.is_char_boundary(place) {
+            try_way(out, alloc, row, text, &[place], whole)?;
         }
     }
-    writeln!(out, "fed in {} ways", ways.len())
+    let lengths = character_lengths(alloc, text)?;
+    try_way(out, alloc, row, text, &lengths, whole)?;
+    Ok(lengths.len().saturating_add(2))
+}
+
+/// Feeds a text as the row says. How many ways these are.
+fn try_told(
+    out: &mut String,
+    alloc: Global,
+    row: &Row<'_>,
+    text: &str,
+    whole: &str,
+) -> Result<usize, AllocError> {
+    let mut count = 0usize;
+    for (word, rest) in &row.lines {
+        match *word {
+            "pieces" => try_way(out, alloc, row, text, &told_lengths(alloc, *rest)?, whole)?,
+            "every" => {
+                let lengths = even_lengths(alloc, text, number(*rest))?;
+                try_way(out, alloc, row, text, &lengths, whole)?;
+            }
+            _ => continue,
+        }
+        count = count.saturating_add(1);
+    }
+    Ok(count)
+}
+
+/// Feeds a text in pieces of these lengths, and then the rest, and writes so where a cache then answers something else
+/// than where it is fed whole.
+fn try_way(
+    out: &mut String,
+    alloc: Global,
+    row: &Row<'_>,
+    text: &str,
+    lengths: &[usize],
+    whole: &str,
+) -> Result<(), AllocError> {
+    if answers_same(out, alloc, row, text, lengths, whole)? {
+        return Ok(());
+    }
+    writeln!(
+        out,
+        "otherwise where it is fed by {lengths:?} bytes and the rest"
+    )
 }
 
 /// Whether a cache of a text that is fed in pieces of these lengths, and then the rest, answers what the whole text does.
@@ -92,42 +161,22 @@ fn answers_same(
     }
 }
 
-/// The ways to feed a text, each as the lengths of all pieces but the last: in two pieces, cut before each character
-/// and at the end; in pieces of one character; and as the row says. A text of which a digest is written is only fed as
-/// the row says.
-fn ways(alloc: Global, row: &Row<'_>, text: &str) -> Result<Vec<Vec<usize>>, AllocError> {
-    let mut ways = if row.first("show") == Some("digest") {
-        Vec::new(alloc)
-    } else {
-        all_ways(alloc, text)?
-    };
-    for (word, rest) in &row.lines {
-        match *word {
-            "pieces" => ways.push(rest.split(' ').map(|word| number(word)).collect(alloc)?)?,
-            "every" => ways.push(even_pieces(alloc, text, number(*rest))?)?,
-            _ => {}
-        }
-    }
-    Ok(ways)
+/// The lengths that a line tells.
+fn told_lengths(alloc: Global, line: &str) -> Result<Vec<usize>, AllocError> {
+    line.split(' ').map(|word| number(word)).collect(alloc)
+}
+
+/// The lengths of a text's characters.
+fn character_lengths(alloc: Global, text: &str) -> Result<Vec<usize>, AllocError> {
+    text.chars()
+        .map(|character| character.len_utf8())
+        .collect(alloc)
 }
 
 /// The lengths of pieces of so many bytes each.
-fn even_pieces(alloc: Global, text: &str, length: usize) -> Result<Vec<usize>, AllocError> {
+fn even_lengths(alloc: Global, text: &str, length: usize) -> Result<Vec<usize>, AllocError> {
     let count = text.len().checked_div(length).unwrap_or(0);
     vec![in alloc; length; count]
-}
-
-/// The ways to feed a text in two pieces, and in pieces of one character.
-fn all_ways(alloc: Global, text: &str) -> Result<Vec<Vec<usize>>, AllocError> {
-    let mut ways = Vec::new(alloc);
-    let mut characters = Vec::new(alloc);
-    for (place, character) in text.char_indices() {
-        ways.push([place].to_vec(alloc)?)?;
-        characters.push(character.len_utf8())?;
-    }
-    ways.push([text.len()].to_vec(alloc)?)?;
-    ways.push(characters)?;
-    Ok(ways)
 }
 
 /// The cache of a text that is fed in pieces: these lengths, and then the rest. There is none where a character would
@@ -189,9 +238,20 @@ fn write_want(
     cache: &NewlineCache,
     fed: &str,
 ) -> Result<(), FeedError> {
-    out.push_str("out of memory\n")?;
+    pen::text(out, "out of memory\n")?;
     let other = NewlineCache::from_str(alloc, fed)?;
-    for byte in 0..fed.len().saturating_add(2) {
+    write_differences(out, cache, &other, fed.len())?;
+    Ok(())
+}
+
+/// Writes for each byte up to past an end whether two caches differ there.
+fn write_differences(
+    out: &mut String,
+    cache: &NewlineCache,
+    other: &NewlineCache,
+    end: usize,
+) -> Result<(), AllocError> {
+    for byte in 0..end.saturating_add(2) {
         let is_same = cache.byte_to_line_num(byte) == other.byte_to_line_num(byte)
             && cache.byte_to_line_byte(byte) == other.byte_to_line_byte(byte);
         pen::text_if(out, !is_same, "with another cache\n")?;
@@ -261,15 +321,20 @@ fn write_spans(out: &mut String, row: &Row<'_>, cache: &NewlineCache) -> Result<
     Ok(())
 }
 
-/// Writes what a cache of the text's characters, joined, answers of the text's end and past it.
+/// Writes what a cache of the text's lines, joined, answers of the text's end and past it.
 fn write_joined(out: &mut String, alloc: Global, text: &str) -> Result<(), AllocError> {
-    let pieces: Vec<&str> = text.split_inclusive('\n').collect(alloc)?;
-    let Ok(joined) = NewlineCache::from_pieces(alloc, pieces.iter().copied()) else {
-        return Err(AllocError);
-    };
-    write!(out, "of its lines, joined: {}:", text.len())?;
-    write_line(out, &joined, text.len())?;
-    out.push_str(", past it:")?;
-    write_line(out, &joined, text.len().saturating_add(1))?;
-    out.push('\n')
+    let lines: Vec<&str> = text.split_inclusive('\n').collect(alloc)?;
+    match NewlineCache::from_pieces(alloc, lines.iter().copied()) {
+        Ok(joined) => write_end(out, &joined, text.len()),
+        Err(_) => Err(AllocError),
+    }
+}
+
+fn write_end(out: &mut String, joined: &NewlineCache, end: usize) -> Result<(), AllocError> {
+    pen::number(out, "of its lines, joined: ", end)?;
+    pen::text(out, ":")?;
+    write_line(out, joined, end)?;
+    pen::text(out, ", past it:")?;
+    write_line(out, joined, end.saturating_add(1))?;
+    pen::end_line(out)
 }

@@ -1,5 +1,9 @@
 //! Rows on maps whose keys carry marks: scripts of calls.
 
+ghost use Rattle.std.specs.Cmp.{tied_itself};
+ghost use Rattle.std.specs.Cmp.Lexicographic.{nat_list_cmp_total};
+ghost use Rattle.std.specs.String.{string_bytes};
+ghost use Rattle.std.proofs.Common.{rules};
 ghost use Rattle.cfgmarks.specs.Marks.{IsFaithful};
 
 mod entry;
@@ -20,9 +24,13 @@ trait Key: Ord + Clone + Debug + Drop {
 
     /// Writes a text and the key.
     fn tell(&self, out: &mut String, before: &str) -> Result<(), AllocError>;
+
+    ghost faithful: { IsFaithful Self.cmp Self.is_clone };
 }
 
 impl Key for u32 {
+    ghost faithful = { Prim.search rules };
+
     fn of(_: Global, word: &str) -> Result<u32, AllocError> {
         Ok(small(word))
     }
@@ -33,6 +41,8 @@ impl Key for u32 {
 }
 
 impl Key for String {
+    ghost faithful = { λ text copy same. rw same (tied_itself nat_list_cmp_total (string_bytes text)) };
+
     fn of(alloc: Global, word: &str) -> Result<String, AllocError> {
         String::from_str(alloc, word)
     }
@@ -68,100 +78,132 @@ impl<K: Key> Maps<K> {
 }
 
 /// Runs a script on two maps, of which the second is merged into the first.
-fn play<K: Key>(out: &mut String, alloc: Global, row: &Row<'_>) -> Result<(), AllocError>
-    requires { IsFaithful K.cmp K.is_clone }
-{
+fn play<K: Key>(out: &mut String, alloc: Global, row: &Row<'_>) -> Result<(), AllocError> {
     let mut maps = Maps::<K>::new(alloc);
     play_lines(out, alloc, row, &mut maps)
 }
 
-/// Runs all lines of a script. Where memory ends while maps are merged, what is then there is looked at.
+/// Runs all lines of a script.
 fn play_lines<K: Key>(
     out: &mut String,
     alloc: Global,
     row: &Row<'_>,
     maps: &mut Maps<K>,
-) -> Result<(), AllocError>
-    requires { IsFaithful K.cmp K.is_clone }
-{
-    let mut is_told = false;
-    for (place, (word, rest)) in row.lines.iter().enumerate() {
-        if *word == "merge" {
-            write!(out, "    merge {rest}: ")?;
-            if merge(out, alloc, maps, *rest).is_err() {
-                return stops::tell_stop(out, alloc, row, place, &maps.map);
-            }
-            write_map(out, alloc, row, &mut maps.map)?;
-        } else {
-            play_line(out, alloc, row, maps, (*word, *rest), is_told)?;
+) -> Result<(), AllocError> {
+    for (place, line) in row.lines.iter().enumerate() {
+        match line.0 {
+            "merge" => merge_told(out, alloc, row, place, maps, line.1)?,
+            _ => play_line(out, alloc, row, place, maps, *line)?,
         }
-        is_told = *word == "call" || *word == "merge";
     }
     Ok(())
 }
 
-/// Runs a line of a script that merges nothing. What a map has may stand in front of it.
+/// Merges the other map, and writes how that ended and the map. Where memory ends, what is then there is looked at.
+fn merge_told<K: Key>(
+    out: &mut String,
+    alloc: Global,
+    row: &Row<'_>,
+    place: usize,
+    maps: &mut Maps<K>,
+    refused: &str,
+) -> Result<(), AllocError> {
+    write_call(out, "    merge ", refused)?;
+    match merge(out, alloc, maps, refused) {
+        Ok(()) => write_map(out, alloc, row, &mut maps.map),
+        Err(_) => stops::tell_stop(out, alloc, row, place, &maps.map),
+    }
+}
+
+/// Runs a line of a script that merges nothing.
 fn play_line<K: Key>(
     out: &mut String,
     alloc: Global,
     row: &Row<'_>,
+    place: usize,
     maps: &mut Maps<K>,
-    line: (&str, &str),
-    is_told: bool,
-) -> Result<(), AllocError>
-    requires { IsFaithful K.cmp K.is_clone }
-{
-    let (word, rest) = line;
+    (word, rest): (&str, &str),
+) -> Result<(), AllocError> {
     match word {
-        "call" => {
-            call_told(out, alloc, row, &mut maps.map, rest, is_told)?;
-            write_map(out, alloc, row, &mut maps.map)
-        }
+        "call" => tell_call(out, alloc, row, place, &mut maps.map, rest),
         "calls" => calls(out, alloc, &mut maps.map, rest),
         "others" => calls(out, alloc, &mut maps.other, rest),
-        "other" => {
-            write!(out, "    other {rest}: ")?;
-            call(out, alloc, &mut maps.other, rest)
-        }
-        "compare" => {
-            pen::flag(out, "    equal to the other: ", maps.map == maps.other)?;
-            out.push('\n')
-        }
+        "other" => call_other(out, alloc, &mut maps.other, rest),
+        "compare" => compare(out, "    equal to the other: ", &maps.map, &maps.other),
         "show" if rest == "without-memory" => {
             pen::without_memory(out)?;
-            pen::flag(
+            compare(
                 out,
                 "    equal to a new map: ",
-                maps.map == MarkMap::new(alloc),
-            )?;
-            out.push('\n')
+                &maps.map,
+                &MarkMap::new(alloc),
+            )
         }
         _ => Ok(()),
     }
 }
 
-/// Makes a call, and writes it and what it answers. Where memory ended, that is written, and the call is made again.
-/// Between the two stands what the map then has, where that stands in front of the call too.
-fn call_told<K: Key>(
+/// Writes whether two maps are equal, as a line.
+fn compare<K: Key>(
+    out: &mut String,
+    before: &str,
+    map: &MarkMap<K, u32>,
+    other: &MarkMap<K, u32>,
+) -> Result<(), AllocError> {
+    pen::flag(out, before, *map == *other)?;
+    pen::end_line(out)
+}
+
+/// Makes a call, and writes it, what it answers and what the map then has.
+fn tell_call<K: Key>(
     out: &mut String,
     alloc: Global,
     row: &Row<'_>,
+    place: usize,
     map: &mut MarkMap<K, u32>,
     line: &str,
-    is_told: bool,
-) -> Result<(), AllocError>
-    requires { IsFaithful K.cmp K.is_clone }
-{
-    write!(out, "    {line}: ")?;
-    if call(out, alloc, map, line).is_ok() {
-        return Ok(());
+) -> Result<(), AllocError> {
+    write_call(out, "    ", line)?;
+    if call(out, alloc, map, line).is_err() {
+        write_want(out, alloc, row, place, map)?;
+        write_call(out, "    ", line)?;
+        call(out, alloc, map, line)?;
     }
-    out.push_str("out of memory\n")?;
-    if is_told {
-        write_map(out, alloc, row, map)?;
+    write_map(out, alloc, row, map)
+}
+
+/// Writes that memory ended in a call, and what the map then has where that stands in front of the call too: behind
+/// another call and behind a merge.
+fn write_want<K: Key>(
+    out: &mut String,
+    alloc: Global,
+    row: &Row<'_>,
+    place: usize,
+    map: &mut MarkMap<K, u32>,
+) -> Result<(), AllocError> {
+    pen::text(out, "out of memory\n")?;
+    match row.lines.get(place.wrapping_sub(1)) {
+        Some(("call" | "merge", _)) => write_map(out, alloc, row, map),
+        _ => Ok(()),
     }
-    write!(out, "    {line}: ")?;
-    call(out, alloc, map, line)
+}
+
+/// Makes a call on the other map, and writes it and what it answers.
+fn call_other<K: Key>(
+    out: &mut String,
+    alloc: Global,
+    other: &mut MarkMap<K, u32>,
+    line: &str,
+) -> Result<(), AllocError> {
+    write_call(out, "    other ", line)?;
+    call(out, alloc, other, line)
+}
+
+/// Writes a call in front of what it answers.
+fn write_call(out: &mut String, before: &str, line: &str) -> Result<(), AllocError> {
+    pen::text(out, before)?;
+    pen::text(out, line)?;
+    pen::text(out, ": ")
 }
 
 /// Makes a call as many times as the number in front of it says, with the turn's number for each `#`, and writes what
@@ -171,16 +213,24 @@ fn calls<K: Key>(
     alloc: Global,
     map: &mut MarkMap<K, u32>,
     line: &str,
-) -> Result<(), AllocError>
-    requires { IsFaithful K.cmp K.is_clone }
-{
+) -> Result<(), AllocError> {
     let (count, line) = line.split_once(' ').unwrap_or(("0", ""));
     for turn in 0..number(count) {
-        let mut turned = String::new(alloc);
-        push_turn(&mut turned, line, turn)?;
-        call(out, alloc, map, turned.as_str())?;
+        call_turn(out, alloc, map, line, turn)?;
     }
     Ok(())
+}
+
+fn call_turn<K: Key>(
+    out: &mut String,
+    alloc: Global,
+    map: &mut MarkMap<K, u32>,
+    line: &str,
+    turn: usize,
+) -> Result<(), AllocError> {
+    let mut turned = String::new(alloc);
+    push_turn(&mut turned, line, turn)?;
+    call(out, alloc, map, turned.as_str())
 }
 
 /// Makes a call, and writes what it answers.
@@ -189,73 +239,117 @@ fn call<K: Key>(
     alloc: Global,
     map: &mut MarkMap<K, u32>,
     line: &str,
-) -> Result<(), AllocError>
-    requires { IsFaithful K.cmp K.is_clone }
-{
+) -> Result<(), AllocError> {
     let (name, key, value) = words(line);
     if name == "default" {
         map.set_default_merge_behavior(behavior(key));
-        return out.push_str("()\n");
+        return pen::text(out, "()\n");
     }
     let key = K::of(alloc, key)?;
-    match name {
-        "insert" => insert(out, map, key, small(value)),
-        "entry" => entry::call(out, map, key, value),
-        _ => call_with(out, map, name, &key, value),
-    }
+    call_with(out, map, &key, name, value)
 }
 
-/// Makes a call that borrows its key, and writes what it answers.
+/// Makes a call with a key, and writes what it answers.
 fn call_with<K: Key>(
     out: &mut String,
     map: &mut MarkMap<K, u32>,
-    name: &str,
     key: &K,
+    name: &str,
     value: &str,
-) -> Result<(), AllocError>
-    requires { IsFaithful K.cmp K.is_clone }
-{
-    if name == "remove" {
-        return write_old(out, map.remove(key));
+) -> Result<(), AllocError> {
+    if name == "entry" {
+        let (name, word, _) = words(value);
+        return entry::call(out, map, key, act_of(name, word));
     }
-    mark(map, name, key, behavior(value))?;
-    out.push_str("()\n")
+    make_call(out, map, key, act_of(name, value))
+}
+
+/// What a call does with a key.
+#[derive(Clone, Copy)]
+enum Act {
+    Insert(u32),
+    InsertEntry(u32),
+    Remove,
+    MarkUsed,
+    MarkRequired,
+    SetMergeBehavior(MergeBehavior),
+    Look,
+}
+
+/// What a call of this name does, with what stands behind it.
+fn act_of(name: &str, word: &str) -> Act {
+    match name {
+        "insert" => Act::Insert(small(word)),
+        "insert_entry" => Act::InsertEntry(small(word)),
+        "remove" => Act::Remove,
+        "mark_used" => Act::MarkUsed,
+        "mark_required" => Act::MarkRequired,
+        "set_merge_behavior" => Act::SetMergeBehavior(behavior(word)),
+        _ => Act::Look,
+    }
+}
+
+/// Makes a call that takes a key, and writes what it answers.
+fn make_call<K: Key>(
+    out: &mut String,
+    map: &mut MarkMap<K, u32>,
+    key: &K,
+    act: Act,
+) -> Result<(), AllocError> {
+    match act {
+        Act::Insert(value) => insert(out, map, key, value),
+        Act::Remove => write_old(out, map.remove(key)),
+        Act::MarkUsed => write_done(out, map.mark_used(key), "()\n"),
+        Act::MarkRequired => write_done(out, map.mark_required(key), "()\n"),
+        Act::SetMergeBehavior(behavior) => write_done(
+            out,
+            map.set_merge_behavior(key, behavior),
+            "()\n",
+        ),
+        Act::InsertEntry(_) | Act::Look => Ok(()),
+    }
 }
 
 /// Gives a key a value, and writes the value that it held. Where memory ended, both come back.
 fn insert<K: Key>(
     out: &mut String,
     map: &mut MarkMap<K, u32>,
-    key: K,
+    key: &K,
     value: u32,
 ) -> Result<(), AllocError> {
-    let handed = (key.clone()?, value);
-    match map.insert(key, value) {
-        Ok(old) => write_old(out, old),
-        Err(back) => refused(out, back == handed),
+    write_inserted(out, &map.insert(key.clone()?, value), (key, value))
+}
+
+fn write_inserted<K: Key>(
+    out: &mut String,
+    inserted: &Result<Option<u32>, (K, u32)>,
+    handed: (&K, u32),
+) -> Result<(), AllocError> {
+    match inserted {
+        Ok(old) => write_old(out, *old),
+        Err(back) => refused(out, back, handed),
     }
 }
 
 /// Want of memory, behind which key and value came back, or others.
-fn refused(out: &mut String, is_handed_back: bool) -> Result<(), AllocError> {
+fn refused<K: Key>(
+    out: &mut String,
+    (key, value): &(K, u32),
+    handed: (&K, u32),
+) -> Result<(), AllocError> {
+    let is_handed_back = *key == *handed.0 && *value == handed.1;
     pen::text_if(out, !is_handed_back, "another key and value come back, ")?;
     Err(AllocError)
 }
 
-/// Marks a key.
-fn mark<K: Key>(
-    map: &mut MarkMap<K, u32>,
-    name: &str,
-    key: &K,
-    behavior: MergeBehavior,
-) -> Result<(), AllocError>
-    requires { IsFaithful K.cmp K.is_clone }
-{
-    match name {
-        "mark_used" => map.mark_used(key),
-        "mark_required" => map.mark_required(key),
-        _ => map.set_merge_behavior(key, behavior),
-    }
+/// Writes an answer where a call was done.
+fn write_done(
+    out: &mut String,
+    done: Result<(), AllocError>,
+    answer: &str,
+) -> Result<(), AllocError> {
+    done?;
+    pen::text(out, answer)
 }
 
 /// Writes the value that a key held, and ends the line.
@@ -285,24 +379,43 @@ fn merge<K: Key>(
     refused: &str,
 ) -> Result<(), AllocError> {
     let theirs = mem::replace(&mut maps.other, MarkMap::new(alloc));
-    let refused = number(refused);
-    let convert = |value: u32| {
+    write_merged(out, &merged(&mut maps.map, theirs, number(refused)))
+}
+
+/// Merges a map into another, where one value isn't converted.
+fn merged<K: Key>(
+    map: &mut MarkMap<K, u32>,
+    theirs: MarkMap<K, u32>,
+    refused: usize,
+) -> Result<(), MergeFault<K, u32, &'static str>> {
+    map.merge_from(theirs, |value: u32| {
         if value as usize == refused {
             Err("not converted")
         } else {
             Ok(value)
         }
-    };
-    match maps.map.merge_from(theirs, convert) {
-        Ok(()) => out.push_str("()\n"),
+    })
+}
+
+/// Writes how merging ended.
+fn write_merged<K: Key>(
+    out: &mut String,
+    merged: &Result<(), MergeFault<K, u32, &'static str>>,
+) -> Result<(), AllocError> {
+    match merged {
+        Ok(()) => pen::text(out, "()\n"),
         Err(MergeFault::Convert(key, refused)) => writeln!(out, "{refused} at {key:?}"),
         Err(MergeFault::OutOfMemory) => Err(AllocError),
-        Err(MergeFault::Conflict(conflict)) => {
-            write!(out, "{conflict}")?;
-            let MergeError::Exclusivity(key, value) = conflict;
-            writeln!(out, ", at {key:?} against {}", *value)
-        }
+        Err(MergeFault::Conflict(conflict)) => write_conflict(out, conflict),
     }
+}
+
+fn write_conflict<K: Key>(
+    out: &mut String,
+    conflict: &MergeError<K, Box<u32>>,
+) -> Result<(), AllocError> {
+    let MergeError::Exclusivity(key, value) = conflict;
+    writeln!(out, "{conflict}, at {key:?} against {}", **value)
 }
 
 /// Writes a map: what each of the row's keys has, and its lists of keys.
@@ -311,58 +424,47 @@ fn write_map<K: Key>(
     alloc: Global,
     row: &Row<'_>,
     map: &mut MarkMap<K, u32>,
-) -> Result<(), AllocError>
-    requires { IsFaithful K.cmp K.is_clone }
-{
-    out.push_str("       ")?;
-    for word in row.first("watch").unwrap_or("").split_whitespace() {
-        let key = K::of(alloc, word)?;
-        key.tell(out, " [")?;
-        write_marks(out, map, &key)?;
-        entry::write_mark(out, map, key)?;
+) -> Result<(), AllocError> {
+    pen::text(out, "       ")?;
+    write_watched(out, alloc, row.first("watch").unwrap_or(""), map)?;
+    write_keys(out, map)?;
+    write_entries(out, map)?;
+    match row.first("show") {
+        Some("without-memory") => pen::end_line(out),
+        _ => write_marked(out, alloc, map),
     }
-    out.push('\n')?;
-    write_lists(out, alloc, row, map)
 }
 
-/// Writes the value of a key and its marks.
-fn write_marks<K: Key>(out: &mut String, map: &MarkMap<K, u32>, key: &K) -> Result<(), AllocError> {
-    match map.get(key) {
-        Some(value) => pen::number(out, " ", *value as usize)?,
-        None => out.push_str(" -")?,
+/// Writes what each of these keys has.
+fn write_watched<K: Key>(
+    out: &mut String,
+    alloc: Global,
+    watched: &str,
+    map: &mut MarkMap<K, u32>,
+) -> Result<(), AllocError> {
+    for word in watched.split_whitespace() {
+        entry::write_key(out, alloc, map, word)?;
     }
-    if map.contains_key(key) != map.get(key).is_some() {
-        out.push_str(" (or not)")?;
-    }
-    if map.is_used(key) {
-        out.push_str(" used")?;
-    }
-    if map.is_required(key) {
-        out.push_str(" required")?;
+    pen::end_line(out)
+}
+
+/// Writes the keys.
+fn write_keys<K: Key>(out: &mut String, map: &MarkMap<K, u32>) -> Result<(), AllocError> {
+    pen::text(out, "        keys")?;
+    for key in map.keys() {
+        key.tell(out, " ")?;
     }
     Ok(())
 }
 
-/// Writes the keys and the entries, and, where the row may take memory, the unused keys and the missing ones.
-fn write_lists<K: Key>(
-    out: &mut String,
-    alloc: Global,
-    row: &Row<'_>,
-    map: &MarkMap<K, u32>,
-) -> Result<(), AllocError> {
-    out.push_str("        keys")?;
-    for key in map.keys() {
-        key.tell(out, " ")?;
-    }
-    out.push_str("; entries")?;
+/// Writes the entries.
+fn write_entries<K: Key>(out: &mut String, map: &MarkMap<K, u32>) -> Result<(), AllocError> {
+    pen::text(out, "; entries")?;
     for (key, value) in map {
         key.tell(out, " ")?;
         pen::number(out, " ", *value as usize)?;
     }
-    match row.first("show") {
-        Some("without-memory") => out.push('\n'),
-        _ => write_marked(out, alloc, map),
-    }
+    Ok(())
 }
 
 /// Writes the unused keys and the missing ones.
@@ -371,14 +473,23 @@ fn write_marked<K: Key>(
     alloc: Global,
     map: &MarkMap<K, u32>,
 ) -> Result<(), AllocError> {
-    out.push_str("; unused")?;
-    for key in map.unused(alloc)?.iter() {
+    write_unused(out, &map.unused(alloc)?)?;
+    write_missing(out, &map.missing(alloc)?)
+}
+
+fn write_unused<K: Key>(out: &mut String, keys: &[K]) -> Result<(), AllocError> {
+    pen::text(out, "; unused")?;
+    for key in keys {
         key.tell(out, " ")?;
     }
-    out.push_str("; missing")?;
-    for key in map.missing(alloc)?.iter() {
+    Ok(())
+}
+
+fn write_missing<K: Key>(out: &mut String, keys: &[&K]) -> Result<(), AllocError> {
+    pen::text(out, "; missing")?;
+    for key in keys {
         let key: &K = *key;
         key.tell(out, " ")?;
     }
-    out.push('\n')
+    pen::end_line(out)
 }

@@ -10,19 +10,29 @@ use std::alloc::{AllocError, Global};
 
 /// Writes what is answered of each value of the row. The row's text, or else `a script`, is the place that no span is.
 pub fn tell(out: &mut String, alloc: Global, row: &Row<'_>, text: &str) -> Result<(), AllocError> {
-    let script = if text.is_empty() { "a script" } else { text };
     if row.first("show") == Some("without-memory") {
         return tell_without_memory(out, alloc, row);
     }
-    for (word, rest) in &row.lines {
-        match *word {
-            "span" => write_span(out, alloc, script, numbers(*rest))?,
-            "number" => write_number(out, number(*rest))?,
-            "bits" => write_bits(out, alloc, row, numbers(*rest))?,
-            _ => {}
-        }
+    let script = if text.is_empty() { "a script" } else { text };
+    for line in &row.lines {
+        tell_line(out, alloc, row, script, *line)?;
     }
     Ok(())
+}
+
+fn tell_line(
+    out: &mut String,
+    alloc: Global,
+    row: &Row<'_>,
+    script: &str,
+    (word, rest): (&str, &str),
+) -> Result<(), AllocError> {
+    match word {
+        "span" => write_span(out, alloc, script, numbers(rest)),
+        "number" => write_number(out, number(rest)),
+        "bits" => write_bits(out, alloc, row, numbers(rest)),
+        _ => Ok(()),
+    }
 }
 
 /// Writes what is answered of each value of the row, and of the row's list of bits, all of them made before.
@@ -30,7 +40,6 @@ fn tell_without_memory(out: &mut String, alloc: Global, row: &Row<'_>) -> Result
     let (len, first) = numbers(row.first("bits").unwrap_or(""));
     let mut bits = Vob::from_elem(alloc, first == 1, len)?;
     let others = Vob::from_elem(alloc, true, len)?;
-    pen::without_memory(out)?;
     write_values(out, row, &mut bits, &others)
 }
 
@@ -41,18 +50,26 @@ fn write_values(
     bits: &mut Vob,
     others: &Vob,
 ) -> Result<(), AllocError> {
+    pen::without_memory(out)?;
     for (word, rest) in &row.lines {
-        let (first, second) = numbers(*rest);
-        match *word {
-            "span" => write_plain_span(out, first, second)?,
-            "number" => write_number(out, first)?,
-            "set" if first < bits.len() => write_set(out, bits, first, second)?,
-            "get" => writeln!(out, "    get({first}): {:?}", bits.get(first))?,
-            "or" if others.len() == bits.len() => write_or(out, bits, 1, others)?,
-            _ => {}
-        }
+        write_value(out, bits, others, *word, numbers(*rest))?;
     }
     Ok(())
+}
+
+fn write_value(
+    out: &mut String,
+    bits: &mut Vob,
+    others: &Vob,
+    word: &str,
+    (first, second): (usize, usize),
+) -> Result<(), AllocError> {
+    match word {
+        "span" => write_plain_span(out, first, second),
+        "number" => write_number(out, first),
+        "or" if others.len() == bits.len() => write_or(out, bits, 1, others),
+        _ => write_call(out, bits, word, first, second),
+    }
 }
 
 /// Writes the parts of a span, and of the place that it is, as a line.
@@ -179,18 +196,26 @@ fn write_calls(
     for (word, rest) in &row.lines {
         let (place, bit) = numbers(*rest);
         match *word {
-            "set" if place < bits.len() => write_set(out, bits, place, bit)?,
-            "get" => writeln!(out, "    get({place}): {:?}", bits.get(place))?,
-            "or" => write_or(
-                out,
-                bits,
-                place,
-                &Vob::from_elem(alloc, place == 1, bits.len())?,
-            )?,
-            _ => {}
+            "or" => write_or_all(out, alloc, bits, place)?,
+            _ => write_call(out, bits, *word, place, bit)?,
         }
     }
     Ok(())
+}
+
+/// Writes what a call on a list of bits answers.
+fn write_call(
+    out: &mut String,
+    bits: &mut Vob,
+    word: &str,
+    place: usize,
+    bit: usize,
+) -> Result<(), AllocError> {
+    match word {
+        "set" if place < bits.len() => write_set(out, bits, place, bit),
+        "get" => writeln!(out, "    get({place}): {:?}", bits.get(place)),
+        _ => Ok(()),
+    }
 }
 
 /// Sets a bit, and writes whether it changed, and the list.
@@ -201,6 +226,17 @@ fn write_set(out: &mut String, bits: &mut Vob, place: usize, bit: usize) -> Resu
     pen::flag(out, "): ", bits.set(place, bit == 1))?;
     out.push('\n')?;
     write_list(out, bits)
+}
+
+/// Takes in the bits of a list of bits that are all off or all on.
+fn write_or_all(
+    out: &mut String,
+    alloc: Global,
+    bits: &mut Vob,
+    bit: usize,
+) -> Result<(), AllocError> {
+    let other = Vob::from_elem(alloc, bit == 1, bits.len())?;
+    write_or(out, bits, bit, &other)
 }
 
 /// Takes the bits of another list as long in, and writes whether that changed the list, whether they are equal then, and the list.

@@ -1,134 +1,163 @@
 //! Calls at the place of a key.
 
-ghost use Rattle.cfgmarks.specs.Marks.{IsFaithful};
-
-use super::{Key, behavior, refused, small};
-use cfgmarks::markmap::{Entry, MarkMap, OccupiedEntry};
+use super::{Act, Key, refused, write_done};
+use cfgmarks::markmap::{Entry, MarkMap, OccupiedEntry, VacantEntry};
 use rows::pen;
-use rows::row::words;
-use std::alloc::AllocError;
+use std::alloc::{AllocError, Global};
 
 /// Makes a call at the place of a key, and writes what it answers.
 pub(super) fn call<K: Key>(
     out: &mut String,
     map: &mut MarkMap<K, u32>,
-    key: K,
-    line: &str,
-) -> Result<(), AllocError>
-    requires { IsFaithful K.cmp K.is_clone }
-{
-    if map.contains_key(&key) {
-        call_occupied(out, map, key, line)
-    } else {
-        call_vacant(out, map, key, line)
+    key: &K,
+    act: Act,
+) -> Result<(), AllocError> {
+    match map.entry(key.clone()?) {
+        Entry::Occupied(mut entry) => call_occupied(out, &mut entry, act),
+        Entry::Vacant(entry) => call_vacant(out, entry, key, act),
     }
 }
 
 /// Makes a call at the place of a key that holds a value, and writes what it answers.
 fn call_occupied<K: Key>(
     out: &mut String,
-    map: &mut MarkMap<K, u32>,
-    key: K,
-    line: &str,
+    entry: &mut OccupiedEntry<'_, K, u32>,
+    act: Act,
 ) -> Result<(), AllocError> {
-    let answer = match map.entry(key) {
-        Entry::Vacant(_entry) => Answer::Vacant,
-        Entry::Occupied(mut entry) => occupied_answer(&mut entry, line),
-    };
-    write_answer(out, answer)
-}
-
-/// What a call at the place of a key that should hold a value answers.
-#[derive(Clone, Copy)]
-enum Answer {
-    Vacant,
-    Number(&'static str, usize),
-    Flag(&'static str, bool),
-}
-
-/// What a call at the place of a key that holds a value answers.
-fn occupied_answer<K: Key>(entry: &mut OccupiedEntry<'_, K, u32>, line: &str) -> Answer {
-    let (name, word, _) = words(line);
-    match name {
-        "insert" => Answer::Number("occupied, ", entry.insert(small(word)) as usize),
-        "mark_used" => {
+    match act {
+        Act::Insert(value) => end(out, "occupied, ", entry.insert(value) as usize),
+        Act::MarkUsed => {
             entry.mark_used();
-            Answer::Flag("occupied, used: ", entry.is_used())
+            end_flag(out, "occupied, used: ", entry.is_used())
         }
-        "mark_required" => {
+        Act::MarkRequired => {
             entry.mark_required();
-            Answer::Flag("occupied, required: ", entry.is_required())
+            end_flag(out, "occupied, required: ", entry.is_required())
         }
-        "set_merge_behavior" => {
-            entry.set_merge_behavior(behavior(word));
-            Answer::Number("occupied, mark ", usize::from(entry.get_mark()))
+        Act::SetMergeBehavior(behavior) => {
+            entry.set_merge_behavior(behavior);
+            end(out, "occupied, mark ", usize::from(entry.get_mark()))
         }
-        _ => Answer::Number("occupied, ", *entry.get() as usize),
+        _ => end(out, "occupied, ", *entry.get() as usize),
     }
-}
-
-/// Writes an answer as a line.
-fn write_answer(out: &mut String, answer: Answer) -> Result<(), AllocError> {
-    match answer {
-        Answer::Vacant => out.push_str("vacant")?,
-        Answer::Number(before, number) => pen::number(out, before, number)?,
-        Answer::Flag(before, flag) => pen::flag(out, before, flag)?,
-    }
-    out.push('\n')
 }
 
 /// Makes a call at the place of a key that holds no value, and writes what it answers.
 fn call_vacant<K: Key>(
     out: &mut String,
-    map: &mut MarkMap<K, u32>,
-    key: K,
-    line: &str,
-) -> Result<(), AllocError>
-    requires { IsFaithful K.cmp K.is_clone }
-{
-    let (name, word, _) = words(line);
-    let handed = (key.clone()?, small(word));
-    match map.entry(key) {
-        Entry::Occupied(_entry) => out.push_str("occupied\n"),
-        Entry::Vacant(mut entry) => match name {
-            "insert" => match entry.insert(small(word)) {
-                Ok(lent) => end(out, "vacant, lends ", *lent as usize),
-                Err(back) => refused(out, back == handed),
-            },
-            "insert_entry" => match entry.insert_entry(small(word)) {
-                Ok(occupied) => end(out, "vacant, mark ", usize::from(occupied.get_mark())),
-                Err(back) => refused(out, back == handed),
-            },
-            "mark_required" => {
-                entry.mark_required()?;
-                out.push_str("vacant, ()\n")
-            }
-            "set_merge_behavior" => {
-                entry.set_merge_behavior(behavior(word))?;
-                out.push_str("vacant, ()\n")
-            }
-            _ => {
-                entry.key().tell(out, "vacant, ")?;
-                out.push('\n')
-            }
-        },
+    mut entry: VacantEntry<'_, K, u32>,
+    key: &K,
+    act: Act,
+) -> Result<(), AllocError> {
+    match act {
+        Act::Insert(value) => write_filled(
+            out,
+            "vacant, lends ",
+            &lend(entry, value),
+            (key, value),
+        ),
+        Act::InsertEntry(value) => write_filled(
+            out,
+            "vacant, mark ",
+            &occupy(entry, value),
+            (key, value),
+        ),
+        _ => mark_vacant(out, &mut entry, act),
     }
+}
+
+/// Gives a key at its place a value, and answers the one that is lent.
+fn lend<K: Key>(entry: VacantEntry<'_, K, u32>, value: u32) -> Result<usize, (K, u32)> {
+    Ok(*entry.insert(value)? as usize)
+}
+
+/// Gives a key at its place a value, and answers the marks that it then has.
+fn occupy<K: Key>(entry: VacantEntry<'_, K, u32>, value: u32) -> Result<usize, (K, u32)> {
+    match entry.insert_entry(value) {
+        Ok(occupied) => Ok(usize::from(occupied.get_mark())),
+        Err(back) => Err(back),
+    }
+}
+
+fn write_filled<K: Key>(
+    out: &mut String,
+    before: &str,
+    filled: &Result<usize, (K, u32)>,
+    handed: (&K, u32),
+) -> Result<(), AllocError> {
+    match filled {
+        Ok(number) => end(out, before, *number),
+        Err(back) => refused(out, back, handed),
+    }
+}
+
+/// Marks a key at its place where it holds no value, or writes it.
+fn mark_vacant<K: Key>(
+    out: &mut String,
+    entry: &mut VacantEntry<'_, K, u32>,
+    act: Act,
+) -> Result<(), AllocError> {
+    match act {
+        Act::MarkRequired => write_done(out, entry.mark_required(), "vacant, ()\n"),
+        Act::SetMergeBehavior(behavior) => write_done(
+            out,
+            entry.set_merge_behavior(behavior),
+            "vacant, ()\n",
+        ),
+        _ => write_vacant(out, entry.key()),
+    }
+}
+
+fn write_vacant<K: Key>(out: &mut String, key: &K) -> Result<(), AllocError> {
+    key.tell(out, "vacant, ")?;
+    pen::end_line(out)
 }
 
 /// Writes a text and a number, and ends the line.
 fn end(out: &mut String, before: &str, number: usize) -> Result<(), AllocError> {
     pen::number(out, before, number)?;
-    out.push('\n')
+    pen::end_line(out)
+}
+
+/// Writes a text and whether something is so, and ends the line.
+fn end_flag(out: &mut String, before: &str, flag: bool) -> Result<(), AllocError> {
+    pen::flag(out, before, flag)?;
+    pen::end_line(out)
+}
+
+/// Writes a key, its value and its marks.
+pub(super) fn write_key<K: Key>(
+    out: &mut String,
+    alloc: Global,
+    map: &mut MarkMap<K, u32>,
+    word: &str,
+) -> Result<(), AllocError> {
+    let key = K::of(alloc, word)?;
+    write_marks(out, map, &key)?;
+    write_mark(out, &map.entry(key))
+}
+
+/// Writes a key, its value, and whether it is used and required.
+fn write_marks<K: Key>(out: &mut String, map: &MarkMap<K, u32>, key: &K) -> Result<(), AllocError> {
+    key.tell(out, " [")?;
+    write_value(out, map.get(key))?;
+    let is_there = map.get(key).is_some();
+    pen::text_if(out, map.contains_key(key) != is_there, " (or not)")?;
+    pen::text_if(out, map.is_used(key), " used")?;
+    pen::text_if(out, map.is_required(key), " required")
+}
+
+fn write_value(out: &mut String, value: Option<&u32>) -> Result<(), AllocError> {
+    match value {
+        Some(value) => pen::number(out, " ", *value as usize),
+        None => pen::text(out, " -"),
+    }
 }
 
 /// Writes the mark of a key that holds a value.
-pub(super) fn write_mark<K: Key>(
-    out: &mut String,
-    map: &mut MarkMap<K, u32>,
-    key: K,
-) -> Result<(), AllocError> {
-    match map.entry(key) {
+fn write_mark<K: Key>(out: &mut String, entry: &Entry<'_, K, u32>) -> Result<(), AllocError> {
+    match entry {
         Entry::Occupied(entry) => write!(out, ", mark {}]", entry.get_mark()),
-        Entry::Vacant(_entry) => out.push_str("]"),
+        Entry::Vacant(_) => pen::text(out, "]"),
     }
 }

@@ -1,7 +1,5 @@
 //! Where merging stops for want of memory.
 
-ghost use Rattle.cfgmarks.specs.Marks.{IsFaithful};
-
 use super::{Key, Maps, merge, play_line};
 use cfgmarks::markmap::MarkMap;
 use rows::row::Row;
@@ -16,9 +14,7 @@ pub(super) fn tell_stop<K: Key>(
     row: &Row<'_>,
     place: usize,
     map: &MarkMap<K, u32>,
-) -> Result<(), AllocError>
-    requires { IsFaithful K.cmp K.is_clone }
-{
+) -> Result<(), AllocError> {
     if row.first("show") != Some("digest") && !is_merged_so_far(alloc, row, place, map)? {
         out.push_str("other keys are merged, ")?;
     }
@@ -32,9 +28,7 @@ fn is_merged_so_far<K: Key>(
     row: &Row<'_>,
     place: usize,
     map: &MarkMap<K, u32>,
-) -> Result<bool, AllocError>
-    requires { IsFaithful K.cmp K.is_clone }
-{
+) -> Result<bool, AllocError> {
     let watched = row.first("watch").unwrap_or("");
     for (below, _) in watched.split(' ').enumerate() {
         if is_merged_below(alloc, row, place, below, map)? {
@@ -52,29 +46,35 @@ fn is_merged_below<K: Key>(
     place: usize,
     below: usize,
     map: &MarkMap<K, u32>,
-) -> Result<bool, AllocError>
-    requires { IsFaithful K.cmp K.is_clone }
-{
+) -> Result<bool, AllocError> {
     let mut maps = Maps::<K>::new(alloc);
     let is_theirs = merge_below(alloc, row, place, below, &mut maps)?;
     Ok(is_theirs && maps.map == *map)
 }
 
-/// Runs the lines of a script in front of a place, and merges just so many of the keys that are watched. Whether the next
-/// is one of the other map's.
 fn merge_below<K: Key>(
     alloc: Global,
     row: &Row<'_>,
     place: usize,
     below: usize,
     maps: &mut Maps<K>,
-) -> Result<bool, AllocError>
-    requires { IsFaithful K.cmp K.is_clone }
-{
+) -> Result<bool, AllocError> {
     let mut unread = String::new(alloc);
-    play_before(&mut unread, alloc, row, place, maps)?;
+    merge_unread(&mut unread, alloc, row, (place, below), maps)
+}
+
+/// Runs the lines of a script in front of a place, and merges just so many of the keys that are watched. Whether the next
+/// is one of the other map's.
+fn merge_unread<K: Key>(
+    out: &mut String,
+    alloc: Global,
+    row: &Row<'_>,
+    (place, below): (usize, usize),
+    maps: &mut Maps<K>,
+) -> Result<bool, AllocError> {
+    play_before(out, alloc, row, place, maps)?;
     let is_theirs = remove_from(alloc, row, below, &mut maps.other)?;
-    merge(&mut unread, alloc, maps, "")?;
+    merge(out, alloc, maps, "")?;
     Ok(is_theirs)
 }
 
@@ -85,13 +85,11 @@ fn play_before<K: Key>(
     row: &Row<'_>,
     place: usize,
     maps: &mut Maps<K>,
-) -> Result<(), AllocError>
-    requires { IsFaithful K.cmp K.is_clone }
-{
-    for (word, rest) in row.lines.iter().take(place) {
-        match *word {
-            "merge" => merge(out, alloc, maps, *rest)?,
-            _ => play_line(out, alloc, row, maps, (*word, *rest), false)?,
+) -> Result<(), AllocError> {
+    for (place, line) in row.lines.iter().take(place).enumerate() {
+        match line.0 {
+            "merge" => merge(out, alloc, maps, line.1)?,
+            _ => play_line(out, alloc, row, place, maps, *line)?,
         }
     }
     Ok(())
@@ -107,11 +105,15 @@ fn remove_from<K: Key>(
     let mut is_known = false;
     let watched = row.first("watch").unwrap_or("");
     for (number, word) in watched.split(' ').enumerate().skip(below) {
-        let key = K::of(alloc, word)?;
-        if number == below {
-            is_known = map.contains_key(&key) || map.is_used(&key) || map.is_required(&key);
-        }
-        map.remove(&key);
+        let was_known = remove(map, &K::of(alloc, word)?);
+        is_known = is_known || number == below && was_known;
     }
     Ok(is_known)
+}
+
+/// Removes a key, and answers whether it was known.
+fn remove<K: Key>(map: &mut MarkMap<K, u32>, key: &K) -> bool {
+    let is_known = map.contains_key(key) || map.is_used(key) || map.is_required(key);
+    map.remove(key);
+    is_known
 }

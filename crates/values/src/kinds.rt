@@ -1,8 +1,8 @@
 //! Rows on the texts of errors and warnings.
 
-use crate::errors::write_spans;
 use cfgbase::{Span, Spanned};
-use cfgsyntax::yacc::{YaccGrammarError, YaccGrammarErrorKind, YaccGrammarWarningKind};
+use cfgerrors::{YaccGrammarError, YaccGrammarErrorKind};
+use cfgwarnings::YaccGrammarWarningKind;
 use rows::pen;
 use rows::row::{Row, numbers};
 use std::alloc::{AllocError, Global};
@@ -11,11 +11,20 @@ use std::alloc::{AllocError, Global};
 /// holds a name holds the row's text, or else `µ`.
 pub fn tell(out: &mut String, alloc: Global, row: &Row<'_>, text: &str) -> Result<(), AllocError> {
     let held = if text.is_empty() { "µ" } else { text };
-    if row.first("show") == Some("without-memory") {
-        return tell_without_memory(out, alloc, held, row.first("error").unwrap_or(""));
+    match row.first("show") {
+        Some("without-memory") => tell_without_memory(out, alloc, row, held),
+        _ => tell_lines(out, alloc, row, held),
     }
-    for (word, rest) in &row.lines {
-        tell_line(out, alloc, held, (*word, *rest))?;
+}
+
+fn tell_lines(
+    out: &mut String,
+    alloc: Global,
+    row: &Row<'_>,
+    held: &str,
+) -> Result<(), AllocError> {
+    for line in &row.lines {
+        tell_line(out, alloc, held, *line)?;
     }
     Ok(())
 }
@@ -24,14 +33,20 @@ pub fn tell(out: &mut String, alloc: Global, row: &Row<'_>, text: &str) -> Resul
 fn tell_without_memory(
     out: &mut String,
     alloc: Global,
+    row: &Row<'_>,
     held: &str,
-    line: &str,
 ) -> Result<(), AllocError> {
-    let (kind, spans) = parts_of(alloc, held, line)?;
-    pen::without_memory(out)?;
+    let parts = parts_of(alloc, held, row.first("error").unwrap_or(""))?;
+    let (kind, spans) = behind(out, parts)?;
     let error = YaccGrammarError::new(kind, spans);
     write_parts(out, &error)?;
     pen::end_line(out)
+}
+
+/// A value, behind the line that no call takes memory.
+fn behind<T: Drop>(out: &mut String, value: T) -> Result<T, AllocError> {
+    pen::without_memory(out)?;
+    Ok(value)
 }
 
 fn tell_line(
@@ -103,7 +118,7 @@ fn write_error(out: &mut String, error: &YaccGrammarError) -> Result<(), AllocEr
 /// Writes the kind of an error, its spans, and what they stand for.
 fn write_parts(out: &mut String, error: &YaccGrammarError) -> Result<(), AllocError> {
     write!(out, "    {:?}", error.kind())?;
-    write_spans(out, error)?;
+    pen::spans(out, error.spans())?;
     write!(out, " {:?}", error.spanskind())
 }
 
