@@ -29,10 +29,6 @@ impl Writer<ASTWithValidityInfo, AllocError> for Twin<'_> {
         let is_same = is_same(self.alloc, self.parsed, copy)?;
         pen::text_if(out, !is_same, "    and a copy that isn't the same\n")
     }
-
-    fn refuse(&self, _: &mut String, _: &AllocError) -> Result<(), AllocError> {
-        Err(AllocError)
-    }
 }
 
 /// Whether two texts were read as the same kind, and have the same errors and the same tree.

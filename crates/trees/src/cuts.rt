@@ -1,9 +1,9 @@
 //! Each beginning of a text.
 
-use crate::errors::{write_kind, write_spans};
+use crate::errors::write_kind;
 use crate::made::{Writer, write_made};
 use crate::read::parse;
-use cfgbase::Span;
+use cfgbase::{Span, Spanned};
 use cfghash::NameHashes;
 use cfgsyntax::yacc::ast::{ASTWithValidityInfo, GrammarAST};
 use cfgsyntax::yacc::{YaccFault, YaccGrammarError, YaccKind};
@@ -74,7 +74,7 @@ pub(crate) fn write_errors(
 
 fn write_error(out: &mut String, error: &YaccGrammarError) -> Result<(), AllocError> {
     write_kind(out, error)?;
-    write_spans(out, error)
+    pen::spans(out, error.spans())
 }
 
 /// Writes how much was read of a text.

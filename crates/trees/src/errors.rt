@@ -29,8 +29,16 @@ pub fn write_error_lines(
     errors: &[YaccGrammarError],
 ) -> Result<(), AllocError> {
     let places = Places::new(alloc, text)?;
+    write_placed_errors(out, &places, errors)
+}
+
+fn write_placed_errors(
+    out: &mut String,
+    places: &Places<'_>,
+    errors: &[YaccGrammarError],
+) -> Result<(), AllocError> {
     for error in errors {
-        write_error(out, &places, error)?;
+        write_error(out, places, error)?;
     }
     Ok(())
 }
@@ -42,7 +50,7 @@ fn write_error(
 ) -> Result<(), AllocError> {
     pen::text(out, "   ")?;
     write_kind(out, error)?;
-    write_spans(out, error)?;
+    pen::spans(out, error.spans())?;
     write_place(out, places, first_start(error.spans()))?;
     writeln!(out, " {:?}: {error}", error.spanskind())
 }
@@ -66,12 +74,4 @@ fn write_place(out: &mut String, places: &Places<'_>, byte: usize) -> Result<(),
 /// Writes a space and the kind of an error.
 pub fn write_kind(out: &mut String, error: &YaccGrammarError) -> Result<(), AllocError> {
     write!(out, " {:?}", error.kind())
-}
-
-/// Writes the spans of an error.
-pub fn write_spans(out: &mut String, error: &YaccGrammarError) -> Result<(), AllocError> {
-    for span in error.spans() {
-        pen::span(out, *span)?;
-    }
-    Ok(())
 }

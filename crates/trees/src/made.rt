@@ -8,8 +8,10 @@ pub(crate) trait Writer<T, E> {
     /// Writes what is told of a value.
     fn write(&self, out: &mut String, value: &mut T) -> Result<(), AllocError>;
 
-    /// Writes why there is no value.
-    fn refuse(&self, out: &mut String, fault: &E) -> Result<(), AllocError>;
+    /// Writes why there is no value, unless that is want of memory.
+    fn refuse(&self, _: &mut String, _: &E) -> Result<(), AllocError> {
+        Err(AllocError)
+    }
 }
 
 /// Writes what is told of what was made.

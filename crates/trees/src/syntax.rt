@@ -60,10 +60,6 @@ impl Writer<GrammarAST, AllocError> for Whole {
     fn write(&self, out: &mut String, ast: &mut GrammarAST) -> Result<(), AllocError> {
         write_parts(out, ast)
     }
-
-    fn refuse(&self, _: &mut String, _: &AllocError) -> Result<(), AllocError> {
-        Err(AllocError)
-    }
 }
 
 /// Writes how much there is in a syntax.

@@ -28,8 +28,6 @@ fn write_warning(
 ) -> Result<(), AllocError> {
     pen::text(out, if index == 0 { " " } else { ", " })?;
     write!(out, "{:?}", warning.kind())?;
-    for span in warning.spans() {
-        pen::span(out, *span)?;
-    }
+    pen::spans(out, warning.spans())?;
     pen::unless_copied(out, warning, ", and a copy that isn't the same")
 }

@@ -30,10 +30,6 @@ impl Writer<ASTWithValidityInfo, AllocError> for Script<'_> {
     fn write(&self, out: &mut String, parsed: &mut ASTWithValidityInfo) -> Result<(), AllocError> {
         tell_read(out, self.alloc, self.row, parsed)
     }
-
-    fn refuse(&self, _: &mut String, _: &AllocError) -> Result<(), AllocError> {
-        Err(AllocError)
-    }
 }
 
 impl Writer<GrammarAST, AllocError> for Script<'_> {
@@ -43,10 +39,6 @@ impl Writer<GrammarAST, AllocError> for Script<'_> {
         }
         change_tree(out, self.alloc, self.row, ast)?;
         write_tree(out, self.alloc, ast)
-    }
-
-    fn refuse(&self, _: &mut String, _: &AllocError) -> Result<(), AllocError> {
-        Err(AllocError)
     }
 }
 
@@ -167,14 +159,35 @@ fn change_tree(
     row: &Row<'_>,
     ast: &mut GrammarAST,
 ) -> Result<(), AllocError> {
-    for (word, rest) in &row.lines {
-        let before = tree_text(alloc, ast)?;
-        if change(alloc, ast, *word, *rest).is_err() {
-            write_want(out, alloc, ast, before.as_str())?;
-            change(alloc, ast, *word, *rest)?;
-        }
+    for line in &row.lines {
+        change_told(out, alloc, ast, *line)?;
     }
     Ok(())
+}
+
+/// Makes a call that writes a tree. Where memory ended, the tree is looked at, and the call is made again.
+fn change_told(
+    out: &mut String,
+    alloc: Global,
+    ast: &mut GrammarAST,
+    line: (&str, &str),
+) -> Result<(), AllocError> {
+    let before = tree_text(alloc, ast)?;
+    if change(alloc, ast, line).is_err() {
+        return change_again(out, alloc, ast, line, before.as_str());
+    }
+    Ok(())
+}
+
+fn change_again(
+    out: &mut String,
+    alloc: Global,
+    ast: &mut GrammarAST,
+    line: (&str, &str),
+    before: &str,
+) -> Result<(), AllocError> {
+    write_want(out, alloc, ast, before)?;
+    change(alloc, ast, line)
 }
 
 /// Writes that memory ended, and whether the tree isn't what it was before.
@@ -195,7 +208,11 @@ pub(crate) fn tree_text(alloc: Global, ast: &GrammarAST) -> Result<String, Alloc
     Ok(out)
 }
 
-fn change(alloc: Global, ast: &mut GrammarAST, word: &str, line: &str) -> Result<(), AllocError> {
+fn change(
+    alloc: Global,
+    ast: &mut GrammarAST,
+    (word, line): (&str, &str),
+) -> Result<(), AllocError> {
     match word {
         "rule" => add_rule(alloc, ast, line),
         "production" => add_production(alloc, ast, line),
@@ -231,10 +248,18 @@ fn set_programs_twice(
 ) -> Result<(), AllocError> {
     let first = String::from_str(alloc, row.first("programs").unwrap_or(""))?;
     let second = String::from_str(alloc, row.first("add-programs").unwrap_or(""))?;
-    pen::without_memory(out)?;
-    ast.set_programs(first);
-    writeln!(out, "    programs {:?}", ast.programs())?;
+    write_set(out, ast, first)?;
     ast.add_programs(second);
+    write_programs(out, ast)
+}
+
+fn write_set(out: &mut String, ast: &mut GrammarAST, text: String) -> Result<(), AllocError> {
+    pen::without_memory(out)?;
+    ast.set_programs(text);
+    write_programs(out, ast)
+}
+
+fn write_programs(out: &mut String, ast: &GrammarAST) -> Result<(), AllocError> {
     writeln!(out, "    programs {:?}", ast.programs())
 }
 
