@@ -1,28 +1,24 @@
-//! The errors of a text, with their places.
+//! What is wrong with a text.
 
+use cfgrammar::render;
 use cfgrammar::yacc::{YaccFault, YaccGrammar, YaccKind, YaccOriginalActionKind};
-use cfgrammar::{NewlineCache, Spanned};
-use std::alloc::Global;
+use std::alloc::{AllocError, Global};
 
-/// The errors of a text, a line each with the line and the column where its first span starts; empty where the text is
-/// that of a grammar.
+/// The errors of a text as people read them, under its file's name; empty where it is the text of a grammar.
 ///
 /// # Errors
 ///
 /// Want of memory.
-pub fn print_errors(alloc: Global, text: &str) -> anyhow::Result<String> {
-    let kind = YaccKind::Original(YaccOriginalActionKind::NoAction);
-    let mut lines = String::new(alloc);
+pub fn show_errors(alloc: Global, name: &str, text: &str) -> Result<String, AllocError> {
+    let kind = YaccKind::Original(YaccOriginalActionKind::GenericParseTree);
     let errors = match YaccGrammar::<u32>::new(alloc, kind, text) {
-        Ok(_) => return Ok(lines),
+        Ok(_) => return Ok(String::new(alloc)),
+        Err(YaccFault::OutOfMemory) => return Err(AllocError),
         Err(YaccFault::Errors(errors)) => errors,
-        Err(fault) => return Err(fault.into()),
     };
-    let cache = NewlineCache::from_str(alloc, text)?;
+    let mut shown = String::new(alloc);
     for error in &errors {
-        let start = error.spans()[0].start();
-        let (line, column) = cache.byte_to_line_num_and_col_num(text, start).unwrap();
-        writeln!(lines, "{line}:{column}: {error}")?;
+        shown.push_str(&render(alloc, name, text, error)?)?;
     }
-    Ok(lines)
+    Ok(shown)
 }

@@ -1,9 +1,10 @@
-//! Callers of the library, as its users write them. None of them has a proof of its own.
+//! Callers of the library, as docs/GUIDE.md shows them. None of them has a proof of its own.
 #![tactic(auto)]
 
-pub mod costs;
+pub mod answers;
 pub mod errors;
-pub mod firsts;
-pub mod marks;
 pub mod productions;
+pub mod repairs;
 pub mod sections;
+pub mod tables;
+pub mod trees;

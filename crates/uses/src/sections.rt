@@ -1,14 +1,32 @@
-//! The sections of files.
+//! A key of one's own in the section of a file.
 
-use cfgrammar::header::GrmtoolsSectionParser;
-use std::alloc::Global;
+use cfgrammar::Span;
+use cfgrammar::header::{GrmtoolsSectionParser, Header, HeaderFault, HeaderValue, Setting, Value};
+use cfgrammar::markmap::Entry;
+use std::alloc::{AllocError, Global};
 
-/// What stands behind the section of a file, which may be missing.
+/// What the section of a file gives the key `indent`, and the keys that it should not have.
 ///
 /// # Errors
 ///
-/// The section's errors, and want of memory.
-pub fn behind_section<'a>(alloc: Global, text: &'a str) -> anyhow::Result<&'a str> {
-    let (_, end) = GrmtoolsSectionParser::new(text, false).parse(alloc)?;
-    Ok(&text[end..])
+/// The errors of the section, or want of memory.
+pub fn print_indent(alloc: Global, text: &str) -> Result<String, HeaderFault> {
+    let (mut header, _) = GrmtoolsSectionParser::new(text, false).parse(alloc)?;
+    Ok(indent_of(alloc, &mut header)?)
+}
+
+fn indent_of(alloc: Global, header: &mut Header<Span>) -> Result<String, AllocError> {
+    let mut lines = String::new(alloc);
+    for key in ["yacckind", "indent"] {
+        if let Entry::Occupied(mut entry) = header.entry(String::from_str(alloc, key)?) {
+            entry.mark_used();
+            if let HeaderValue(_, Value::Setting(Setting::Num(number, _))) = entry.get() {
+                writeln!(lines, "{key} {number}")?;
+            }
+        }
+    }
+    for key in &header.unused(alloc)? {
+        writeln!(lines, "unknown key {key}")?;
+    }
+    Ok(lines)
 }
