@@ -35,6 +35,7 @@ impl Answers for All {
             "report" => runs::reports::tell(out, rt.alloc(), row, text),
             "run" => runs::runs::tell(out, rt.alloc(), row, text),
             "program" => runs::programs::tell(out, rt, row, text),
+            "guide" => uses::answers::tell(out, rt.alloc(), row.name, text),
             _ => writeln!(out, "no such row: {}", row.tries),
         }
     }

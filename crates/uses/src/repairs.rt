@@ -4,8 +4,7 @@ use cfgrammar::yacc::YaccGrammar;
 use cfgrammar::yacc::sentences::SentenceError;
 use std::alloc::Global;
 
-/// What an error recovery can insert for each rule: a sentence of least cost, where a token that the file wouldn't have
-/// inserted costs 4 and each other 1, and how many such sentences there are.
+/// A sentence of least cost of each rule, where a token that the file wouldn't have inserted costs 4, and any other 1.
 ///
 /// # Errors
 ///
