@@ -13,7 +13,7 @@ pub(crate) fn hash_map_anew<V: Drop>(
     hashes: NameHashes,
     map: &mut IndexMap<String, V, NameHashes>,
 ) -> Result<(), AllocError>
-    ensures { OnOk result (map.new.entries ≡ map.old.entries) }
+    ensures { map.new.entries ≡ map.old.entries }
 {
     let mut anew = IndexMap::with_capacity_and_hasher(alloc, map.len(), hashes)?;
     anew.append(map)?;

@@ -15,7 +15,7 @@ use crate::settings::Settings;
 use crate::symbol::Symbol;
 use crate::tables::Tables;
 use cfgbase::Span;
-use cfghash::NameHashes;
+use cfghash::{Crowd, NameHashes};
 use indexmap::{IndexMap, IndexSet};
 use std::alloc::AllocError;
 
@@ -33,6 +33,8 @@ pub struct GrammarAST {
     pub(crate) settings: Settings,
     pub(crate) expect_unused: Vec<Symbol>,
     pub(crate) occurrences: Vec<Occurrence>,
+    /// Of the rules that were added to the tree, how full their table is.
+    pub(crate) added: Crowd,
 }
 
 #[tactic(auto, unfolding(crate::specs::View::syntax))]
@@ -253,6 +255,7 @@ impl Clone for GrammarAST {
     ghost is_clone = { λ ast copy. syntax copy ≡ syntax ast };
 
     fn clone(&self) -> Result<GrammarAST, AllocError> {
+        let added = Crowd::new(*self.prods.allocator());
         let (settings, lists, tokens, rules) = all(
             self.clone_settings(),
             self.clone_lists(),
@@ -275,6 +278,7 @@ impl Clone for GrammarAST {
             settings,
             expect_unused,
             occurrences,
+            added,
         })
     }
 }

@@ -22,10 +22,13 @@ use crate::symbol::Symbol;
 use crate::tables::{Tables, begin_marked, put_entry, put_marked};
 use crate::writing::list_production;
 use cfgbase::Span;
-use cfghash::NameHashes;
+use cfghash::{Crowd, NameHashes};
 use cfgwords::words::{Token, Word};
 use indexmap::{IndexMap, IndexSet};
 use std::alloc::{AllocError, Global};
+
+/// The first key is drawn from the first one of so many parts of a text.
+const PART: usize = 16;
 
 /// Builds the tree of a grammar file from the items that a reader finds in it, in their order.
 ///
@@ -36,6 +39,7 @@ use std::alloc::{AllocError, Global};
 pub struct AstBuilder<'text> {
     text: &'text str,
     crowds: Option<Crowds>,
+    has_key: bool,
     ast: GrammarAST,
 }
 
@@ -44,14 +48,15 @@ impl<'text> AstBuilder<'text> {
     ghost use Rattle.cfgast.specs.View.{syntax, syntax_built, production_view, rule_view, symbol_view, word_view};
     ghost use Rattle.cfgast.specs.View.{token_view, head_view, body_view};
 
-    /// A builder that no item was added to. Names are hashed plainly, or where they crowd under the key of this text.
+    /// A builder that no item was added to. Names are hashed plainly, or where they crowd under a key of this text.
     pub fn new(alloc: Global, text: &'text str) -> Self
         ensures { syntax_built result ≡ syntax_of [] }
     {
         let hashes = NameHashes::plain();
         AstBuilder {
             text,
-            crowds: Some(Crowds::new(alloc)),
+            crowds: Some(Crowds::new(alloc, hashes)),
+            has_key: false,
             ast: GrammarAST {
                 start: None,
                 rules: IndexMap::with_hasher(alloc, hashes),
@@ -64,6 +69,7 @@ impl<'text> AstBuilder<'text> {
                 settings: Settings::none(),
                 expect_unused: Vec::new(alloc),
                 occurrences: Vec::new(alloc),
+                added: Crowd::new(alloc),
             },
         }
     }
@@ -454,15 +460,32 @@ impl<'text> AstBuilder<'text> {
         }
     }
 
-    // Hashes all names under the key of the text, from now on.
+    // Hashes all names under another key, from now on.
     fn hash_anew(&mut self, alloc: Global) -> Result<(), AllocError>
         ensures { OnOk result (syntax_built self.new ≡ syntax_built self.old) }
     {
-        self.crowds = None;
-        let hashes = NameHashes::of_text(self.text);
+        let hashes = self.draw_key(alloc)?;
         hash_map_anew(alloc, hashes, &mut self.ast.rules)?;
         hash_set_anew(alloc, hashes, &mut self.ast.tokens)?;
         self.ast.tables.hash_anew(alloc, hashes)
+    }
+
+    // The key of the text's first part, which is soon drawn. Where names crowd under it too, that of the whole text.
+    fn draw_key(&mut self, alloc: Global) -> Result<NameHashes, AllocError>
+        ensures { OnOk result (syntax_built self.new ≡ syntax_built self.old) }
+    {
+        self.crowds = None;
+        let text = self.text.as_bytes();
+        if !self.has_key {
+            self.has_key = true;
+            let hashes = NameHashes::of_text(&text[..text.len() / PART]);
+            let mut crowds = Crowds::new(alloc, hashes);
+            if !crowds.takes_all(&self.ast)? {
+                self.crowds = Some(crowds);
+                return Ok(hashes);
+            }
+        }
+        Ok(NameHashes::of_text(text))
     }
 
     // A rule with no production yet. Where its head says no type, it has the one of all rules.

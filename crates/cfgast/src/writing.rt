@@ -12,14 +12,16 @@ ghost use Rattle.cfgast.specs.View.{syntax, named_view, rule_entry, symbol_view,
 ghost use Rattle.cfgast.specs.Writing.{rule_added, production_added, programs_set, started_at, IsTree};
 ghost use Rattle.cfgast.specs.Writing.{ProductionsKeepTrees};
 
+use crate::anew::hash_map_anew;
 use crate::ast::GrammarAST;
 use crate::production::Production;
 use crate::rule::Rule;
 use crate::symbol::Symbol;
 use cfgbase::Span;
-use cfghash::NameHashes;
+use cfghash::{Crowd, NameHashes};
 use indexmap::IndexMap;
-use std::alloc::AllocError;
+use std::alloc::{AllocError, Global};
+use std::hash::BuildHasher;
 
 #[tactic(auto, unfolding(crate::specs::View::syntax))]
 impl GrammarAST {
@@ -44,7 +46,8 @@ impl GrammarAST {
         ensures unchanged { OnErr result (syntax self.new ≡ syntax self.old) }
         ensures memory { OnErr result (has_rule (string_bytes name.0) (syntax self.old).rules ≡ false) }
     {
-        let pidxs = Vec::new(*name.0.allocator());
+        let alloc = *name.0.allocator();
+        let pidxs = Vec::new(alloc);
         let rule = Rule {
             name,
             pidxs,
@@ -55,6 +58,7 @@ impl GrammarAST {
             return Ok(());
         }
         let key = rule.name.0.clone()?;
+        take_in(alloc, &mut self.added, &mut self.rules, &key)?;
         self.rules.insert(key, rule)?;
         Ok(())
     }
@@ -113,6 +117,43 @@ impl GrammarAST {
     {
         self.set_programs(programs);
     }
+}
+
+// Takes in the name of a rule that comes next. Where the names of rules crowd, they are hashed anew, under a key of all
+// of them.
+fn take_in(
+    alloc: Global,
+    added: &mut Crowd,
+    rules: &mut IndexMap<String, Rule, NameHashes>,
+    name: &String,
+) -> Result<(), AllocError>
+    ensures { rules.new.entries ≡ rules.old.entries }
+{
+    if added.takes(rules.hasher().hash_one(name))? {
+        let hashes = NameHashes::of_text(told(alloc, rules)?.as_slice());
+        hash_map_anew(alloc, hashes, rules)?;
+        *added = count(alloc, rules)?;
+    }
+    Ok(())
+}
+
+// The names of rules as one list of bytes: each behind its length, so that other names give another list.
+fn told(alloc: Global, rules: &IndexMap<String, Rule, NameHashes>) -> Result<Vec<u8>, AllocError> {
+    let mut told = Vec::new(alloc);
+    for name in rules.keys() {
+        told.extend_from_slice(&name.len().to_le_bytes())?;
+        told.extend_from_slice(name.as_bytes())?;
+    }
+    Ok(told)
+}
+
+// How full the table of these rules is.
+fn count(alloc: Global, rules: &IndexMap<String, Rule, NameHashes>) -> Result<Crowd, AllocError> {
+    let mut crowd = Crowd::new(alloc);
+    for name in rules.keys() {
+        crowd.takes(rules.hasher().hash_one(name))?;
+    }
+    Ok(crowd)
 }
 
 // Lists the production of this index with the rule of this name.

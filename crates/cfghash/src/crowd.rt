@@ -17,7 +17,7 @@ const SMALL: usize = 32;
 /// How full each group of a table is, as the toolchain's maps keep them: a key goes to the group of its hash, or where
 /// that is full to the next one that isn't. So to find a key, or that it isn't there, a map passes no more than the
 /// groups that are full in a row.
-#[derive(Drop)]
+#[derive(Debug, Drop)]
 pub struct Crowd {
     fill: Vec<u8>,
     hashes: Vec<u32>,

@@ -38,8 +38,8 @@ impl NameHashes {
         }
     }
 
-    /// Those under the key that this text gives.
-    pub fn of_text(text: &str) -> Self
+    /// Those under the key that this text gives, or a part of a text.
+    pub fn of_text(text: &[u8]) -> Self
         ensures { (unfed : FoldHasher) → ⟦<FoldHasher as Default>⟧.is_default unfed
             → result ≡ hashes_under ⟦<FoldHasher as Hasher>⟧.write ⟦<FoldHasher as Hasher>⟧.finish
             unfed (sha512_256 text.now) }

@@ -31,6 +31,13 @@ returns-in_err-key-clause-memory c =
     on_err c.from_residual.result (has_entry-entries rule_view (string_bytes c.args.name.0) rules
     ∙ ap is_some (ap (λ n. lookup (is_key n) rules) (sym c.as_str.ensures.value) ∙ sym c.in_default.ensures.value))
 
+pub returns-in_err-take_in-clause-memory : goal.returns-in_err-take_in-clause-memory
+unfolding syntax
+returns-in_err-take_in-clause-memory c =
+    let rules = c.args.self.now.rules.entries in
+    on_err c.from_residual-in_err-take_in.result (has_entry-entries rule_view (string_bytes c.args.name.0) rules
+    ∙ ap is_some (ap (λ n. lookup (is_key n) rules) (sym c.as_str.ensures.value) ∙ sym c.in_default.ensures.value))
+
 pub returns-in_err-insert-clause-memory : goal.returns-in_err-insert-clause-memory
 unfolding syntax
 returns-in_err-insert-clause-memory c =
@@ -49,6 +56,7 @@ returns-clause-added c =
     ∙ ap is_some (ap (λ n. lookup (is_key n) old.entries) (sym c.as_str.ensures.value) ∙ sym c.in_default.ensures.value) in
     added-new (syntax c.args.self.now) head _ absent
     (ap (map rule_entry) c.in_ok-insert.ensures.entries
+    ∙ ap (λ es. map rule_entry (insert_entry string_eq es c.in_ok-key.key new)) c.take_in.ensures
     ∙ ap (λ m. map rule_entry (insert_entry string_eq m.entries c.in_ok-key.key new)) c.get_mut.follows.holds-at-none ∙ entries-new rule_view name old c.in_ok-key.key new c.in_ok-key.ensures.cases absent
     ∙ ap (λ places. map rule_entry old.entries ++ (name, record (new_rule head).1 { productions = places }) ∷ []) c.new-pidxs.ensures.items)
 
