@@ -9,7 +9,7 @@ use Rattle.derivation.specs.Grammar.{Sym, Rule, Token, Grammar, Production, IsGr
 use Rattle.derivation.specs.Path.{Holds, Path, one, more}
 use Rattle.cfganalysis.specs.Openings.{nth_production}
 use Rattle.cfganalysis.specs.Table.{bits_on}
-use Rattle.cfganalysis.specs.Paths.{Reached, IsReached, Reaches, ArePlacesOf}
+use Rattle.cfganalysis.specs.Paths.{Reached, IsHeldBy, IsReached, Reaches, ArePlacesOf}
 use Rattle.cfganalysis.proofs.OneBit.{bits_on-set}
 
 pub reaches_none : (found : ℕ → Type 0) (x : Reached) → ((r : ℕ) → found r → ⊥) → Reaches found x x
@@ -166,13 +166,8 @@ pub front_all : (a : List Sym) (n : ℕ) (old new : Reached) → length a ≤ n 
 front_all a n old new le w = subst (λ l. Reaches (λ r. Contains l (Rule r)) old new) (take_all n a le) w
 
 -- the rules that the first n of these productions hold were reached
-pub record HeldBy (g : Grammar) (places : List ℕ) (r : ℕ) : Type 0 where
-  pub place : ℕ
-  pub among : Contains places place
-  pub holds : Contains (nth_production g place).symbols (Rule r)
-
 abbrev pub ReachesHeld : Grammar → List ℕ → ℕ → Reached → Reached → Type 0
-ReachesHeld g places n old new = Reaches (HeldBy g (take n places)) old new
+ReachesHeld g places n old new = Reaches (IsHeldBy g (take n places)) old new
 
 module _ (g : Grammar) (places : List ℕ) where
   pub held_none : (x : Reached) → ReachesHeld g places 0 x x
@@ -181,11 +176,11 @@ module _ (g : Grammar) (places : List ℕ) where
   pub held_more : (n p : ℕ) (old mid new : Reached) → n < length places → p ≡ get_or places n p → ReachesHeld g places n old mid
       → Reaches (λ r. Contains (nth_production g p).symbols (Rule r)) mid new → ReachesHeld g places (n + 1) old new
   held_more n p old mid new lt is w v = reaches_as _ _ old new
-      (λ r h. subst (λ l. HeldBy g l r) (sym longer) (elim h [
+      (λ r h. subst (λ l. IsHeldBy g l r) (sym longer) (elim h [
         | inl i ↦ record { place = i.place; among = Contains-append_left (take n places) (p ∷ []) i.place i.among; holds = i.holds }
         | inr i ↦ record { place = p; among = Contains-push (take n places) p; holds = i }
       ]))
-      (λ r h. let k = subst (λ l. HeldBy g l r) longer h in elim (Contains-push_cases (take n places) p k.place k.among) [
+      (λ r h. let k = subst (λ l. IsHeldBy g l r) longer h in elim (Contains-push_cases (take n places) p k.place k.among) [
         | inl i ↦ inl (record { place = k.place; among = i; holds = k.holds })
         | inr e ↦ inr (subst (λ q. Contains (nth_production g q).symbols (Rule r)) (sym e) k.holds)
       ])
@@ -194,12 +189,13 @@ module _ (g : Grammar) (places : List ℕ) where
       longer : take (n + 1) places ≡ take n places ++ (p ∷ [])
       longer = take_more places n p lt ∙ ap (λ q. take n places ++ (q ∷ [])) (sym is)
 
-  pub held_all : (rule n : ℕ) (old new : Reached) → length places ≤ n → ArePlacesOf g rule places → ReachesHeld g places n old new
-      → Reaches (Holds (HasProduction g) rule) old new
-  held_all rule n old new le are w = reaches_as _ _ old new (λ r h. to r h) (λ r h. from r h)
-      (subst (λ l. Reaches (HeldBy g l) old new) (take_all n places le) w)
+  pub held_all : (n : ℕ) (old new : Reached) → length places ≤ n → ReachesHeld g places n old new → Reaches (IsHeldBy g places) old new
+  held_all n old new le w = subst (λ l. Reaches (IsHeldBy g l) old new) (take_all n places le) w
+
+  pub held_by_rule : (rule : ℕ) (old new : Reached) → ArePlacesOf g rule places → Reaches (IsHeldBy g places) old new → Reaches (Holds (HasProduction g) rule) old new
+  held_by_rule rule old new are w = reaches_as _ _ old new (λ r h. to r h) (λ r h. from r h) w
     where
-      to : (r : ℕ) → HeldBy g places r → Holds (HasProduction g) rule r
+      to : (r : ℕ) → IsHeldBy g places r → Holds (HasProduction g) rule r
       to r h = let lt = All-get_or (λ p. p < length g.productions) places h.among.0 h.place h.among.1 are.within in
           let within = subst (λ p. p < length g.productions) h.among.2 lt in
           record {
@@ -209,7 +205,7 @@ module _ (g : Grammar) (places : List ℕ) where
             holds = h.holds;
           }
 
-      from : (r : ℕ) → Holds (HasProduction g) rule r → HeldBy g places r
+      from : (r : ℕ) → Holds (HasProduction g) rule r → IsHeldBy g places r
       from r h =
           let at : nth_production g h.has.0 ≡ record { rule = rule; symbols = h.symbols } = get_or_default g.productions h.has.0 _ _ h.has.1 ∙ h.has.2 in
           record {

@@ -1,6 +1,6 @@
 -- A search for the rules to which a rule has a path.
 use Rattle.std.specs.Prelude.{◌≡◌, ◌↔◌, ◌⊎◌, ◌<◌, ◌≤◌, ℕ, ◌+◌, Bool, false, List, length, All, Contains, IsTrue, slice_index_or}
-use Rattle.derivation.specs.Grammar.{Grammar}
+use Rattle.derivation.specs.Grammar.{Rule, Grammar}
 use Rattle.cfganalysis.specs.Openings.{nth_production}
 use Rattle.cfganalysis.specs.Table.{bits_on}
 
@@ -26,3 +26,9 @@ pub record Reaches (found : ℕ → Type 0) (old new : Reached) : Type 0 where
 pub record ArePlacesOf (g : Grammar) (rule : ℕ) (places : List ℕ) : Type 0 where
   pub within : All (λ p. p < length g.productions) places
   pub listed : (p : ℕ) → p < length g.productions → (Contains places p ↔ ((nth_production g p).rule ≡ rule))
+
+-- one of these productions holds the rule
+pub record IsHeldBy (g : Grammar) (places : List ℕ) (r : ℕ) : Type 0 where
+  pub place : ℕ
+  pub among : Contains places place
+  pub holds : Contains (nth_production g place).symbols (Rule r)

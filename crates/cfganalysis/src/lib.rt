@@ -18,7 +18,7 @@ pub use counted::{CountedTables, Tables};
 pub use firsts::{YaccFirsts, firsts_over};
 pub use follows::{YaccFollows, follows_over};
 pub use growth::Analysis;
-pub use paths::has_path;
+pub use paths::{Search, has_path};
 pub use productions::Productions;
 pub use visits::settle;
 pub use waiting::Waiting;

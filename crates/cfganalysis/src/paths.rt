@@ -4,7 +4,7 @@ ghost use Rattle.std.specs.Prelude.{◌≡◌, ◌<◌, ◌↔◌, [], ◌∷◌
 ghost use Rattle.std.specs.Prelude.{false, length, map, replicate, slice_index_or, IfOk, IsTrue, MatchOption};
 ghost use Rattle.derivation.specs.Grammar.{Grammar, HasProduction, IsSymbolOf, Rule};
 ghost use Rattle.derivation.specs.Path.{Holds, Path};
-ghost use Rattle.cfganalysis.specs.Paths.{Reaches};
+ghost use Rattle.cfganalysis.specs.Paths.{IsHeldBy, Reaches};
 ghost use Rattle.cfganalysis.specs.Symbols.{sym_of};
 
 use crate::counted::Tables;
@@ -14,7 +14,7 @@ use std::marker::Model;
 
 /// A search through a grammar's rules. A rule that was reached waits once, till its productions are gone through.
 #[derive(Drop)]
-struct Search<S: Storage> {
+pub struct Search<S: Storage> {
     reached: Vob,
     waiting: Vec<RIdx<S>>,
 }
@@ -30,7 +30,11 @@ impl<S: Storage> Model for Search<S> {
 
 impl<S: Storage> Search<S> {
     /// A search that has reached nothing.
-    fn new(alloc: Global, rules: usize) -> Result<Self, AllocError>
+    ///
+    /// # Errors
+    ///
+    /// Want of memory.
+    pub fn new(alloc: Global, rules: usize) -> Result<Self, AllocError>
         ensures { IfOk result (λ x. x ≡ record { rules = replicate rules false; waiting = [] }) }
     {
         Ok(Search {
@@ -40,14 +44,14 @@ impl<S: Storage> Search<S> {
     }
 
     /// Whether the rule was reached.
-    fn is_reached(&self, rule: RIdx<S>) -> bool
+    pub fn is_reached(&self, rule: RIdx<S>) -> bool
         ensures { result ≡ slice_index_or self.now.rules (S.number rule.0) false }
     {
         self.reached.get(usize::from(rule)).unwrap_or(false)
     }
 
     /// A rule that waits, which then waits no longer.
-    fn next(&mut self) -> Option<RIdx<S>>
+    pub fn next(&mut self) -> Option<RIdx<S>>
         ensures rules { self.new.rules ≡ self.old.rules }
         ensures waiting { MatchOption result (self.old.waiting ≡ [])
             (λ r. self.old.waiting ≡ self.new.waiting ++ S.number r.0 ∷ []) }
@@ -56,7 +60,11 @@ impl<S: Storage> Search<S> {
     }
 
     /// Reaches a rule, which waits if it was not reached before.
-    fn reach(&mut self, rule: RIdx<S>) -> Result<(), AllocError>
+    ///
+    /// # Errors
+    ///
+    /// Want of memory.
+    pub fn reach(&mut self, rule: RIdx<S>) -> Result<(), AllocError>
         requires { S.number rule.0 < length self.old.rules }
         ensures { IfOk result (λ _. Reaches (λ r. r ≡ S.number rule.0) self.old self.new) }
     {
@@ -78,7 +86,11 @@ impl<S: Storage> Search<S> {
     }
 
     /// Reaches the rules among the symbols.
-    fn reach_symbols(&mut self, symbols: &[Symbol<S>]) -> Result<(), AllocError>
+    ///
+    /// # Errors
+    ///
+    /// Want of memory.
+    pub fn reach_symbols(&mut self, symbols: &[Symbol<S>]) -> Result<(), AllocError>
         requires { (g : Grammar) × (length self.old.rules ≡ g.rules)
             × All (IsSymbolOf g) (map (sym_of S.number) symbols.now) }
         ensures { IfOk result (λ _. Reaches (λ r. Contains (map (sym_of S.number) symbols.now) (Rule r))
@@ -90,6 +102,29 @@ impl<S: Storage> Search<S> {
         Ok(())
     }
 
+    /// Reaches the rules that the productions hold.
+    ///
+    /// # Errors
+    ///
+    /// Want of memory.
+    pub fn reach_held<T: Tables<S>>(
+        &mut self,
+        tables: &T,
+        productions: &[PIdx<S>],
+    ) -> Result<(), AllocError>
+        requires rules { length self.old.rules ≡ (T.grammar tables.now).rules }
+        requires productions { All (λ p. p < length (T.grammar tables.now).productions)
+            (map (λ p. S.number p.0) productions.now) }
+        ensures { IfOk result (λ _. Reaches
+            (IsHeldBy (T.grammar tables.now) (map (λ p. S.number p.0) productions.now)) self.old self.new) }
+    {
+        let _rules = tables.rules_len();
+        for production in productions {
+            self.reach_symbols(tables.prod(*production))?;
+        }
+        Ok(())
+    }
+
     /// Reaches the rules that a rule's productions hold.
     fn reach_from<T: Tables<S>>(&mut self, tables: &T, rule: RIdx<S>) -> Result<(), AllocError>
         requires rules { length self.old.rules ≡ (T.grammar tables.now).rules }
@@ -97,11 +132,7 @@ impl<S: Storage> Search<S> {
         ensures { IfOk result (λ _. Reaches (Holds (HasProduction (T.grammar tables.now)) (S.number rule.0))
             self.old self.new) }
     {
-        let _rules = tables.rules_len();
-        for production in tables.rule_to_prods(rule) {
-            self.reach_symbols(tables.prod(*production))?;
-        }
-        Ok(())
+        self.reach_held(tables, tables.rule_to_prods(rule))
     }
 }
 
