@@ -1,5 +1,5 @@
 -- The places of what is declared more than once, gathered from one occurrence after the other.
-use Rattle.std.proofs.Common.{◌≡◌, Bool, true, false, cond, List, [], ◌∷◌, ◌++◌, map, Some, None, Vec, Global, refl, sym, ap, ◌∙◌}
+use Rattle.std.proofs.Common.{◌≡◌, Bool, true, false, cond, List, [], ◌∷◌, ◌++◌, length, arith, map, Some, None, Vec, Global, refl, sym, ap, ◌∙◌}
 use Rattle.std.specs.Borrow.{Bor}
 use Rattle.std.specs.List.{IsDistinct}
 use Rattle.std.specs.Map.{lookup, set_value, keys_of}
@@ -24,6 +24,12 @@ placed-push done o (u ∷ us) = λ i. (go (is_same o.what u) ∙ ap (λ spans. r
     go : (b : Bool) → cond b (record { what = u; spans = places_of done u ++ o.span ∷ [] }) (placed done u) ≡ record { what = u; spans = cond b (places_of done u ++ o.span ∷ []) (places_of done u) }
     go true = refl
     go false = refl
+
+-- where nothing is declared again, it is at no places
+pub placed_nowhere : {E : Type 0} (shown : E → Duplicate) (es : List E) (f g : Unique → Duplicate) (us : List Unique) → length es ≡ 0 → map shown es ≡ map f us → map shown es ≡ map g us
+placed_nowhere shown [] f g [] none e = refl
+placed_nowhere shown [] f g (u ∷ us) none e = absurd (cc)
+placed_nowhere shown (x ∷ es) f g us none e = absurd (omega arith)
 
 module _ (o : Occurrence) (k : Bor CodeUnique) (is : key_view k ≡ o.what) where
   of_this : (x : Bor CodeUnique) → is_same o.what (key_view x) ≡ same_key k x

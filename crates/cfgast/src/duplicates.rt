@@ -21,6 +21,9 @@ pub fn duplicates(
         ≡ duplicates (map occurrence_view occurrences.now)) }
 {
     let mut found = repeated(alloc, hashes, occurrences)?;
+    if found.is_empty() {
+        return Ok(found);
+    }
     for occurrence in occurrences {
         if let Some(places) = found.get_mut(&&occurrence.what) {
             places.push(occurrence.span)?;

@@ -1,7 +1,9 @@
 use Rattle.std.proofs.Common.{refl, sym, ap, ◌∙◌}
 use Rattle.std.specs.Borrow.{Bor}
 use Rattle.cfgast.specs.declared.occurrence.Unique.{Unique}
-use Rattle.cfgast.proofs.Gathered.{place_apart, place_added}
+use Rattle.cfgast.specs.View.{occurrence_view, duplicate_view}
+use Rattle.cfgast.specs.Occurrences.{duplicates}
+use Rattle.cfgast.proofs.Gathered.{place_apart, place_added, placed_nowhere}
 use Rattle.cfgast.proofs.Repeats.{shown_more}
 use Rattle.cfgast.proofs.duplicates.duplicates.Goals as goal
 use Rattle.cfgast.proofs.duplicates.duplicates.Goals.{in-Some+in_ok-push, in_default}
@@ -16,3 +18,7 @@ loop-occurrence-preserved c =
       | in_default w ↦ place_apart _ key refl _ _ more _ _ _ c.loop-occurrence.invariant (sym w.in_default.ensures.value)
           (ap (λ m. m.entries) w.found-is ∙ ap (λ m. m.entries) c.get_mut.follows.holds-at-none)
     ]
+
+pub returns-then-is_empty : goal.returns-then-is_empty
+unfolding duplicates
+returns-then-is_empty c = placed_nowhere duplicate_view _ _ _ _ (c.is_empty.ensures.0 c.if-is_empty.true) c.in_ok-found.ensures
