@@ -4,16 +4,31 @@ use cfgrammar::yacc::{YaccKind, YaccOriginalActionKind};
 use rows::row::{Row, rows};
 use rows::text::of_row;
 use std::alloc::{AllocError, Global};
-use std::io::ErrorKind;
+use std::io::{self, ErrorKind};
 use trees::cuts::write_cuts;
 
 /// How many bytes the texts have at most that are cut.
 const LONGEST: usize = 4096;
 
+/// As what a text is read: each kind, and the one that it names.
+const KINDS: [Option<YaccKind>; 6] = [
+    Some(YaccKind::Original(YaccOriginalActionKind::NoAction)),
+    Some(YaccKind::Original(YaccOriginalActionKind::UserAction)),
+    Some(YaccKind::Original(YaccOriginalActionKind::GenericParseTree)),
+    Some(YaccKind::Grmtools),
+    Some(YaccKind::Eco),
+    None,
+];
+
 /// Writes what is answered of each beginning of each text that the rows in a file spell, as each kind, and as the one
 /// that it names. Texts without a byte and large ones are passed over.
 pub fn tell(out: &mut String, rt: &HostRuntime, file: &str) -> Result<(), AllocError> {
-    for row in rows(rt.alloc(), file)?.iter() {
+    let rows = rows(rt.alloc(), file)?;
+    tell_rows(out, rt, &rows)
+}
+
+fn tell_rows(out: &mut String, rt: &HostRuntime, rows: &[Row<'_>]) -> Result<(), AllocError> {
+    for row in rows {
         tell_row(out, rt, row)?;
     }
     Ok(())
@@ -23,9 +38,16 @@ pub fn tell(out: &mut String, rt: &HostRuntime, file: &str) -> Result<(), AllocE
 fn tell_row(out: &mut String, rt: &HostRuntime, row: &Row<'_>) -> Result<(), AllocError> {
     match of_row(rt, row) {
         Ok(text) => tell_text(out, rt.alloc(), text.as_str()),
-        Err(fault) if fault.kind() == ErrorKind::OutOfMemory => Err(AllocError),
-        Err(fault) => writeln!(out, "no text: {fault}"),
+        Err(fault) => tell_fault(out, &fault),
     }
+}
+
+/// Writes why a row has no text.
+fn tell_fault(out: &mut String, fault: &io::Error) -> Result<(), AllocError> {
+    if fault.kind() == ErrorKind::OutOfMemory {
+        return Err(AllocError);
+    }
+    writeln!(out, "no text: {fault}")
 }
 
 /// Writes what is answered of each beginning of a text, unless it is empty or large.
@@ -33,14 +55,8 @@ fn tell_text(out: &mut String, alloc: Global, text: &str) -> Result<(), AllocErr
     if text.is_empty() || text.len() > LONGEST {
         return Ok(());
     }
-    for action_kind in [
-        YaccOriginalActionKind::NoAction,
-        YaccOriginalActionKind::UserAction,
-        YaccOriginalActionKind::GenericParseTree,
-    ] {
-        write_cuts(out, alloc, Some(YaccKind::Original(action_kind)), text)?;
+    for kind in &KINDS {
+        write_cuts(out, alloc, *kind, text)?;
     }
-    write_cuts(out, alloc, Some(YaccKind::Grmtools), text)?;
-    write_cuts(out, alloc, Some(YaccKind::Eco), text)?;
-    write_cuts(out, alloc, None, text)
+    Ok(())
 }

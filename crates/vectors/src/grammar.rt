@@ -1,5 +1,6 @@
 //! Rows on the texts of grammars.
 
+use crate::made::{Writer, write_made};
 use crate::{accessors, names, openings, paths, rendered, starts, tables};
 use cfgrammar::yacc::ast::ASTWithValidityInfo;
 use cfgrammar::yacc::{YaccFault, YaccGrammar, YaccGrammarError, YaccGrammarResult, YaccKind};
@@ -10,12 +11,51 @@ use std::alloc::{AllocError, Global};
 use trees::read::{kind_of, parse};
 use trees::{cuts, errors, syntax, warnings};
 
+/// What is wrong where a text that names no kind isn't refused for that.
+const NOT_SO: &str = "    and its grammar isn't refused so\n";
+
 /// Writes all that is answered of a row's text, or as much as the row asks for.
 pub fn tell(out: &mut String, alloc: Global, row: &Row<'_>, text: &str) -> Result<(), AllocError> {
-    match parse(alloc, kind_of(row), text) {
-        Ok(parsed) => tell_parsed(out, alloc, row, text, &parsed),
-        Err(YaccFault::Errors(errors)) => tell_refused(out, alloc, row, text, &errors),
-        Err(YaccFault::OutOfMemory) => Err(AllocError),
+    write_made(
+        out,
+        &Asked { alloc, row, text },
+        parse(alloc, kind_of(row), text),
+    )
+}
+
+/// A row, and its text.
+#[derive(Drop)]
+struct Asked<'a> {
+    alloc: Global,
+    row: &'a Row<'a>,
+    text: &'a str,
+}
+
+impl Writer<ASTWithValidityInfo, YaccFault> for Asked<'_> {
+    fn write(&self, out: &mut String, parsed: &ASTWithValidityInfo) -> Result<(), AllocError> {
+        tell_parsed(out, self.alloc, self.row, self.text, parsed)
+    }
+
+    fn refuse(&self, out: &mut String, fault: &YaccFault) -> Result<(), AllocError> {
+        match fault {
+            YaccFault::Errors(errors) => {
+                tell_refused(out, self.alloc, self.row, self.text, errors)
+            }
+            YaccFault::OutOfMemory => Err(AllocError),
+        }
+    }
+}
+
+impl Writer<YaccGrammar<u32>, YaccFault> for Asked<'_> {
+    fn write(&self, out: &mut String, grammar: &YaccGrammar<u32>) -> Result<(), AllocError> {
+        tell_held(out, self.alloc, self.row, grammar)
+    }
+
+    fn refuse(&self, _: &mut String, fault: &YaccFault) -> Result<(), AllocError> {
+        match fault {
+            YaccFault::Errors(_) => Ok(()),
+            YaccFault::OutOfMemory => Err(AllocError),
+        }
     }
 }
 
@@ -29,8 +69,9 @@ fn tell_refused(
 ) -> Result<(), AllocError> {
     pen::number(out, "text of ", text.len())?;
     pen::text(out, " bytes, no kind\n")?;
+    text::write_text(out, text)?;
     match row.first("show") {
-        Some("cuts") => tell_cuts(out, alloc, row, text),
+        Some("cuts") => cuts::write_cuts(out, alloc, kind_of(row), text),
         _ => tell_errors(out, alloc, text, errors),
     }
 }
@@ -42,22 +83,34 @@ fn tell_errors(
     text: &str,
     errors: &[YaccGrammarError],
 ) -> Result<(), AllocError> {
-    text::write_text(out, text)?;
     errors::write_errors(out, alloc, text, errors)?;
-    let is_same = is_refused_so(alloc, text, errors)?;
-    pen::text_if(out, !is_same, "    and its grammar isn't refused so\n")
+    write_made(
+        out,
+        &Refused { errors },
+        YaccGrammar::<u32>::from_str(alloc, text),
+    )
 }
 
-/// Whether a text has no grammar of the kind that it names, for these errors.
-fn is_refused_so(
-    alloc: Global,
-    text: &str,
-    errors: &[YaccGrammarError],
-) -> Result<bool, AllocError> {
-    match YaccGrammar::<u32>::from_str(alloc, text) {
-        Ok(_grammar) => Ok(false),
-        Err(YaccFault::Errors(others)) => Ok(others.as_slice() == errors),
-        Err(YaccFault::OutOfMemory) => Err(AllocError),
+/// The errors of a text that names no kind, for which it has no grammar.
+#[derive(Drop)]
+struct Refused<'a> {
+    errors: &'a [YaccGrammarError],
+}
+
+impl Writer<YaccGrammar<u32>, YaccFault> for Refused<'_> {
+    fn write(&self, out: &mut String, _: &YaccGrammar<u32>) -> Result<(), AllocError> {
+        pen::text(out, NOT_SO)
+    }
+
+    fn refuse(&self, out: &mut String, fault: &YaccFault) -> Result<(), AllocError> {
+        match fault {
+            YaccFault::Errors(errors) => pen::text_if(
+                out,
+                errors.as_slice() != self.errors,
+                NOT_SO,
+            ),
+            YaccFault::OutOfMemory => Err(AllocError),
+        }
     }
 }
 
@@ -71,20 +124,28 @@ fn tell_parsed(
 ) -> Result<(), AllocError> {
     pen::number(out, "text of ", text.len())?;
     writeln!(out, " bytes, {:?}", parsed.yacc_kind())?;
+    if row.first("show") == Some("brief") {
+        return tell_brief(out, alloc, row, text, parsed);
+    }
+    text::write_text(out, text)?;
+    tell_shown(out, alloc, row, text, parsed)
+}
+
+/// Writes what the row shows of a text that was read.
+fn tell_shown(
+    out: &mut String,
+    alloc: Global,
+    row: &Row<'_>,
+    text: &str,
+    parsed: &ASTWithValidityInfo,
+) -> Result<(), AllocError> {
     match row.first("show") {
-        Some("cuts") => tell_cuts(out, alloc, row, text),
-        Some("brief") => tell_brief(out, alloc, row, text, parsed),
-        Some("accessors") => tell_accessors(out, alloc, row, text),
+        Some("cuts") => cuts::write_cuts(out, alloc, kind_of(row), text),
+        Some("accessors") => tell_grammar(out, alloc, row, text),
         Some("rendered") => rendered::tell(out, alloc, text, parsed),
         Some("without-memory") => tell_without_memory(out, alloc, row, text, parsed),
         _ => tell_whole(out, alloc, row, text, parsed),
     }
-}
-
-/// Writes a text, and what is answered of each beginning of it.
-fn tell_cuts(out: &mut String, alloc: Global, row: &Row<'_>, text: &str) -> Result<(), AllocError> {
-    text::write_text(out, text)?;
-    cuts::write_cuts(out, alloc, kind_of(row), text)
 }
 
 /// Writes the errors of a text, how much there is in its syntax and its tables, and what the analyses do.
@@ -97,25 +158,11 @@ fn tell_brief(
 ) -> Result<(), AllocError> {
     errors::write_errors(out, alloc, text, parsed.errors())?;
     syntax::write_lengths(out, parsed.ast())?;
-    tables::write_lengths_of_all(out, alloc, text, parsed)?;
-    tell_analyses(out, alloc, row, text)
+    tables::write_tables(out, alloc, text, parsed, true)?;
+    tell_grammar(out, alloc, row, text)
 }
 
-/// Writes a text, and what the accessors answer of its grammar, where it has one.
-fn tell_accessors(
-    out: &mut String,
-    alloc: Global,
-    row: &Row<'_>,
-    text: &str,
-) -> Result<(), AllocError> {
-    text::write_text(out, text)?;
-    match grammar_of(alloc, kind_of(row), text) {
-        Ok(grammar) => accessors::write_accessors(out, &grammar),
-        Err(fault) => refused(&fault),
-    }
-}
-
-/// Writes a text, and what takes no memory to be told of its grammar, where it has one, and of what was read.
+/// Writes what takes no memory to be told of a text's grammar, where it has one, and of what was read.
 fn tell_without_memory(
     out: &mut String,
     alloc: Global,
@@ -123,15 +170,11 @@ fn tell_without_memory(
     text: &str,
     parsed: &ASTWithValidityInfo,
 ) -> Result<(), AllocError> {
-    text::write_text(out, text)?;
-    match grammar_of(alloc, kind_of(row), text) {
-        Ok(grammar) => plain::write_without_memory(out, alloc, &grammar)?,
-        Err(fault) => refused(&fault)?,
-    }
+    tell_grammar(out, alloc, row, text)?;
     syntax::write_without_memory(out, parsed)
 }
 
-/// Writes a text and all that is answered of it.
+/// Writes all that is answered of a text.
 fn tell_whole(
     out: &mut String,
     alloc: Global,
@@ -139,12 +182,11 @@ fn tell_whole(
     text: &str,
     parsed: &ASTWithValidityInfo,
 ) -> Result<(), AllocError> {
-    text::write_text(out, text)?;
     write_parsed(out, alloc, text, parsed)?;
-    tables::write_tables(out, alloc, text, parsed)?;
+    tables::write_tables(out, alloc, text, parsed, false)?;
     tell_by_name(out, alloc, row, text, parsed)?;
     starts::write_starts(out, alloc, row, text, parsed)?;
-    tell_analyses(out, alloc, row, text)
+    tell_grammar(out, alloc, row, text)
 }
 
 /// Writes the errors, the syntax and the warnings of what was parsed.
@@ -173,6 +215,20 @@ fn tell_by_name(
     }
 }
 
+/// Writes what the row asks of a text's grammar, where it has one.
+fn tell_grammar(
+    out: &mut String,
+    alloc: Global,
+    row: &Row<'_>,
+    text: &str,
+) -> Result<(), AllocError> {
+    write_made(
+        out,
+        &Asked { alloc, row, text },
+        grammar_of(alloc, kind_of(row), text),
+    )
+}
+
 /// The grammar of a text.
 fn grammar_of(
     alloc: Global,
@@ -185,28 +241,23 @@ fn grammar_of(
     }
 }
 
-/// Where a text has no grammar, nothing is written.
-fn refused(fault: &YaccFault) -> Result<(), AllocError> {
-    match fault {
-        YaccFault::Errors(_) => Ok(()),
-        YaccFault::OutOfMemory => Err(AllocError),
-    }
-}
-
-/// Writes what the analyses of a text's grammar do beside what they answer, and what the row asks of them.
-fn tell_analyses(
+/// Writes what the row asks of a grammar: what its accessors answer, what takes no memory to be told, or what its
+/// analyses do beside what they answer.
+fn tell_held(
     out: &mut String,
     alloc: Global,
     row: &Row<'_>,
-    text: &str,
+    grammar: &YaccGrammar<u32>,
 ) -> Result<(), AllocError> {
-    match grammar_of(alloc, kind_of(row), text) {
-        Ok(grammar) => tell_all_asked(out, alloc, row, &grammar),
-        Err(fault) => refused(&fault),
+    match row.first("show") {
+        Some("accessors") => accessors::write_accessors(out, grammar),
+        Some("without-memory") => plain::write_without_memory(out, alloc, grammar),
+        _ => tell_analyses(out, alloc, row, grammar),
     }
 }
 
-fn tell_all_asked(
+/// Writes how often the analyses open productions, where that isn't expected, and what the row's lines ask of them.
+fn tell_analyses(
     out: &mut String,
     alloc: Global,
     row: &Row<'_>,

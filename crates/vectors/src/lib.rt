@@ -4,6 +4,7 @@
 mod accessors;
 pub mod every;
 mod grammar;
+mod made;
 mod names;
 mod openings;
 mod paths;

@@ -1,9 +1,11 @@
 //! Where names that a lexer gives and a grammar's tokens differ.
 
 use cfgrammar::yacc::YaccGrammar;
-use lexcheck::check;
+use cfgrammar::{NameHashes, TIdx};
+use lexcheck::{LexReport, check};
 use rows::pen;
 use std::alloc::{AllocError, Global};
+use std::collections::HashMap;
 
 /// Writes where the tokens and these names, which white space parts, differ.
 pub(crate) fn write_names(
@@ -13,28 +15,53 @@ pub(crate) fn write_names(
     names: &str,
 ) -> Result<(), AllocError> {
     let names: Vec<&str> = names.split_whitespace().collect(alloc)?;
-    let report = check(alloc, grammar, &names)?;
+    write_checked(out, alloc, grammar, &names)
+}
+
+fn write_checked(
+    out: &mut String,
+    alloc: Global,
+    grammar: &YaccGrammar<u32>,
+    names: &[&str],
+) -> Result<(), AllocError> {
+    let report = check(alloc, grammar, names)?;
+    write_report(out, alloc, grammar, names, &report)
+}
+
+fn write_report(
+    out: &mut String,
+    alloc: Global,
+    grammar: &YaccGrammar<u32>,
+    names: &[&str],
+    report: &LexReport<u32>,
+) -> Result<(), AllocError> {
     write!(out, "names {names:?}: {report:?}")?;
-    pen::unless_copied(out, &report, ", and a copy that isn't the same")?;
-    pen::text_if(
-        out,
-        !is_mapped(alloc, grammar)?,
-        ", and another map of tokens",
-    )?;
+    pen::unless_copied(out, report, ", and a copy that isn't the same")?;
+    write_map(out, alloc, grammar)?;
     pen::end_line(out)
 }
 
-/// Whether the map of tokens has just the tokens that have a name, each under its name.
-fn is_mapped(alloc: Global, grammar: &YaccGrammar<u32>) -> Result<bool, AllocError> {
+/// Writes whether the map of tokens isn't what it says.
+fn write_map(
+    out: &mut String,
+    alloc: Global,
+    grammar: &YaccGrammar<u32>,
+) -> Result<(), AllocError> {
     let tokens = grammar.tokens_map(alloc)?;
+    let is_other = !is_mapped(grammar, &tokens);
+    pen::text_if(out, is_other, ", and another map of tokens")
+}
+
+/// Whether a map has just the tokens that have a name, each under its name.
+fn is_mapped(grammar: &YaccGrammar<u32>, tokens: &HashMap<&str, TIdx<u32>, NameHashes>) -> bool {
     let mut named = 0usize;
     for tidx in grammar.iter_tidxs() {
         if let Some(name) = grammar.token_name(tidx) {
-            named = named.saturating_add(1);
             if tokens.get(name) != Some(&tidx) {
-                return Ok(false);
+                return false;
             }
+            named = named.saturating_add(1);
         }
     }
-    Ok(tokens.len() == named)
+    tokens.len() == named
 }

@@ -43,7 +43,7 @@ fn is_expected(grammar: &YaccGrammar<u32>, most: u64) -> bool {
 /// The greatest count of a production's openings, after the FIRST sets were found.
 fn opened_by_firsts(alloc: Global, grammar: &YaccGrammar<u32>) -> Result<u64, AllocError> {
     let mut productions = grammar.productions(alloc)?;
-    let is_refused = firsts_over(alloc, &mut productions).is_err();
+    let is_refused = was_refused(firsts_over(alloc, &mut productions));
     counted(grammar, is_refused, greatest_count(&productions))
 }
 
@@ -51,8 +51,12 @@ fn opened_by_firsts(alloc: Global, grammar: &YaccGrammar<u32>) -> Result<u64, Al
 fn opened_by_follows(alloc: Global, grammar: &YaccGrammar<u32>) -> Result<u64, AllocError> {
     let firsts = grammar.firsts(alloc)?;
     let mut productions = grammar.productions(alloc)?;
-    let is_refused = follows_over(alloc, &mut productions, &firsts).is_err();
+    let is_refused = was_refused(follows_over(alloc, &mut productions, &firsts));
     counted(grammar, is_refused, greatest_count(&productions))
+}
+
+fn was_refused<T: Drop>(answer: Result<T, AllocError>) -> bool {
+    answer.is_err()
 }
 
 /// A count, or want of memory where an analysis was refused. Then too no production may have been opened more often.

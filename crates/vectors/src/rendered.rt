@@ -2,17 +2,15 @@
 
 use cfgrammar::yacc::ast::ASTWithValidityInfo;
 use cfgrammar::{Spanned, render};
-use rows::text::write_text;
 use std::alloc::{AllocError, Global};
 
-/// Writes a text, and each of its errors and warnings as a person reads it.
+/// Writes each of a text's errors and warnings as a person reads it.
 pub(crate) fn tell(
     out: &mut String,
     alloc: Global,
     text: &str,
     parsed: &ASTWithValidityInfo,
 ) -> Result<(), AllocError> {
-    write_text(out, text)?;
     write_all(out, alloc, text, parsed.errors())?;
     write_warnings(out, alloc, text, parsed)
 }

@@ -1,6 +1,7 @@
 //! Another start of a syntax.
 
 use crate::grammar::write_parsed;
+use crate::made::{Writer, write_made};
 use crate::tables;
 use cfgrammar::Span;
 use cfgrammar::yacc::ast::{ASTWithValidityInfo, Rule, StartFault};
@@ -33,23 +34,38 @@ fn write_start(
     parsed: &ASTWithValidityInfo,
 ) -> Result<(), AllocError> {
     pen::line(out, "start ", line)?;
-    let start = rule_of(alloc, line)?;
-    match parsed.clone_and_change_start_rule(alloc, start) {
-        Ok(changed) => write_changed(out, alloc, text, &changed),
-        Err(StartFault::Modification(error)) => writeln!(out, "    {error}"),
-        Err(StartFault::OutOfMemory) => Err(AllocError),
+    write_made(out, &Start { alloc, text }, restarted(alloc, parsed, line))
+}
+
+/// A text that is read with another start.
+#[derive(Drop)]
+struct Start<'a> {
+    alloc: Global,
+    text: &'a str,
+}
+
+impl Writer<ASTWithValidityInfo, StartFault> for Start<'_> {
+    fn write(&self, out: &mut String, changed: &ASTWithValidityInfo) -> Result<(), AllocError> {
+        write_parsed(out, self.alloc, self.text, changed)?;
+        tables::write_tables_of_tree(out, self.alloc, self.text, changed)
+    }
+
+    fn refuse(&self, out: &mut String, fault: &StartFault) -> Result<(), AllocError> {
+        match fault {
+            StartFault::Modification(error) => writeln!(out, "    {error}"),
+            StartFault::OutOfMemory => Err(AllocError),
+        }
     }
 }
 
-/// Writes what was parsed, with another start, and its tables.
-fn write_changed(
-    out: &mut String,
+/// What was parsed, with the start that a line tells.
+fn restarted(
     alloc: Global,
-    text: &str,
-    changed: &ASTWithValidityInfo,
-) -> Result<(), AllocError> {
-    write_parsed(out, alloc, text, changed)?;
-    tables::write_tables_of_tree(out, alloc, text, changed)
+    parsed: &ASTWithValidityInfo,
+    line: &str,
+) -> Result<ASTWithValidityInfo, StartFault> {
+    let start = rule_of(alloc, line)?;
+    parsed.clone_and_change_start_rule(alloc, start)
 }
 
 /// The rule that a line tells, by its name and the two ends of its span.

@@ -1,5 +1,6 @@
 //! The tables of a grammar at every index type, and of a syntax.
 
+use crate::made::{Writer, write_made};
 use cfgrammar::Storage;
 use cfgrammar::yacc::YaccGrammar;
 use cfgrammar::yacc::ast::ASTWithValidityInfo;
@@ -9,30 +10,47 @@ use held::{firsts, follows, pen};
 use std::alloc::{AllocError, Global};
 use trees::errors::write_error_lines;
 
-/// Writes the tables of a text at every index type, once where they are the same.
+/// What is told at each index type.
+#[derive(Drop)]
+struct Told {
+    narrow: String,
+    middle: String,
+    wide: String,
+}
+
+/// Writes the tables of a text at every index type, or how much there is in them, once where that is the same.
 pub(crate) fn write_tables(
     out: &mut String,
     alloc: Global,
     text: &str,
     parsed: &ASTWithValidityInfo,
+    is_brief: bool,
 ) -> Result<(), AllocError> {
-    let narrow = tables_text::<u8>(alloc, text, parsed)?;
-    let middle = tables_text::<u16>(alloc, text, parsed)?;
-    let wide = tables_text::<u32>(alloc, text, parsed)?;
-    write_once(out, narrow.as_str(), middle.as_str(), wide.as_str())
+    let (narrow, middle, wide) = (String::new(alloc), String::new(alloc), String::new(alloc));
+    let mut told = Told {
+        narrow,
+        middle,
+        wide,
+    };
+    tell_all(&mut told, alloc, text, parsed, is_brief)?;
+    write_once(
+        out,
+        told.narrow.as_str(),
+        told.middle.as_str(),
+        told.wide.as_str(),
+    )
 }
 
-/// Writes how much there is in the tables of a text at every index type, once where that is the same.
-pub(crate) fn write_lengths_of_all(
-    out: &mut String,
+fn tell_all(
+    told: &mut Told,
     alloc: Global,
     text: &str,
     parsed: &ASTWithValidityInfo,
+    is_brief: bool,
 ) -> Result<(), AllocError> {
-    let narrow = lengths_text::<u8>(alloc, text, parsed)?;
-    let middle = lengths_text::<u16>(alloc, text, parsed)?;
-    let wide = lengths_text::<u32>(alloc, text, parsed)?;
-    write_once(out, narrow.as_str(), middle.as_str(), wide.as_str())
+    tell_text::<u8>(&mut told.narrow, alloc, text, parsed, is_brief)?;
+    tell_text::<u16>(&mut told.middle, alloc, text, parsed, is_brief)?;
+    tell_text::<u32>(&mut told.wide, alloc, text, parsed, is_brief)
 }
 
 /// Writes what was told at the index types, once where it is the same.
@@ -50,25 +68,34 @@ fn write_told(out: &mut String, before: &str, told: &str) -> Result<(), AllocErr
     pen::text(out, told)
 }
 
-/// The tables of a text that was read, by both calls that make them.
-fn tables_text<S: Storage>(
+/// Tells the tables of a text that was read, by both calls that make them, or how much there is in them.
+fn tell_text<S: Storage>(
+    told: &mut String,
     alloc: Global,
     text: &str,
     parsed: &ASTWithValidityInfo,
-) -> Result<String, AllocError> {
-    let mut tables = read_text::<S>(alloc, text, parsed)?;
-    add_tree_text::<S>(&mut tables, alloc, text, parsed)?;
-    Ok(tables)
+    is_brief: bool,
+) -> Result<(), AllocError> {
+    let of_text = YaccGrammar::<S>::new_with_storaget(alloc, parsed.yacc_kind(), text);
+    tell_answer(told, alloc, text, parsed, is_brief, of_text)?;
+    if is_brief {
+        return Ok(());
+    }
+    add_tree::<S>(told, alloc, text, parsed)
 }
 
-/// The tables of a text.
-fn read_text<S: Storage>(
+/// Adds the tables of a text's syntax to those of the text, where they aren't the same.
+fn add_tree<S: Storage>(
+    told: &mut String,
     alloc: Global,
     text: &str,
     parsed: &ASTWithValidityInfo,
-) -> Result<String, AllocError> {
-    let of_text = YaccGrammar::<S>::new_with_storaget(alloc, parsed.yacc_kind(), text);
-    answer_text(alloc, text, parsed, of_text)
+) -> Result<(), AllocError> {
+    let of_tree = tree_text::<S>(alloc, text, parsed)?;
+    if *told == of_tree {
+        return Ok(());
+    }
+    write_told(told, "and of its syntax", of_tree.as_str())
 }
 
 /// The tables of a syntax.
@@ -79,30 +106,6 @@ fn tree_text<S: Storage>(
 ) -> Result<String, AllocError> {
     let of_tree = YaccGrammar::<S>::new_from_ast_with_validity_info(alloc, parsed);
     answer_text(alloc, text, parsed, of_tree)
-}
-
-/// The tables of a text as the kind that it names.
-fn named_text(
-    alloc: Global,
-    text: &str,
-    parsed: &ASTWithValidityInfo,
-) -> Result<String, AllocError> {
-    let named = YaccGrammar::<u32>::from_str(alloc, text);
-    answer_text(alloc, text, parsed, named)
-}
-
-/// Adds the tables of a text's syntax to those of the text, where they aren't the same.
-fn add_tree_text<S: Storage>(
-    tables: &mut String,
-    alloc: Global,
-    text: &str,
-    parsed: &ASTWithValidityInfo,
-) -> Result<(), AllocError> {
-    let of_syntax = tree_text::<S>(alloc, text, parsed)?;
-    if *tables == of_syntax {
-        return Ok(());
-    }
-    write_told(tables, "and of its syntax", of_syntax.as_str())
 }
 
 /// Writes the tables of a syntax over u32.
@@ -123,12 +126,23 @@ pub(crate) fn write_tables_by_name(
     text: &str,
     parsed: &ASTWithValidityInfo,
 ) -> Result<(), AllocError> {
-    let by_name = named_text(alloc, text, parsed)?;
+    let named = YaccGrammar::<u32>::from_str(alloc, text);
+    let by_name = answer_text(alloc, text, parsed, named)?;
+    write_unlike_tree(out, alloc, text, parsed, by_name.as_str())
+}
+
+fn write_unlike_tree(
+    out: &mut String,
+    alloc: Global,
+    text: &str,
+    parsed: &ASTWithValidityInfo,
+    by_name: &str,
+) -> Result<(), AllocError> {
     let of_tree = tree_text::<u32>(alloc, text, parsed)?;
-    if by_name == of_tree {
+    if by_name == of_tree.as_str() {
         return Ok(());
     }
-    write_told(out, "and as the kind that it names", by_name.as_str())
+    write_told(out, "and as the kind that it names", by_name)
 }
 
 /// What a call that makes tables answers.
@@ -138,72 +152,88 @@ fn answer_text<S: Storage>(
     parsed: &ASTWithValidityInfo,
     answer: YaccGrammarResult<YaccGrammar<S>>,
 ) -> Result<String, AllocError> {
-    match answer {
-        Ok(grammar) => grammar_text(alloc, &grammar),
-        Err(fault) => fault_text(alloc, text, parsed, &fault),
-    }
+    let mut told = String::new(alloc);
+    tell_answer(&mut told, alloc, text, parsed, false, answer)?;
+    Ok(told)
 }
 
-/// Why there are no tables: the text's errors, or others, each in a line.
-fn fault_text(
+/// Tells what a call that makes tables answers, or how much there is in it.
+fn tell_answer<S: Storage>(
+    told: &mut String,
     alloc: Global,
     text: &str,
     parsed: &ASTWithValidityInfo,
-    fault: &YaccFault,
-) -> Result<String, AllocError> {
-    match fault {
-        YaccFault::Errors(errors) => errors_text(alloc, text, parsed, errors),
-        YaccFault::OutOfMemory => Err(AllocError),
+    is_brief: bool,
+    answer: YaccGrammarResult<YaccGrammar<S>>,
+) -> Result<(), AllocError> {
+    let asked = Asked {
+        alloc,
+        text,
+        parsed,
+        is_brief,
+    };
+    write_made(told, &asked, answer)
+}
+
+/// A text that was read, and whether only how much there is in its tables is told.
+#[derive(Drop)]
+struct Asked<'a> {
+    alloc: Global,
+    text: &'a str,
+    parsed: &'a ASTWithValidityInfo,
+    is_brief: bool,
+}
+
+impl<S: Storage> Writer<YaccGrammar<S>, YaccFault> for Asked<'_> {
+    fn write(&self, told: &mut String, grammar: &YaccGrammar<S>) -> Result<(), AllocError> {
+        tell_grammar(told, self.alloc, grammar, self.is_brief)
+    }
+
+    /// Tells why there are no tables: the text's errors, or others, each in a line.
+    fn refuse(&self, told: &mut String, fault: &YaccFault) -> Result<(), AllocError> {
+        match fault {
+            YaccFault::Errors(errors) => {
+                tell_errors(told, self.alloc, self.text, self.parsed, errors)
+            }
+            YaccFault::OutOfMemory => Err(AllocError),
+        }
     }
 }
 
-fn errors_text(
+fn tell_errors(
+    told: &mut String,
     alloc: Global,
     text: &str,
     parsed: &ASTWithValidityInfo,
     errors: &[YaccGrammarError],
-) -> Result<String, AllocError> {
-    let mut out = String::from_str(alloc, ": refused\n")?;
-    if errors != parsed.errors() {
-        write_error_lines(&mut out, alloc, text, errors)?;
+) -> Result<(), AllocError> {
+    pen::text(told, ": refused\n")?;
+    if errors == parsed.errors() {
+        return Ok(());
     }
-    Ok(out)
+    write_error_lines(told, alloc, text, errors)
 }
 
-/// All that a grammar holds.
-fn grammar_text<S: Storage>(alloc: Global, grammar: &YaccGrammar<S>) -> Result<String, AllocError> {
-    let mut out = String::from_str(alloc, "\n")?;
-    write_grammar(&mut out, alloc, grammar)?;
-    Ok(out)
-}
-
-/// How much there is in the tables of a text that was read, and in their FIRST and FOLLOW sets.
-fn lengths_text<S: Storage>(
-    alloc: Global,
-    text: &str,
-    parsed: &ASTWithValidityInfo,
-) -> Result<String, AllocError> {
-    match YaccGrammar::<S>::new_with_storaget(alloc, parsed.yacc_kind(), text) {
-        Ok(grammar) => grammar_lengths(alloc, &grammar),
-        Err(fault) => fault_text(alloc, text, parsed, &fault),
-    }
-}
-
-fn grammar_lengths<S: Storage>(
+/// Tells all that a grammar holds, or how much there is in its tables and in its FIRST and FOLLOW sets.
+fn tell_grammar<S: Storage>(
+    told: &mut String,
     alloc: Global,
     grammar: &YaccGrammar<S>,
-) -> Result<String, AllocError> {
-    let mut out = String::from_str(alloc, "\n")?;
-    write_all_lengths(&mut out, alloc, grammar)?;
-    Ok(out)
+    is_brief: bool,
+) -> Result<(), AllocError> {
+    pen::end_line(told)?;
+    if is_brief {
+        return tell_lengths(told, alloc, grammar);
+    }
+    write_grammar(told, alloc, grammar)
 }
 
-fn write_all_lengths<S: Storage>(
-    out: &mut String,
+fn tell_lengths<S: Storage>(
+    told: &mut String,
     alloc: Global,
     grammar: &YaccGrammar<S>,
 ) -> Result<(), AllocError> {
-    write_lengths(out, grammar)?;
-    firsts::write_lengths(out, alloc, grammar)?;
-    follows::write_lengths(out, alloc, grammar)
+    write_lengths(told, grammar)?;
+    firsts::write_lengths(told, alloc, grammar)?;
+    follows::write_lengths(told, alloc, grammar)
 }
