@@ -145,7 +145,7 @@ fn try_way(
     )
 }
 
-/// Whether a cache of a text that is fed in pieces of these lengths, and then the rest, answers what the whole text does.
+/// Whether a cache of a text fed in pieces of these lengths, and then the rest, answers what the whole text does.
 fn answers_same(
     out: &mut String,
     alloc: Global,

@@ -239,7 +239,7 @@ fn write_or_all(
     write_or(out, bits, bit, &other)
 }
 
-/// Takes the bits of another list as long in, and writes whether that changed the list, whether they are equal then, and the list.
+/// Takes in the bits of another list as long, and writes whether that changed it, whether they are equal, and the list.
 fn write_or(out: &mut String, bits: &mut Vob, place: usize, other: &Vob) -> Result<(), AllocError>
     requires { length other.now ≡ length bits.old }
 {

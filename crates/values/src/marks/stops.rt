@@ -63,8 +63,8 @@ fn merge_below<K: Key>(
     merge_unread(&mut unread, alloc, row, (place, below), maps)
 }
 
-/// Runs the lines of a script in front of a place, and merges just so many of the keys that are watched. Whether the next
-/// is one of the other map's.
+/// Runs the lines of a script in front of a place, and merges just so many of the keys that are watched. Whether the
+/// next is one of the other map's.
 fn merge_unread<K: Key>(
     out: &mut String,
     alloc: Global,
