@@ -11,7 +11,7 @@ use std::alloc::{AllocError, Global};
 pub(crate) fn write_section(out: &mut String, alloc: Global, text: &str) -> Result<(), AllocError> {
     match GrmtoolsSectionParser::new(text, true).parse(alloc) {
         Ok(parsed) => write_parsed(out, alloc, &parsed),
-        Err(HeaderFault::Errors(errors)) => write_errors(out, errors),
+        Err(HeaderFault::Errors(errors)) => write_each(out, errors),
         Err(HeaderFault::OutOfMemory) => Err(AllocError),
     }
 }
@@ -42,13 +42,16 @@ fn write_held(
     pen::span(out, place)?;
     write!(out, " {:?}", Location::from(place))?;
     if key == "yacckind" {
-        write_kind(out, YaccKind::try_from_value(alloc, &held.1))?;
+        write_kind(out, &YaccKind::try_from_value(alloc, &held.1))?;
     }
     pen::end_line(out)
 }
 
 /// Writes a kind.
-fn write_kind(out: &mut String, kind: Result<YaccKind, KindFault<Span>>) -> Result<(), AllocError> {
+fn write_kind(
+    out: &mut String,
+    kind: &Result<YaccKind, KindFault<Span>>,
+) -> Result<(), AllocError> {
     match kind {
         Ok(kind) => write!(out, "; kind {kind:?}"),
         Err(KindFault::Error(_)) => out.push_str("; no kind"),
@@ -56,11 +59,22 @@ fn write_kind(out: &mut String, kind: Result<YaccKind, KindFault<Span>>) -> Resu
     }
 }
 
-/// Writes errors, each as that of a whole text.
-fn write_errors(out: &mut String, errors: Vec<HeaderError<Span>>) -> Result<(), AllocError> {
+/// Values that are written as they go. One generic function owns them.
+trait Told: Drop {
+    fn tell(self, out: &mut String) -> Result<(), AllocError>;
+}
+
+/// An error is written as that of a whole text.
+impl Told for HeaderError<Span> {
+    fn tell(self, out: &mut String) -> Result<(), AllocError> {
+        write_error(out, &YaccGrammarError::from(self))
+    }
+}
+
+fn write_each<T: Told>(out: &mut String, values: Vec<T>) -> Result<(), AllocError> {
     pen::without_memory(out)?;
-    for error in errors {
-        write_error(out, &YaccGrammarError::from(error))?;
+    for value in values {
+        value.tell(out)?;
     }
     Ok(())
 }
@@ -68,8 +82,6 @@ fn write_errors(out: &mut String, errors: Vec<HeaderError<Span>>) -> Result<(), 
 /// Writes the kind of an error, its spans, and what they stand for.
 fn write_error(out: &mut String, error: &YaccGrammarError) -> Result<(), AllocError> {
     write!(out, "    {:?}", error.kind())?;
-    for span in error.spans() {
-        pen::span(out, *span)?;
-    }
+    pen::spans(out, error.spans())?;
     writeln!(out, " {:?}", error.spanskind())
 }

@@ -161,17 +161,10 @@ fn write_errors(out: &mut String, errors: &[HeaderError<Span>]) -> Result<(), Al
 
 fn write_error(out: &mut String, error: &HeaderError<Span>) -> Result<(), AllocError> {
     write!(out, "{:?}", error.kind)?;
-    write_spans(out, error.spans())?;
+    pen::spans(out, error.spans())?;
     writeln!(out, " {:?}: {error}", error.spanskind())?;
     let is_same = is_its_copy(error)?;
     pen::text_if(out, !is_same, "    and a copy that isn't the same\n")
-}
-
-fn write_spans(out: &mut String, spans: &[Span]) -> Result<(), AllocError> {
-    for span in spans {
-        pen::span(out, *span)?;
-    }
-    Ok(())
 }
 
 /// Whether a copy of an error has its kind and its spans.
@@ -196,9 +189,13 @@ fn write_entry(
 fn write_value(out: &mut String, alloc: Global, value: &Value<Span>) -> Result<(), AllocError> {
     let told = value_text(alloc, value)?;
     let located = located_value_text(alloc, value)?;
+    write_told_value(out, told.as_str(), told == located)
+}
+
+fn write_told_value(out: &mut String, told: &str, is_same: bool) -> Result<(), AllocError> {
     pen::text(out, ": ")?;
-    pen::text(out, told.as_str())?;
-    pen::text_if(out, located != told, " and with other locations")
+    pen::text(out, told)?;
+    pen::text_if(out, !is_same, " and with other locations")
 }
 
 fn located_value_text(alloc: Global, value: &Value<Span>) -> Result<String, AllocError> {
@@ -216,14 +213,14 @@ fn located(alloc: Global, value: &Value<Span>) -> Result<Value<Location>, AllocE
 
 /// Writes the value of each kind.
 fn write_kinds(out: &mut String, alloc: Global) -> Result<(), AllocError> {
-    for kind in [
+    for kind in &[
         YaccKind::Original(YaccOriginalActionKind::UserAction),
         YaccKind::Original(YaccOriginalActionKind::GenericParseTree),
         YaccKind::Original(YaccOriginalActionKind::NoAction),
         YaccKind::Grmtools,
         YaccKind::Eco,
     ] {
-        write_kind(out, alloc, kind)?;
+        write_kind(out, alloc, *kind)?;
     }
     Ok(())
 }
