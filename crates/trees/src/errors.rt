@@ -52,6 +52,11 @@ fn write_error(
     write_kind(out, error)?;
     pen::spans(out, error.spans())?;
     write_place(out, places, first_start(error.spans()))?;
+    write_meaning(out, error)
+}
+
+/// Writes what the spans of an error stand for, and its text.
+fn write_meaning(out: &mut String, error: &YaccGrammarError) -> Result<(), AllocError> {
     writeln!(out, " {:?}: {error}", error.spanskind())
 }
 

@@ -8,15 +8,20 @@ use std::alloc::Global;
 /// The kind that a row names; that of the rows that name none is `Original(GenericParseTree)`. Where the row says
 /// `section`, the text names its kind.
 pub fn kind_of(row: &Row<'_>) -> Option<YaccKind> {
-    let kind = match row.first("kind") {
-        Some("section") => return None,
-        Some("grmtools") => YaccKind::Grmtools,
-        Some("eco") => YaccKind::Eco,
-        Some("original-noaction") => YaccKind::Original(YaccOriginalActionKind::NoAction),
-        Some("original-useraction") => YaccKind::Original(YaccOriginalActionKind::UserAction),
+    match row.first("kind").unwrap_or("") {
+        "section" => None,
+        name => Some(kind_named(name)),
+    }
+}
+
+fn kind_named(name: &str) -> YaccKind {
+    match name {
+        "grmtools" => YaccKind::Grmtools,
+        "eco" => YaccKind::Eco,
+        "original-noaction" => YaccKind::Original(YaccOriginalActionKind::NoAction),
+        "original-useraction" => YaccKind::Original(YaccOriginalActionKind::UserAction),
         _ => YaccKind::Original(YaccOriginalActionKind::GenericParseTree),
-    };
-    Some(kind)
+    }
 }
 
 /// Reads a text as a kind, or as the one that it names.

@@ -186,20 +186,20 @@ fn change_again(
     line: (&str, &str),
     before: &str,
 ) -> Result<(), AllocError> {
-    write_want(out, alloc, ast, before)?;
+    pen::text(out, "out of memory\n")?;
+    write_difference(out, alloc, ast, before)?;
     change(alloc, ast, line)
 }
 
-/// Writes that memory ended, and whether the tree isn't what it was before.
-fn write_want(
+/// Writes whether a tree isn't what it was before.
+fn write_difference(
     out: &mut String,
     alloc: Global,
     ast: &GrammarAST,
     before: &str,
 ) -> Result<(), AllocError> {
-    pen::text(out, "out of memory\n")?;
-    let is_same = tree_text(alloc, ast)?.as_str() == before;
-    pen::text_if(out, !is_same, "    with another tree\n")
+    let now = tree_text(alloc, ast)?;
+    pen::text_if(out, now.as_str() != before, "    with another tree\n")
 }
 
 pub(crate) fn tree_text(alloc: Global, ast: &GrammarAST) -> Result<String, AllocError> {
