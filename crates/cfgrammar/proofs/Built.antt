@@ -11,8 +11,9 @@ use Rattle.cfgcheck.specs.Sound.{IsSound}
 use Rattle.cfgkinds.specs.declared.kind.YaccKind.{YaccKind}
 use Rattle.cfgerrors.specs.declared.error.YaccFault.{YaccFault}
 use Rattle.cfgerrors.specs.declared.error.YaccFault.TheVariants as faults
-use Rattle.cfgrammar.specs.Answer.{IsAnswer, IsRefused, IsTooSmall}
-use Rattle.cfgnumbers.specs.Fits.{Fits, LeavesRoom}
+use Rattle.cfgsyntax.specs.Parsed.{Parsed}
+use Rattle.cfgrammar.specs.Answer.{WasRead, IsAnswer, IsGrammar, IsReadRefused, IsTooSmall, in_numbers}
+use Rattle.cfgnumbers.specs.Fits.{LeavesRoom}
 use Rattle.cfgnumbers.specs.Numbered.{Numbered, numbered, numbered_by, implicit_of, added_rules, file_rule, added_productions, file_production, file_token, end_token}
 use Rattle.cfgnumbers.specs.View.{tables, rule_view, production_view, token_view}
 use Rattle.cfgnumbers.specs.WellNumbered.{IsWellNumbered}
@@ -61,22 +62,22 @@ well_numbered max kind s sound room =
       listed_once = listed_once implicit s sound.well_formed;
     }
 
--- the errors of a text that has some
-pub refused : (max : ℕ) (errors : List GrammarError) (g : Numbered) (told : List GrammarError) → (errors ≡ [] → ⊥) → told ≡ errors → IsRefused max errors g told
+-- the errors of what was read, where it has some
+pub refused : (max : ℕ) (errors : List GrammarError) (g : Numbered) (told : List GrammarError) → (errors ≡ [] → ⊥) → told ≡ errors → IsReadRefused max errors g told
 refused max [] g told some same = absurd (some refl)
 refused max (error ∷ errors) g told some same = same
 
 -- a grammar that is too large
-pub too_large : (max : ℕ) (kind : YaccKind) (s : Syntax) (errors : List GrammarError) (fault : YaccFault) → IsSound s errors → errors ≡ [] → (LeavesRoom max (implicit_of kind s) s → ⊥)
-    → IsTooSmall fault → IsAnswer max errors (numbered kind s) (Err fault)
+pub too_large : (max : ℕ) (parsed : Parsed) (fault : YaccFault) → IsSound parsed.syntax parsed.errors → parsed.errors ≡ []
+    → (LeavesRoom max (implicit_of parsed.kind parsed.syntax) parsed.syntax → ⊥) → IsTooSmall fault → IsAnswer max (WasRead parsed) (Err fault)
 unfolding numbered
-too_large max kind s errors faults.OutOfMemory sound none no_room told = tt
-too_large max kind s errors (faults.Errors list) sound none no_room told =
-    subst (λ e. IsRefused max e (numbered kind s) list.items) (sym none)
-    ((λ fits. no_room (room_from_fits max (implicit_of kind s) s sound.well_formed fits)), told)
+too_large max parsed faults.OutOfMemory sound none no_room told = tt
+too_large max parsed (faults.Errors list) sound none no_room told =
+    subst (λ e. IsReadRefused max e (in_numbers parsed) list.items) (sym none)
+    ((λ fits. no_room (room_from_fits max (implicit_of parsed.kind parsed.syntax) parsed.syntax sound.well_formed fits)), told)
 
 -- a grammar
-pub answered : (max : ℕ) (kind : YaccKind) (s : Syntax) (errors : List GrammarError) (g : Numbered) → IsSound s errors → errors ≡ [] → LeavesRoom max (implicit_of kind s) s → g ≡ numbered kind s
-    → (errors ≡ []) × Fits max (numbered kind s) × (g ≡ numbered kind s)
+pub answered : (max : ℕ) (parsed : Parsed) (g : Numbered) → IsSound parsed.syntax parsed.errors → parsed.errors ≡ [] → LeavesRoom max (implicit_of parsed.kind parsed.syntax) parsed.syntax
+    → g ≡ in_numbers parsed → IsGrammar max (WasRead parsed) g
 unfolding numbered
-answered max kind s errors g sound none room same = (none, fits_from_room max (implicit_of kind s) s sound.well_formed room, same)
+answered max parsed g sound none room same = (none, fits_from_room max (implicit_of parsed.kind parsed.syntax) parsed.syntax sound.well_formed room, same)

@@ -1,5 +1,5 @@
 -- What a constructor answers of a text, by what was parsed of it, if anything was.
-use Rattle.std.proofs.Common.{◌≡◌, ℕ, List, Option, Result, Ok, Err, IfOk, IfErr, MatchResult, IsErrAnd, sym, subst, ap, ◌∙◌}
+use Rattle.std.proofs.Common.{◌≡◌, ℕ, List, Option, Result, Ok, Err, IfOk, IfErr, MatchResult, IsErrAnd, refl, sym, subst, ap, ◌∙◌}
 use Rattle.std.specs.Str.{IsUtf8}
 use Rattle.cfgwords.specs.Places.{IsPiece, IsWithin}
 use Rattle.cfgast.specs.Items.{Item}
@@ -13,11 +13,11 @@ use Rattle.cfgsyntax.specs.OfItself.{AnswersNaming, IsParsedAs}
 use Rattle.cfgsyntax.specs.Parsed.{Parsed}
 use Rattle.cfgsyntax.specs.Spans.{EachFaultSpan, EachParsedSpan}
 use Rattle.cfgsyntax.specs.Reads.{HasOneReading, Reads, Stop}
-use Rattle.cfgrammar.specs.Answer.{IsAnswer}
+use Rattle.cfgrammar.specs.Answer.{Found, WasRead, IsAnswer, IsRefused}
 use Rattle.cfgrammar.specs.GrammarOf.{IsGrammarOf, IsGrammarOfItself}
 use Rattle.cfgrammar.specs.Spans.{EachAnswerSpan}
-use Rattle.cfgnumbers.specs.Numbered.{Numbered, numbered}
-use Rattle.cfgrammar.proofs.OfItself.{HoldsOfFault, parsed_itself, reading_holds, refusal_answers, refused_itself}
+use Rattle.cfgnumbers.specs.Numbered.{Numbered}
+use Rattle.cfgrammar.proofs.OfItself.{IsFaultOf, is_parsed_of, parsed_itself, parsed_of, refused_itself}
 
 -- a fault that is another kind of fault's, where a value stays
 pub carried : {T E D : Type 0} (P : T → Type 0) (Q : E → D → Type 0) (made : Result T E) (mapped : Result T D) → MatchResult made (λ x. mapped ≡ Ok x) (λ e. IsErrAnd mapped (Q e))
@@ -40,23 +40,32 @@ pub parsed_as : {E : Type 0} (kind : YaccKind) (text : List ℕ) (parsed : Resul
 parsed_as kind text (Ok p) one kind_is syntax errors = record { one = one; kind_is = kind_is; syntax = syntax; errors = errors }
 parsed_as kind text (Err e) one kind_is syntax errors = tt
 
+-- a fault is the answer for what it leaves to be found
+fault_answers : (max : ℕ) (fault : YaccFault) (found : Found) → IsFaultOf fault found → IsAnswer max found (Err fault)
+fault_answers max faults.OutOfMemory found is = tt
+fault_answers max (faults.Errors told) found is = subst (λ x. IsRefused max x told.items) (sym is) refl
+
 module _ (text : List ℕ) (max : ℕ) (result : Result Numbered YaccFault) where
   -- the answer is that of what was parsed, or the fault in its place
   pub record IsOf (parsed : Result Parsed YaccFault) : Type 0 where
-    pub answer : IfOk parsed (λ p. IsAnswer max p.errors (numbered p.kind p.syntax) result)
+    pub answer : IfOk parsed (λ p. IsAnswer max (WasRead p) result)
     pub refused : IfErr parsed (λ fault. result ≡ Err fault)
 
   pub of_kind : (kind : YaccKind) (parsed : Result Parsed YaccFault) → HasOneReading kind text → IfOk parsed (IsParsedAs kind text) → IfErr parsed (λ fault. fault ≡ faults.OutOfMemory)
       → IsOf parsed → IsGrammarOf kind text max result
-  of_kind kind (Ok parsed) one is memory of = reading_holds text (λ errors s g. IsAnswer max errors g result) kind parsed is of.answer
-  of_kind kind (Err fault) one is memory of = (one, λ items stop reads. subst (IsAnswer max (errors_of items stop) (numbered kind (syntax_of items))) (sym (of.refused ∙ ap Err memory)) tt)
+  of_kind kind (Ok parsed) one is memory of = (WasRead parsed, is, of.answer)
+  of_kind kind (Err fault) one is memory of = (
+    WasRead (parsed_of kind text one),
+    is_parsed_of kind text one,
+    subst (IsAnswer max (WasRead (parsed_of kind text one))) (sym (of.refused ∙ ap Err memory)) tt,
+  )
 
   pub of_itself : (parsed : Result Parsed YaccFault) → HasOneNaming text → ((naming : Naming) → Names text naming → AnswersNaming text naming parsed)
       → IsOf parsed → IsGrammarOfItself text max result
-  of_itself (Ok parsed) one is of = parsed_itself text (λ errors s g. IsAnswer max errors g result) one parsed is of.answer
+  of_itself (Ok parsed) one is of = (WasRead parsed, parsed_itself text one parsed is, of.answer)
   of_itself (Err fault) one is of =
-      refused_itself text (λ errors s g. IsAnswer max errors g result) one fault is
-      (subst (λ r. HoldsOfFault text (λ errors s g. IsAnswer max errors g r) fault) (sym of.refused) (refusal_answers max text fault))
+      let it = refused_itself text one fault is in
+      (it.0, it.1, subst (IsAnswer max it.0) (sym of.refused) (fault_answers max fault it.0 it.2))
 
 -- the spans of the answer
 pub answer_spans : (text : List ℕ) → IsUtf8 text → (parsed : Result Parsed YaccFault) (result : Result Numbered YaccFault)

@@ -4,8 +4,18 @@ use Rattle.cfgerrors.specs.Errors.{GrammarError, Nameless, error_at}
 use Rattle.cfgerrors.specs.declared.error.YaccGrammarErrorKind.TheVariants.{StorageTooSmall}
 use Rattle.cfgerrors.specs.declared.error.YaccFault.{YaccFault}
 use Rattle.cfgerrors.specs.declared.error.YaccFault.TheVariants as faults
-use Rattle.cfgnumbers.specs.Numbered.{Numbered, nowhere}
+use Rattle.cfgsyntax.specs.Parsed.{Parsed}
+use Rattle.cfgnumbers.specs.Numbered.{Numbered, numbered, nowhere}
 use Rattle.cfgnumbers.specs.Fits.{Fits}
+
+-- What a text is found to be: it names no kind of Yacc, because of these errors; or it was read as this.
+pub data Found : Type 0 where
+  Unnamed : List GrammarError → Found
+  WasRead : Parsed → Found
+
+-- what was read, in numbers
+abbrev pub in_numbers : Parsed → Numbered
+in_numbers parsed = numbered parsed.kind parsed.syntax
 
 -- the error that the index type is too small, alone
 abbrev pub too_small : List GrammarError
@@ -15,14 +25,24 @@ abbrev pub IsTooSmall : YaccFault → Type 0
 IsTooSmall faults.OutOfMemory = ⊥
 IsTooSmall (faults.Errors told) = told.items ≡ too_small
 
--- Why there is no grammar: the errors of the text; where it has none, that the index type is too small, alone.
-abbrev pub IsRefused : ℕ → List GrammarError → Numbered → List GrammarError → Type 0
-IsRefused max [] g told = (Fits max g → ⊥) × (told ≡ too_small)
-IsRefused max (error ∷ errors) g told = told ≡ error ∷ errors
+-- Why there is no grammar of what was read: its errors; where it has none, that the index type is too small, alone.
+abbrev pub IsReadRefused : ℕ → List GrammarError → Numbered → List GrammarError → Type 0
+IsReadRefused max [] g told = (Fits max g → ⊥) × (told ≡ too_small)
+IsReadRefused max (error ∷ errors) g told = told ≡ error ∷ errors
 
--- Of a text with these errors and this numbered syntax, for an index type of this greatest number: the grammar is
--- answered where there are no errors and it fits, and the refusal otherwise. Want of memory says nothing of the text.
-abbrev pub IsAnswer : ℕ → List GrammarError → Numbered → Result Numbered YaccFault → Type 0
-IsAnswer max errors g (Ok grammar) = (errors ≡ []) × Fits max g × (grammar ≡ g)
-IsAnswer max errors g (Err faults.OutOfMemory) = Unit {0}
-IsAnswer max errors g (Err (faults.Errors told)) = IsRefused max errors g told.items
+-- why there is no grammar
+abbrev pub IsRefused : ℕ → Found → List GrammarError → Type 0
+IsRefused max (Unnamed errors) told = told ≡ errors
+IsRefused max (WasRead parsed) told = IsReadRefused max parsed.errors (in_numbers parsed) told
+
+-- the grammar: that of what was read, where it has no errors and fits
+abbrev pub IsGrammar : ℕ → Found → Numbered → Type 0
+IsGrammar max (Unnamed errors) grammar = ⊥
+IsGrammar max (WasRead parsed) grammar = (parsed.errors ≡ []) × Fits max (in_numbers parsed) × (grammar ≡ in_numbers parsed)
+
+-- The answer for a text that is found to be this, for an index type of this greatest number: the grammar where there is
+-- one, and else the refusal. Want of memory says nothing of the text.
+abbrev pub IsAnswer : ℕ → Found → Result Numbered YaccFault → Type 0
+IsAnswer max found (Ok grammar) = IsGrammar max found grammar
+IsAnswer max found (Err faults.OutOfMemory) = Unit {0}
+IsAnswer max found (Err (faults.Errors told)) = IsRefused max found told.items

@@ -3,9 +3,9 @@ use Rattle.std.specs.Prelude.{◌≡◌, ℕ, List, [], Option, Result, Ok, Err}
 use Rattle.std.specs.Io.KnownBytes.{Appends, Keeps}
 use Rattle.cfgast.specs.Syntax.{Syntax}
 use Rattle.cfgerrors.specs.Errors.{GrammarError}
-use Rattle.cfgrammar.specs.Answer.{IsRefused}
+use Rattle.cfgrammar.specs.Answer.{Found, Unnamed, WasRead, IsRefused, in_numbers}
 use Rattle.cfgnumbers.specs.Fits.{Fits}
-use Rattle.cfgrammar.specs.GrammarOf.{HoldsOfItself, HoldsOfReading}
+use Rattle.cfgrammar.specs.GrammarOf.{IsFoundAs, IsFoundItself}
 use Rattle.cfgnumbers.specs.Numbered.{Numbered}
 use Rattle.cfgshell.specs.declared.outcome.Outcome.{Outcome}
 use Rattle.cfgshell.specs.declared.outcome.Outcome.TheVariants.{Done, Refused}
@@ -24,10 +24,10 @@ use Rattle.cfgtool.specs.declared.engine.Request.{Request}
 use Rattle.cfgtool.specs.declared.engine.Request.TheVariants as requests
 use Rattle.cfgshell.specs.Sinks.{AppendsBeginning}
 
--- This holds of a text: of its reading as the kind that is asked for, or else as the kind that it names itself.
-abbrev pub HoldsOfText : KindArg → List ℕ → (List GrammarError → Syntax → Numbered → Type 0) → Type 0
-HoldsOfText (Named kind) text Holds = HoldsOfReading kind text Holds
-HoldsOfText Section text Holds = HoldsOfItself text Holds
+-- what a text is found to be, as a file of the kind that is asked for, or else of the one that it names itself
+abbrev pub IsFound : KindArg → List ℕ → Found → Type 0
+IsFound (Named kind) text found = IsFoundAs kind text found
+IsFound Section text found = IsFoundItself text found
 
 -- the greatest index of the program's grammars
 abbrev pub greatest : ℕ
@@ -52,29 +52,34 @@ AreAskedLines (requests.Names names) text s g lines = AreLexerLines names.now s 
 
 -- `AreLines` says of a syntax and of that in numbers which lines are told of them.
 module _ (AreLines : Syntax → Numbered → List ℕ → Type 0) where
-  -- How a report of a text with these errors, this syntax and this numbering ends, and its lines: the text is a grammar,
-  -- and the lines asked for are told, or it is refused, and its errors are.
-  abbrev pub IsReport : List ℕ → List GrammarError → Syntax → Numbered → Outcome → List ℕ → Type 0
-  IsReport text errors s g Done lines = (errors ≡ []) × Fits greatest g × AreLines s g lines
-  IsReport text errors s g Refused lines = (told : List GrammarError) × IsRefused greatest errors g told × (lines ≡ error_lines text told)
+  -- the lines of a grammar, which is what was read, where it has no errors and fits
+  abbrev pub AreGrammarLines : Found → List ℕ → Type 0
+  AreGrammarLines (Unnamed errors) lines = ⊥
+  AreGrammarLines (WasRead parsed) lines = (parsed.errors ≡ []) × Fits greatest (in_numbers parsed) × AreLines parsed.syntax (in_numbers parsed) lines
+
+  -- How a report of a text that is found to be this ends, and its lines: the text is a grammar, and the lines asked for are
+  -- told, or it is refused, and its errors are.
+  abbrev pub IsReport : List ℕ → Found → Outcome → List ℕ → Type 0
+  IsReport text found Done lines = AreGrammarLines found lines
+  IsReport text found Refused lines = (told : List GrammarError) × IsRefused greatest found told × (lines ≡ error_lines text told)
 
   -- What a report adds to the known bytes of its sink: the lines of how it ended; nothing where memory ended; where the
   -- sink counted a fault, a beginning of the lines of how it would have ended.
-  abbrev pub Tells : List ℕ → List GrammarError → Syntax → Numbered → Option (List ℕ) → Option (List ℕ) → Result Outcome ReportFault → Type 0
-  Tells text errors s g old new (Ok outcome) = (lines : List ℕ) × IsReport text errors s g outcome lines × Appends old new lines
-  Tells text errors s g old new (Err faults.Write) = (outcome : Outcome) × (lines : List ℕ)
-      × IsReport text errors s g outcome lines × AppendsBeginning old new lines
-  Tells text errors s g old new (Err faults.OutOfMemory) = Keeps old new
+  abbrev pub Tells : List ℕ → Found → Option (List ℕ) → Option (List ℕ) → Result Outcome ReportFault → Type 0
+  Tells text found old new (Ok outcome) = (lines : List ℕ) × IsReport text found outcome lines × Appends old new lines
+  Tells text found old new (Err faults.Write) = (outcome : Outcome) × (lines : List ℕ)
+      × IsReport text found outcome lines × AppendsBeginning old new lines
+  Tells text found old new (Err faults.OutOfMemory) = Keeps old new
 
--- A report of a text tells so of the text's one reading: of its errors, of its syntax, and of that in numbers. Where the
--- text names no kind, it tells so of the errors that keep it from that.
+-- A report of a text tells so of what the text is found to be: of its one reading, or of the errors that keep it from naming
+-- a kind.
 abbrev pub TellsText : KindArg → Command → List ℕ → Option (List ℕ) → Option (List ℕ) → Result Outcome ReportFault
     → Type 0
 TellsText kind command text old new answer =
-    HoldsOfText kind text (λ errors s g. Tells (AreLinesOf command text) text errors s g old new answer)
+    (found : Found) × IsFound kind text found × Tells (AreLinesOf command text) text found old new answer
 
 -- the same of a report on the names in a text
 abbrev pub TellsLexer : KindArg → List ℕ → List ℕ → Option (List ℕ) → Option (List ℕ) → Result Outcome ReportFault
     → Type 0
 TellsLexer kind text names old new answer =
-    HoldsOfText kind text (λ errors s g. Tells (AreLexerLines names) text errors s g old new answer)
+    (found : Found) × IsFound kind text found × Tells (AreLexerLines names) text found old new answer

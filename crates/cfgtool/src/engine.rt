@@ -5,12 +5,12 @@ ghost use Rattle.cfgwords.specs.Places.{IsPiece, IsWithin};
 ghost use Rattle.cfgast.specs.Syntax.{EachSpan};
 ghost use Rattle.cfgast.specs.View.{syntax};
 ghost use Rattle.cfgsyntax.specs.Spans.{EachParsedSpan};
-ghost use Rattle.cfgrammar.specs.GrammarOf.{HoldsOfItself, HoldsOfReading};
-ghost use Rattle.cfgnumbers.specs.Numbered.{numbered};
+ghost use Rattle.cfgrammar.specs.Answer.{Found, WasRead};
+ghost use Rattle.cfgrammar.specs.GrammarOf.{IsFoundAs, IsFoundItself};
 ghost use Rattle.cfglisting.specs.FirstLines.{AreFirstLines};
 ghost use Rattle.cfglisting.specs.FollowLines.{AreFollowLines};
 ghost use Rattle.cfglisting.specs.Lines.{AreWarningLines};
-ghost use Rattle.cfgtool.specs.Report.{AreAskedLines, AreLinesOf, HoldsOfText, IsReport, Tells};
+ghost use Rattle.cfgtool.specs.Report.{AreAskedLines, AreLinesOf, IsFound, IsReport, Tells};
 ghost use Rattle.cfgtool.specs.Report.{TellsLexer, TellsText};
 ghost use Rattle.cfgshell.specs.Endings.{faults_met};
 ghost use Rattle.cfgshell.specs.declared.outcome.ReportFault.TheVariants as variants;
@@ -88,9 +88,8 @@ fn write_report<W: Sink>(
     out: &mut W,
 ) -> Result<Outcome, ReportFault>
     requires { W.faults_counted out.old < 2 ^ 64 - 1 }
-    ensures told { HoldsOfText kind text.now (λ errors s g.
-        Tells (AreAskedLines request.entry text.now) text.now errors s g (W.written out.old) (W.written out.new)
-        result) }
+    ensures told { (found : Found) × IsFound kind text.now found
+        × Tells (AreAskedLines request.entry text.now) text.now found (W.written out.old) (W.written out.new) result }
     ensures faults { W.faults_counted out.new ≡ W.faults_counted out.old + faults_met result }
     ensures untouched { IsErrOf result variants.OutOfMemory → out.new ≡ out.old }
 {
@@ -106,8 +105,8 @@ fn report_text(
     request: Request<'_>,
     text: &str,
 ) -> Result<(Outcome, String), AllocError>
-    ensures { HoldsOfText kind text.now (λ errors s g. IfOk result (λ told.
-        IsReport (AreAskedLines request.entry text.now) text.now errors s g told.0 (string_bytes told.1))) }
+    ensures { (found : Found) × IsFound kind text.now found × IfOk result (λ told.
+        IsReport (AreAskedLines request.entry text.now) text.now found told.0 (string_bytes told.1)) }
 {
     match kind {
         KindArg::Named(kind) => report_as(alloc, kind, request, text),
@@ -122,8 +121,8 @@ fn report_as(
     request: Request<'_>,
     text: &str,
 ) -> Result<(Outcome, String), AllocError>
-    ensures { HoldsOfReading kind text.now (λ errors s g. IfOk result (λ told.
-        IsReport (AreAskedLines request.entry text.now) text.now errors s g told.0 (string_bytes told.1))) }
+    ensures { (found : Found) × IsFoundAs kind text.now found × IfOk result (λ told.
+        IsReport (AreAskedLines request.entry text.now) text.now found told.0 (string_bytes told.1)) }
 {
     let parsed = ASTWithValidityInfo::new(alloc, kind, text)?;
     report_parsed(alloc, request, text, &parsed)
@@ -135,8 +134,8 @@ fn report_itself(
     request: Request<'_>,
     text: &str,
 ) -> Result<(Outcome, String), AllocError>
-    ensures { HoldsOfItself text.now (λ errors s g. IfOk result (λ told.
-        IsReport (AreAskedLines request.entry text.now) text.now errors s g told.0 (string_bytes told.1))) }
+    ensures { (found : Found) × IsFoundItself text.now found × IfOk result (λ told.
+        IsReport (AreAskedLines request.entry text.now) text.now found told.0 (string_bytes told.1)) }
 {
     match ASTWithValidityInfo::from_str(alloc, text) {
         Ok(parsed) => report_parsed(alloc, request, text, &parsed),
@@ -156,8 +155,8 @@ fn report_parsed(
     parsed: &ASTWithValidityInfo,
 ) -> Result<(Outcome, String), AllocError>
     requires { EachParsedSpan (IsPiece text.now) (IsWithin text.now) parsed.now }
-    ensures { IfOk result (λ told. IsReport (AreAskedLines request.entry text.now) text.now parsed.now.errors
-        parsed.now.syntax (numbered parsed.now.kind parsed.now.syntax) told.0 (string_bytes told.1)) }
+    ensures { IfOk result (λ told. IsReport (AreAskedLines request.entry text.now) text.now (WasRead parsed.now)
+        told.0 (string_bytes told.1)) }
 {
     match YaccGrammar::new_from_ast_with_validity_info(alloc, parsed) {
         Ok(grammar) => {

@@ -11,7 +11,7 @@ ghost use Rattle.cfgast.specs.View.{pair_view, syntax};
 ghost use Rattle.cfgcheck.specs.Sound.{IsSound};
 ghost use Rattle.cfgsyntax.specs.Spans.{EachParsedSpan};
 ghost use Rattle.cfgkinds.specs.declared.kind.YaccKind.{YaccKind};
-ghost use Rattle.cfgrammar.specs.Answer.{IsAnswer};
+ghost use Rattle.cfgrammar.specs.Answer.{IsAnswer, WasRead};
 ghost use Rattle.cfgrammar.specs.Counting.{YieldsNumbersInOrder};
 ghost use Rattle.cfgnumbers.specs.Fits.{LeavesRoom};
 ghost use Rattle.cfgrammar.specs.GrammarOf.{IsGrammarOf, IsGrammarOfItself};
@@ -125,8 +125,7 @@ impl<S: Storage> YaccGrammar<S> {
         alloc: Global,
         parsed: YaccGrammarResult<ASTWithValidityInfo>,
     ) -> YaccGrammarResult<Self>
-        ensures answer { IfOk parsed (λ parsed.
-            IsAnswer S.MAX parsed.errors (numbered parsed.kind parsed.syntax) result) }
+        ensures answer { IfOk parsed (λ parsed. IsAnswer S.MAX (WasRead parsed) result) }
         ensures places { IfOk parsed (λ parsed. (text : List ℕ) → IsUtf8 text
             → EachParsedSpan (IsPiece text) (IsWithin text) parsed
             → EachAnswerSpan (IsPiece text) (IsWithin text) result) }
@@ -149,7 +148,7 @@ impl<S: Storage> YaccGrammar<S> {
         alloc: Global,
         parsed: &ASTWithValidityInfo,
     ) -> YaccGrammarResult<Self>
-        ensures answer { IsAnswer S.MAX parsed.now.errors (numbered parsed.now.kind parsed.now.syntax) result }
+        ensures answer { IsAnswer S.MAX (WasRead parsed.now) result }
         ensures places { (text : List ℕ) → IsUtf8 text → EachParsedSpan (IsPiece text) (IsWithin text) parsed.now
             → EachAnswerSpan (IsPiece text) (IsWithin text) result }
     {

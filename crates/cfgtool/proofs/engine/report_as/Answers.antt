@@ -1,16 +1,15 @@
-use Rattle.std.proofs.Common.{IfOk, string_bytes, subst}
-use Rattle.cfgsyntax.specs.Parsed.{Parsed}
-use Rattle.cfgnumbers.specs.Numbered.{numbered}
-use Rattle.cfgtool.specs.Report.{AreAskedLines, IsReport}
+use Rattle.std.proofs.lemmas.Result.{err_from_is_err_and}
+use Rattle.cfgrammar.specs.Answer.{WasRead}
+use Rattle.cfgrammar.proofs.OfItself.{is_parsed_of, parsed_of}
 use Rattle.cfgtool.proofs.engine.report_as.Goals as goal
+
+pub returns-in_err-parsed : goal.returns-in_err-parsed
+returns-in_err-parsed c =
+    let p = err_from_is_err_and c.from_residual.result c.from_residual.ensures.1 in
+    let one = c.in_err-parsed.ensures.one in
+    rw p.1 (WasRead (parsed_of c.args.kind c.args.text.now one), is_parsed_of c.args.kind c.args.text.now one, tt)
 
 pub returns : goal.returns
 returns c =
-    let parsed = c.in_ok-parsed.ensures in (
-      parsed.one,
-      λ items stop reads.
-          subst (λ (p : Parsed). IfOk c.report_parsed.result (λ told.
-          IsReport (AreAskedLines c.args.request c.args.text.now) c.args.text.now p.errors p.syntax (numbered p.kind p.syntax) told.0 (string_bytes told.1)))
-          (λ i. record { kind = parsed.kind i; syntax = parsed.syntax items stop reads i; errors = parsed.errors items stop reads i })
-          c.report_parsed.ensures,
-    )
+    let parsed = c.in_ok-parsed.ensures in
+    (WasRead c.in_ok-parsed.parsed, record { one = parsed.one; kind_is = parsed.kind; syntax = parsed.syntax; errors = parsed.errors }, c.report_parsed.ensures)

@@ -4,7 +4,8 @@ use Rattle.cfgwords.specs.Places.{IsPiece, IsWithin}
 use Rattle.cfgast.specs.Syntax.{Syntax, EachSpan}
 use Rattle.cfgast.specs.View.{syntax}
 use Rattle.cfgsyntax.specs.Spans.{EachErrorSpan}
-use Rattle.cfgnumbers.specs.Numbered.{Numbered, numbered}
+use Rattle.cfgnumbers.specs.Numbered.{Numbered}
+use Rattle.cfgrammar.specs.Answer.{WasRead, in_numbers}
 use Rattle.cfglisting.specs.Lines.{error_lines}
 use Rattle.cfgshell.specs.declared.outcome.Outcome.TheVariants.{Done, Refused}
 use Rattle.cfgtool.specs.Report.{AreAskedLines, IsReport}
@@ -24,9 +25,9 @@ error_lines-requires c =
 pub returns-in-Ok : goal.returns-in-Ok
 returns-in-Ok c =
     let answer = c.in-Ok.ensures.answer in
-    let g = numbered c.args.parsed.now.kind c.args.parsed.now.syntax in
+    let g = in_numbers c.args.parsed.now in
     let Asked = AreAskedLines c.args.request c.args.text.now in
-    let Report = IsReport Asked c.args.text.now c.args.parsed.now.errors c.args.parsed.now.syntax g in
+    let Report = IsReport Asked c.args.text.now (WasRead c.args.parsed.now) in
     ended_told Report Done c.request_lines-lines.result c.ended.result c.ended.ensures
     (IfOk-weaker c.request_lines-lines.result (λ lines. Asked (syntax c.ast.result.now) c.in-Ok.grammar (string_bytes lines)) (λ lines. Report Done (string_bytes lines)) (λ lines told. (
       answer.0,
@@ -40,8 +41,7 @@ returns-in-Err-Errors c =
     let refused = rw c.in-Err-Errors.field-0-is at c.in-Err-Errors.ensures.answer in
     let errors = rw c.in-Err-Errors.errors-is at c.deref.ensures.value in
     let text = c.args.text.now in
-    let g = numbered c.args.parsed.now.kind c.args.parsed.now.syntax in
-    let Report = IsReport (AreAskedLines c.args.request text) text c.args.parsed.now.errors c.args.parsed.now.syntax g in
+    let Report = IsReport (AreAskedLines c.args.request text) text (WasRead c.args.parsed.now) in
     ended_told Report Refused c.error_lines.result c.ended-in-Err-Errors.result c.ended-in-Err-Errors.ensures
     (IfOk-weaker c.error_lines.result (λ lines. string_bytes lines ≡ error_lines text c.deref.result.now) (λ lines. Report Refused (string_bytes lines))
     (λ lines lined. (c.in-Err-Errors.errors.items, refused, lined ∙ ap (error_lines text) errors)) c.error_lines.ensures)

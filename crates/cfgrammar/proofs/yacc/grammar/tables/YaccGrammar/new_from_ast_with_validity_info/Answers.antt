@@ -15,7 +15,7 @@ returns-then-not-fits-clause-answer g c =
     let HasRoom = λ (s : Syntax) (implicit : Option (List (List ℕ))). LeavesRoom g.S.Storage.MAX implicit s in
     let file = c.new.ensures.file ∙ c.ast-ast.ensures.value in
     let implicit = c.new.ensures.implicit ∙ (λ i. implicit_of (c.yacc_kind-kind.ensures i) (c.ast-ast.ensures.value i)) in
-    too_large g.S.Storage.MAX parsed.kind parsed.syntax parsed.errors c.in_ok-storage_too_small.field-0 c.ast-ast.ensures.sound (c.is_valid.ensures.0 c.if-not-is_valid.false)
+    too_large g.S.Storage.MAX parsed c.in_ok-storage_too_small.field-0 c.ast-ast.ensures.sound (c.is_valid.ensures.0 c.if-not-is_valid.false)
     (λ room. true≢false (sym (c.fits.ensures.1 (of_both HasRoom _ _ _ _ file implicit room)) ∙ c.if-not-fits.true))
     c.in_ok-storage_too_small.ensures
 
@@ -35,7 +35,7 @@ returns-clause-answer g c =
     let HasRoom = λ (s : Syntax) (implicit : Option (List (List ℕ))). LeavesRoom g.S.Storage.MAX implicit s in
     let file = c.new.ensures.file ∙ c.ast-ast.ensures.value in
     let implicit = c.new.ensures.implicit ∙ (λ i. implicit_of (c.yacc_kind-kind.ensures i) (c.ast-ast.ensures.value i)) in
-    answered g.S.Storage.MAX parsed.kind parsed.syntax parsed.errors c.in_ok-from_valid.field-0 c.ast-ast.ensures.sound (c.is_valid.ensures.0 c.if-not-is_valid.false)
+    answered g.S.Storage.MAX parsed c.in_ok-from_valid.field-0 c.ast-ast.ensures.sound (c.is_valid.ensures.0 c.if-not-is_valid.false)
     (of_both HasRoom _ _ _ _ (sym file) (sym implicit) (c.fits.ensures.0 c.if-not-fits.false))
     (c.in_ok-from_valid.ensures ∙ (λ i. numbered (c.yacc_kind-kind.ensures i) (c.ast-ast.ensures.value i)))
 
