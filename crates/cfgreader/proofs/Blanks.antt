@@ -6,7 +6,7 @@ use Rattle.cfgast.specs.View.{syntax_built}
 use Rattle.cfgreader.specs.declared.reader.Reader.{Reader}
 use Rattle.cfgreader.specs.declared.reader.ReadFault.{ReadFault}
 use Rattle.cfgreader.specs.declared.reader.ReadFault.TheVariants as errors
-use Rattle.cfgreader.specs.Builds.{IsPartHere, Fails, Builds, Grows}
+use Rattle.cfgreader.specs.Inner.Builds.{IsPartHere, Fails, Builds, Grows}
 use Rattle.cfgreader.specs.Here.{blank_here}
 use Rattle.cfgreader.proofs.Steps.{adds_none}
 

@@ -10,7 +10,7 @@ use Rattle.cfgast.specs.declared.ast.GrammarAST.{GrammarAST}
 use Rattle.cfgast.proofs.Law.{adds_syntax_of}
 use Rattle.cfgkinds.specs.declared.kind.YaccKind.{YaccKind}
 use Rattle.cfgreader.specs.declared.reader.Reader.{Reader}
-use Rattle.cfgreader.specs.Builds.{Grows, IsFile}
+use Rattle.cfgreader.specs.Inner.Builds.{Grows, IsFile}
 use Rattle.cfgreader.specs.Grammar.{file}
 
 module _ (kind : YaccKind) (len : ℕ) (rest : List ℕ) (old : Reader) (whole : old.rest.now ≡ rest) (long : old.len ≡ len) where

@@ -1,8 +1,9 @@
 -- What holds of all that rules give, construct by construct, and of all that a whole file gives.
-use Rattle.std.proofs.Common.{◌==◌, ℕ, ◌≤◌, Bool, true, false, List, [], ◌∷◌, fold, length, unwrap_or, Option, Some, None, All, codes, refl, arith}
+use Rattle.std.proofs.Common.{◌≡◌, ◌==◌, ℕ, suc, ◌-◌, ◌≤◌, Bool, true, false, List, [], ◌∷◌, filter_map, length, slice_get, option_map, unwrap_or, Option, Some, None, All, codes, refl, sym, ap, subst, arith}
 use Rattle.std.specs.Prelude.{IfSome}
 use Rattle.std.specs.Str.{IsUtf8, IsCharBoundary}
-use Rattle.std.proofs.lemmas.List.Elements.{All-head, All-nil, All-push, All-tail, All-weaker}
+use Rattle.std.specs.Option.{option_or}
+use Rattle.std.proofs.lemmas.List.Elements.{All-append, All-cons, All-head, All-nil, All-tail, All-weaker}
 use Rattle.reading.specs.Construct.{repeat, while_test, Says}
 use Rattle.reading.proofs.Keeps.{Given, keeps, given_passes}
 use Rattle.reading.proofs.Yields.{Yields}
@@ -14,9 +15,10 @@ use Rattle.cfgwords.proofs.Cuts.{IsCut, place_cut, boundary_cut}
 use Rattle.cfgwords.proofs.NameStarts.{name_begins}
 use Rattle.cfgwords.proofs.WordPlaces.{IsReached, IsTokenBehind, reached, reached_here, reached_on, name_at, token_is_at, word_passed, fault_is_at, blank_is_at, colon_text_is_at, action_is_at}
 use Rattle.cfgast.specs.Items.{Item, RuleHead}
+use Rattle.cfgast.specs.Syntax.{last_of}
 use Rattle.cfgkinds.specs.declared.kind.YaccKind.{YaccKind}
 use Rattle.cfgreader.specs.Here.{Turn}
-use Rattle.cfgreader.specs.Rules.{Part, SymbolPart, PrecedencePart, EmptyPart, Parts, no_parts, with_part, end_of, gather, precedence, empty, misplaced_empty, front_part, symbol_part, part, brace_fault, end_fault, another, finish, production_end, production, rule_type, rule_body, rule}
+use Rattle.cfgreader.specs.Rules.{Part, SymbolPart, PrecedencePart, EmptyPart, Parts, no_parts, with_parts, part_end, symbol_in, end_of, parts_row, precedence, empty, misplaced_empty, front_part, symbol_part, part, brace_fault, end_fault, another, finish, production_end, production, rule_type, rule_body, rule}
 use Rattle.cfgreader.specs.Grammar.{programs, file}
 use Rattle.cfgreader.proofs.Kept.{IsNameAt, IsItemAt, IsAt, KeepsPlaces}
 use Rattle.cfgreader.proofs.KeptDeclarations.{declaration_kept, separator_fault_kept}
@@ -31,6 +33,11 @@ record ArePartsAt (whole from : List ℕ) (parts : Parts) : Type 0 where
   symbols : All (λ token. IsWordAt whole (word_of token)) parts.symbols
   end : IfSome parts.end (λ end. (place (length whole) from ≤ end) × IsCharBoundary whole end)
 
+last_behind : {A : Type 0} (x y : A) (ys : List A) → last_of (x ∷ y ∷ ys) ≡ last_of (y ∷ ys)
+last_behind x y ys =
+    let at : length (x ∷ y ∷ ys) - 1 ≡ suc (length (y ∷ ys) - 1) = omega arith in
+    ap (slice_get (x ∷ y ∷ ys)) at
+
 module _ (whole : List ℕ) (utf8 : IsUtf8 whole) where
   abbrev len : ℕ
   len = length whole
@@ -38,18 +45,36 @@ module _ (whole : List ℕ) (utf8 : IsUtf8 whole) where
   no_parts_at : (from : List ℕ) → ArePartsAt whole from no_parts
   no_parts_at from = record { symbols = All-nil (λ token. IsWordAt whole (word_of token)); end = tt }
 
-  with_part_at : (from : List ℕ) (parts : Parts) (part : Part) → ArePartsAt whole from parts → IsPartAt whole from part → ArePartsAt whole from (with_part parts part)
-  with_part_at from parts (SymbolPart token) before at = record {
-    symbols = All-push (λ (token : Token). IsWordAt whole (word_of token)) parts.symbols token before.symbols at.piece;
-    end = (at.behind, at.ends_at);
-  }
-  with_part_at from parts (PrecedencePart token) before at = record { symbols = before.symbols; end = (at.behind, at.ends_at) }
-  with_part_at from parts (EmptyPart end) before at = record { symbols = before.symbols; end = at }
+  symbols_at : (from : List ℕ) (parts : List Part) → All (IsPartAt whole from) parts → All (λ token. IsWordAt whole (word_of token)) (filter_map symbol_in parts)
+  symbols_at from [] all = All-nil (λ token. IsWordAt whole (word_of token))
+  symbols_at from (SymbolPart token ∷ parts) all =
+      All-cons (λ (token : Token). IsWordAt whole (word_of token)) token (filter_map symbol_in parts) (All-head (IsPartAt whole from) (SymbolPart token) parts all).piece
+      (symbols_at from parts (All-tail (IsPartAt whole from) (SymbolPart token) parts all))
+  symbols_at from (PrecedencePart token ∷ parts) all = symbols_at from parts (All-tail (IsPartAt whole from) (PrecedencePart token) parts all)
+  symbols_at from (EmptyPart end ∷ parts) all = symbols_at from parts (All-tail (IsPartAt whole from) (EmptyPart end) parts all)
 
-  parts_at : (from : List ℕ) (parts : Parts) (more : List Part) → ArePartsAt whole from parts → All (IsPartAt whole from) more → ArePartsAt whole from (fold with_part parts more)
-  parts_at from parts [] before all = before
-  parts_at from parts (part ∷ more) before all =
-      parts_at from (with_part parts part) more (with_part_at from parts part before (All-head (IsPartAt whole from) part more all)) (All-tail (IsPartAt whole from) part more all)
+  -- an end is at a place of the text, behind the one where its production begins
+  abbrev IsEndAt : (from : List ℕ) → ℕ → Type 0
+  IsEndAt from end = (place (length whole) from ≤ end) × IsCharBoundary whole end
+
+  part_end_at : (from : List ℕ) (part : Part) → IsPartAt whole from part → IsEndAt from (part_end part)
+  part_end_at from (SymbolPart token) at = (at.behind, at.ends_at)
+  part_end_at from (PrecedencePart token) at = (at.behind, at.ends_at)
+  part_end_at from (EmptyPart end) at = at
+
+  end_at : (from : List ℕ) (before : Option ℕ) (parts : List Part) → IfSome before (IsEndAt from) → All (IsPartAt whole from) parts
+      → IfSome (option_or (option_map part_end (last_of parts)) before) (IsEndAt from)
+  end_at from before [] there all = there
+  end_at from before (part ∷ []) there all = part_end_at from part (All-head (IsPartAt whole from) part [] all)
+  end_at from before (part ∷ next ∷ parts) there all =
+      subst (λ o. IfSome (option_or (option_map part_end o) before) (IsEndAt from)) (sym (last_behind part next parts))
+      (end_at from before (next ∷ parts) there (All-tail (IsPartAt whole from) part (next ∷ parts) all))
+
+  parts_at : (from : List ℕ) (before : Parts) (more : List Part) → ArePartsAt whole from before → All (IsPartAt whole from) more → ArePartsAt whole from (with_parts before more)
+  parts_at from before more at all = record {
+    symbols = All-append (λ (token : Token). IsWordAt whole (word_of token)) before.symbols (filter_map symbol_in more) at.symbols (symbols_at from more all);
+    end = end_at from before.end more at.end all;
+  }
 
   -- a part behind a place is behind each place before it
   part_on : (from text : List ℕ) → IsReached whole from text → (part : Part) → IsPartAt whole text part → IsPartAt whole from part
@@ -121,10 +146,10 @@ module _ (whole : List ℕ) (utf8 : IsUtf8 whole) where
     ),
   )
 
-  gather_kept : (c : Turn Part) (from : List ℕ) (before : Parts) → KeepsParts c from → ArePartsAt whole from before
-      → (Q : Parts → Type 0) → ((parts : Parts) → ArePartsAt whole from parts → Q parts) → KeepsPlaces whole (gather c before) from Q
-  unfolding gather
-  gather_kept c from before kept at Q q = (
+  row_kept : (c : Turn Part) (from : List ℕ) (before : Parts) → KeepsParts c from → ArePartsAt whole from before
+      → (Q : Parts → Type 0) → ((parts : Parts) → ArePartsAt whole from parts → Q parts) → KeepsPlaces whole (parts_row c before) from Q
+  unfolding parts_row
+  row_kept c from before kept at Q q = (
     kept (λ _. Unit {0}) (λ _ _. tt) tt,
     λ parts givens. q _ (parts_at from before parts at (All-weaker (λ part. Given (IsReached whole) c from (Some part)) (IsPartAt whole from)
         (λ part. given_passes (IsReached whole) (IsItemAt whole) (IsAt whole) (reached_here whole utf8) (reached_on whole utf8) c from (λ o. IfSome o (IsPartAt whole from)) (kept (λ o. IfSome o (IsPartAt whole from)) (λ part at. at) tt) (Some part)) parts givens)),
@@ -170,8 +195,8 @@ module _ (whole : List ℕ) (utf8 : IsUtf8 whole) where
   production_kept : (from : List ℕ) (head : RuleHead) → IsNameAt whole head.name → KeepsPlaces whole (production len head) from (λ _. Unit {0})
   unfolding production
   production_kept from head n = λ text t.
-      gather_kept (front_part len) text no_parts (front_part_kept text) (no_parts_at text) _
-      (λ front front_at. gather_kept (part len) text front (part_kept text) front_at _
+      row_kept (front_part len) text no_parts (front_part_kept text) (no_parts_at text) _
+      (λ front front_at. row_kept (part len) text front (part_kept text) front_at _
       (λ parts at. production_end_kept text head parts (reached whole utf8 from text t) n at))
 
   rule_type_kept : (from : List ℕ) (Q : Option (List ℕ) → Type 0) → ((o : Option (List ℕ)) → Q o) → KeepsPlaces whole (rule_type len) from Q

@@ -13,7 +13,7 @@ use Rattle.cfgreader.specs.declared.reader.Reader.{Reader}
 use Rattle.cfgreader.specs.declared.reader.ReadFault.{ReadFault}
 use Rattle.cfgreader.specs.declared.reader.ReadFault.TheVariants as errors
 use Rattle.cfgreader.specs.Here.{Strict, Turn}
-use Rattle.cfgreader.specs.Builds.{Builds, Fails, Grows}
+use Rattle.cfgreader.specs.Inner.Builds.{Builds, Fails, Grows}
 use Rattle.cfgreader.proofs.Steps.{adds_none, adds_append}
 
 -- what was read, and how it ended, against what the code did

@@ -1,7 +1,11 @@
 -- The loops over the parts of a production.
-use Rattle.std.proofs.Common.{◌≡◌, ℕ, ◌≤◌, fold, length, Option, Some, None, Ok, option_map, refl, sym, ap, subst, ◌∙◌, arith, append-nil, ◌<◌}
+use Rattle.std.proofs.Common.{◌≡◌, ℕ, ◌≤◌, List, [], ◌∷◌, ◌++◌, filter_map, length, Option, Some, None, Ok, option_map, refl, sym, ap, subst, ◌∙◌, arith, append-nil, append_assoc, length-append, ◌<◌}
 use Rattle.std.specs.Prelude.{IfSome}
-use Rattle.std.proofs.lemmas.List.Sums.{fold_push}
+use Rattle.std.specs.Option.{option_or}
+use Rattle.std.proofs.lemmas.List.Elements.{filter_map-append}
+use Rattle.lemmas.specs.Lists.{pushed}
+use Rattle.lemmas.proofs.Elements.{slice_get_push}
+use Rattle.lemmas.proofs.Pushed.{filter_map-pushed}
 use Rattle.reading.specs.Leaves.{Gives, ValueOf, Leaves}
 use Rattle.reading.specs.Read.{gives, follow_outcome}
 use Rattle.reading.specs.Construct.{Construct}
@@ -10,14 +14,15 @@ use Rattle.reading.proofs.Loops.{front_done, front_stopped}
 use Rattle.cfgwords.specs.declared.fault.Fault.{Fault}
 use Rattle.cfgwords.specs.Text.{place}
 use Rattle.cfgast.specs.Items.{Item}
+use Rattle.cfgast.specs.Syntax.{last_of}
 use Rattle.cfgreader.specs.declared.bodies.Part.{Part as CodePart}
 use Rattle.cfgreader.specs.declared.bodies.Parts.{Parts as CodeParts}
 use Rattle.cfgreader.specs.declared.reader.Reader.{Reader}
 use Rattle.cfgreader.specs.declared.reader.ReadFault.{ReadFault}
 use Rattle.cfgreader.specs.declared.reader.ReadFault.TheVariants as errors
 use Rattle.cfgreader.specs.Here.{Turn}
-use Rattle.cfgreader.specs.Rules.{Part, Parts, SymbolPart, PrecedencePart, EmptyPart, with_part, part_end, gather}
-use Rattle.cfgreader.specs.Builds.{Builds, Fails, part_view, parts_view}
+use Rattle.cfgreader.specs.Rules.{Part, Parts, SymbolPart, PrecedencePart, EmptyPart, part_end, precedence_in, parts_row, symbol_in, with_parts}
+use Rattle.cfgreader.specs.Inner.Builds.{Builds, Fails, part_view, parts_view}
 use Rattle.cfgreader.proofs.Loops.{Gathers, gathers_start, gathers_on, turn_shorter, built, stopped, read, grown}
 
 -- what was passed leaves no more of the text, so the place behind it isn't before its own
@@ -25,16 +30,45 @@ pub place_on : {l : Leaves} {G : Gives} {X : Type 0} (c : Construct Item Fault l
     → Builds view now next (Ok x) c → place now.len now.rest.now ≤ place next.len next.rest.now
 place_on c view now next x builds = omega (arith, (leaves c).least now.rest.now (view x) next.rest.now builds.0, builds.1)
 
--- a part ends where it is the last
-last_end : (parts : Parts) (part : Part) → (with_part parts part).end ≡ Some (part_end part)
-last_end parts (SymbolPart token) = refl
-last_end parts (PrecedencePart token) = refl
-last_end parts (EmptyPart end) = refl
+-- the last of a list that grows
+last_of-push : {A : Type 0} (xs : List A) (x : A) → last_of (xs ++ x ∷ []) ≡ Some x
+last_of-push xs x = slice_get_push xs x _ (omega (arith, length-append xs (x ∷ [])))
+
+last_of-pushed : {A : Type 0} (xs : List A) (o : Option A) → last_of (pushed xs o) ≡ option_or o (last_of xs)
+last_of-pushed xs None = refl
+last_of-pushed xs (Some x) = last_of-push xs x
+
+-- no more parts
+with_none : (before : Parts) → with_parts before [] ≡ before
+with_none before = λ i. record { symbols = append-nil before.symbols i; precedence = before.precedence; end = before.end }
+
+-- What the code does with a part is what its row says of all: the fold of a row is its summary.
+with_push : (before : Parts) (parts : List Part) (part : Part) → with_parts before (parts ++ part ∷ []) ≡ with_parts (with_parts before parts) (part ∷ [])
+with_push before parts part = λ i. record { symbols = symbols i; precedence = precedence i; end = ap (λ o. option_or (option_map part_end o) before.end) (last_of-push parts part) i }
+  where
+    symbols : before.symbols ++ filter_map symbol_in (parts ++ part ∷ []) ≡ (before.symbols ++ filter_map symbol_in parts) ++ filter_map symbol_in (part ∷ [])
+    symbols = ap (λ xs. before.symbols ++ xs) (filter_map-append symbol_in parts (part ∷ [])) ∙ sym (append_assoc before.symbols (filter_map symbol_in parts) (filter_map symbol_in (part ∷ [])))
+
+    either : (o p : Option (List ℕ)) → option_or (option_or o p) before.precedence ≡ option_or o (option_or p before.precedence)
+    either None p = refl
+    either (Some x) p = refl
+
+    last_one : (part : Part) → last_of (filter_map precedence_in (part ∷ [])) ≡ precedence_in part
+    last_one (SymbolPart token) = refl
+    last_one (PrecedencePart token) = refl
+    last_one (EmptyPart end) = refl
+
+    precedence : option_or (last_of (filter_map precedence_in (parts ++ part ∷ []))) before.precedence
+        ≡ option_or (last_of (filter_map precedence_in (part ∷ []))) (option_or (last_of (filter_map precedence_in parts)) before.precedence)
+    precedence =
+        ap (λ o. option_or o before.precedence) (ap last_of (filter_map-pushed precedence_in parts part) ∙ last_of-pushed (filter_map precedence_in parts) (precedence_in part))
+        ∙ either (precedence_in part) (last_of (filter_map precedence_in parts))
+        ∙ ap (λ o. option_or o (option_or (last_of (filter_map precedence_in parts)) before.precedence)) (sym (last_one part))
 
 -- the parts so far: none ends before a place that isn't behind the start, where those before the loop don't
 pub record InParts (c : ℕ → Turn Part) (before : Parts) (start now : Reader) (parts : CodeParts) : Type 0 where
   pub gathers : Gathers c start now
-  pub values : parts_view parts ≡ fold with_part before gathers.values
+  pub values : parts_view parts ≡ with_parts before gathers.values
   pub shorter : length now.rest.now ≤ length start.rest.now
   pub ends : (from : ℕ) → from ≤ place start.len start.rest.now → IfSome before.end (λ end. from ≤ end) → IfSome parts.end (λ end. from ≤ end)
 
@@ -42,24 +76,24 @@ pub parts_start : (c : ℕ → Turn Part) (before : Parts) (start : Reader) (par
 unfolding gathers_start
 parts_start c before start parts same = record {
   gathers = gathers_start c start;
-  values = same;
+  values = same ∙ sym (with_none before);
   shorter = omega arith;
   ends = λ from here before_ends. subst (λ (p : Parts). IfSome p.end (λ end. from ≤ end)) (sym same) before_ends;
 }
 
 module _ (c : ℕ → Turn Part) (before : Parts) (start now : Reader) (parts : CodeParts) (so_far : InParts c before start now parts) (next : Reader) where
   pub parts_on : (more : CodeParts) (turn : Option CodePart) (x : CodePart) → Builds (option_map part_view) now next (Ok turn) (c now.len) → turn ≡ Some x
-      → IfSome turn (λ x. place now.len now.rest.now ≤ part_end (part_view x)) → parts_view more ≡ with_part (parts_view parts) (part_view x) → InParts c before start next more
+      → IfSome turn (λ x. place now.len now.rest.now ≤ part_end (part_view x)) → parts_view more ≡ with_parts (parts_view parts) (part_view x ∷ []) → InParts c before start next more
   unfolding gathers_on
   parts_on more turn x builds is after added =
       let gave = ap (option_map part_view) is in
       let less = turn_shorter c (option_map part_view) now next turn (part_view x) builds gave in
       let behind : place now.len now.rest.now ≤ part_end (part_view x) = subst (λ o. IfSome o (λ x. place now.len now.rest.now ≤ part_end (part_view x))) is after in
       let further : place start.len start.rest.now ≤ place now.len now.rest.now = omega (arith, so_far.shorter, so_far.gathers.len) in
-      let ended : more.end ≡ Some (part_end (part_view x)) = ap (λ (p : Parts). p.end) added ∙ last_end (parts_view parts) (part_view x) in
+      let ended : more.end ≡ Some (part_end (part_view x)) = ap (λ (p : Parts). p.end) added in
       record {
         gathers = gathers_on so_far.gathers next (option_map part_view) turn builds (part_view x) gave;
-        values = added ∙ ap (λ (p : Parts). with_part p (part_view x)) so_far.values ∙ sym (fold_push with_part before so_far.gathers.values (part_view x));
+        values = added ∙ ap (λ (p : Parts). with_parts p (part_view x ∷ [])) so_far.values ∙ sym (with_push before so_far.gathers.values (part_view x));
         shorter = omega (arith, so_far.shorter, less);
         ends = λ from here before_ends. subst (λ o. IfSome o (λ end. from ≤ end)) (sym ended) (omega (arith, here, further, behind));
       }
@@ -67,25 +101,25 @@ module _ (c : ℕ → Turn Part) (before : Parts) (start now : Reader) (parts : 
   pub parts_smaller : (turn : Option CodePart) (x : CodePart) → Builds (option_map part_view) now next (Ok turn) (c now.len) → turn ≡ Some x → length next.rest.now < length now.rest.now
   parts_smaller turn x builds is = turn_shorter c (option_map part_view) now next turn (part_view x) builds (ap (option_map part_view) is)
 
-  pub parts_done : (turn : Option CodePart) → Builds (option_map part_view) now next (Ok turn) (c now.len) → turn ≡ None → Builds parts_view start next (Ok parts) (gather (c start.len) before)
-  unfolding gather
+  pub parts_done : (turn : Option CodePart) → Builds (option_map part_view) now next (Ok turn) (c now.len) → turn ≡ None → Builds parts_view start next (Ok parts) (parts_row (c start.len) before)
+  unfolding parts_row
   parts_done turn builds is =
       let told = rw so_far.gathers.len at builds in
       let items = read so_far.gathers next in
       let all = front_done (leaves (c start.len)) so_far.gathers.front next.rest.now (told.0 ∙ ap (λ o. Ok (o, next.rest.now)) (ap (option_map part_view) is)) in
-      built (gather (c start.len) before) start next items (grown so_far.gathers next told.2) parts_view parts
-      (ap (λ r. follow_outcome r.items r.outcome (λ ps. gives (fold with_part before ps))) all
-      ∙ ap (λ xs. record { items = xs; outcome = Ok (fold with_part before so_far.gathers.values, next.rest.now) }) (append-nil items)
+      built (parts_row (c start.len) before) start next items (grown so_far.gathers next told.2) parts_view parts
+      (ap (λ r. follow_outcome r.items r.outcome (λ ps. gives (with_parts before ps))) all
+      ∙ ap (λ xs. record { items = xs; outcome = Ok (with_parts before so_far.gathers.values, next.rest.now) }) (append-nil items)
       ∙ ap (λ p. record { items = items; outcome = Ok (p, next.rest.now) }) (sym so_far.values)) told.1
 
-  pub parts_fail : (e : ReadFault) → Fails now next e (c now.len) → Fails start next e (gather (c start.len) before)
-  unfolding gather
+  pub parts_fail : (e : ReadFault) → Fails now next e (c now.len) → Fails start next e (parts_row (c start.len) before)
+  unfolding parts_row
   parts_fail errors.OutOfMemory fails = tt
   parts_fail (errors.Fault fault) fails =
       let turn = rw so_far.gathers.len at fails in
       let items = read so_far.gathers next in
-      stopped (gather (c start.len) before) start next items (grown so_far.gathers next turn.1) fault
-      (ap (λ r. follow_outcome r.items r.outcome (λ ps. gives (fold with_part before ps))) (front_stopped (leaves (c start.len)) so_far.gathers.front fault turn.0))
+      stopped (parts_row (c start.len) before) start next items (grown so_far.gathers next turn.1) fault
+      (ap (λ r. follow_outcome r.items r.outcome (λ ps. gives (with_parts before ps))) (front_stopped (leaves (c start.len)) so_far.gathers.front fault turn.0))
 
   pub parts_shorter : (turn : Option CodePart) → Builds (option_map part_view) now next (Ok turn) (c now.len) → length next.rest.now ≤ length start.rest.now
   parts_shorter turn builds = omega (arith, so_far.shorter, (leaves (c now.len)).least now.rest.now _ _ builds.0)

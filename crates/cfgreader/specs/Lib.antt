@@ -1,6 +1,6 @@
-pub mod Builds
+-- Who relies on the calls of this crate has to read these files; those in Inner have the words of private clauses.
 pub mod Declarations
 pub mod Grammar
 pub mod Here
-pub mod Lists
+pub mod Inner
 pub mod Rules

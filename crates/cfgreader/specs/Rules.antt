@@ -1,5 +1,7 @@
 -- Rules, construct by construct: what stands behind the first `%%`. `do` is sequence.
-use Rattle.std.specs.Prelude.{ℕ, Bool, true, false, ◌==◌, ◌||◌, ◌&&◌, not, Option, Some, None, List, [], ◌∷◌, ◌++◌, fold, unwrap_or, codes}
+use Rattle.std.specs.Prelude.{ℕ, Bool, true, false, ◌==◌, ◌||◌, ◌&&◌, not, Option, Some, None, List, [], ◌∷◌, ◌++◌, option_map, unwrap_or, codes}
+use Rattle.std.specs.List.{filter_map}
+use Rattle.std.specs.Option.{option_or}
 use Rattle.reading.specs.Pieces.{starts}
 use Rattle.reading.specs.Construct.{◌>>=◌, ◌>>◌, then, case_of, choice, here, again, goes_on, ends, many, repeat, word_or, gives, emits, fails, expect}
 use Rattle.cfgbase.specs.declared.span.Span.{Span}
@@ -10,6 +12,7 @@ use Rattle.cfgwords.specs.Text.{place, fault_at}
 use Rattle.cfgwords.specs.Words.{Token, word_of}
 use Rattle.cfgwords.specs.Actions.{IsAction, action_of, action_at}
 use Rattle.cfgwords.proofs.ActionFinder.{action_finder, action_shorter}
+use Rattle.cfgast.specs.Syntax.{last_of}
 use Rattle.cfgast.specs.Items.{Item, RuleHead, Body, RuleBegun, RuleNamed, TokenQuoted, PrecedenceUsed, Alternative}
 use Rattle.cfgkinds.specs.declared.kind.YaccKind.{YaccKind}
 use Rattle.cfgkinds.specs.declared.kind.YaccKind.TheVariants.{Grmtools}
@@ -35,10 +38,21 @@ pub record Parts : Type 0 where
 abbrev pub no_parts : Parts
 no_parts = record { symbols = []; precedence = None; end = None }
 
-abbrev pub with_part : Parts → Part → Parts
-with_part parts (SymbolPart token) = record parts { symbols = parts.symbols ++ token ∷ []; end = Some token.end }
-with_part parts (PrecedencePart token) = record parts { precedence = Some token.name; end = Some token.end }
-with_part parts (EmptyPart end) = record parts { end = Some end }
+abbrev pub symbol_in : Part → Option Token
+symbol_in (SymbolPart token) = Some token
+symbol_in _ = None
+
+abbrev pub precedence_in : Part → Option (List ℕ)
+precedence_in (PrecedencePart token) = Some token.name
+precedence_in _ = None
+
+-- with more parts behind: the symbols among them, the last precedence among them, and the end of the last one
+abbrev pub with_parts : Parts → List Part → Parts
+with_parts before more = record {
+  symbols = before.symbols ++ filter_map symbol_in more;
+  precedence = option_or (last_of (filter_map precedence_in more)) before.precedence;
+  end = option_or (option_map part_end (last_of more)) before.end;
+}
 
 -- where a production without an action ends: behind its last part, or at the place behind it where it is bare
 abbrev pub end_of : Parts → ℕ → ℕ
@@ -65,10 +79,10 @@ abbrev pub is_rule_next : List ℕ → Bool
 is_rule_next text = is_open text && not (stands (codes "%%") text)
 
 -- a row of parts, behind those that were read before
-unfoldable pub gather : Turn Part → Parts → Lax Parts
-gather c before = do
-  ps ← many c
-  gives (fold with_part before ps)
+unfoldable pub parts_row : Turn Part → Parts → Lax Parts
+parts_row c before = do
+  parts ← many c
+  gives (with_parts before parts)
 
 -- len is the whole text's length
 module _ (len : ℕ) where
@@ -121,10 +135,10 @@ module _ (len : ℕ) where
 
   -- the parts before the first symbol, and those from there on
   abbrev pub front_parts : Lax Parts
-  front_parts = gather front_part no_parts
+  front_parts = parts_row front_part no_parts
 
   abbrev pub more_parts : Parts → Lax Parts
-  more_parts front = gather part front
+  more_parts front = parts_row part front
 
   -- where `|` or `;` must stand: behind an action, and elsewhere in a body
   abbrev pub end_fault : Bool → List ℕ → Fault

@@ -1,12 +1,12 @@
 //! The parts of a production: its symbols, `%prec` and `%empty`.
 
-ghost use Rattle.std.specs.Prelude.{◌≡◌, ◌≤◌, ℕ, IfOk, IfSome, OnOk, length, option_map};
+ghost use Rattle.std.specs.Prelude.{◌≡◌, ◌≤◌, ℕ, [], ◌∷◌, IfOk, IfSome, OnOk, length, option_map};
 ghost use Rattle.cfgwords.specs.Text.{place, fault_at};
 ghost use Rattle.cfgwords.specs.declared.fault.FaultKind.TheVariants.{NonEmptyProduction};
-ghost use Rattle.cfgreader.specs.Builds.{part_view, parts_view};
+ghost use Rattle.cfgreader.specs.Inner.Builds.{part_view, parts_view};
 ghost use Rattle.cfgreader.specs.Rules.{EmptyPart, PrecedencePart, SymbolPart, empty, front_part, front_parts};
 ghost use Rattle.cfgreader.specs.Rules.{part_end, may_follow_empty, misplaced_empty, more_parts, no_parts, part};
-ghost use Rattle.cfgreader.specs.Rules.{precedence, symbol_part, with_part};
+ghost use Rattle.cfgreader.specs.Rules.{precedence, symbol_part, with_parts};
 
 use super::reader::{ReadFault, Reader};
 use cfgwords::fault::FaultKind;
@@ -53,7 +53,7 @@ impl<'a> Parts<'a> {
     ///
     /// Want of memory.
     fn add(&mut self, part: Part<'a>) -> Result<(), AllocError>
-        ensures { OnOk result (parts_view self.new ≡ with_part (parts_view self.old) (part_view part.entry)) }
+        ensures { OnOk result (parts_view self.new ≡ with_parts (parts_view self.old) (part_view part.entry ∷ [])) }
     {
         match part {
             Part::Symbol(token) => {
@@ -71,7 +71,7 @@ impl<'a> Parts<'a> {
 }
 
 impl<'a> Reader<'a> {
-    ghost use Rattle.cfgreader.specs.Builds.{Builds};
+    ghost use Rattle.cfgreader.specs.Inner.Builds.{Builds};
     ghost use Rattle.cfgast.specs.View.{token_view};
 
     /// Passes what stands behind `%prec`.

@@ -20,7 +20,7 @@ use cfgwords::fault::FaultKind;
 use cfgwords::words::Word;
 
 impl<'a> Reader<'a> {
-    ghost use Rattle.cfgreader.specs.Builds.{Builds};
+    ghost use Rattle.cfgreader.specs.Inner.Builds.{Builds};
 
     /// Passes a token of a `%token` list and the blank behind it.
     #[tactic(auto, unfolding(crate::specs::Declarations::listed_token, cfgast::specs::Building::adds))]

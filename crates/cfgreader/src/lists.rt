@@ -6,7 +6,7 @@ ghost use Rattle.cfgast.specs.Building.{add};
 ghost use Rattle.cfgast.specs.Items.{PrecedenceDeclared};
 ghost use Rattle.cfgast.specs.View.{syntax_built, word_view};
 ghost use Rattle.cfgreader.specs.Declarations.{line_token, level_token, precedence_declaration, marking_declaration};
-ghost use Rattle.cfgreader.specs.Lists.{begun, marked, said};
+ghost use Rattle.cfgreader.specs.Inner.Lists.{begun, marked, said};
 
 use super::reader::{ReadFault, Reader};
 use cfgast::{AssocKind, AstBuilder};
@@ -67,7 +67,7 @@ impl LineList {
 }
 
 impl Reader<'_> {
-    ghost use Rattle.cfgreader.specs.Builds.{Builds};
+    ghost use Rattle.cfgreader.specs.Inner.Builds.{Builds};
 
     /// Passes a token of the list and the blank behind it, and tells whether the list goes on: where the blank stays on
     /// its line.

@@ -3,7 +3,7 @@
 ghost use Rattle.std.specs.Prelude.{◌≡◌, ◌≤◌, Err, IfErr, IfOk, Ok, length};
 ghost use Rattle.reading.specs.Construct.{computes};
 ghost use Rattle.reading.specs.Read.{stop_of};
-ghost use Rattle.cfgreader.specs.Builds.{Grows, IsFile};
+ghost use Rattle.cfgreader.specs.Inner.Builds.{Grows, IsFile};
 ghost use Rattle.cfgreader.specs.Grammar.{file};
 
 use super::reader::{ReadFault, Reader};

@@ -68,7 +68,7 @@ pub(crate) struct Reader<'a> {
 }
 
 impl<'a> Reader<'a> {
-    ghost use Rattle.cfgreader.specs.Builds.{Builds, Grows, IsPartHere, IsNameHere, IsTokenHere};
+    ghost use Rattle.cfgreader.specs.Inner.Builds.{Builds, Grows, IsPartHere, IsNameHere, IsTokenHere};
     ghost use Rattle.cfgast.specs.View.{syntax, syntax_built, word_view, token_view};
     ghost use Rattle.cfgast.specs.Syntax.{syntax_of};
 

@@ -4,7 +4,7 @@ ghost use Rattle.std.specs.Prelude.{◌≡◌, ◌≤◌, IfSome, Some, is_some}
 ghost use Rattle.reading.specs.Construct.{goes_on, repeat, while_test};
 ghost use Rattle.cfgwords.specs.Text.{place};
 ghost use Rattle.cfgast.specs.Items.{Alternative};
-ghost use Rattle.cfgreader.specs.Builds.{IsActionHere, parts_view};
+ghost use Rattle.cfgreader.specs.Inner.Builds.{IsActionHere, parts_view};
 ghost use Rattle.cfgreader.specs.Grammar.{file, programs};
 ghost use Rattle.cfgreader.specs.Rules.{another, end_fault, end_of, finish, is_grmtools, is_rule_next, production};
 ghost use Rattle.cfgreader.specs.Rules.{production_end, rule, rule_body, rule_type};
@@ -18,7 +18,7 @@ use cfgwords::actions::leading_action;
 use cfgwords::fault::FaultKind;
 
 impl<'a> Reader<'a> {
-    ghost use Rattle.cfgreader.specs.Builds.{Builds};
+    ghost use Rattle.cfgreader.specs.Inner.Builds.{Builds};
     ghost use Rattle.cfgast.specs.View.{head_view, body_view};
 
     /// The fault where `|` or `;` must stand: behind an action, or elsewhere in a body.

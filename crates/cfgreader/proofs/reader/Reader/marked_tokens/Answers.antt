@@ -2,7 +2,7 @@ use Rattle.std.proofs.Common.{ap}
 use Rattle.std.proofs.lemmas.Result.{err_from_is_err_and}
 use Rattle.reading.specs.Construct.{goes_on}
 use Rattle.cfgreader.specs.Declarations.{line_token}
-use Rattle.cfgreader.specs.Lists.{marked}
+use Rattle.cfgreader.specs.Inner.Lists.{marked}
 use Rattle.cfgreader.proofs.Loops.{gathers_start, gathers_on, repeat_fails, repeat_done, turn_shorter}
 use Rattle.cfgreader.proofs.reader.Reader.marked_tokens.Goals as goal
 

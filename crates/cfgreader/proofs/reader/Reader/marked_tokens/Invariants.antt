@@ -1,6 +1,6 @@
 use Rattle.std.proofs.Common.{length}
 use Rattle.cfgreader.specs.Declarations.{line_token}
-use Rattle.cfgreader.specs.Lists.{marked}
+use Rattle.cfgreader.specs.Inner.Lists.{marked}
 use Rattle.cfgreader.proofs.Loops.{Gathers}
 use Rattle.cfgreader.proofs.reader.Reader.marked_tokens.Given as goal
 

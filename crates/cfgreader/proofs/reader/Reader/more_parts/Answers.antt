@@ -1,7 +1,7 @@
 use Rattle.std.proofs.Common.{refl}
 use Rattle.std.proofs.lemmas.Result.{err_from_is_err_and}
 use Rattle.cfgreader.specs.Rules.{part}
-use Rattle.cfgreader.specs.Builds.{parts_view}
+use Rattle.cfgreader.specs.Inner.Builds.{parts_view}
 use Rattle.cfgreader.proofs.Parts.{parts_start, parts_on, parts_smaller, parts_done, parts_fail, parts_shorter}
 use Rattle.cfgreader.proofs.reader.Reader.more_parts.Goals as goal
 

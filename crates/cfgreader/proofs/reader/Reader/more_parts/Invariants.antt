@@ -1,6 +1,6 @@
 use Rattle.std.proofs.Common.{length}
 use Rattle.cfgreader.specs.Rules.{part}
-use Rattle.cfgreader.specs.Builds.{parts_view}
+use Rattle.cfgreader.specs.Inner.Builds.{parts_view}
 use Rattle.cfgreader.proofs.Parts.{InParts}
 use Rattle.cfgreader.proofs.reader.Reader.more_parts.Given as goal
 
