@@ -17,6 +17,7 @@ abbrev pub count_positive : (ℕ → Bool) → List Sym → ℕ
 count_positive set [] = 0
 count_positive set (s ∷ a) = cond (is_in set s) 1 0 + count_positive set a
 
--- a rule that the list has in the set; a rule past its end is in it
+-- Whether a rule is in the set: it is out only where its bit says so. What is shown of a rule is that it is out for a reason, so of
+-- a number past the list's end, which is no rule's, nothing is to be shown.
 abbrev pub in_set : List Bool → ℕ → Bool
 in_set bits r = slice_index_or bits r true
