@@ -5,11 +5,11 @@ use Rattle.std.proofs.lemmas.List.Elements.{Contains-push}
 use Rattle.std.proofs.lemmas.List.Sorted.{Contains-permutation, IsPermutation-sym}
 use Rattle.derivation.specs.Grammar.{Rule, IsGrammar}
 use Rattle.cfganalysis.specs.Openings.{nth_production}
-use Rattle.cfganalysis.specs.Paths.{Reached, IsReached, Reaches}
+use Rattle.cfganalysis.specs.Paths.{Reached, IsHeldBy, IsReached, Reaches}
 use Rattle.cfganalysis.proofs.Searching.{reaches_as}
 use Rattle.cfgcosts.specs.Generator.{CostTables, IsGenerator, cost_answer}
 use Rattle.cfgcosts.specs.Levels.{Along, here, next}
-use Rattle.cfgcosts.specs.Minimal.{AreAsked, Holds, IsLinked, IsOwnBelow}
+use Rattle.cfgcosts.specs.Minimal.{AreAsked, IsOwnBelow}
 use Rattle.cfgcosts.proofs.Contained.{contains_cases, contains_first, contains_later, contains_none}
 use Rattle.cfgcosts.proofs.Searches.{Searching, search_begins, search_ends, search_goes_on, still_reached}
 use Rattle.cfgcosts.proofs.Tight.{own_costs}
@@ -43,19 +43,19 @@ module _ (x : CostTables) (r : ℕ) where
   }
 
   pub asking_goes_on : (n : ℕ) → IsGenerator x n → IsGrammar x.grammar → (b c : ℕ) (old mid new : Reached) (own : List ℕ) (listed listed' : List (ℕ × ℕ)) → Asking listed old → mid.rules ≡ old.rules
-      → old.waiting ≡ mid.waiting ++ b ∷ [] → ((p : ℕ) → Contains own p ↔ IsOwnBelow x b p) → Reaches (IsLinked (Holds x.grammar) own) mid new
+      → old.waiting ≡ mid.waiting ++ b ∷ [] → ((p : ℕ) → Contains own p ↔ IsOwnBelow x b p) → Reaches (IsHeldBy x.grammar own) mid new
       → cost_answer x b ≡ Some c → IsPermutation ((c, b) ∷ listed) listed' → Asking listed' new
   asking_goes_on n is grammar b c old mid new own listed listed' a same popped all w answer moved =
       let to = λ (e : ℕ × ℕ) (h : Contains ((c, b) ∷ listed) e). Contains-permutation ((c, b) ∷ listed) listed' e moved h in
       let from = λ (e : ℕ × ℕ) (h : Contains listed' e). Contains-permutation listed' ((c, b) ∷ listed) e (IsPermutation-sym ((c, b) ∷ listed) listed' moved) h in
-      let still = still_reached Asks x.grammar.rules HasAnswer (IsListed listed) b old mid new a.search same popped (IsLinked (Holds x.grammar) own) w in
+      let still = still_reached Asks x.grammar.rules HasAnswer (IsListed listed) b old mid new a.search same popped (IsHeldBy x.grammar own) w in
       record {
         search = search_goes_on Asks x.grammar.rules HasAnswer (IsListed listed) b old mid new a.search same popped (IsListed listed')
             (λ q d. (d.0, to (d.0, q) (contains_later (c, b) (d.0, q) listed d.1))) (c, to (c, b) (contains_first (c, b) listed))
             (λ q h. own_costs x n is grammar h.place q h.below.own h.holds)
-            (reaches_as (IsLinked (Holds x.grammar) own) (Asks b) mid new
-            (λ q h. record { place = h.place; below = (all h.place).0 h.among; holds = h.link })
-            (λ q h. record { place = h.place; among = (all h.place).1 h.below; link = h.holds }) w);
+            (reaches_as (IsHeldBy x.grammar own) (Asks b) mid new
+            (λ q h. record { place = h.place; below = (all h.place).0 h.among; holds = h.holds })
+            (λ q h. record { place = h.place; among = (all h.place).1 h.below; holds = h.holds }) w);
         first = still r a.first;
         costs = λ d q h. elim (contains_cases (c, b) (d, q) listed (from (d, q) h)) [
           | inl e ↦ (let first : c ≡ d = ap (λ (y : ℕ × ℕ). y.0) e in let second : b ≡ q = ap (λ (y : ℕ × ℕ). y.1) e in

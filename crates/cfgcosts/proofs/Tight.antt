@@ -1,8 +1,8 @@
 -- What the generator's tables tell of productions that cost what their rules do, and what derivations tell of them.
-use Rattle.std.proofs.Common.{◌≡◌, ℕ, ◌<◌, ◌≤◌, inl, inr, List, [], ◌∷◌, ◌++◌, Option, Some, None, Result, Ok, Err, All, Contains, arith, refl, sym, ap, subst, ◌∙◌}
-use Rattle.std.specs.Prelude.{MatchOption}
+use Rattle.std.proofs.Common.{◌≡◌, ℕ, ◌<◌, ◌≤◌, inl, inr, List, [], ◌∷◌, ◌++◌, length, get_or, Option, Some, None, Result, Ok, Err, All, Contains, arith, refl, sym, ap, subst, ◌∙◌}
 use Rattle.std.proofs.lemmas.Bool.{cases_lt}
-use Rattle.std.proofs.lemmas.List.{get_or_default}
+use Rattle.std.proofs.Math.Seq.{get_or-append_seam}
+use Rattle.std.proofs.lemmas.List.{get_or_append_left, get_or_default, length_push}
 use Rattle.lemmas.proofs.Elements.{within_from_get_or}
 use Rattle.std.proofs.lemmas.List.Elements.{All-get_or}
 use Rattle.std.proofs.lemmas.List.Sums.{sum_by-append}
@@ -20,9 +20,11 @@ use Rattle.cfgsums.proofs.Sums.{plus_parts, plus_both}
 use Rattle.cfgsums.proofs.Made.{cost_of-token}
 use Rattle.cfgcosts.specs.Generator.{CostTables, IsGenerator, cost_answer, token_cost}
 use Rattle.cfgcosts.specs.Levels.{Along, here, next, CostsAsItsRule, HandsOn, IsOwn}
-use Rattle.cfgcosts.specs.Minimal.{HasHeir, HasNoHeir, IsHeir, IsMinimal, IsOwnBelow, IsTight}
+use Rattle.cfgcosts.specs.Minimal.{AreKinds, HasHeir, HasNoHeir, IsHeir, IsKind, IsMinimal, IsOwnBelow, IsRowKind, IsTight}
 use Rattle.cfgcosts.specs.Open.{StopsAt}
 use Rattle.cfgcosts.specs.Splits.{Split, done, itself, part}
+use Rattle.cfgcosts.specs.declared.kinds.Kind.{Kind}
+use Rattle.cfgcosts.specs.declared.kinds.Kind.TheVariants as kinds
 use Rattle.cfgcosts.specs.declared.partial.Partial.{Partial}
 use Rattle.cfgcosts.proofs.Contained.{contains_cases, contains_none}
 use Rattle.cfgcosts.proofs.Gains.{HasCost, all_have_costs}
@@ -85,28 +87,52 @@ module _ (x : CostTables) where
         ]
       ]
 
--- what is found among the symbols of a tight production
-module _ (x : CostTables) (p c : ℕ) (symbols : List Sym) (tight : IsTight x p) (answer : cost_answer x (nth_production x.grammar p).rule ≡ Some c)
-    (same : symbols ≡ (nth_production x.grammar p).symbols) where
-  heir_found : (r : ℕ) → Contains symbols (Rule r) → cost_answer x r ≡ Some c → IsHeir x p r
-  heir_found r h e = record {
-    tight = tight;
-    among = subst (λ l. Contains l (Rule r)) same h;
-    same = e ∙ ap Some (one_cost x (nth_production x.grammar p).rule c tight.cost answer tight.rule);
-  }
+-- what a production is to its rule is told by its symbols, where the rule has a cost that is answered and isn't 0
+module _ (x : CostTables) (p c : ℕ) (place : p < length x.grammar.productions) (rule : rule_cost x.least (nth_production x.grammar p).rule ≡ Some c) where
+  cost_is : (tight : IsTight x p) → tight.cost ≡ c
+  cost_is tight = let both : Some c ≡ Some tight.cost = sym rule ∙ (answered_some (rule_cost x.least (nth_production x.grammar p).rule) tight.cost tight.rule).0 in cc
 
-  none_found : ((q : ℕ) → Contains symbols (Rule q) → cost_answer x q ≡ Some c → ⊥) → HasNoHeir x p
-  none_found never = record {
-    tight = tight;
-    none = λ q heir. never q (subst (λ l. Contains l (Rule q)) (sym same) heir.among)
-        (heir.same ∙ ap Some (one_cost x (nth_production x.grammar p).rule heir.tight.cost c heir.tight.rule answer));
-  }
+  module _ (some : 0 < c) (small : c < 65536) where
+    tight_now : sum_of (symbol_cost (token_cost x) (rule_cost x.least)) (nth_production x.grammar p).symbols ≡ Some c → IsTight x p
+    tight_now e = record {
+      place = place;
+      cost = c;
+      positive = some;
+      rule = some_answered (rule_cost x.least (nth_production x.grammar p).rule) c rule (omega (arith, small));
+      sum = e;
+    }
 
-  pub found : {A : Type 0} (number : A → ℕ) (o : Option A)
-      → MatchOption o ((q : ℕ) → Contains symbols (Rule q) → cost_answer x q ≡ Some c → ⊥) (λ r. Contains symbols (Rule (number r)) × (cost_answer x (number r) ≡ Some c))
-      → MatchOption o (HasNoHeir x p) (λ r. IsHeir x p (number r))
-  found number None h = none_found h
-  found number (Some r) h = heir_found (number r) h.0 h.1
+    pub kind_told : {S : Type 0} (number : S → ℕ) (kind : Kind S)
+        → IsRowKind number (token_cost x) (rule_cost x.least) c (nth_production x.grammar p).symbols kind → IsKind number x p kind
+    kind_told number kinds.Slack h = λ tight. h (tight.sum ∙ ap Some (cost_is tight))
+    kind_told number kinds.Own h = record {
+      tight = tight_now h.0;
+      none = λ q heir. h.1 q heir.among ((answered_some (rule_cost x.least q) heir.tight.cost heir.same).0 ∙ ap Some (cost_is heir.tight));
+    }
+    kind_told number (kinds.HandsOn r) h = record {
+      tight = tight_now h.0;
+      among = h.1;
+      same = some_answered (rule_cost x.least (number r.0)) c h.2 (omega (arith, small)) ∙ ap Some (sym (cost_is (tight_now h.0)));
+    }
+
+-- the kind that is read of a production, and kinds with one more
+module _ {S : Type 0} (number : S → ℕ) (x : CostTables) where
+  pub kind_read : (listed : List (Kind S)) (p i : ℕ) (kind : Kind S) → AreKinds number x listed → i ≡ p → p < length x.grammar.productions → kind ≡ get_or listed i kind → IsKind number x p kind
+  kind_read listed p i kind are at within is =
+      let there : p < length listed = subst (λ n. p < n) (sym are.all) within in
+      subst (IsKind number x p) (get_or_default listed p kinds.Slack kind there ∙ sym (subst (λ n. kind ≡ get_or listed n kind) at is)) (are.each p there)
+
+  pub kinds_more : (listed listed' : List (Kind S)) (n : ℕ) (kind : Kind S) → length listed ≡ n → listed' ≡ listed ++ kind ∷ [] → IsKind number x n kind
+      → ((p : ℕ) → p < length listed → IsKind number x p (get_or listed p kinds.Slack)) → (p : ℕ) → p < length listed' → IsKind number x p (get_or listed' p kinds.Slack)
+  kinds_more listed listed' n kind len e one before p within = subst (λ l. IsKind number x p (get_or l p kinds.Slack)) (sym e) (
+      let longer = ap length e ∙ length_push listed kind in
+      elim (cases_lt p (length listed)) [
+        | inl lt ↦ subst (IsKind number x p) (sym (get_or_append_left listed (kind ∷ []) kinds.Slack p lt)) (before p lt)
+        | inr ge ↦
+            let is : p ≡ length listed = omega (arith, ge, within, longer) in
+            subst (λ m. IsKind number x m (get_or (listed ++ kind ∷ []) m kinds.Slack)) (sym is)
+            (subst (IsKind number x (length listed)) (sym (get_or-append_seam listed kind [] kinds.Slack)) (subst (λ m. IsKind number x m kind) (sym len) one))
+      ])
 
 -- what has a cost is a rule of the grammar
 pub answered_within : (x : CostTables) (n : ℕ) → IsGenerator x n → (q c : ℕ) → cost_answer x q ≡ Some c → q < x.grammar.rules

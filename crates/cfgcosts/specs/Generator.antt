@@ -1,5 +1,6 @@
 -- What a generator of sentences holds and answers.
 use Rattle.std.specs.Prelude.{◌≡◌, ◌↔◌, ℕ, ◌<◌, ◌≤◌, nat_le, if◌then◌else◌, List, Option, Some, None, Result, Ok, Err, IfOk, All, length, map, slice_index}
+use Rattle.cfgindex.specs.declared.idxnewtype.PIdx.{PIdx}
 use Rattle.derivation.specs.Grammar.{Sym, Token, Grammar, HasProduction}
 use Rattle.derivation.specs.Derivation.{Derives}
 use Rattle.derivation.specs.Sentence.{Sentence, cost_of}
@@ -8,7 +9,7 @@ use Rattle.cfganalysis.specs.Openings.{nth_production}
 use Rattle.cfgsums.specs.declared.errors.CostError.{CostError}
 use Rattle.cfgsums.specs.declared.errors.CostError.TheVariants.{NoSentence, CostTooLarge}
 use Rattle.cfgsums.specs.Lists.{rule_cost}
-use Rattle.cfgcosts.specs.Certificate.{rule_choice}
+use Rattle.cfgcosts.specs.Certificate.{choice_of, rule_choice}
 use Rattle.cfgcosts.specs.Settled.{AreSettled}
 
 -- a grammar, what its tokens cost, and for each rule its least cost, cut down to 65536, and the production chosen for it
@@ -17,6 +18,10 @@ pub record CostTables : Type 0 where
   pub costs : List ℕ
   pub least : List (Option ℕ)
   pub choices : List (Option (ℕ × ℕ))
+
+-- these, from the lists of the code
+abbrev pub tables_of : {S : Type 0} → (S → ℕ) → Grammar → List ℕ → List (Option ℕ) → List (Option (PIdx S × ℕ)) → CostTables
+tables_of number g costs least choices = record { grammar = g; costs = costs; least = least; choices = map (choice_of number) choices }
 
 -- what a token costs
 abbrev pub token_cost : CostTables → ℕ → ℕ

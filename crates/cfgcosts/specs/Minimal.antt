@@ -1,5 +1,5 @@
 -- All minimal sentences of a rule, from a table that is filled by rising costs.
-use Rattle.std.specs.Prelude.{◌≡◌, ◌↔◌, ℕ, ◌<◌, ◌⊎◌, List, [], ◌∷◌, ◌++◌, Some, Contains, length, map, slice_index_or, slice_set}
+use Rattle.std.specs.Prelude.{◌≡◌, ◌↔◌, ℕ, ◌<◌, ◌⊎◌, List, [], ◌∷◌, ◌++◌, Option, Some, Contains, length, map, slice_index_or, slice_set}
 use Rattle.std.specs.declared.cmp.Ordering.{Ordering}
 use Rattle.std.specs.declared.cmp.Ordering.TheVariants.{Greater}
 use Rattle.std.specs.Ordering.{nat_cmp}
@@ -9,13 +9,15 @@ use Rattle.std.specs.Prelude.{Vec}
 use Rattle.std.specs.declared.alloc.Global.{Global}
 use Rattle.cfgindex.specs.declared.idxnewtype.PIdx.{PIdx}
 use Rattle.cfgindex.specs.declared.idxnewtype.TIdx.{TIdx}
-use Rattle.derivation.specs.Grammar.{Sym, Rule, Token, Grammar, HasProduction}
+use Rattle.derivation.specs.Grammar.{Sym, Rule, Token, HasProduction}
 use Rattle.derivation.specs.Costs.{Minimal}
 use Rattle.cfganalysis.specs.Openings.{nth_production}
 use Rattle.cfgsums.specs.Sums.{sum_of, symbol_cost}
 use Rattle.cfgsums.specs.Lists.{rule_cost}
 use Rattle.cfgcosts.specs.Generator.{CostTables, cost_answer, token_cost}
 use Rattle.cfgcosts.specs.Levels.{Along}
+use Rattle.cfgcosts.specs.declared.kinds.Kind.{Kind}
+use Rattle.cfgcosts.specs.declared.kinds.Kind.TheVariants.{Slack, Own, HandsOn}
 
 -- the order of a dictionary, by the numbers of the tokens; a beginning comes first
 abbrev pub dictionary : List ℕ → List ℕ → Ordering
@@ -48,6 +50,25 @@ pub record HasNoHeir (x : CostTables) (p : ℕ) : Type 0 where
   pub tight : IsTight x p
   pub none : (q : ℕ) → IsHeir x p q → ⊥
 
+-- what a production of these symbols is to its rule, which has this cost
+abbrev pub IsRowKind : {S : Type 0} → (S → ℕ) → (ℕ → ℕ) → (ℕ → Option ℕ) → ℕ → List Sym → Kind S → Type 0
+IsRowKind number cost settled c symbols Slack = sum_of (symbol_cost cost settled) symbols ≡ Some c → ⊥
+IsRowKind number cost settled c symbols Own = (sum_of (symbol_cost cost settled) symbols ≡ Some c)
+    × ((q : ℕ) → Contains symbols (Rule q) → settled q ≡ Some c → ⊥)
+IsRowKind number cost settled c symbols (HandsOn r) = (sum_of (symbol_cost cost settled) symbols ≡ Some c)
+    × Contains symbols (Rule (number r.0)) × (settled (number r.0) ≡ Some c)
+
+-- what a production is to its rule
+abbrev pub IsKind : {S : Type 0} → (S → ℕ) → CostTables → ℕ → Kind S → Type 0
+IsKind number x p Slack = IsTight x p → ⊥
+IsKind number x p Own = HasNoHeir x p
+IsKind number x p (HandsOn r) = IsHeir x p (number r.0)
+
+-- what each production is to its rule
+pub record AreKinds {S : Type 0} (number : S → ℕ) (x : CostTables) (kinds : List (Kind S)) : Type 0 where
+  pub all : length kinds ≡ length x.grammar.productions
+  pub each : (p : ℕ) → p < length kinds → IsKind number x p (slice_index_or kinds p Slack)
+
 -- a rule that is an heir in a production of the rule
 pub record HasHeir (x : CostTables) (r q : ℕ) : Type 0 where
   pub place : ℕ
@@ -64,10 +85,6 @@ pub record IsLinked (Link : ℕ → ℕ → Type 0) (places : List ℕ) (q : ℕ
   pub place : ℕ
   pub among : Contains places place
   pub link : Link place q
-
--- a production holds the rule
-abbrev pub Holds : Grammar → ℕ → ℕ → Type 0
-Holds g p q = Contains (nth_production g p).symbols (Rule q)
 
 -- the numbers of productions
 abbrev pub places_of : {S : Type 0} → (S → ℕ) → List (PIdx S) → List ℕ

@@ -11,6 +11,7 @@ ghost use Rattle.cfgcosts.specs.Certificate.{IsCovered, IsReached, choice_of, ru
 ghost use Rattle.cfgcosts.specs.Generator.{AnswersLeast, HasNone, IsLeastProduction, IsTooDear, choice_answer};
 ghost use Rattle.cfgcosts.specs.Generator.{cost_answer, token_cost};
 
+use crate::kinds::{Kind, kinds};
 use crate::settle::{Settled, settle};
 use crate::walk::TOO_LARGE;
 use cfganalysis::Tables;
@@ -48,31 +49,26 @@ pub struct SentenceGenerator<'a, S: Storage, T: Tables<S>> {
     pub(crate) tables: &'a T,
     pub(crate) costs: Vec<u8>,
     pub(crate) settled: Settled<S>,
+    pub(crate) kinds: Vec<Kind<S>>,
     greatest: Vec<Result<Option<u16>, CostError>>,
 }
 
 impl<'a, S: Storage, T: Tables<S>> Model for SentenceGenerator<'a, S, T> {
-    ghost use Rattle.std.specs.Prelude.{map, slice_index};
-    ghost use Rattle.cfgcosts.specs.Certificate.{choice_of};
+    ghost use Rattle.std.specs.Prelude.{slice_index};
     ghost use Rattle.cfggreatest.specs.Words.{AreTold};
-    ghost use Rattle.cfgcosts.specs.Generator.{CostTables, IsGenerator};
+    ghost use Rattle.cfgcosts.specs.Generator.{CostTables, IsGenerator, tables_of};
+    ghost use Rattle.cfgcosts.specs.Minimal.{AreKinds};
 
     ghost Value = { CostTables };
 
-    ghost view = { λ x. record {
-      grammar = T.grammar x.tables.now;
-      costs = x.costs.items;
-      least = x.settled.least.items;
-      choices = map (choice_of S.number) x.settled.choices.items;
-    } };
+    ghost view = { λ x. tables_of S.number (T.grammar x.tables.now) x.costs.items x.settled.least.items
+        x.settled.choices.items };
 
-    ghost invariant = { λ x. IsGenerator (record {
-      grammar = T.grammar x.tables.now;
-      costs = x.costs.items;
-      least = x.settled.least.items;
-      choices = map (choice_of S.number) x.settled.choices.items;
-    }) x.settled.number
-        × AreTold (T.grammar x.tables.now) (slice_index x.costs.items) x.greatest.items };
+    ghost invariant = { λ x. IsGenerator (tables_of S.number (T.grammar x.tables.now) x.costs.items
+        x.settled.least.items x.settled.choices.items) x.settled.number
+        × AreTold (T.grammar x.tables.now) (slice_index x.costs.items) x.greatest.items
+        × AreKinds S.number (tables_of S.number (T.grammar x.tables.now) x.costs.items x.settled.least.items
+        x.settled.choices.items) x.kinds.items };
 }
 
 impl<'a, S: Storage, T: Tables<S>> SentenceGenerator<'a, S, T> {
@@ -99,11 +95,13 @@ impl<'a, S: Storage, T: Tables<S>> SentenceGenerator<'a, S, T> {
         let tokens_len = tables.tokens_len().0.to_usize();
         let costs = token_costs(alloc, tokens_len, cost)?;
         let settled = settle(alloc, tables, &costs)?;
+        let kinds = kinds(alloc, tables, &costs, &settled)?;
         let greatest = greatest_costs(alloc, tables, &costs)?;
         Ok(SentenceGenerator {
             tables,
             costs,
             settled,
+            kinds,
             greatest,
         })
     }

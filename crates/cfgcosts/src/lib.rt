@@ -4,12 +4,12 @@
 pub mod certificate;
 pub mod errors;
 pub mod generator;
+mod kinds;
 pub mod laws;
 mod minimal;
 mod over;
 mod partial;
 mod queue;
-mod search;
 mod sentence;
 mod settle;
 mod waiting;

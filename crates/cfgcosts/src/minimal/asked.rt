@@ -1,15 +1,13 @@
 //! The rules whose minimal sentences those of another are made of.
 
-ghost use Rattle.std.specs.Prelude.{◌≡◌, ℕ, ◌<◌, All, IfOk, OnOk, Some, length};
-ghost use Rattle.cfganalysis.specs.Paths.{Reaches};
+ghost use Rattle.std.specs.Prelude.{◌≡◌, ℕ, ◌<◌, IfOk, Some};
 ghost use Rattle.cfgcosts.specs.Generator.{cost_answer};
-ghost use Rattle.cfgcosts.specs.Minimal.{AreAsked, Holds, IsLinked, places_of};
+ghost use Rattle.cfgcosts.specs.Minimal.{AreAsked};
 
 use crate::generator::SentenceGenerator;
 use crate::queue::Queue;
-use crate::search::Search;
-use cfganalysis::Tables;
-use cfgindex::{PIdx, RIdx, Storage};
+use cfganalysis::{Search, Tables};
+use cfgindex::{RIdx, Storage};
 use std::alloc::{AllocError, Global};
 
 impl<'a, S: Storage, T: Tables<S>> SentenceGenerator<'a, S, T> {
@@ -23,24 +21,6 @@ impl<'a, S: Storage, T: Tables<S>> SentenceGenerator<'a, S, T> {
             Ok(cost) => u32::from(cost),
             Err(_) => 0,
         }
-    }
-
-    /// Reaches the rules in the productions.
-    ///
-    /// # Errors
-    ///
-    /// Want of memory.
-    fn reach_held(&self, own: &[PIdx<S>], search: &mut Search<S>) -> Result<(), AllocError>
-        requires rules { length search.old.rules ≡ self.now.grammar.rules }
-        requires own { All (λ p. p < length self.now.grammar.productions) (places_of S.number own.now) }
-        ensures { OnOk result (Reaches (IsLinked (Holds self.now.grammar) (places_of S.number own.now))
-            search.old search.new) }
-    {
-        let _rules = self.tables.rules_len();
-        for p in own {
-            search.reach_symbols(self.tables.prod(*p))?;
-        }
-        Ok(())
     }
 
     /// The rule, and the rules in own productions of rules that were asked for, or that these hand on to: each with its
@@ -59,7 +39,7 @@ impl<'a, S: Storage, T: Tables<S>> SentenceGenerator<'a, S, T> {
         search.reach(rule)?;
         while let Some(reached) = search.next() {
             let own = self.own_productions(alloc, reached)?;
-            self.reach_held(&own, &mut search)?;
+            search.reach_held(self.tables, &own)?;
             asked.push(self.known_cost(reached), reached.0.to_usize() as u32)?;
         }
         Ok(asked)

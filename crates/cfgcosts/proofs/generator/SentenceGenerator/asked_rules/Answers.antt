@@ -3,10 +3,10 @@ use Rattle.std.specs.List.Sorted.{IsPermutation}
 use Rattle.std.proofs.lemmas.List.{length-replicate}
 use Rattle.std.proofs.lemmas.List.Elements.{All-contains_itself, All-weaker}
 use Rattle.derivation.specs.Grammar.{IsGrammar}
-use Rattle.cfganalysis.specs.Paths.{Reached, Reaches}
+use Rattle.cfganalysis.specs.Paths.{IsHeldBy, Reached, Reaches}
 use Rattle.cfganalysis.proofs.Searching.{less_to_do}
 use Rattle.cfgcosts.specs.Generator.{CostTables, IsGenerator}
-use Rattle.cfgcosts.specs.Minimal.{Holds, IsLinked, places_of}
+use Rattle.cfgcosts.specs.Minimal.{places_of}
 use Rattle.cfgcosts.proofs.AskedRules.{Asking, asking_begins, asking_goes_on, asking_ends}
 use Rattle.cfgcosts.proofs.Searches.{popped_is, popped_within}
 use Rattle.cfgcosts.proofs.generator.SentenceGenerator.asked_rules.Goals as goal
@@ -26,14 +26,15 @@ pub own_productions-requires : goal.own_productions-requires
 own_productions-requires g c = popped_within _ _ _ _ _ _ _ c.loop-reached.search c.loop-reached.invariant.search c.in-Some.ensures.rules c.in-Some.ensures.waiting
 
 pub reach_held-requires-clause-rules : goal.reach_held-requires-clause-rules
-reach_held-requires-clause-rules g c = ap length c.in-Some.ensures.rules ∙ c.loop-reached.invariant.search.shape
+reach_held-requires-clause-rules g c = ap length c.in-Some.ensures.rules ∙ c.loop-reached.invariant.search.shape ∙ sym (ap (λ (x : CostTables). x.grammar.rules) c.self.view_is)
 
-pub reach_held-requires-clause-own : goal.reach_held-requires-clause-own
-reach_held-requires-clause-own g c =
+pub reach_held-requires-clause-productions : goal.reach_held-requires-clause-productions
+reach_held-requires-clause-productions g c =
     let own = places_of g.S.Storage.number c.in_ok-own.own.items in
-    let Is = λ (p : ℕ). p < length c.args.self.now.grammar.productions in
-    subst (λ l. All Is (places_of g.S.Storage.number l)) (sym c.deref.ensures.value)
-    (All-weaker (Contains own) Is (λ p h. ((c.in_ok-own.ensures p).0 h).own.tight.place) own (All-contains_itself own))
+    let Is = λ (x : CostTables) (p : ℕ). p < length x.grammar.productions in
+    subst (λ (x : CostTables). All (Is x) (places_of g.S.Storage.number c.deref.result.now)) (sym c.self.view_is)
+    (subst (λ l. All (Is c.args.self.now) (places_of g.S.Storage.number l)) (sym c.deref.ensures.value)
+    (All-weaker (Contains own) (Is c.args.self.now) (λ p h. ((c.in_ok-own.ensures p).0 h).own.tight.place) own (All-contains_itself own)))
 
 pub known_cost-requires-clause-rule : goal.known_cost-requires-clause-rule
 known_cost-requires-clause-rule g c = popped_within _ _ _ _ _ _ _ c.loop-reached.search c.loop-reached.invariant.search c.in-Some.ensures.rules c.in-Some.ensures.waiting
@@ -48,7 +49,8 @@ loop-reached-preserved g c =
     let n = c.self.inside.settled.number in
     let is = subst (λ (x : CostTables). IsGenerator x n) c.self.view_is c.self.invariant.0 in
     let grammar = subst (λ (x : CostTables). IsGrammar x.grammar) c.self.view_is c.rules_len.ensures.content in
-    let held = subst (λ l. Reaches (IsLinked (Holds x.grammar) (places_of number l)) c.next.new.self c.reach_held.new.search) c.deref.ensures.value c.in_ok-reach_held.ensures in
+    let held = subst (λ (x : CostTables). Reaches (IsHeldBy x.grammar (places_of number c.in_ok-own.own.items)) c.next.new.self c.reach_held.new.self) c.self.view_is
+    (subst (λ l. Reaches (IsHeldBy (g.T.Tables.grammar c.self.inside.tables.now) (places_of number l)) c.next.new.self c.reach_held.new.self) c.deref.ensures.value c.in_ok-reach_held.ensures) in
     let listed = subst (λ m. IsPermutation ((c.known_cost.result, m) ∷ c.loop-reached.asked) c.push.new.self) c.to_usize.ensures.value c.in_ok-push.ensures in
     asking_goes_on x (number c.args.rule.0) n is grammar (number c.in-Some.reached.0) c.known_cost.result _ _ _ (places_of number c.in_ok-own.own.items) _ _ c.loop-reached.invariant
     c.in-Some.ensures.rules c.in-Some.ensures.waiting c.in_ok-own.ensures held

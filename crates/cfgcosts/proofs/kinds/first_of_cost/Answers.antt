@@ -1,15 +1,18 @@
-use Rattle.std.proofs.Common.{◌≡◌, ◌++◌, ◌∷◌, ℕ, [], inl, inr, Some, Contains, map, take, arith, sym, ap, subst, ◌∙◌}
+use Rattle.std.proofs.Common.{◌≡◌, ◌++◌, ◌∷◌, ℕ, [], inl, inr, Some, Contains, length, map, take, arith, sym, ap, subst, ◌∙◌}
 use Rattle.std.proofs.lemmas.List.{length-map, take_all, take_more}
 use Rattle.std.proofs.lemmas.List.Elements.{Contains-get_or, Contains-push_cases}
-use Rattle.derivation.specs.Grammar.{Rule, IsSymbolOf}
+use Rattle.derivation.specs.Grammar.{Rule}
 use Rattle.cfganalysis.specs.Symbols.{sym_of}
 use Rattle.cfganalysis.proofs.Slices.{mapped_within, mapped_at, mapped_all}
-use Rattle.cfgcosts.specs.Generator.{cost_answer}
+use Rattle.cfgsums.specs.Lists.{IsListed, rule_cost}
 use Rattle.cfgcosts.proofs.Contained.{contains_none}
-use Rattle.cfgcosts.proofs.generator.SentenceGenerator.first_of_cost.Goals as goal
+use Rattle.cfgcosts.proofs.kinds.first_of_cost.Goals as goal
 
 pub rule_of_cost-requires : goal.rule_of_cost-requires
-rule_of_cost-requires g c = mapped_all (sym_of g.S.Storage.number) _ _ _ c.symbol-item.is (omega (arith, c.loop-symbol-test.true)) (IsSymbolOf c.args.self.now.grammar) c.requires
+rule_of_cost-requires g c = (
+  c.requires.0,
+  mapped_all (sym_of g.S.Storage.number) _ _ _ c.symbol-item.is (omega (arith, c.loop-symbol-test.true)) (IsListed (length c.args.least.now) c.requires.0) c.requires.1,
+)
 
 pub loop-symbol-init : goal.loop-symbol-init
 loop-symbol-init g c = λ q h k. contains_none (Rule q) h
@@ -38,6 +41,6 @@ returns-in-Some g c =
     )
 
 pub returns : goal.returns
-returns g c = subst (λ l. (q : ℕ) → Contains l (Rule q) → cost_answer c.args.self.now q ≡ Some c.args.cost → ⊥)
+returns g c = subst (λ l. (q : ℕ) → Contains l (Rule q) → rule_cost c.args.least.now q ≡ Some c.args.cost → ⊥)
     (take_all c.loop-symbol.symbol-index (map (sym_of g.S.Storage.number) c.args.symbols.now) (simp length-map (omega (arith, c.loop-symbol-test.false, c.loop-symbol.auto.symbol-index-end))))
     c.loop-symbol.invariant
