@@ -5,10 +5,7 @@ use crate::productions::print_productions;
 use crate::repairs::print_repairs;
 use crate::sections::print_indent;
 use crate::tables::print_table;
-use crate::trees::add_program;
 use cfgrammar::header::HeaderFault;
-use cfgrammar::yacc::ast::{ASTWithValidityInfo, GrammarAST};
-use cfgrammar::yacc::sentences::SentenceError;
 use cfgrammar::yacc::{YaccFault, YaccGrammar, YaccKind, YaccOriginalActionKind};
 use lending::lend;
 use std::alloc::{AllocError, Global};
@@ -31,10 +28,6 @@ fn answer(alloc: Global, call: &str, text: &str) -> Result<String, YaccFault> {
     match call {
         "show_errors" => Ok(show_errors(alloc, "list.y", text)?),
         "print_indent" => Ok(indent(alloc, text)?),
-        "add_program" => Ok(lend(
-            ASTWithValidityInfo::new(alloc, kind, text),
-            |parsed| print_with_program(alloc, parsed.ast()),
-        )?),
         _ => lend(YaccGrammar::<u32>::new(alloc, kind, text), |grammar| {
             Ok(answer_of(alloc, call, grammar)?)
         }),
@@ -52,31 +45,11 @@ fn indent(alloc: Global, text: &str) -> Result<String, AllocError> {
 fn answer_of(alloc: Global, call: &str, grammar: &YaccGrammar<u32>) -> Result<String, AllocError> {
     match call {
         "print_productions" => print_productions(alloc, grammar),
-        "print_repairs" => match print_repairs(alloc, grammar) {
-            Ok(lines) => Ok(lines),
-            Err(SentenceError::OutOfMemory) => Err(AllocError),
-            Err(fault) => fault.to_string(alloc),
-        },
+        "print_repairs" => print_repairs(alloc, grammar),
         _ => {
             let firsts = grammar.firsts(alloc)?;
             let follows = grammar.follows(alloc)?;
             print_table(alloc, grammar, (&firsts, &follows))
         }
     }
-}
-
-/// How many productions a copy of the tree has with the rule `Program: Name;`, and its warnings.
-fn print_with_program(alloc: Global, ast: &GrammarAST) -> Result<String, AllocError> {
-    let mut copy = ast.clone()?;
-    change(alloc, &mut copy)
-}
-
-fn change(alloc: Global, ast: &mut GrammarAST) -> Result<String, AllocError> {
-    add_program(alloc, ast, "Name")?;
-    let mut lines = String::new(alloc);
-    writeln!(lines, "{} productions", ast.prods().len())?;
-    for warning in &ast.warnings(alloc)? {
-        writeln!(lines, "{warning}")?;
-    }
-    Ok(lines)
 }

@@ -1,32 +1,43 @@
 //! What an error recovery can insert.
 
+use cfgrammar::TIdx;
 use cfgrammar::yacc::YaccGrammar;
 use cfgrammar::yacc::sentences::SentenceError;
-use std::alloc::Global;
+use std::alloc::{AllocError, Global};
 
-/// A sentence of least cost of each rule, where a token that the file wouldn't have inserted costs 4, and any other 1.
+/// The sentences of least cost of each rule, where a token that the file wouldn't have inserted costs 4, any other 1.
 ///
 /// # Errors
 ///
-/// Why some rule has no such sentence, or want of memory.
-pub fn print_repairs(alloc: Global, grammar: &YaccGrammar<u32>) -> Result<String, SentenceError> {
+/// Want of memory.
+pub fn print_repairs(alloc: Global, grammar: &YaccGrammar<u32>) -> Result<String, AllocError> {
     let cost = |tidx| if grammar.avoid_insert(tidx) { 4 } else { 1 };
     let generator = grammar.sentence_generator(alloc, cost)?;
     let mut lines = String::new(alloc);
     for ridx in grammar.iter_rules() {
-        let all = generator.min_sentences(alloc, ridx)?;
-        write!(
-            lines,
-            "{}, one of {}:",
-            grammar.rule_name_str(ridx),
-            all.len()
-        )?;
-        for tidx in &generator.min_sentence(alloc, ridx)? {
-            if *tidx < grammar.tokens_len() {
-                write!(lines, " {}", grammar.token_epp(*tidx).unwrap_or(""))?;
-            }
+        lines.push_str(grammar.rule_name_str(ridx))?;
+        match generator.min_sentences(alloc, ridx) {
+            Ok(sentences) => write_sentences(&mut lines, grammar, &sentences)?,
+            Err(SentenceError::OutOfMemory) => return Err(AllocError),
+            Err(error) => write!(lines, ": {error}")?,
         }
         lines.push('\n')?;
     }
     Ok(lines)
+}
+
+fn write_sentences(
+    lines: &mut String,
+    grammar: &YaccGrammar<u32>,
+    sentences: &[Vec<TIdx<u32>>],
+) -> Result<(), AllocError> {
+    for (place, sentence) in sentences.iter().enumerate() {
+        lines.push_str(if place == 0 { ":" } else { " |" })?;
+        for tidx in sentence {
+            if *tidx < grammar.tokens_len() {
+                write!(lines, " {}", grammar.token_epp(*tidx).unwrap_or(""))?;
+            }
+        }
+    }
+    Ok(())
 }
