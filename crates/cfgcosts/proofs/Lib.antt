@@ -32,3 +32,8 @@ pub mod Searches
 pub mod OwnBelow
 pub mod AskedRules
 pub mod Filled
+pub mod GrowingChoices
+pub mod FirstChosen
+pub mod ChoosingFirsts
+pub mod FirstsMade
+pub mod RowsInOrder
