@@ -31,7 +31,6 @@ use Rattle.cfgcosts.proofs.Firsts.{by_order, row_before, begins_none}
 use Rattle.cfgcosts.proofs.Generated.{answered_some, some_answered}
 use Rattle.cfgcosts.proofs.Lengths.{IsPaid}
 use Rattle.cfgcosts.proofs.Levels.{minimal_parts, rule_nothing}
-use Rattle.cfgcosts.proofs.Sentences.{vanishes}
 use Rattle.cfgcosts.proofs.Splits.{Split-map, IsYieldedAnd, by_rules}
 use Rattle.cfgcosts.proofs.Tables.{dictionary_same}
 use Rattle.cfgcosts.proofs.Tight.{least_of, paid, sum_of_cut, tight_placed, tight_whatever}
@@ -61,13 +60,22 @@ module _ (x : CostTables) (walks : Walks x) (grammar : IsGrammar x.grammar) wher
   abbrev sums : Sym → Option ℕ
   sums = symbol_cost (token_cost x) (rule_cost x.least)
 
-  abbrev known : CostTables
+  abbrev pub known : CostTables
   known = record { grammar = x.grammar; costs = x.costs; least = x.least; choices = walks.settled }
 
-  answer_is : (q p m d : ℕ) → Opens x q d p m → rule_cost x.least q ≡ Some d → d ≤ 65535 → choice_answer x q ≡ Some (p, m)
+  abbrev pays : (r : ℕ) (symbols : List Sym) → P r symbols → All (IsPaid cost) symbols
+  pays = paid known walks.number walks.generator grammar
+
+  -- a rule that costs nothing has the empty sentence
+  vanishes : (r : ℕ) → cost_answer x r ≡ Some 0 → Yields P (Rule r ∷ []) []
+  vanishes r nothing =
+      let (w, s, costs) = (least_of known walks.number walks.generator grammar r 0 nothing).0 in
+      subst (Yields P (Rule r ∷ [])) (rule_nothing P cost pays r w s (omega (arith, costs))) (trees_from_derivation P (Rule r ∷ []) w s)
+
+  pub answer_is : (q p m d : ℕ) → Opens x q d p m → rule_cost x.least q ≡ Some d → d ≤ 65535 → choice_answer x q ≡ Some (p, m)
   answer_is q p m d o e small = ap (λ c. where_some c (rule_choice x.choices q)) (some_answered (rule_cost x.least q) d e small) ∙ o.choice
 
-  costly : (q d : ℕ) → rule_cost x.least q ≡ Some d → 0 < d → cost_answer x q ≡ Some 0 → ⊥
+  pub costly : (q d : ℕ) → rule_cost x.least q ≡ Some d → 0 < d → cost_answer x q ≡ Some 0 → ⊥
   costly q d e some none = let both : Some d ≡ Some 0 = sym e ∙ (answered_some (rule_cost x.least q) 0 none).0 in let is : d ≡ 0 = cc in omega (arith, is, some)
 
   -- the choices give something for each row that has a cost
@@ -142,7 +150,7 @@ module _ (x : CostTables) (walks : Walks x) (grammar : IsGrammar x.grammar) wher
       let first : p.first ≡ 0 = cc in
       let rest = yields_given h p.second p.second_is (omega (arith, whole, small)) in
       let costs = rest.1 in
-      (trees_join P (vanishes known walks.number walks.generator grammar r none) rest.0, omega (arith, whole, first, costs))
+      (trees_join P (vanishes r nothing) rest.0, omega (arith, whole, first, costs))
   yields_given (gives.chosen {r = r} {p = p} {m = m} {a = a} {u = u} {w = w} paid choice h k f) s e small =
       let q = plus_parts (sums (Rule r)) (sum_of sums a) s e in
       let whole = q.whole in
@@ -192,9 +200,6 @@ module _ (x : CostTables) (walks : Walks x) (grammar : IsGrammar x.grammar) wher
       go (Some c) e = (c, e)
 
   module _ (first : AreFirst x) where
-    abbrev pays : (r : ℕ) (symbols : List Sym) → P r symbols → All (IsPaid cost) symbols
-    pays = paid known walks.number walks.generator grammar
-
     abbrev Follows : ℕ → List ℕ → Type 0
     Follows r v = Minimal P cost r v → (w : List ℕ) → ChoicesGive x (Rule r ∷ []) w → dictionary w v ≡ Greater → ⊥
 

@@ -71,11 +71,20 @@ module _ (x : CostTables) (n : ℕ) (is : IsGenerator x n) (grammar : IsGrammar 
           deep = omega (arith, less, few);
         }
 
+    free_unchosen : (q : ℕ) → rule_cost x.least q ≡ Some 0 → rule_choice l q ≡ None
+    free_unchosen q e = go (rule_choice l q) refl
+      where
+        go : (o : Option (ℕ × ℕ)) → rule_choice l q ≡ o → rule_choice l q ≡ None
+        go None none = none
+        go (Some (p, m)) some = absurd (paid_chosen x l k state q p m (state.each q p m some).0 (some_answered (rule_cost x.least q) 0 e (omega arith)))
+
     pub walks : Walks (by x l)
     walks = record {
       settled = x.choices;
       number = n;
       generator = is;
+      listed = state.listed;
+      free = free_unchosen;
       chosen = λ q d e some small.
           let ((p, m), choice) = all_chosen q d (some_answered (rule_cost x.least q) d e small) some in
           (p, m, opens q d p m e small choice);

@@ -15,6 +15,7 @@ pub mod Greatest
 pub mod Refused
 pub mod TokenCosts
 pub mod Steps
+pub mod SentenceTokens
 pub mod Lengths
 pub mod Levels
 pub mod Choices

@@ -1,5 +1,5 @@
 -- Choices of productions, one for each rule that costs something, by which first minimal sentences are made.
-use Rattle.std.specs.Prelude.{◌≡◌, ℕ, ◌<◌, ◌≤◌, List, [], ◌∷◌, Option, Some, All, length, IfSome}
+use Rattle.std.specs.Prelude.{◌≡◌, ℕ, ◌<◌, ◌≤◌, List, [], ◌∷◌, Option, Some, None, All, length, IfSome}
 use Rattle.std.specs.declared.cmp.Ordering.TheVariants.{Greater}
 use Rattle.derivation.specs.Grammar.{Sym, Rule, Token, IsSymbolOf, HasProduction}
 use Rattle.cfganalysis.specs.Openings.{nth_production}
@@ -26,11 +26,13 @@ pub record Opens (x : CostTables) (q d p m : ℕ) : Type 0 where
   pub below : All (IsNotAbove x.choices m) (nth_production x.grammar p).symbols
   pub deep : m < x.grammar.rules
 
--- least costs are known, and each rule that costs something has a choice
+-- least costs are known, and each rule that costs something has a choice; one that costs nothing has none
 pub record Walks (x : CostTables) : Type 0 where
   pub settled : List (Option (ℕ × ℕ))
   pub number : ℕ
   pub generator : IsGenerator (record { grammar = x.grammar; costs = x.costs; least = x.least; choices = settled }) number
+  pub listed : length x.choices ≡ x.grammar.rules
+  pub free : (q : ℕ) → rule_cost x.least q ≡ Some 0 → rule_choice x.choices q ≡ None
   pub chosen : (q d : ℕ) → rule_cost x.least q ≡ Some d → 0 < d → d ≤ 65535 → (p : ℕ) × (m : ℕ) × Opens x q d p m
   pub below : (q p m : ℕ) → rule_choice x.choices q ≡ Some (p, m) → All (IsNotAbove x.choices m) (nth_production x.grammar p).symbols
 

@@ -38,3 +38,12 @@ returns-clause-dear g c = sentence_none (IsTooDear (HasProduction c.args.self.no
 
 pub chosen_sentence-requires-clause-cost : goal.chosen_sentence-requires-clause-cost
 chosen_sentence-requires-clause-cost g c = (c.in_ok-min_sentence_cost.field-0, sym c.min_sentence_cost.ensures.answer ∙ ap result_ok c.in_ok-min_sentence_cost.was)
+
+pub returns-clause-first : goal.returns-clause-first
+returns-clause-first g c = c.in_ok-sentence.ensures.first
+
+pub returns-clause-length : goal.returns-clause-length
+returns-clause-length g c = c.in_ok-sentence.ensures.short
+
+pub returns-clause-within : goal.returns-clause-within
+returns-clause-within g c = c.in_ok-sentence.ensures.within
