@@ -1,5 +1,5 @@
 use Rattle.std.proofs.Common.{◌≡◌, ◌-◌, ◌^◌, ◌<◌, ◌++◌, ℕ, List, [], ◌∷◌, Option, Some, length, map, take, refl, sym, ap, subst, arith, ◌∙◌}
-use Rattle.std.specs.Prelude.{IfSome, OnErr}
+use Rattle.std.specs.Prelude.{IfSome}
 use Rattle.std.proofs.lemmas.List.{length-map, map-append}
 use Rattle.derivation.specs.Grammar.{Sym, Grammar}
 use Rattle.cfgindex.specs.declared.idxnewtype.PIdx.{PIdx}
@@ -192,7 +192,7 @@ returns-in_err-push-clause-stopped g c =
     let cost = c.requires.cost.0 in
     let answer = subst (λ (y : CostTables). cost_answer y r ≡ Some cost) (sym c.self.view_is) c.requires.cost.1 in
     let fresh = subst (λ (y : CostTables). (q : ℕ) → q < length y.grammar.productions → g.P.Productions.opened c.args.productions.now q ≡ 0) (sym c.self.view_is) c.requires.fresh in
-    on_err _ (subst (λ (y : CostTables). HasStopped y.grammar (token_cost y) r _ _) c.self.view_is
+    on_err _ (subst (λ (y : CostTables). HasStopped y.grammar (token_cost y) r (g.P.Productions.opened c.args.productions.now) (g.P.Productions.opened_all c.args.productions.now)) c.self.view_is
     (stopped_at_once x walks grammar r cost answer _ _ fresh c.requires.all_fresh))
 
 pub returns-in_err-chosen-clause-stopped : goal.returns-in_err-chosen-clause-stopped
@@ -204,7 +204,7 @@ returns-in_err-chosen-clause-stopped g c =
     let grammar = c.rules_len.ensures.content in
     let cost = c.requires.cost.0 in
     let answer = subst (λ (y : CostTables). cost_answer y r ≡ Some cost) (sym c.self.view_is) c.requires.cost.1 in
-    on_err _ (subst (λ (y : CostTables). HasStopped y.grammar (token_cost y) r _ _) c.self.view_is
+    on_err _ (subst (λ (y : CostTables). HasStopped y.grammar (token_cost y) r (g.P.Productions.opened c.loop-symbol.productions) (g.P.Productions.opened_all c.loop-symbol.productions)) c.self.view_is
     (stopped x walks grammar r cost answer _ _ _ _ c.loop-symbol.invariant.counted))
 
 pub returns-in_err-open_production-clause-stopped : goal.returns-in_err-open_production-clause-stopped
@@ -227,6 +227,6 @@ returns-in_err-open_production-clause-stopped g c =
     let word' = map (λ t. number t.0) c.take.new.sentence.items in
     let place = number_of number c.in_ok-chosen.chosen in
     let takes = subst (λ (l : List (Option (PIdx _ × ℕ))). Takes (map (choice_of number) l) s place word word') c.deref.ensures.value c.in_ok-chosen.ensures in
-    on_err _ (subst (λ (y : CostTables). HasStopped y.grammar (token_cost y) r _ _) c.self.view_is
+    on_err _ (subst (λ (y : CostTables). HasStopped y.grammar (token_cost y) r (g.P.Productions.opened c.open_production.new.productions) (g.P.Productions.opened_all c.open_production.new.productions)) c.self.view_is
     (stopped x walks grammar r cost answer (rest ++ symbols_at x.grammar place) word' _ _
     (counted_on x walks grammar r cost answer rest s place _ word _ _ _ _ _ _ _ way counted takes c.open_production.ensures.opens refl)))
