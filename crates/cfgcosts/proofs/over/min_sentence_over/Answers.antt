@@ -1,5 +1,8 @@
-use Rattle.std.proofs.Common.{Ok, refl, sym, ◌∙◌}
+use Rattle.std.proofs.Common.{◌≤◌, Ok, map, refl, sym, subst, ◌∙◌}
+use Rattle.std.proofs.lemmas.List.{length-map}
 use Rattle.derivation.specs.Grammar.{HasProduction}
+use Rattle.derivation.specs.Sentence.{cost_of}
+use Rattle.cfgindex.specs.declared.idxnewtype.TIdx.{TIdx}
 use Rattle.cfgsums.specs.declared.errors.CostError.TheVariants as costs
 use Rattle.cfgcosts.specs.declared.errors.SentenceError.TheVariants.{OutOfMemory}
 use Rattle.cfgcosts.specs.Generator.{HasNone, IsTooDear, token_cost}
@@ -98,7 +101,10 @@ pub returns-clause-within : goal.returns-clause-within
 returns-clause-within g c = c.in_ok-sentence.ensures.walked.found.within
 
 pub returns-clause-length : goal.returns-clause-length
-returns-clause-length g c = c.in_ok-sentence.ensures.walked.found.short
+returns-clause-length g c =
+    let tokens = c.in_ok-sentence.sentence.items in
+    let number = λ (t : TIdx _). g.S.Storage.number t.0 in
+    subst (λ m. m ≤ cost_of (token_cost c.args.generator.now) (map number tokens)) (length-map tokens number) c.in_ok-sentence.ensures.walked.found.short
 
 pub returns-clause-derived : goal.returns-clause-derived
 returns-clause-derived g c = c.in_ok-sentence.ensures.walked.derived
