@@ -6,11 +6,11 @@ use Rattle.std.specs.declared.cmp.Ordering.{Ordering}
 use Rattle.std.specs.declared.cmp.Ordering.TheVariants.{Less, Equal, Greater}
 use Rattle.std.proofs.lemmas.Bool.{cases_lt}
 use Rattle.std.proofs.lemmas.Cmp.{nat_list_cmp_total}
-use Rattle.std.proofs.lemmas.List.Elements.{All-head, All-tail, All-nil, All-cons}
+use Rattle.std.proofs.lemmas.List.Elements.{All-head, All-tail}
 use Rattle.std.proofs.lemmas.List.Sums.{sum_by-append}
 use Rattle.derivation.specs.Grammar.{Sym, Rule, Token, Production, IsGrammar, HasProduction}
 use Rattle.derivation.specs.Sentence.{cost_of}
-use Rattle.derivation.specs.Costs.{Least, Minimal}
+use Rattle.derivation.specs.Costs.{Minimal}
 use Rattle.derivation.specs.Tree.{Yields, empty, token, opened}
 use Rattle.derivation.proofs.Trees.{trees_join, trees_from_derivation, derivation_from_trees}
 use Rattle.derivation.proofs.Costs.{least_is_one, minimal_costs_least, minimal_if_least}
@@ -24,7 +24,7 @@ use Rattle.cfgcosts.specs.Choices.{ChoicesGive}
 use Rattle.cfgcosts.specs.Choices as gives
 use Rattle.cfgcosts.specs.FirstChoices.{AreFirst, IsNotAbove, Opens, Walks}
 use Rattle.cfgcosts.specs.Generator.{CostTables, cost_answer, choice_answer, token_cost, where_some}
-use Rattle.cfgcosts.specs.Minimal.{FirstMinimal, IsTight, dictionary}
+use Rattle.cfgcosts.specs.Minimal.{FirstMinimal, dictionary}
 use Rattle.cfgcosts.specs.Splits.{Split, done, itself, part}
 use Rattle.cfgcosts.proofs.Choices.{choices_join}
 use Rattle.cfgcosts.proofs.Firsts.{by_order, row_before, begins_none}

@@ -1,5 +1,5 @@
 -- When all own productions were gone through, each rule that costs something has a choice, and a walk by the choices ends.
-use Rattle.std.proofs.Common.{◌≡◌, ℕ, ◌<◌, ◌≤◌, ◌⊎◌, inl, inr, List, [], Option, Some, None, All, Contains, arith, refl, sym, ap, subst, ◌∙◌}
+use Rattle.std.proofs.Common.{◌≡◌, ℕ, ◌<◌, ◌≤◌, inl, inr, List, [], Option, Some, None, All, Contains, arith, refl, sym, ap, subst, ◌∙◌}
 use Rattle.std.specs.Prelude.{IfSome, IsSomeAnd}
 use Rattle.std.proofs.lemmas.List.Elements.{All-contains_itself, All-weaker}
 use Rattle.derivation.specs.Grammar.{Sym, Rule, Token, IsGrammar}
@@ -12,7 +12,7 @@ use Rattle.cfgcosts.specs.FirstChoices.{IsNotAbove, Opens, Walks}
 use Rattle.cfgcosts.specs.Generator.{CostTables, IsGenerator, cost_answer, token_cost}
 use Rattle.cfgcosts.specs.Levels.{Along, here, next}
 use Rattle.cfgcosts.specs.Minimal.{HasHeir, HasNoHeir, IsHeir}
-use Rattle.cfgcosts.proofs.ChoosingFirsts.{Choosing, IsChoice, IsReady, paid_chosen}
+use Rattle.cfgcosts.proofs.ChoosingFirsts.{Choosing, IsReady, paid_chosen}
 use Rattle.cfgcosts.proofs.Generated.{some_answered}
 use Rattle.cfgcosts.proofs.GrowingChoices.{Choices, by}
 use Rattle.cfgcosts.proofs.Tight.{least_of, minimal_made}

@@ -1,6 +1,5 @@
 -- Choices that are made one by one: what they give stays.
-use Rattle.std.proofs.Common.{◌≡◌, ℕ, ◌<◌, inl, inr, List, [], ◌∷◌, length, slice_set, Option, Some, None, sym, ap, subst, ◌∙◌}
-use Rattle.std.proofs.lemmas.List.{get_or-set_same}
+use Rattle.std.proofs.Common.{◌≡◌, ℕ, inl, inr, List, slice_set, Option, Some, None, sym, ap, ◌∙◌}
 use Rattle.lemmas.proofs.Elements.{get_or-set}
 use Rattle.derivation.specs.Grammar.{Sym}
 use Rattle.cfgcosts.specs.Certificate.{rule_choice}

@@ -2,11 +2,10 @@
 use Rattle.std.proofs.Common.{◌≡◌, ℕ, ◌+◌, ◌<◌, ◌≤◌, inl, inr, List, [], ◌∷◌, ◌++◌, length, map, reverse, Option, Some, None, All, arith, refl, sym, ap, subst, ◌∙◌, append-nil, append_assoc}
 use Rattle.std.specs.Prelude.{IfSome, sum_by}
 use Rattle.std.proofs.lemmas.Bool.{cases_lt}
-use Rattle.std.proofs.lemmas.List.{reverse-append, map-append, length-map}
+use Rattle.std.proofs.lemmas.List.{reverse-append, map-append}
 use Rattle.std.proofs.lemmas.List.Sums.{sum_by-append}
 use Rattle.std.proofs.lemmas.List.Elements.{All-nil, All-cons, All-append, All-pop}
-use Rattle.derivation.specs.Grammar.{Sym, Rule, Token, IsGrammar, IsSymbolOf, HasProduction}
-use Rattle.derivation.specs.Sentence.{cost_of}
+use Rattle.derivation.specs.Grammar.{Sym, Rule, Token, IsGrammar, IsSymbolOf}
 use Rattle.cfgindex.specs.declared.idxnewtype.PIdx.{PIdx}
 use Rattle.cfganalysis.specs.Openings.{nth_production}
 use Rattle.cfgsums.specs.Sums.{sum_of, symbol_cost}

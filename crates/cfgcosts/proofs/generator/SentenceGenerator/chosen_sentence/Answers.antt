@@ -1,5 +1,4 @@
 use Rattle.std.proofs.Common.{◌≡◌, ◌-◌, ◌<◌, ◌++◌, ℕ, List, [], ◌∷◌, Option, Some, length, map, take, sym, ap, subst, ◌∙◌}
-use Rattle.std.specs.Prelude.{IfSome}
 use Rattle.std.proofs.lemmas.List.{length-map, map-append}
 use Rattle.derivation.specs.Grammar.{Sym}
 use Rattle.cfgindex.specs.declared.idxnewtype.PIdx.{PIdx}
@@ -7,7 +6,7 @@ use Rattle.cfgindex.specs.declared.idxnewtype.Symbol.TheVariants as symbols
 use Rattle.cfganalysis.specs.Symbols.{sym_of}
 use Rattle.cfgcosts.specs.Certificate.{choice_of}
 use Rattle.cfgcosts.specs.Generator.{CostTables, cost_answer, tables_of, token_cost}
-use Rattle.cfgcosts.specs.Sentences.{IsFirstSentence, Takes, number_of, symbols_at}
+use Rattle.cfgcosts.specs.Sentences.{IsFirstSentence, Takes, number_of}
 use Rattle.cfgcosts.proofs.Sentences.{IsOnTheWay, left_to_take, begins, last_is_symbol, place_taken, place_is, goes_on, takes_less, finished}
 use Rattle.cfgcosts.proofs.generator.SentenceGenerator.chosen_sentence.Goals as goal
 
@@ -36,8 +35,7 @@ take-requires g c =
     let s = sym_of number c.in-Some.symbol in
     let word = map (λ t. number t.0) c.loop-symbol.sentence.items in
     let split = ap (map (sym_of number)) c.in-Some.ensures.items ∙ map-append (sym_of number) c.pop.new.self.items (c.in-Some.symbol ∷ []) in
-    let way = subst (λ (l : List Sym). IsOnTheWay x r l word) split c.loop-symbol.invariant in
-    (
+    let way = subst (λ (l : List Sym). IsOnTheWay x r l word) split c.loop-symbol.invariant in (
       x.grammar,
       ap length c.deref.ensures.value ∙ sym (length-map c.self.inside.firsts.items (choice_of number)) ∙ walks.listed,
       last_is_symbol x walks grammar r rest s word way,

@@ -1,4 +1,4 @@
-use Rattle.std.proofs.Common.{◌<◌, List, ℕ, map, arith, subst, ◌∙◌}
+use Rattle.std.proofs.Common.{List, ℕ, map, arith, subst, ◌∙◌}
 use Rattle.std.specs.Prelude.{slice_index}
 use Rattle.cfggreatest.specs.Words.{AreTold}
 use Rattle.cfgcosts.specs.Certificate.{choice_of}

@@ -43,8 +43,7 @@ take-requires g c =
     let s = sym_of number c.in-Some.symbol in
     let word = map (λ t. number t.0) c.loop-symbol.sentence.items in
     let split = ap (map (sym_of number)) c.in-Some.ensures.items ∙ map-append (sym_of number) c.pop.new.self.items (c.in-Some.symbol ∷ []) in
-    let way = subst (λ (l : List Sym). IsOnTheWay x r l word) split c.loop-symbol.invariant.way in
-    (
+    let way = subst (λ (l : List Sym). IsOnTheWay x r l word) split c.loop-symbol.invariant.way in (
       x.grammar,
       ap length c.deref.ensures.value ∙ sym (length-map c.self.inside.firsts.items (choice_of number)) ∙ walks.listed,
       last_is_symbol x walks grammar r rest s word way,
