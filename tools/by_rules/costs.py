@@ -109,30 +109,38 @@ class Costs:
             left.remove(rule)
         return found
 
-    def sentences(self, choices):
-        """The sentences that these choices derive, those of lesser numbers first."""
-        made = {}
-        for one in sorted(choices, key=lambda it: choices[it][1]):
-            made[one] = [token for what, index in self.grammar.productions[choices[one][0]].symbols
-                         for token in ([index] if what == 'token' else made[index])]
-        return made
+    def made(self, p, of_rules):
+        """What a production makes of these sentences of rules: None where one of them has none."""
+        if any(it not in of_rules for it in self.rules_in(p)):
+            return None
+        return [token for what, index in self.grammar.productions[p].symbols
+                for token in ([index] if what == 'token' else of_rules[index])]
 
-    def derives(self, rule, sentence):
-        """Whether the rule derives these tokens: which rules derive each piece of them, by growth."""
-        places = range(len(sentence) + 1)
-        known, changed = set(), True
-
-        def ends(symbols, i):
-            found = {i}
-            for what, index in symbols:
-                found = {j for start in found for j in places
-                         if (sentence[start:j] == [index] if what == 'token' else (index, start, j) in known)}
-            return found
-
+    def first_sentences(self):
+        """For each rule of a told cost the first of its sentences of least cost in the order of a dictionary. None of
+        these begins another of the rule's, so the first of a production is what it makes of the first of its rules."""
+        told = [rule for rule in range(len(self.grammar.rules)) if self.is_told(rule)]
+        first, changed = {}, True
         while changed:
-            found = {(p.rule, i, j) for p in self.grammar.productions for i in places for j in ends(p.symbols, i)}
-            changed, known = not found <= known, known | found
-        return (rule, 0, len(sentence)) in known
+            changed = False
+            for rule in told:
+                made = [it for it in (self.made(p, first) for p in self.cheapest[rule]) if it is not None]
+                if made and min(made) != first.get(rule):
+                    first[rule], changed = min(made), True
+        return first
+
+    def fewest_openings(self, first):
+        """For each rule how few productions derive its first sentence, past rules that cost nothing."""
+        fewest = {rule: UNBOUNDED if self.least[rule] else 0 for rule in first}
+        makers = {rule: [p for p in self.cheapest[rule] if self.made(p, first) == first[rule]] for rule in first}
+
+        def opened(rule):
+            counts = [1 + sum(fewest[it] for it in self.rules_in(p)) for p in makers[rule]]
+            return min(counts) if self.least[rule] else 0
+
+        while (after := {rule: opened(rule) for rule in first}) != fewest:
+            fewest = after
+        return fewest
 
     # ------------------------------------------------------------ checkers
 

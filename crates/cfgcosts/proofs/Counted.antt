@@ -3,25 +3,28 @@
 use Rattle.std.proofs.Common.{◌≡◌, ◌≢◌, ℕ, ◌+◌, ◌-◌, ◌*◌, ◌^◌, ◌<◌, ◌≤◌, inl, inr, List, [], ◌∷◌, ◌++◌, length, map, reverse, cond, nat_eq, Option, Some, None, Result, Ok, Err, arith, refl, sym, ap, subst, ◌∙◌, append_assoc}
 use Rattle.std.specs.Prelude.{IfSome, OnErr, sum_by}
 use Rattle.std.proofs.Math.Nat.{mul-le-mul_right}
-use Rattle.std.proofs.lemmas.Bool.{cases_lt, eq-eqb, ne_eqb}
+use Rattle.std.proofs.lemmas.Bool.{eq-eqb, ne_eqb}
 use Rattle.std.proofs.lemmas.Bool.Decides.{eqb_tells}
-use Rattle.std.proofs.lemmas.List.{reverse-append, length-append, length-reverse, length-map}
+use Rattle.std.proofs.lemmas.List.{reverse-append, length-append, length-reverse}
 use Rattle.std.proofs.lemmas.List.Sums.{sum_by-append, count_by-le-length}
 use Rattle.derivation.specs.Grammar.{Sym, Rule, Token, Grammar, IsGrammar, HasProduction}
 use Rattle.derivation.specs.Derivation.{Step}
-use Rattle.derivation.specs.Sentence.{cost_of}
 use Rattle.derivation.specs.Costs.{Least}
 use Rattle.derivation.proofs.Costs.{least_is_one}
 use Rattle.cfganalysis.specs.Openings.{nth_production, OpensOne}
 use Rattle.cfganalysis.proofs.Settling.{same_production}
 use Rattle.cfgsums.specs.Lists.{rule_cost}
-use Rattle.cfgcosts.specs.Generator.{CostTables, IsGenerator, cost_answer, choice_answer, token_cost}
+use Rattle.cfgcosts.specs.Certificate.{rule_choice}
+use Rattle.cfgcosts.specs.FirstChoices.{AreFirst, Opens, Walks}
+use Rattle.cfgcosts.specs.Generator.{CostTables, cost_answer, token_cost}
 use Rattle.cfgcosts.specs.Splits.{Split, done, itself, part}
-use Rattle.cfgcosts.specs.Sentences.{Takes, token, free, unchosen, chosen, symbols_at}
+use Rattle.cfgcosts.specs.Sentences.{Takes, token, unchosen, chosen, symbols_at}
 use Rattle.cfgcosts.specs.DerivedBy.{IsProductionAt, DerivesBy, none, next, times, IsFree, IsDerivedBy, OpensNoneFree, OpensAt, nothing, one, HasStopped, HasWalked}
-use Rattle.cfgcosts.proofs.Generated.{answered_some, some_answered, reads_cost}
+use Rattle.cfgcosts.proofs.FirstChosen.{known}
+use Rattle.cfgcosts.proofs.Generated.{answered_some, some_answered}
 use Rattle.cfgcosts.proofs.Steps.{steps_token, sum_by-cons}
-use Rattle.cfgcosts.proofs.Sentences.{IsOnTheWay, Opens, last, read_last, none_opened, one_opened, has_choice, finished, finished_by_choices, map-reverse}
+use Rattle.cfgcosts.proofs.Sentences.{IsOnTheWay, last, read_last, free_last, none_opened, one_opened, finished, map-reverse}
+use Rattle.cfgcosts.proofs.Tight.{least_of}
 use Rattle.cfgcosts.proofs.Tokens.{tokens_of, spend, rule_tokens, spend_opened, spend_most}
 
 times-append : (q : ℕ) (xs : List ℕ) (p : ℕ) → times q (xs ++ p ∷ []) ≡ times q xs + cond (nat_eq q p) 1 0
@@ -55,18 +58,18 @@ sum_last f rest s =
     let one = sum_by-cons f s [] in
     omega (arith, whole, one)
 
-module _ (x : CostTables) (n : ℕ) (is : IsGenerator x n) (grammar : IsGrammar x.grammar) (r : ℕ) where
-  least_answered : (q c : ℕ) → cost_answer x q ≡ Some c → Least (HasProduction x.grammar) (token_cost x) q c
-  least_answered q c e = let known = answered_some (rule_cost x.least q) c e in (reads_cost x n is q c known.0 known.1).least
+module _ (x : CostTables) (walks : Walks x) (grammar : IsGrammar x.grammar) (r c : ℕ) (answer : cost_answer x r ≡ Some c) where
+  least_answered : (q d : ℕ) → cost_answer x q ≡ Some d → Least (HasProduction x.grammar) (token_cost x) q d
+  least_answered = least_of (known x walks grammar) walks.number walks.generator grammar
 
-  pub counted_begins : (pending : List Sym) (word : List ℕ) (opened : ℕ → ℕ) (all : ℕ) → (c : ℕ) × (cost_answer x r ≡ Some c) → pending ≡ Rule r ∷ [] → word ≡ []
+  pub counted_begins : (pending : List Sym) (word : List ℕ) (opened : ℕ → ℕ) (all : ℕ) → pending ≡ Rule r ∷ [] → word ≡ []
       → ((q : ℕ) → q < length x.grammar.productions → opened q ≡ 0) → all ≡ 0 → IsCounted x r pending word opened all
-  counted_begins pending word opened all (c, answer) e f fresh all_fresh =
+  counted_begins pending word opened all e f fresh all_fresh =
       subst (λ a. IsCounted x r a word opened all) (sym e) (subst (λ w. IsCounted x r (Rule r ∷ []) w opened all) (sym f) (
-      let known = answered_some (rule_cost x.least r) c answer in
+      let cost = answered_some (rule_cost x.least r) c answer in
       let tokens = sum_by-cons (tokens_of x) (Rule r) [] in
       let spent = sum_by-cons (spend x) (Rule r) [] in
-      let most = spend_most x n is grammar r c known.0 known.1 in
+      let most = spend_most x walks grammar r c cost.0 cost.1 in
       record {
         places = [];
         suffix = [];
@@ -80,11 +83,10 @@ module _ (x : CostTables) (n : ℕ) (is : IsGenerator x n) (grammar : IsGrammar 
       }))
 
   -- few openings are done, and few are left
-  pub few_opened : (pending : List Sym) (word : List ℕ) (opened : ℕ → ℕ) (all : ℕ) → IsOnTheWay x r pending word → IsCounted x r pending word opened all
-      → (c : ℕ) → cost_answer x r ≡ Some c → all ≤ c * x.grammar.rules
-  few_opened pending word opened all way k c e =
-      let known = answered_some (rule_cost x.least r) c e in
-      let most = mul-le-mul_right x.grammar.rules (rule_tokens x n is grammar r c known.0 known.1).most in
+  few_opened : (pending : List Sym) (word : List ℕ) (opened : ℕ → ℕ) (all : ℕ) → IsCounted x r pending word opened all → all ≤ c * x.grammar.rules
+  few_opened pending word opened all k =
+      let cost = answered_some (rule_cost x.least r) c answer in
+      let most = mul-le-mul_right x.grammar.rules (rule_tokens x walks grammar r c cost.0 cost.1).most in
       let few = k.few in
       omega (arith, most, few)
 
@@ -114,7 +116,7 @@ module _ (x : CostTables) (n : ℕ) (is : IsGenerator x n) (grammar : IsGrammar 
     counted_free q e k =
         let tokens = sum_last (tokens_of x) rest (Rule q) in
         let spent = sum_last (spend x) rest (Rule q) in
-        let here = (rule_tokens x n is grammar q 0 (answered_some (rule_cost x.least q) 0 e).0 (omega arith)).most in
+        let here = (rule_tokens x walks grammar q 0 (answered_some (rule_cost x.least q) 0 e).0 (omega arith)).most in
         let long = k.long in
         let few = k.few in
         record {
@@ -144,21 +146,18 @@ module _ (x : CostTables) (n : ℕ) (is : IsGenerator x n) (grammar : IsGrammar 
       few = subst (λ m. m + sum_by (spend x) pending ≤ tokens_of x (Rule r) * x.grammar.rules) (sym same_all) k.few;
     }
 
-    module _ (q p m : ℕ) (way : IsOnTheWay x r (rest ++ Rule q ∷ []) word) (costly : cost_answer x q ≡ Some 0 → ⊥) (answer : choice_answer x q ≡ Some (p, m)) where
+    module _ (q p m : ℕ) (way : IsOnTheWay x r (rest ++ Rule q ∷ []) word) (choice : rule_choice x.choices q ≡ Some (p, m)) where
       abbrev there : ℕ
-      there = (last x n is grammar r rest (Rule q) word way).here
+      there = (last x walks grammar r rest (Rule q) word way).here
 
       opens_last : Opens x q there p m
-      opens_last = read_last x n is grammar r q p m rest word way answer
+      opens_last = (read_last x walks grammar r q p m rest word way choice).opens
 
       answered : cost_answer x q ≡ Some there
-      answered = let l = last x n is grammar r rest (Rule q) word way in some_answered (rule_cost x.least q) there l.here_is l.small
+      answered = let l = last x walks grammar r rest (Rule q) word way in some_answered (rule_cost x.least q) there l.here_is l.small
 
       paid_last : 0 < there
-      paid_last = elim (cases_lt 0 there) [
-        | inl h ↦ h
-        | inr h ↦ let none : there ≡ 0 = omega (arith, h) in absurd (costly (answered ∙ ap Some none))
-      ]
+      paid_last = (read_last x walks grammar r q p m rest word way choice).some
 
       step_last : (suffix : List Sym) → Step (IsProductionAt x.grammar p) ((rest ++ Rule q ∷ []) ++ suffix) ((rest ++ (nth_production x.grammar p).symbols) ++ suffix)
       step_last suffix = record {
@@ -174,9 +173,9 @@ module _ (x : CostTables) (n : ℕ) (is : IsGenerator x n) (grammar : IsGrammar 
       counted_opened : (content content' : Grammar) (opened' : ℕ → ℕ) (all' : ℕ) → OpensOne p content content' opened opened' all all'
           → IsCounted x r (rest ++ Rule q ∷ []) word opened all → IsCounted x r (rest ++ (nth_production x.grammar p).symbols) word opened' all'
       counted_opened content content' opened' all' o k =
-          let l = last x n is grammar r rest (Rule q) word way in
+          let l = last x walks grammar r rest (Rule q) word way in
           let symbols = (nth_production x.grammar p).symbols in
-          let enough = spend_opened x n is grammar q there p m l.here_is paid_last l.small opens_last in
+          let enough = spend_opened x walks grammar q there p m l.here_is paid_last l.small opens_last in
           let fewer = enough.0 in
           let same = enough.1 in
           let tokens = sum_last (tokens_of x) rest (Rule q) in
@@ -212,38 +211,36 @@ module _ (x : CostTables) (n : ℕ) (is : IsGenerator x n) (grammar : IsGrammar 
           }
 
   pub counted_on : (rest : List Sym) (s : Sym) (place : Option ℕ) (pending : List Sym) (word word' : List ℕ) (content content' : Grammar) (opened opened' : ℕ → ℕ) (all all' : ℕ)
-      → IsOnTheWay x r (rest ++ s ∷ []) word → IsCounted x r (rest ++ s ∷ []) word opened all → Takes x s place word word'
+      → IsOnTheWay x r (rest ++ s ∷ []) word → IsCounted x r (rest ++ s ∷ []) word opened all → Takes x.choices s place word word'
       → OpensAt place content content' opened opened' all all' → pending ≡ rest ++ symbols_at x.grammar place → IsCounted x r pending word' opened' all'
   counted_on rest s place pending word word' content content' opened opened' all all' way k (token t e f h) (nothing e' stays same same_all) l =
       counted_same rest word' opened all opened' all' pending same same_all
-      (subst (λ a. IsCounted x r a word' opened all) (none_opened x n is grammar rest pending place f l) (subst (λ w. IsCounted x r rest w opened all) (sym h)
+      (subst (λ a. IsCounted x r a word' opened all) (none_opened x walks grammar rest pending place f l) (subst (λ w. IsCounted x r rest w opened all) (sym h)
       (counted_token rest word opened all t (subst (λ s. IsCounted x r (rest ++ s ∷ []) word opened all) e k))))
-  counted_on rest s place pending word word' content content' opened opened' all all' way k (free q e nothing_paid f h) (nothing e' stays same same_all) l =
+  counted_on rest s place pending word word' content content' opened opened' all all' way k (unchosen q e none_chosen f h) (nothing e' stays same same_all) l =
       counted_same rest word' opened all opened' all' pending same same_all
-      (subst (λ a. IsCounted x r a word' opened all) (none_opened x n is grammar rest pending place f l) (subst (λ w. IsCounted x r rest w opened all) (sym h)
-      (counted_free rest word opened all q nothing_paid (subst (λ s. IsCounted x r (rest ++ s ∷ []) word opened all) e k))))
-  counted_on rest s place pending word word' content content' opened opened' all all' way k (unchosen q e none_chosen f h) o l =
-      absurd (has_choice x n is grammar r q rest word (subst (λ s. IsOnTheWay x r (rest ++ s ∷ []) word) e way) none_chosen)
-  counted_on rest s place pending word word' content content' opened opened' all all' way k (chosen q p m e costly choice f h) (one i f' o) l =
+      (subst (λ a. IsCounted x r a word' opened all) (none_opened x walks grammar rest pending place f l) (subst (λ w. IsCounted x r rest w opened all) (sym h)
+      (counted_free rest word opened all q (free_last x walks grammar r q rest word (subst (λ s. IsOnTheWay x r (rest ++ s ∷ []) word) e way) none_chosen) (subst (λ s. IsCounted x r (rest ++ s ∷ []) word opened all) e k))))
+  counted_on rest s place pending word word' content content' opened opened' all all' way k (chosen q p m e choice f h) (one i f' o) l =
       let both : Some p ≡ Some i = sym f ∙ f' in
       let same : i ≡ p = cc in
-      subst (λ a. IsCounted x r a word' opened' all') (one_opened x n is grammar rest pending place p f l)
+      subst (λ a. IsCounted x r a word' opened' all') (one_opened x walks grammar rest pending place p f l)
       (subst (λ w. IsCounted x r (rest ++ (nth_production x.grammar p).symbols) w opened' all') (sym h)
-      (counted_opened rest word opened all q p m (subst (λ s. IsOnTheWay x r (rest ++ s ∷ []) word) e way) costly choice content content' opened' all'
+      (counted_opened rest word opened all q p m (subst (λ s. IsOnTheWay x r (rest ++ s ∷ []) word) e way) choice content content' opened' all'
       (subst (λ i. OpensOne i content content' opened opened' all all') same o) (subst (λ s. IsCounted x r (rest ++ s ∷ []) word opened all) e k)))
   counted_on rest s place pending word word' content content' opened opened' all all' way k (token t e f h) (one i f' o) l =
       let no : None ≡ Some i = sym f ∙ f' in absurd (cc)
-  counted_on rest s place pending word word' content content' opened opened' all all' way k (free q e nothing_paid f h) (one i f' o) l =
+  counted_on rest s place pending word word' content content' opened opened' all all' way k (unchosen q e none_chosen f h) (one i f' o) l =
       let no : None ≡ Some i = sym f ∙ f' in absurd (cc)
-  counted_on rest s place pending word word' content content' opened opened' all all' way k (chosen q p m e costly choice f h) (nothing f' stays same same_all) l =
+  counted_on rest s place pending word word' content content' opened opened' all all' way k (chosen q p m e choice f h) (nothing f' stays same same_all) l =
       let no : None ≡ Some p = sym f' ∙ f in absurd (cc)
 
   -- no count is too large
-  pub countable : (pending : List Sym) (word : List ℕ) (opened : ℕ → ℕ) (all : ℕ) → IsOnTheWay x r pending word → IsCounted x r pending word opened all → x.grammar.rules < 2 ^ 32
+  pub countable : (pending : List Sym) (word : List ℕ) (opened : ℕ → ℕ) (all : ℕ) → IsCounted x r pending word opened all → x.grammar.rules < 2 ^ 32
       → (all < 2 ^ 64 - 1) × ((p : ℕ) → p < length x.grammar.productions → opened p < 2 ^ 64 - 1)
-  countable pending word opened all way k small =
-      let few = few_opened pending word opened all way k way.cost way.answer in
-      let limit = (answered_some (rule_cost x.least r) way.cost way.answer).1 in
+  countable pending word opened all k small =
+      let few = few_opened pending word opened all k in
+      let limit = (answered_some (rule_cost x.least r) c answer).1 in
       let most = mul-le-mul_right x.grammar.rules limit in
       let together = k.together in
       let below : all < 2 ^ 64 - 1 = omega (arith, few, most, small) in (
@@ -252,14 +249,14 @@ module _ (x : CostTables) (n : ℕ) (is : IsGenerator x n) (grammar : IsGrammar 
       )
 
   -- where memory ends before anything was opened, and later
-  pub stopped_at_once : (opened : ℕ → ℕ) (all : ℕ) → ((q : ℕ) → q < length x.grammar.productions → opened q ≡ 0) → all ≡ 0 → HasStopped x r opened all
-  stopped_at_once opened all fresh all_fresh = record { few = λ c least. omega (arith, all_fresh); free = λ p within h. fresh p within }
+  pub stopped_at_once : (opened : ℕ → ℕ) (all : ℕ) → ((q : ℕ) → q < length x.grammar.productions → opened q ≡ 0) → all ≡ 0 → HasStopped x.grammar (token_cost x) r opened all
+  stopped_at_once opened all fresh all_fresh = record { few = λ d least. omega (arith, all_fresh); free = λ p within h. fresh p within }
 
-  pub stopped : (pending : List Sym) (word : List ℕ) (opened : ℕ → ℕ) (all : ℕ) → IsOnTheWay x r pending word → IsCounted x r pending word opened all → HasStopped x r opened all
-  stopped pending word opened all way k = record {
-    few = λ c least.
-        let same = least_is_one (HasProduction x.grammar) (token_cost x) r way.cost c (least_answered r way.cost way.answer) least in
-        let few = subst (λ c. all ≤ c * x.grammar.rules) same (few_opened pending word opened all way k way.cost way.answer) in
+  pub stopped : (pending : List Sym) (word : List ℕ) (opened : ℕ → ℕ) (all : ℕ) → IsCounted x r pending word opened all → HasStopped x.grammar (token_cost x) r opened all
+  stopped pending word opened all k = record {
+    few = λ d least.
+        let same = least_is_one (HasProduction x.grammar) (token_cost x) r c d (least_answered r c answer) least in
+        let few = subst (λ d. all ≤ d * x.grammar.rules) same (few_opened pending word opened all k) in
         omega (arith, few);
     free = k.paid;
   }
@@ -282,16 +279,13 @@ module _ (x : CostTables) (n : ℕ) (is : IsGenerator x n) (grammar : IsGrammar 
       )
 
   -- the tokens in the order of the sentence
-  pub walked : {A : Type 0} (f : A → ℕ) (items turned : List A) (opened : ℕ → ℕ) (all : ℕ) → turned ≡ reverse items → IsOnTheWay x r [] (map f items)
-      → IsCounted x r [] (map f items) opened all → HasWalked x r opened all (map f turned)
-  walked f items turned opened all e way k =
-      let sentence = finished x n is grammar f items turned r e way in
+  pub walked : {A : Type 0} (f : A → ℕ) (items turned : List A) (opened : ℕ → ℕ) (all : ℕ) → AreFirst x → r < x.grammar.rules → turned ≡ reverse items
+      → IsOnTheWay x r [] (map f items) → IsCounted x r [] (map f items) opened all → HasWalked x.grammar (token_cost x) r opened all (map f turned)
+  walked f items turned opened all first within e way k =
       let same : reverse (map f items) ≡ map f turned = sym (ap (map f) e ∙ map-reverse f items) in
       let by = derived_by (map f items) opened all k in
       record {
-        minimal = sentence.0;
-        short = subst (λ m. m ≤ cost_of (token_cost x) (map f turned)) (sym (length-map turned f)) sentence.1;
-        chosen = finished_by_choices x n is grammar f items turned r e way;
+        found = finished x walks grammar f items turned r first within e way;
         derived = subst (λ w. IsDerivedBy x.grammar (token_cost x) opened all r w) same by.0;
         few = subst (λ (w : List ℕ). all ≤ 1 + length w * x.grammar.rules) same by.1;
         free = k.paid;

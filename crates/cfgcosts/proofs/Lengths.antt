@@ -1,13 +1,14 @@
 -- Where each token costs something, a word has at most as many tokens as it costs.
-use Rattle.std.proofs.Common.{◌≡◌, ℕ, ◌<◌, ◌≤◌, List, [], ◌∷◌, ◌++◌, length, All, arith, sym, subst}
+use Rattle.std.proofs.Common.{◌≡◌, ℕ, ◌<◌, ◌≤◌, List, [], ◌∷◌, ◌++◌, length, All, arith}
 use Rattle.std.specs.Prelude.{slice_index}
-use Rattle.std.proofs.lemmas.List.Elements.{All-append, All-nil, All-cons, All-head, All-tail, All-weaker, All-contains, All-get_or}
+use Rattle.std.proofs.lemmas.List.Elements.{All-nil, All-cons, All-head, All-tail, All-weaker, All-contains, All-get_or}
 use Rattle.derivation.specs.Grammar.{Sym, Rule, Token, Grammar, IsGrammar, IsSymbolOf, HasProduction}
 use Rattle.derivation.specs.Sentence.{Sentence, cost_of}
-use Rattle.derivation.specs.Tree.{Yields, empty, token, opened}
+use Rattle.derivation.specs.Tree.{Yields}
 use Rattle.derivation.proofs.Trees.{trees_from_derivation}
 use Rattle.cfgsums.proofs.Made.{cost_of-token}
 use Rattle.cfgcosts.proofs.Popped.{none_left}
+use Rattle.cfgcosts.proofs.SentenceTokens.{leaves_are}
 
 -- a token costs something
 abbrev pub IsPaid : (ℕ → ℕ) → Sym → Type 0
@@ -35,12 +36,7 @@ dear_back cost (t ∷ u) w all = dear_back cost u w (All-tail (λ t. 0 < cost t)
 
 module _ (P : ℕ → List Sym → Type 0) (cost : ℕ → ℕ) (paid : (r : ℕ) (symbols : List Sym) → P r symbols → All (IsPaid cost) symbols) where
   pub tokens_dear : {a : List Sym} {w : List ℕ} → Yields P a w → All (IsPaid cost) a → AreDear cost w
-  tokens_dear empty all = All-nil (λ t. 0 < cost t)
-  tokens_dear (token {t = t} {a = a} {w = w} h) all =
-      All-cons (λ t. 0 < cost t) t w (All-head (IsPaid cost) (Token t) a all) (tokens_dear h (All-tail (IsPaid cost) (Token t) a all))
-  tokens_dear (opened {r = r} {symbols = symbols} {a = a} {u = u} {w = w} has h k e) all =
-      subst (AreDear cost) (sym e)
-      (All-append (λ t. 0 < cost t) u w (tokens_dear h (paid r symbols has)) (tokens_dear k (All-tail (IsPaid cost) (Rule r) a all)))
+  tokens_dear tree all = leaves_are P (IsPaid cost) paid tree all
 
   pub sentence_dear : (r : ℕ) (w : List ℕ) → Sentence P r w → AreDear cost w
   sentence_dear r w s = tokens_dear (trees_from_derivation P (Rule r ∷ []) w s) (All-cons (IsPaid cost) (Rule r) [] tt (All-nil (IsPaid cost)))

@@ -15,6 +15,7 @@ pub mod Greatest
 pub mod Refused
 pub mod TokenCosts
 pub mod Steps
+pub mod SentenceTokens
 pub mod Lengths
 pub mod Levels
 pub mod Choices
@@ -32,3 +33,8 @@ pub mod Searches
 pub mod OwnBelow
 pub mod AskedRules
 pub mod Filled
+pub mod GrowingChoices
+pub mod FirstChosen
+pub mod ChoosingFirsts
+pub mod FirstsMade
+pub mod RowsInOrder

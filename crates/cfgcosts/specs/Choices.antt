@@ -1,4 +1,4 @@
--- The one sentence of a rule that the generator's choices give.
+-- The one sentence of a rule that choices of productions give.
 use Rattle.std.specs.Prelude.{◌≡◌, ℕ, List, [], ◌∷◌, ◌++◌, Some}
 use Rattle.derivation.specs.Grammar.{Sym, Rule, Token}
 use Rattle.cfganalysis.specs.Openings.{nth_production}

@@ -2,11 +2,9 @@
 use Rattle.std.specs.Prelude.{◌≡◌, ℕ, ◌+◌, ◌*◌, ◌<◌, ◌≤◌, nat_eq, List, [], ◌∷◌, Option, Some, None, count_by, length}
 use Rattle.derivation.specs.Grammar.{Sym, Rule, Grammar, HasProduction}
 use Rattle.derivation.specs.Derivation.{Step}
-use Rattle.derivation.specs.Sentence.{cost_of}
-use Rattle.derivation.specs.Costs.{Least, Minimal}
+use Rattle.derivation.specs.Costs.{Least}
 use Rattle.cfganalysis.specs.Openings.{nth_production, OpensOne}
-use Rattle.cfgcosts.specs.Generator.{CostTables, token_cost}
-use Rattle.cfgcosts.specs.Choices.{ChoicesGive}
+use Rattle.cfgcosts.specs.Sentences.{IsFirstSentence}
 use Rattle.cfgcosts.specs.Splits.{Split}
 
 -- production p of the grammar is of this rule, and has these symbols
@@ -45,16 +43,14 @@ pub data OpensAt (place : Option ℕ) (content content' : Grammar) (opened opene
   nothing : place ≡ None → content' ≡ content → ((p : ℕ) → opened' p ≡ opened p) → all' ≡ all → OpensAt place content content' opened opened' all all'
   one : (p : ℕ) → place ≡ Some p → OpensOne p content content' opened opened' all all' → OpensAt place content content' opened opened' all all'
 
--- how a walk from the rule has ended: with a minimal sentence that the opened productions derive
-pub record HasWalked (x : CostTables) (r : ℕ) (opened : ℕ → ℕ) (all : ℕ) (w : List ℕ) : Type 0 where
-  pub minimal : Minimal (HasProduction x.grammar) (token_cost x) r w
-  pub short : length w ≤ cost_of (token_cost x) w
-  pub chosen : ChoicesGive x (Rule r ∷ []) w
-  pub derived : IsDerivedBy x.grammar (token_cost x) opened all r w
-  pub few : all ≤ 1 + length w * x.grammar.rules
-  pub free : OpensNoneFree x.grammar (token_cost x) opened
+-- how a walk from the rule has ended: with its first minimal sentence, which the opened productions derive
+pub record HasWalked (g : Grammar) (cost : ℕ → ℕ) (r : ℕ) (opened : ℕ → ℕ) (all : ℕ) (w : List ℕ) : Type 0 where
+  pub found : IsFirstSentence g cost r w
+  pub derived : IsDerivedBy g cost opened all r w
+  pub few : all ≤ 1 + length w * g.rules
+  pub free : OpensNoneFree g cost opened
 
 -- or for want of memory
-pub record HasStopped (x : CostTables) (r : ℕ) (opened : ℕ → ℕ) (all : ℕ) : Type 0 where
-  pub few : (c : ℕ) → Least (HasProduction x.grammar) (token_cost x) r c → all ≤ 1 + c * x.grammar.rules
-  pub free : OpensNoneFree x.grammar (token_cost x) opened
+pub record HasStopped (g : Grammar) (cost : ℕ → ℕ) (r : ℕ) (opened : ℕ → ℕ) (all : ℕ) : Type 0 where
+  pub few : (c : ℕ) → Least (HasProduction g) cost r c → all ≤ 1 + c * g.rules
+  pub free : OpensNoneFree g cost opened

@@ -9,4 +9,5 @@ pub mod Sentences
 pub mod Splits
 pub mod Levels
 pub mod Minimal
+pub mod FirstChoices
 pub mod DerivedBy

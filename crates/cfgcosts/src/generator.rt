@@ -1,7 +1,7 @@
 //! The costs of a grammar's sentences: the least of each rule, with the production that shows it, and the greatest.
 
 ghost use Rattle.std.specs.Prelude.{◌≡◌, ◌↔◌, ℕ, ◌<◌, ◌≤◌, ◌⊎◌, List, Option, All};
-ghost use Rattle.std.specs.Prelude.{EachIndex, Err, IfOk, IfSome, None, Ok, Some, length, slice_index};
+ghost use Rattle.std.specs.Prelude.{EachIndex, Err, IfOk, IfSome, IsTrue, None, Ok, Some, length, slice_index};
 ghost use Rattle.std.specs.Result.{result_ok};
 ghost use Rattle.cfgindex.specs.declared.idxnewtype.TIdx.{TIdx};
 ghost use Rattle.derivation.specs.Grammar.{HasProduction};
@@ -11,6 +11,7 @@ ghost use Rattle.cfgcosts.specs.Certificate.{IsCovered, IsReached, choice_of, ru
 ghost use Rattle.cfgcosts.specs.Generator.{AnswersLeast, HasNone, IsLeastProduction, IsTooDear, choice_answer};
 ghost use Rattle.cfgcosts.specs.Generator.{cost_answer, token_cost};
 
+use crate::first_choices::first_choices;
 use crate::kinds::{Kind, kinds};
 use crate::settle::{Settled, settle};
 use crate::walk::TOO_LARGE;
@@ -50,12 +51,15 @@ pub struct SentenceGenerator<'a, S: Storage, T: Tables<S>> {
     pub(crate) costs: Vec<u8>,
     pub(crate) settled: Settled<S>,
     pub(crate) kinds: Vec<Kind<S>>,
+    /// For each rule that costs something the production by which its first minimal sentence is made.
+    pub(crate) firsts: Vec<Option<(PIdx<S>, u32)>>,
     greatest: Vec<Result<Option<u16>, CostError>>,
 }
 
 impl<'a, S: Storage, T: Tables<S>> Model for SentenceGenerator<'a, S, T> {
     ghost use Rattle.std.specs.Prelude.{slice_index};
     ghost use Rattle.cfggreatest.specs.Words.{AreTold};
+    ghost use Rattle.cfgcosts.specs.FirstChoices.{AreFirst, Walks};
     ghost use Rattle.cfgcosts.specs.Generator.{CostTables, IsGenerator, tables_of};
     ghost use Rattle.cfgcosts.specs.Minimal.{AreKinds};
 
@@ -68,7 +72,9 @@ impl<'a, S: Storage, T: Tables<S>> Model for SentenceGenerator<'a, S, T> {
         x.settled.least.items x.settled.choices.items) x.settled.number
         × AreTold (T.grammar x.tables.now) (slice_index x.costs.items) x.greatest.items
         × AreKinds S.number (tables_of S.number (T.grammar x.tables.now) x.costs.items x.settled.least.items
-        x.settled.choices.items) x.kinds.items };
+        x.settled.choices.items) x.kinds.items
+        × Walks (tables_of S.number (T.grammar x.tables.now) x.costs.items x.settled.least.items x.firsts.items)
+        × AreFirst (tables_of S.number (T.grammar x.tables.now) x.costs.items x.settled.least.items x.firsts.items) };
 }
 
 impl<'a, S: Storage, T: Tables<S>> SentenceGenerator<'a, S, T> {
@@ -96,12 +102,14 @@ impl<'a, S: Storage, T: Tables<S>> SentenceGenerator<'a, S, T> {
         let costs = token_costs(alloc, tokens_len, cost)?;
         let settled = settle(alloc, tables, &costs)?;
         let kinds = kinds(alloc, tables, &costs, &settled)?;
+        let firsts = first_choices(alloc, tables, &costs, &settled, &kinds)?;
         let greatest = greatest_costs(alloc, tables, &costs)?;
         Ok(SentenceGenerator {
             tables,
             costs,
             settled,
             kinds,
+            firsts,
             greatest,
         })
     }
@@ -145,6 +153,17 @@ impl<'a, S: Storage, T: Tables<S>> SentenceGenerator<'a, S, T> {
             Some(cost) if cost < TOO_LARGE => Ok(cost as u16),
             Some(_) => Err(CostError::CostTooLarge),
             None => Err(CostError::NoSentence),
+        }
+    }
+
+    /// Whether the rule's least cost is 0, so that its only minimal sentence is the empty one.
+    pub(crate) fn is_free(&self, rule: RIdx<S>) -> bool
+        requires { S.number rule.0 < self.now.grammar.rules }
+        ensures { IsTrue result ↔ (cost_answer self.now (S.number rule.0) ≡ Some 0) }
+    {
+        match self.min_sentence_cost(rule) {
+            Ok(cost) => cost == 0,
+            Err(_) => false,
         }
     }
 

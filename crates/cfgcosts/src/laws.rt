@@ -9,8 +9,6 @@ ghost use Rattle.derivation.specs.Sentence.{Sentence, cost_of};
 ghost use Rattle.derivation.specs.Costs.{Least, Minimal};
 ghost use Rattle.cfgsums.specs.Lists.{rule_cost};
 ghost use Rattle.cfgcosts.specs.Certificate.{IsCovered, IsReached};
-ghost use Rattle.cfgcosts.specs.Choices.{ChoicesGive};
-ghost use Rattle.cfgcosts.specs.Generator.{CostTables};
 ghost use Rattle.cfgcosts.specs.Levels.{IsHandedDown};
 ghost use Rattle.cfgcosts.specs.Minimal.{FirstMinimal, dictionary};
 ghost use Rattle.cfgcosts.specs.Splits.{Split};
@@ -53,14 +51,6 @@ pub fn first_sentences_make_the_first()
     ensures { (g : Grammar) (costs : List ℕ) → IsGrammar g → length costs ≡ g.tokens → All (λ c. 0 < c) costs
         → (row : List Sym) (w v : List ℕ) → Split (FirstMinimal (HasProduction g) (slice_index costs)) row w
         → Split (Minimal (HasProduction g) (slice_index costs)) row v → dictionary w v ≡ Greater → ⊥ }
-{}
-
-/// The choices give a list of symbols one list of tokens at most: so what they give a rule is one sentence, whoever
-/// goes by them.
-#[tactic(auto, using(crate::proofs::Choices::choices_once))]
-pub fn choices_give_one_sentence()
-    ensures { (x : CostTables) (symbols : List Sym) (v w : List ℕ)
-        → ChoicesGive x symbols v → ChoicesGive x symbols w → v ≡ w }
 {}
 
 /// Why there is no sentence is equal to itself alone. A clone is its source, and takes no memory.

@@ -1,19 +1,19 @@
-//! One minimal sentence of a rule, by productions that are opened one by one.
+//! The first minimal sentence of a rule, by productions that are opened one by one.
 
 ghost use Rattle.std.specs.Prelude.{◌≡◌, ◌↔◌, ℕ, ◌+◌, ◌-◌, ◌*◌, ◌^◌, ◌<◌, ◌≤◌};
-ghost use Rattle.std.specs.Prelude.{[], ◌∷◌, ◌++◌, ◌⊎◌, Err, IfOk, IfSome, OnErr, OnOk, Some, length, map};
-ghost use Rattle.derivation.specs.Grammar.{HasProduction, Rule};
+ghost use Rattle.std.specs.Prelude.{◌++◌, ◌⊎◌, All, Err, IfOk, IfSome, OnErr, OnOk, Some, length, map};
+ghost use Rattle.derivation.specs.Grammar.{HasProduction};
 ghost use Rattle.derivation.specs.Sentence.{cost_of};
-ghost use Rattle.derivation.specs.Costs.{Least, Minimal};
+ghost use Rattle.derivation.specs.Costs.{Least};
 ghost use Rattle.cfganalysis.specs.Symbols.{sym_of};
-ghost use Rattle.cfgcosts.specs.Choices.{ChoicesGive};
 ghost use Rattle.cfgcosts.specs.DerivedBy.{HasStopped, HasWalked, IsDerivedBy, OpensAt, OpensNoneFree};
 ghost use Rattle.cfgcosts.specs.Generator.{HasNone, IsTooDear, cost_answer, token_cost};
+ghost use Rattle.cfgcosts.specs.Minimal.{FirstMinimal};
 ghost use Rattle.cfgcosts.specs.Sentences.{number_of, symbols_at};
 
 use crate::errors::SentenceError;
 use crate::generator::SentenceGenerator;
-use crate::sentence::push_symbols;
+use crate::sentence::{push_symbols, take};
 use cfganalysis::{Productions, Tables};
 use cfgindex::{PIdx, RIdx, Storage, Symbol, TIdx};
 use std::alloc::{AllocError, Global};
@@ -45,7 +45,8 @@ fn open_production<S: Storage, P: Productions<S>>(
 }
 
 impl<'a, S: Storage, T: Tables<S>> SentenceGenerator<'a, S, T> {
-    /// The sentence that the chosen productions derive. They are opened on the way from its last token to its first.
+    /// The sentence that the productions derive which were chosen for first sentences. They are opened on the way from
+    /// its last token to its first.
     ///
     /// # Errors
     ///
@@ -62,9 +63,9 @@ impl<'a, S: Storage, T: Tables<S>> SentenceGenerator<'a, S, T> {
         requires fresh { (q : ℕ) → q < length self.now.grammar.productions → P.opened productions.old q ≡ 0 }
         requires all_fresh { P.opened_all productions.old ≡ 0 }
         ensures content { P.content productions.new ≡ self.now.grammar }
-        ensures walked { IfOk result (λ sentence. HasWalked self.now (S.number rule.0)
+        ensures walked { IfOk result (λ sentence. HasWalked self.now.grammar (token_cost self.now) (S.number rule.0)
             (P.opened productions.new) (P.opened_all productions.new) (map (λ t. S.number t.0) sentence.items)) }
-        ensures stopped { OnErr result (HasStopped self.now (S.number rule.0)
+        ensures stopped { OnErr result (HasStopped self.now.grammar (token_cost self.now) (S.number rule.0)
             (P.opened productions.new) (P.opened_all productions.new)) }
     {
         let _rules = self.tables.rules_len().0.to_usize();
@@ -72,7 +73,7 @@ impl<'a, S: Storage, T: Tables<S>> SentenceGenerator<'a, S, T> {
         let mut pending = Vec::new(alloc);
         pending.push(Symbol::Rule(rule))?;
         while let Some(symbol) = pending.pop() {
-            let chosen = self.take(symbol, &mut sentence)?;
+            let chosen = take(&self.firsts, symbol, &mut sentence)?;
             open_production(productions, chosen, &mut pending)?;
         }
         sentence.reverse();
@@ -80,8 +81,8 @@ impl<'a, S: Storage, T: Tables<S>> SentenceGenerator<'a, S, T> {
     }
 }
 
-/// A sentence of the rule that no other of its sentences costs less than, as [`SentenceGenerator::min_sentence`] gives
-/// it, by the symbols of `productions` alone, which are the generator's.
+/// The first, in the order of a dictionary, of the rule's sentences that no other costs less than, as
+/// [`SentenceGenerator::min_sentence`] gives it, by the symbols of `productions` alone, which are the generator's.
 ///
 /// Together at most one production more is opened than the sentence's tokens times the rules. By the opened
 /// productions, each used as often as it was opened, the rule derives the sentence with rules of cost 0 between its
@@ -101,12 +102,13 @@ pub fn min_sentence_over<'a, S: Storage, T: Tables<S>, P: Productions<S>>(
     requires same { P.content productions.old ≡ generator.now.grammar }
     requires fresh { (q : ℕ) → q < length generator.now.grammar.productions → P.opened productions.old q ≡ 0 }
     requires all_fresh { P.opened_all productions.old ≡ 0 }
-    ensures minimal { IfOk result (λ sentence. Minimal (HasProduction generator.now.grammar) (token_cost generator.now)
-        (S.number rule.0) (map (λ t. S.number t.0) sentence.items)) }
+    ensures first { IfOk result (λ sentence.
+        FirstMinimal (HasProduction generator.now.grammar) (token_cost generator.now) (S.number rule.0)
+        (map (λ t. S.number t.0) sentence.items)) }
     ensures length { IfOk result (λ sentence.
         length sentence.items ≤ cost_of (token_cost generator.now) (map (λ t. S.number t.0) sentence.items)) }
-    ensures chosen { IfOk result (λ sentence.
-        ChoicesGive generator.now (Rule (S.number rule.0) ∷ []) (map (λ t. S.number t.0) sentence.items)) }
+    ensures within { IfOk result (λ sentence.
+        All (λ t. t + 1 < generator.now.grammar.tokens) (map (λ t. S.number t.0) sentence.items)) }
     ensures none { (result ≡ Err SentenceError.NoSentence)
         ↔ HasNone (HasProduction generator.now.grammar) (S.number rule.0) }
     ensures dear { (result ≡ Err SentenceError.CostTooLarge)

@@ -1,5 +1,4 @@
 pub mod SentenceTexts
-pub mod SentenceTokens
 pub mod SentencesListed
 pub mod Told
 pub mod WarningPlaces

@@ -9,7 +9,7 @@ use Rattle.derivation.specs.Costs.{Minimal}
 use Rattle.cfgcosts.specs.Generator.{HasNone, IsTooDear}
 use Rattle.cfgcosts.specs.Minimal.{dictionary}
 use Rattle.cfglisting.specs.SentenceLines.{ListsMinimal}
-use Rattle.cfglisting.proofs.SentenceTokens.{sentence_tokens}
+use Rattle.cfgcosts.proofs.SentenceTokens.{sentence_tokens}
 
 none_sorted : IsStrictlySortedBy dictionary []
 unfolding IsStrictlySortedBy

@@ -1,5 +1,8 @@
-use Rattle.std.proofs.Common.{Ok, refl, sym, ◌∙◌}
+use Rattle.std.proofs.Common.{◌≤◌, Ok, map, refl, sym, subst, ◌∙◌}
+use Rattle.std.proofs.lemmas.List.{length-map}
 use Rattle.derivation.specs.Grammar.{HasProduction}
+use Rattle.derivation.specs.Sentence.{cost_of}
+use Rattle.cfgindex.specs.declared.idxnewtype.TIdx.{TIdx}
 use Rattle.cfgsums.specs.declared.errors.CostError.TheVariants as costs
 use Rattle.cfgcosts.specs.declared.errors.SentenceError.TheVariants.{OutOfMemory}
 use Rattle.cfgcosts.specs.Generator.{HasNone, IsTooDear, token_cost}
@@ -61,11 +64,11 @@ pub returns-in_err-sentence-clause-refused : goal.returns-in_err-sentence-clause
 returns-in_err-sentence-clause-refused g c = λ cost. absurd (memory_alone (Unit {0}) c.from_residual-in_err-sentence.result
     (refusal c.from_residual-in_err-sentence.result OutOfMemory c.from_residual-in_err-sentence.ensures.1) cost)
 
-pub returns-in_err-min_sentence_cost-clause-minimal : goal.returns-in_err-min_sentence_cost-clause-minimal
-returns-in_err-min_sentence_cost-clause-minimal g c = unanswered _ _ c.from_residual.result c.from_residual.ensures.1
+pub returns-in_err-min_sentence_cost-clause-first : goal.returns-in_err-min_sentence_cost-clause-first
+returns-in_err-min_sentence_cost-clause-first g c = unanswered _ _ c.from_residual.result c.from_residual.ensures.1
 
-pub returns-in_err-sentence-clause-minimal : goal.returns-in_err-sentence-clause-minimal
-returns-in_err-sentence-clause-minimal g c = unanswered _ _ c.from_residual-in_err-sentence.result c.from_residual-in_err-sentence.ensures.1
+pub returns-in_err-sentence-clause-first : goal.returns-in_err-sentence-clause-first
+returns-in_err-sentence-clause-first g c = unanswered _ _ c.from_residual-in_err-sentence.result c.from_residual-in_err-sentence.ensures.1
 
 pub returns-in_err-min_sentence_cost-clause-length : goal.returns-in_err-min_sentence_cost-clause-length
 returns-in_err-min_sentence_cost-clause-length g c = unanswered _ _ c.from_residual.result c.from_residual.ensures.1
@@ -73,11 +76,11 @@ returns-in_err-min_sentence_cost-clause-length g c = unanswered _ _ c.from_resid
 pub returns-in_err-sentence-clause-length : goal.returns-in_err-sentence-clause-length
 returns-in_err-sentence-clause-length g c = unanswered _ _ c.from_residual-in_err-sentence.result c.from_residual-in_err-sentence.ensures.1
 
-pub returns-in_err-min_sentence_cost-clause-chosen : goal.returns-in_err-min_sentence_cost-clause-chosen
-returns-in_err-min_sentence_cost-clause-chosen g c = unanswered _ _ c.from_residual.result c.from_residual.ensures.1
+pub returns-in_err-min_sentence_cost-clause-within : goal.returns-in_err-min_sentence_cost-clause-within
+returns-in_err-min_sentence_cost-clause-within g c = unanswered _ _ c.from_residual.result c.from_residual.ensures.1
 
-pub returns-in_err-sentence-clause-chosen : goal.returns-in_err-sentence-clause-chosen
-returns-in_err-sentence-clause-chosen g c = unanswered _ _ c.from_residual-in_err-sentence.result c.from_residual-in_err-sentence.ensures.1
+pub returns-in_err-sentence-clause-within : goal.returns-in_err-sentence-clause-within
+returns-in_err-sentence-clause-within g c = unanswered _ _ c.from_residual-in_err-sentence.result c.from_residual-in_err-sentence.ensures.1
 
 pub returns-in_err-min_sentence_cost-clause-derived : goal.returns-in_err-min_sentence_cost-clause-derived
 returns-in_err-min_sentence_cost-clause-derived g c = unanswered _ _ c.from_residual.result c.from_residual.ensures.1
@@ -91,11 +94,17 @@ returns-in_err-min_sentence_cost-clause-few g c = unanswered _ _ c.from_residual
 pub returns-in_err-sentence-clause-few : goal.returns-in_err-sentence-clause-few
 returns-in_err-sentence-clause-few g c = unanswered _ _ c.from_residual-in_err-sentence.result c.from_residual-in_err-sentence.ensures.1
 
-pub returns-clause-minimal : goal.returns-clause-minimal
-returns-clause-minimal g c = c.in_ok-sentence.ensures.walked.minimal
+pub returns-clause-first : goal.returns-clause-first
+returns-clause-first g c = c.in_ok-sentence.ensures.walked.found.first
 
-pub returns-clause-chosen : goal.returns-clause-chosen
-returns-clause-chosen g c = c.in_ok-sentence.ensures.walked.chosen
+pub returns-clause-within : goal.returns-clause-within
+returns-clause-within g c = c.in_ok-sentence.ensures.walked.found.within
+
+pub returns-clause-length : goal.returns-clause-length
+returns-clause-length g c =
+    let tokens = c.in_ok-sentence.sentence.items in
+    let number = λ (t : TIdx _). g.S.Storage.number t.0 in
+    subst (λ m. m ≤ cost_of (token_cost c.args.generator.now) (map number tokens)) (length-map tokens number) c.in_ok-sentence.ensures.walked.found.short
 
 pub returns-clause-derived : goal.returns-clause-derived
 returns-clause-derived g c = c.in_ok-sentence.ensures.walked.derived

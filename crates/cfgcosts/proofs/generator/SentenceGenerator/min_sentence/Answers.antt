@@ -1,6 +1,9 @@
-use Rattle.std.proofs.Common.{Ok, refl, sym, ap, ◌∙◌}
+use Rattle.std.proofs.Common.{◌≤◌, Ok, map, refl, sym, ap, subst, ◌∙◌}
+use Rattle.std.proofs.lemmas.List.{length-map}
 use Rattle.std.specs.Result.{result_ok}
 use Rattle.derivation.specs.Grammar.{HasProduction}
+use Rattle.derivation.specs.Sentence.{cost_of}
+use Rattle.cfgindex.specs.declared.idxnewtype.TIdx.{TIdx}
 use Rattle.cfgsums.specs.declared.errors.CostError.TheVariants as costs
 use Rattle.cfgcosts.specs.declared.errors.SentenceError.TheVariants.{OutOfMemory}
 use Rattle.cfgcosts.specs.Generator.{HasNone, IsTooDear, token_cost}
@@ -38,3 +41,15 @@ returns-clause-dear g c = sentence_none (IsTooDear (HasProduction c.args.self.no
 
 pub chosen_sentence-requires-clause-cost : goal.chosen_sentence-requires-clause-cost
 chosen_sentence-requires-clause-cost g c = (c.in_ok-min_sentence_cost.field-0, sym c.min_sentence_cost.ensures.answer ∙ ap result_ok c.in_ok-min_sentence_cost.was)
+
+pub returns-clause-first : goal.returns-clause-first
+returns-clause-first g c = c.in_ok-sentence.ensures.first
+
+pub returns-clause-length : goal.returns-clause-length
+returns-clause-length g c =
+    let tokens = c.in_ok-sentence.sentence.items in
+    let number = λ (t : TIdx _). g.S.Storage.number t.0 in
+    subst (λ m. m ≤ cost_of (token_cost c.args.self.now) (map number tokens)) (length-map tokens number) c.in_ok-sentence.ensures.short
+
+pub returns-clause-within : goal.returns-clause-within
+returns-clause-within g c = c.in_ok-sentence.ensures.within
