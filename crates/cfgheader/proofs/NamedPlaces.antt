@@ -15,7 +15,7 @@ use Rattle.cfgheader.specs.SectionReads.{given, section_answer}
 use Rattle.cfgheader.specs.declared.section.header_fault.HeaderFault.{HeaderFault}
 use Rattle.cfgheader.specs.declared.section.header_fault.HeaderFault.TheVariants as faults
 use Rattle.cfgheader.proofs.NamedLemmas.{one_naming}
-use Rattle.cfgheader.specs.Named.{IsNaming, Naming, unnamed, at_front, kind_or_places, kind_given, kind_in, Names}
+use Rattle.cfgheader.specs.Named.{IsNaming, Naming, unnamed, kind_or_places, kind_given, kind_in, Names}
 use Rattle.cfgheader.specs.SectionPlaces.{IsErrorAt, IsFaultAt}
 use Rattle.cfgkinds.proofs.ValuePlaces.{EachKindPlace}
 use Rattle.cfgheader.proofs.SectionOne.{section_answered}
@@ -54,7 +54,7 @@ module _ (text : List ℕ) where
   given_at : IsUtf8 text → (value : Option (ShownHeaderValue Span)) → IfSome value (λ v. EachKindPlace (IsPiece text) v.value) → IsNamingAt (kind_given value)
   given_at utf8 None h =
       let first : IsCharBoundary text 0 = IsCharBoundary-start text utf8 in
-      unnamed_at at_front (omega arith) (All-cons (IsPiece text) _ [] (record { ordered = omega arith; begins_at = first; ends_at = first }) (All-nil (IsPiece text)))
+      unnamed_at (record { start = 0; end = 0 } ∷ []) (omega arith) (All-cons (IsPiece text) _ [] (record { ordered = omega arith; begins_at = first; ends_at = first }) (All-nil (IsPiece text)))
   given_at utf8 (Some value) h = kind_at (kind_of_value value.value) (kind_places (IsPiece text) value.value h)
 
   section_named_at : IsUtf8 text → (section : Result (List Entry × List ℕ) (List (ShownError Span))) → IsSectionAt text section → IsNamingAt (kind_in section)

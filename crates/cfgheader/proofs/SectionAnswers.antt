@@ -13,7 +13,7 @@ use Rattle.reading.proofs.Yields.{EndsIn}
 use Rattle.cfgmarks.specs.declared.markmap.MarkMap.{MarkMap}
 use Rattle.cfgwords.specs.Places.{IsPiece}
 use Rattle.cfgwords.proofs.Cuts.{IsCut, cut_here, boundary_cut}
-use Rattle.cfgwords.proofs.WordPlaces.{IsReached, reached, reached_here, reached_on}
+use Rattle.cfgwords.proofs.WordPlaces.{StandsBehind, whole_cut, stands_here, stands_on}
 use Rattle.cfgheader.specs.declared.section.header_fault.HeaderFault.{HeaderFault}
 use Rattle.cfgheader.specs.declared.section.header_fault.HeaderFault.TheVariants as faults
 use Rattle.cfgkinds.specs.declared.value.HeaderValue.{HeaderValue}
@@ -48,21 +48,21 @@ module _ (text : List ℕ) (utf8 : IsUtf8 text) where
 
   module _ (i : ℕ) (at : IsCharBoundary text i) where
     abbrev IsEntryEnd : Result (Entry × List ℕ) Fault → Type 0
-    IsEntryEnd = EndsIn (IsReached text (drop i text)) (IsErrorAt text) (IsEntryAt text)
+    IsEntryEnd = EndsIn (StandsBehind text (drop i text)) (IsErrorAt text) (IsEntryAt text)
 
     entry_read : IsEntryEnd (computes (entry (length text)) (drop i text)).outcome
     entry_read =
         let rest : List ℕ = drop i text in
         let cut : IsCut text rest = record { piece = take i text; whole = sym (take-append-drop i text); utf8 = λ u. IsUtf8-drop text i u at } in
-        let start : IsReached text rest rest = record { origin = cut; further = cut_here rest } in
-        ((keeps (IsReached text) (IsEntryAt text) (IsErrorAt text) (reached_here text utf8) (reached_on text utf8) (entry (length text)) rest (IsEntryAt text)
+        let start : StandsBehind text rest rest = record { origin = cut; further = cut_here rest } in
+        ((keeps (StandsBehind text) (IsEntryAt text) (IsErrorAt text) (stands_here text utf8) (stands_on text utf8) (entry (length text)) rest (IsEntryAt text)
         (entry_kept text utf8 rest (IsEntryAt text) (λ e placed. placed))).passes rest (computes (entry (length text)) rest) start ((agree (entry (length text))).sound rest)).outcome
 
     placed : (result : Result (String Global × Span × Value Span × ℕ) HeaderFault) (expected : Result (Entry × List ℕ) Fault) → IsEntryAnswer (length text) result expected
         → IsEntryEnd expected → IfOk result (λ x. IsPiece text x.1 × IsCharBoundary text x.3)
     placed (Ok (key, key_span, value, offset)) (Ok (read, rest)) answer end = (
       subst (λ (e : Entry). IsPiece text e.key_span) answer.0 end.1.0,
-      subst (IsCharBoundary text) (sym answer.1) (boundary_cut text rest utf8 (reached text utf8 (drop i text) rest end.0)),
+      subst (IsCharBoundary text) (sym answer.1) (boundary_cut text rest utf8 (whole_cut text utf8 (drop i text) rest end.0)),
     )
     placed (Ok answered) (Err fault) answer end = absurd answer
     placed (Err fault) expected answer end = tt

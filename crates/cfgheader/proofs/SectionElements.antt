@@ -11,7 +11,7 @@ use Rattle.cfgheader.specs.declared.section.reader.Reader.{Reader}
 use Rattle.cfgkinds.specs.Values.{ShownSetting, setting_view}
 use Rattle.cfgheader.specs.SectionGrammar.{Entry, Fault, Strict, Turn, goes_on_before, nesting_fault, element, elements, array, setting_by, setting, bracketed}
 use Rattle.cfgheader.specs.declared.section.fault.ReadFault.TheVariants as errors
-use Rattle.cfgheader.specs.SectionSteps.{Builds, Fails, Grows, noted, entries_of, settings_list}
+use Rattle.cfgheader.specs.Inner.Steps.{Builds, Fails, Grows, noted, entries_of, settings_list}
 use Rattle.cfgheader.proofs.SectionSteps.{noted_none}
 use Rattle.cfgheader.proofs.SectionLoops.{Gathers, gathers_start, gathers_on, many_done, many_fails, while_builds, while_done}
 

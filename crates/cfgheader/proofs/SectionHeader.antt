@@ -21,7 +21,7 @@ use Rattle.cfgkinds.specs.declared.value.HeaderValue.{HeaderValue}
 use Rattle.cfgkinds.specs.Values.{ShownHeaderValue, header_value_view}
 use Rattle.cfgheader.specs.SectionGrammar.{Entry}
 use Rattle.cfgheader.specs.SectionReads.{IsHeaderOf, given, marked_view, bare_value}
-use Rattle.cfgheader.specs.SectionSteps.{entry_view}
+use Rattle.cfgheader.specs.Inner.Steps.{entry_view}
 
 equal_from : (r : Ordering) → is_eq r ≡ true → r ≡ Equal
 equal_from Less e = cc

@@ -19,7 +19,7 @@ use Rattle.cfgwords.specs.Places.{IsPiece}
 use Rattle.cfgwords.specs.SectionWords.{IsText, name_at, text_at}
 use Rattle.cfgwords.specs.Text.{place, span_of}
 use Rattle.cfgwords.proofs.Cuts.{IsCut, cut_on, cut_same, cut_word, cut_byte, cut_before, place_cut, boundary_cut}
-use Rattle.cfgwords.proofs.WordPlaces.{IsReached, reached, reached_piece, word_passed, integer_is_at}
+use Rattle.cfgwords.proofs.WordPlaces.{StandsBehind, whole_cut, piece_behind, word_passed, integer_is_at}
 use Rattle.cfgerrors.specs.HeaderErrors.{ShownErrorKind, ExpectedToken}
 use Rattle.cfgkinds.specs.Values.{Placed, ShownNamespaced, ShownSetting}
 use Rattle.cfgkinds.proofs.ValuePlaces.{EachNamePlace, EachSettingPlace, EachKindPlace}
@@ -31,17 +31,17 @@ module _ (whole : List ℕ) where
   IsEntryAt entry = IsPiece whole entry.key_span × EachKindPlace (IsPiece whole) entry.value
 
   abbrev pub KeepsPlaces : {l : Leaves} {G : Gives} → Construct Entry Fault l G → List ℕ → (ValueOf G → Type 0) → Type 0
-  KeepsPlaces = Keeps (IsReached whole) IsEntryAt (IsErrorAt whole)
+  KeepsPlaces = Keeps (StandsBehind whole) IsEntryAt (IsErrorAt whole)
 
 module _ (whole : List ℕ) (utf8 : IsUtf8 whole) where
   abbrev len : ℕ
   len = length whole
 
-  cut_to : (from text rest : List ℕ) → IsReached whole from text → IsCut text rest → IsReached whole from rest
+  cut_to : (from text rest : List ℕ) → StandsBehind whole from text → IsCut text rest → StandsBehind whole from rest
   cut_to from text rest t cut = record { origin = t.origin; further = cut_on from text rest t.further cut }
 
   -- a word that is cut off behind a place
-  word_is : (from text word rest : List ℕ) → IsReached whole from text → text ≡ word ++ rest → IsCut text rest → IsPiece whole (span_of (place len text) word)
+  word_is : (from text word rest : List ℕ) → StandsBehind whole from text → text ≡ word ++ rest → IsCut text rest → IsPiece whole (span_of (place len text) word)
   word_is from text word rest t e cut = record {
     ordered = omega arith;
     begins_at = boundary_cut whole text utf8 here;
@@ -49,7 +49,7 @@ module _ (whole : List ℕ) (utf8 : IsUtf8 whole) where
   }
     where
       here : IsCut whole text
-      here = reached whole utf8 from text t
+      here = whole_cut whole utf8 from text t
 
       at : place len rest ≡ place len text + length word
       at = omega (arith, place_cut whole text here, ap length e, length-append word rest)
@@ -58,13 +58,13 @@ module _ (whole : List ℕ) (utf8 : IsUtf8 whole) where
   one_error : (kind : ShownErrorKind) (span : Span) → IsPiece whole span → IsErrorAt whole (record { kind = kind; locations = span ∷ [] })
   one_error kind span at = record { some = omega arith; each = All-cons (IsPiece whole) span [] at (All-nil (IsPiece whole)) }
 
-  fault_is : (kind : ShownErrorKind) (from text : List ℕ) → IsReached whole from text → IsErrorAt whole (fault_at len kind text)
+  fault_is : (kind : ShownErrorKind) (from text : List ℕ) → StandsBehind whole from text → IsErrorAt whole (fault_at len kind text)
   fault_is kind from text t =
-      let at = boundary_cut whole text utf8 (reached whole utf8 from text t) in
+      let at = boundary_cut whole text utf8 (whole_cut whole utf8 from text t) in
       one_error kind _ (record { ordered = omega arith; begins_at = at; ends_at = at })
 
   -- characters past ASCII
-  wide_passed : (code : ℕ) (word : List ℕ) → encode_utf8 code ≡ word → (from text rest : List ℕ) → IsReached whole from text → text ≡ word ++ rest → IsReached whole from rest
+  wide_passed : (code : ℕ) (word : List ℕ) → encode_utf8 code ≡ word → (from text rest : List ℕ) → StandsBehind whole from text → text ≡ word ++ rest → StandsBehind whole from rest
   wide_passed code word is from text rest t e = cut_to from text rest t (record {
     piece = word;
     whole = e;
@@ -137,7 +137,7 @@ module _ (whole : List ℕ) (utf8 : IsUtf8 whole) where
   name_kept from Q q = (
     λ text word rest t is.
         let cut : IsCut text rest = cut_same text (word ++ rest) rest is.run.whole (cut_word (holds bytes.IdentifierStart) (λ b h. grind (arith, nat_tests)) word rest is.run.passes) in
-        (cut_to from text rest t cut, q (name_at len text word rest) (word_is from text word rest t is.run.whole cut, omega (arith, place_cut from text t.further, place_cut whole text (reached whole utf8 from text t)))),
+        (cut_to from text rest t cut, q (name_at len text word rest) (word_is from text word rest t is.run.whole cut, omega (arith, place_cut from text t.further, place_cut whole text (whole_cut whole utf8 from text t)))),
     λ text t. fault_is _ from text t,
   )
 
@@ -174,8 +174,8 @@ module _ (whole : List ℕ) (utf8 : IsUtf8 whole) where
   )
 
   -- a text between quotes, and its place
-  text_kept : (from text word rest : List ℕ) → IsReached whole from text → IsText text word rest
-      → IsReached whole from rest × IsPiece whole (text_at len text word rest).1
+  text_kept : (from text word rest : List ℕ) → StandsBehind whole from text → IsText text word rest
+      → StandsBehind whole from rest × IsPiece whole (text_at len text word rest).1
   text_kept from text word rest t is = (
     cut_to from text rest t (cut_on text inner rest opened (cut_on inner (34 ∷ rest) rest inside (cut_byte 34 rest (omega arith)))),
     subst (λ n. IsPiece whole (span_of n word)) at (word_is from inner word (34 ∷ rest) (cut_to from text inner t opened) refl inside),
@@ -191,7 +191,7 @@ module _ (whole : List ℕ) (utf8 : IsUtf8 whole) where
       inside = cut_before word 34 rest (omega arith)
 
       at : place len inner ≡ place len text + 1
-      at = omega (arith, place_cut whole text (reached whole utf8 from text t), ap length is.whole)
+      at = omega (arith, place_cut whole text (whole_cut whole utf8 from text t), ap length is.whole)
 
   setting_by_kept : (bracketed : Span → Strict (ShownSetting Span)) → ((opens : Span) → IsPiece whole opens → KeepsAll (bracketed opens)) → KeepsAll (setting_by len bracketed)
   unfolding setting_by bare_setting
@@ -201,7 +201,7 @@ module _ (whole : List ℕ) (utf8 : IsUtf8 whole) where
       λ text word rest t is. let it = text_kept from text word rest t is in (it.0, white_kept from _ (q _ it.1)),
       λ opening t. (
         word_passed whole utf8 (codes "[") refl opening,
-        λ behind u. kept _ (reached_piece whole utf8 opening behind u) behind _ (λ s at. white_kept from _ (q s at)),
+        λ behind u. kept _ (piece_behind whole utf8 opening behind u) behind _ (λ s at. white_kept from _ (q s at)),
         applied_kept opening _ (λ s at. white_kept from _ (q s at)),
       ),
     ),
@@ -240,10 +240,10 @@ module _ (whole : List ℕ) (utf8 : IsUtf8 whole) where
   )
     where
       -- from a `!` to the end of the key behind it
-      negated_at : (text : List ℕ) (key : Placed Span) → IsReached whole from text → IsBehind text key → IsPiece whole (record { start = place len text; end = key.1.end })
+      negated_at : (text : List ℕ) (key : Placed Span) → StandsBehind whole from text → IsBehind text key → IsPiece whole (record { start = place len text; end = key.1.end })
       negated_at text key t at = record {
         ordered = at.1;
-        begins_at = boundary_cut whole text utf8 (reached whole utf8 from text t);
+        begins_at = boundary_cut whole text utf8 (whole_cut whole utf8 from text t);
         ends_at = at.0.ends_at;
       }
 
@@ -252,8 +252,8 @@ module _ (whole : List ℕ) (utf8 : IsUtf8 whole) where
   entries_kept from Q q = ((entry_kept from _ (λ e at. (at, comma_kept from _ (λ b. tt))), tt), λ values all. q)
 
   -- where `}` is missing
-  end_is : (opening text : List ℕ) → IsReached whole opening text → IsErrorAt whole (end_fault len (place len opening) text)
-  end_is opening [] t = one_error _ _ (reached_piece whole utf8 opening [] t)
+  end_is : (opening text : List ℕ) → StandsBehind whole opening text → IsErrorAt whole (end_fault len (place len opening) text)
+  end_is opening [] t = one_error _ _ (piece_behind whole utf8 opening [] t)
   end_is opening (b ∷ text) t = go (eqb b 42) refl
     where
       star : eqb b 42 ≡ true → IsCut (b ∷ text) text
@@ -262,7 +262,7 @@ module _ (whole : List ℕ) (utf8 : IsUtf8 whole) where
       go : (here : Bool) → eqb b 42 ≡ here → IsErrorAt whole (cond here (record { kind = unexpected_star; locations = record { start = place len (b ∷ text); end = place len (b ∷ text) + 1 } ∷ [] })
           (error_over (ExpectedToken 125) (place len opening) (place len (b ∷ text))))
       go true e = one_error _ _ (word_is opening (b ∷ text) (b ∷ []) text t refl (star e))
-      go false e = one_error _ _ (reached_piece whole utf8 opening (b ∷ text) t)
+      go false e = one_error _ _ (piece_behind whole utf8 opening (b ∷ text) t)
 
   braced_kept : (from : List ℕ) (Q : Unit {0} → Type 0) → Q tt → KeepsPlaces whole (braced len) from Q
   unfolding braced
@@ -276,6 +276,6 @@ module _ (whole : List ℕ) (utf8 : IsUtf8 whole) where
   unfolding section missing
   section_kept required from Q q = λ text t. white_kept text _ (
     word_passed whole utf8 (codes "%grmtools") refl text,
-    white_kept text _ (braced_kept text _ (λ rest u. q rest (reached whole utf8 text rest u))),
-    (λ text u. one_error _ _ (record { ordered = omega arith; begins_at = IsCharBoundary-start whole utf8; ends_at = IsCharBoundary-start whole utf8 }), q text (reached whole utf8 from text t)),
+    white_kept text _ (braced_kept text _ (λ rest u. q rest (whole_cut whole utf8 text rest u))),
+    (λ text u. one_error _ _ (record { ordered = omega arith; begins_at = IsCharBoundary-start whole utf8; ends_at = IsCharBoundary-start whole utf8 }), q text (whole_cut whole utf8 from text t)),
   )

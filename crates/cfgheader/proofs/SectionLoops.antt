@@ -11,7 +11,7 @@ use Rattle.cfgheader.specs.declared.section.fault.ReadFault.{ReadFault}
 use Rattle.cfgheader.specs.declared.section.fault.ReadFault.TheVariants as errors
 use Rattle.cfgheader.specs.declared.section.reader.Reader.{Reader}
 use Rattle.cfgheader.specs.SectionGrammar.{Entry, Fault as ReadingFault, Strict, Turn}
-use Rattle.cfgheader.specs.SectionSteps.{Builds, Fails, Grows, noted, entries_of, fault_view}
+use Rattle.cfgheader.specs.Inner.Steps.{Builds, Fails, Grows, noted, entries_of, fault_view}
 use Rattle.cfgheader.proofs.SectionSteps.{noted_none, noted_append}
 
 -- what was read, and how it ended, against what the code did

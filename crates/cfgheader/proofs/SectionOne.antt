@@ -16,7 +16,7 @@ use Rattle.cfgheader.specs.declared.section.header_fault.HeaderFault.TheVariants
 use Rattle.cfgkinds.specs.declared.value.HeaderValue.{HeaderValue}
 use Rattle.cfgheader.specs.declared.section.entry.Entry.{Entry as CodeEntry}
 use Rattle.cfgheader.specs.declared.section.reader.Reader.{Reader}
-use Rattle.cfgheader.specs.SectionSteps.{Grows, noted, entry_view, entries_of, end_view}
+use Rattle.cfgheader.specs.Inner.Steps.{Grows, noted, entry_view, entries_of, end_view}
 use Rattle.cfgheader.proofs.SectionSteps.{noted_behind}
 
 pub section_is : (required : Bool) (text : List ℕ) (entries : List Entry) (end : Result (List ℕ) Fault) → IsSection required text entries end

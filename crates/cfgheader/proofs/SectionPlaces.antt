@@ -12,7 +12,7 @@ use Rattle.reading.proofs.Yields.{EndsIn}
 use Rattle.cfgwords.specs.Places.{IsPiece}
 use Rattle.cfgbase.specs.declared.span.Span.{Span}
 use Rattle.cfgwords.proofs.Cuts.{IsCut, cut_here}
-use Rattle.cfgwords.proofs.WordPlaces.{IsReached, reached_here, reached_on}
+use Rattle.cfgwords.proofs.WordPlaces.{StandsBehind, stands_here, stands_on}
 use Rattle.cfgerrors.specs.HeaderErrors.{ShownError}
 use Rattle.cfgheader.specs.SectionErrors.{places_of, is_first_repeat, repeated, duplicate_error, duplicate_errors, section_errors, stopped_by}
 use Rattle.cfgheader.specs.SectionGrammar.{Entry, Fault, section}
@@ -69,7 +69,7 @@ module _ (whole : List ℕ) where
         at [] placed = All-nil (λ (x : List Entry × Entry). IsErrorAt whole (duplicate_error entries x.1.key))
         at (x ∷ xs) placed = All-cons (λ (x : List Entry × Entry). IsErrorAt whole (duplicate_error entries x.1.key)) x xs (record { some = All-head IsPlaced x xs placed; each = places_at entries x.1.key all }) (at xs (All-tail IsPlaced x xs placed))
 
-    errors_at : (end : Result (List ℕ × List ℕ) Fault) → EndsIn (IsReached whole whole) (IsErrorAt whole) (IsCut whole) end → All (IsErrorAt whole) (section_errors entries (end_of end))
+    errors_at : (end : Result (List ℕ × List ℕ) Fault) → EndsIn (StandsBehind whole whole) (IsErrorAt whole) (IsCut whole) end → All (IsErrorAt whole) (section_errors entries (end_of end))
     errors_at (Ok (rest, left)) t = All-append (IsErrorAt whole) (duplicate_errors entries) [] duplicates_at (All-nil (IsErrorAt whole))
     errors_at (Err fault) at = All-append (IsErrorAt whole) (duplicate_errors entries) (fault ∷ []) duplicates_at (All-cons (IsErrorAt whole) fault [] at (All-nil (IsErrorAt whole)))
 
@@ -89,7 +89,7 @@ IsSectionAt text (Ok (entries, rest)) = IsCut text rest × All (λ entry. EachKi
 IsSectionAt text (Err errors) = All (IsErrorAt text) errors
 
 answer_at : (text : List ℕ) (errors : List Fault) (entries : List Entry) (end : Result (List ℕ × List ℕ) Fault) → All (IsErrorAt text) errors → All (IsEntryAt text) entries
-    → EndsIn (IsReached text text) (IsErrorAt text) (IsCut text) end → IsSectionAt text (unless_errors errors entries (end_of end))
+    → EndsIn (StandsBehind text text) (IsErrorAt text) (IsCut text) end → IsSectionAt text (unless_errors errors entries (end_of end))
 answer_at text errors entries (Err fault) placed kept cut = placed
 answer_at text (error ∷ errors) entries (Ok (rest, left)) placed kept cut = placed
 answer_at text [] entries (Ok (rest, left)) placed kept cut = (cut.1, All-weaker (IsEntryAt text) (λ entry. EachKindPlace (IsPiece text) entry.value) (λ entry at. at.1) entries kept)
@@ -97,9 +97,9 @@ answer_at text [] entries (Ok (rest, left)) placed kept cut = (cut.1, All-weaker
 pub section_at : (required : Bool) (text : List ℕ) → IsUtf8 text → IsSectionAt text (section_of required text)
 unfolding section_of
 section_at required text utf8 =
-    let start : IsReached text text text = record { origin = cut_here text; further = cut_here text } in
+    let start : StandsBehind text text text = record { origin = cut_here text; further = cut_here text } in
     let read = computes (section (length text) required) text in
-    let kept = (keeps (IsReached text) (IsEntryAt text) (IsErrorAt text) (reached_here text utf8) (reached_on text utf8) (section (length text) required) text (IsCut text)
+    let kept = (keeps (StandsBehind text) (IsEntryAt text) (IsErrorAt text) (stands_here text utf8) (stands_on text utf8) (section (length text) required) text (IsCut text)
     (section_kept text utf8 required text (IsCut text) (λ rest cut. cut))).passes text read start ((agree (section (length text) required)).sound text) in
     answer_at text (section_errors read.items (end_of read.outcome)) read.items read.outcome (errors_at text read.items kept.items read.outcome kept.outcome) kept.items kept.outcome
 

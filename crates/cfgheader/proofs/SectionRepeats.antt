@@ -20,7 +20,7 @@ use Rattle.cfgerrors.specs.declared.header.HeaderErrorKind.TheVariants as kinds
 use Rattle.cfgerrors.specs.HeaderErrors.{DuplicateEntry, error_view}
 use Rattle.cfgheader.specs.SectionReads.{errors_view}
 use Rattle.cfgheader.specs.declared.section.entry.Entry.{Entry as CodeEntry}
-use Rattle.cfgheader.specs.SectionSteps.{entry_view, spans_at, duplicate_at}
+use Rattle.cfgheader.specs.Inner.Steps.{entry_view, spans_at, duplicate_at}
 
 pub places_of-push : (done : List Entry) (x : Entry) (key : List ℕ)
     → places_of (done ++ x ∷ []) key ≡ cond (bytes_eq x.key key) (places_of done key ++ x.key_span ∷ []) (places_of done key)

@@ -2,7 +2,7 @@
 use Rattle.std.proofs.Common.{◌≡◌, List, [], ◌∷◌, ◌++◌, refl, sym, ◌∙◌, append-nil, append_assoc}
 use Rattle.std.proofs.lemmas.List.Sums.{fold-append}
 use Rattle.cfgheader.specs.SectionGrammar.{Entry}
-use Rattle.cfgheader.specs.SectionSteps.{noted}
+use Rattle.cfgheader.specs.Inner.Steps.{noted}
 
 pub noted_none : (entries : List Entry) → noted entries [] ≡ entries
 unfolding noted

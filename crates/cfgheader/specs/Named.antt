@@ -22,13 +22,9 @@ abbrev pub kind_or_places : Result YaccKind (List Span) → Naming
 kind_or_places (Ok kind) = Ok kind
 kind_or_places (Err places) = Err (unnamed places)
 
--- the text's front
-abbrev pub at_front : List Span
-at_front = record { start = 0; end = 0 } ∷ []
-
--- by what is given for the key `yacckind`; where nothing is, the error stands at the text's front
+-- by what is given for the key `yacckind`; where nothing is, the error has the empty span at offset 0
 abbrev pub kind_given : Option (ShownHeaderValue Span) → Naming
-kind_given None = Err (unnamed at_front)
+kind_given None = Err (unnamed (record { start = 0; end = 0 } ∷ []))
 kind_given (Some given) = kind_or_places (kind_of_value given.value)
 
 abbrev pub kind_in : Result (List Entry × List ℕ) (List (ShownError Span)) → Naming

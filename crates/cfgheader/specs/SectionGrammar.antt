@@ -8,12 +8,11 @@ use Rattle.reading.specs.Construct.{Construct, ◌>>=◌, ◌>>◌, case_of, cho
 use Rattle.cfgwords.specs.declared.bytes.ByteClass.TheVariants as bytes
 use Rattle.cfgwords.specs.Bytes.{holds}
 use Rattle.cfgwords.specs.Text.{place, span_of}
-use Rattle.cfgwords.specs.Words.{IsInteger, integer_of, integer_at}
-use Rattle.cfgwords.specs.SectionWords.{ascii_characters, wide_characters, IsName, IsText, name_of, text_of, name_at, text_at}
-use Rattle.cfgwords.proofs.Finders.{integer_finder, integer_shorter}
-use Rattle.cfgwords.proofs.SectionFinders.{name_finder, name_shorter, text_finder, text_shorter}
+use Rattle.cfgwords.specs.Words.{integer_at}
+use Rattle.cfgwords.specs.SectionWords.{ascii_characters, wide_characters, name_at, text_at}
 use Rattle.cfgerrors.specs.HeaderErrors.{ShownErrorKind, MissingGrmtoolsSection, IllegalName, ExpectedToken, UnexpectedToken, InvalidEntry, ShownError}
 use Rattle.cfgkinds.specs.Values.{Placed, ShownNamespaced, ShownSetting, Unitary, Constructor, Number, Text, Array, settings_of, ShownValue, Flag, Given}
+use Rattle.cfgheader.specs.Kinds.{name_kind, text_kind, integer_kind}
 
 -- an entry of a section: its key in lower case, the key's place, and what the key has
 pub record Entry : Type 0 where
@@ -119,7 +118,7 @@ comma = case_of (codes ",") (do
 -- len is the whole text's length
 module _ (len : ℕ) where
   unfoldable pub name : Strict (Placed Span)
-  name = word_or IsName name_of name_finder name_shorter (name_at len) gives (fails (name_fault len))
+  name = word_or name_kind (name_at len) gives (fails (name_fault len))
 
   -- `name` or `name :: name`, and the white space behind it
   unfoldable pub namespaced : Strict (ShownNamespaced Span)
@@ -150,7 +149,7 @@ module _ (len : ℕ) where
         (gives (Unitary constructor))
 
   unfoldable pub number : Strict (ShownSetting Span)
-  number = word_or IsInteger integer_of integer_finder integer_shorter (integer_at len) (λ number. gives (Number number.0 number.1)) (fails (number_fault len))
+  number = word_or integer_kind (integer_at len) (λ number. gives (Number number.0 number.1)) (fails (number_fault len))
 
   -- a setting of an array, and what stands between it and the next
   unfoldable pub element : Strict (ShownSetting Span) → Strict (ShownSetting Span)
@@ -175,7 +174,7 @@ module _ (len : ℕ) where
   unfoldable pub bare_setting : (Span → Strict (ShownSetting Span)) → Strict (ShownSetting Span)
   bare_setting bracketed =
       choice (starts (holds bytes.Digit)) number
-      (word_or IsText text_of text_finder text_shorter (text_at len) (λ text. gives (Text text.0 text.1))
+      (word_or text_kind (text_at len) (λ text. gives (Text text.0 text.1))
       (here (λ opening. case_of (codes "[") (here (λ behind. bracketed (between len opening behind))) applied)))
 
   -- the same, and the white space behind it

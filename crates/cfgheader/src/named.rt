@@ -1,8 +1,8 @@
 //! The kind of Yacc that a text names.
 
-ghost use Rattle.std.specs.Prelude.{◌≡◌, option_map, IfOk, IfErr, codes};
+ghost use Rattle.std.specs.Prelude.{◌≡◌, ◌∷◌, [], option_map, IfOk, IfErr, codes};
 ghost use Rattle.cfgerrors.specs.HeaderErrors.{InvalidEntry, error_view};
-ghost use Rattle.cfgheader.specs.Named.{HasOneNaming, IsNaming, Naming, Names, at_front, kind_given};
+ghost use Rattle.cfgheader.specs.Named.{HasOneNaming, IsNaming, Naming, Names, kind_given};
 ghost use Rattle.cfgheader.specs.SectionPlaces.{IsFaultAt};
 ghost use Rattle.cfgkinds.specs.Values.{header_value_view};
 
@@ -15,7 +15,7 @@ use std::alloc::{AllocError, Global};
 /// The error of a section that has no key `yacckind`.
 fn key_missing(alloc: Global) -> Result<HeaderError<Span>, AllocError>
     ensures { IfOk result (λ error. error_view error
-        ≡ record { kind = InvalidEntry (codes "yacckind"); locations = at_front }) }
+        ≡ record { kind = InvalidEntry (codes "yacckind"); locations = record { start = 0; end = 0 } ∷ [] }) }
 {
     let mut locations = Vec::new(alloc);
     locations.push(Span::new(0, 0))?;

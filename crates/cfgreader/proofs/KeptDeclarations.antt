@@ -5,10 +5,10 @@ use Rattle.reading.specs.Construct.{repeat, while_test}
 use Rattle.cfgbase.specs.declared.span.Span.{Span}
 use Rattle.cfgwords.specs.declared.fault.FaultKind.TheVariants.{IllegalString, PrematureEnd, UnknownDeclaration, UnknownSymbol}
 use Rattle.cfgwords.specs.Words.{Word}
-use Rattle.cfgwords.specs.Places.{IsPiece, IsWordAt}
+use Rattle.cfgwords.specs.Places.{IsPiece}
 use Rattle.cfgwords.specs.Text.{place}
 use Rattle.cfgwords.proofs.Cuts.{boundary_cut}
-use Rattle.cfgwords.proofs.WordPlaces.{IsReached, name_at, token_is_at, word_passed, fault_is_at, blank_is_at, line_rest_is_at, epp_string_is_at, colon_text_is_at, reached_piece}
+use Rattle.cfgwords.proofs.WordPlaces.{IsWordAt, StandsBehind, name_at, token_is_at, word_passed, fault_is_at, blank_is_at, line_rest_is_at, epp_string_is_at, colon_text_is_at, piece_behind}
 use Rattle.cfgast.specs.declared.precedence.AssocKind.{AssocKind}
 use Rattle.cfgast.specs.Items.{Item, ImplicitTokensBegun, ImplicitTokenDeclared, PrecedenceDeclared}
 use Rattle.cfgkinds.specs.declared.kind.YaccKind.{YaccKind}
@@ -42,7 +42,7 @@ module _ (whole : List ℕ) (utf8 : IsUtf8 whole) where
     blank_is_at whole utf8 false from,
     λ _ text t. (
       line_rest_is_at whole utf8 text,
-      λ line rest u. (reached_piece whole utf8 text rest u, (blank_is_at whole utf8 true from, λ _. q)),
+      λ line rest u. (piece_behind whole utf8 text rest u, (blank_is_at whole utf8 true from, λ _. q)),
     ),
   )
 
@@ -59,7 +59,7 @@ module _ (whole : List ℕ) (utf8 : IsUtf8 whole) where
   unfolding printed_form
   printed_form_kept from Q q = λ text t. (
     epp_string_is_at whole utf8 text,
-    λ form rest u. q (form, record { start = place len text; end = place len rest }) (reached_piece whole utf8 text rest u),
+    λ form rest u. q (form, record { start = place len text; end = place len rest }) (piece_behind whole utf8 text rest u),
   )
 
   epp_declaration_kept : (from : List ℕ) (Q : Unit {0} → Type 0) → Q tt → KeepsPlaces whole (epp_declaration len) from Q
@@ -184,6 +184,6 @@ module _ (whole : List ℕ) (utf8 : IsUtf8 whole) where
     precedence_or_kept,
   )
 
-  pub separator_fault_kept : (from text : List ℕ) → IsReached whole from text → IsAt whole (separator_fault len text)
+  pub separator_fault_kept : (from text : List ℕ) → StandsBehind whole from text → IsAt whole (separator_fault len text)
   separator_fault_kept from [] t = fault_is_at whole utf8 PrematureEnd from [] t
   separator_fault_kept from (b ∷ text) t = fault_is_at whole utf8 UnknownDeclaration from (b ∷ text) t

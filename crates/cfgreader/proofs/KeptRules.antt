@@ -10,10 +10,10 @@ use Rattle.reading.proofs.Yields.{Yields}
 use Rattle.cfgwords.specs.declared.fault.FaultKind.TheVariants.{IllegalName, IllegalString, IncompleteRule, NonEmptyProduction, ProductionNotTerminated}
 use Rattle.cfgwords.specs.Text.{place}
 use Rattle.cfgwords.specs.Words.{Token, word_at, word_of}
-use Rattle.cfgwords.specs.Places.{IsPiece, IsWordAt}
+use Rattle.cfgwords.specs.Places.{IsPiece}
 use Rattle.cfgwords.proofs.Cuts.{IsCut, place_cut, boundary_cut}
 use Rattle.cfgwords.proofs.NameStarts.{name_begins}
-use Rattle.cfgwords.proofs.WordPlaces.{IsReached, IsTokenBehind, reached, reached_here, reached_on, name_at, token_is_at, word_passed, fault_is_at, blank_is_at, colon_text_is_at, action_is_at}
+use Rattle.cfgwords.proofs.WordPlaces.{IsWordAt, StandsBehind, IsTokenBehind, whole_cut, stands_here, stands_on, name_at, token_is_at, word_passed, fault_is_at, blank_is_at, colon_text_is_at, action_is_at}
 use Rattle.cfgast.specs.Items.{Item, RuleHead}
 use Rattle.cfgast.specs.Syntax.{last_of}
 use Rattle.cfgkinds.specs.declared.kind.YaccKind.{YaccKind}
@@ -77,7 +77,7 @@ module _ (whole : List ℕ) (utf8 : IsUtf8 whole) where
   }
 
   -- a part behind a place is behind each place before it
-  part_on : (from text : List ℕ) → IsReached whole from text → (part : Part) → IsPartAt whole text part → IsPartAt whole from part
+  part_on : (from text : List ℕ) → StandsBehind whole from text → (part : Part) → IsPartAt whole text part → IsPartAt whole from part
   part_on from text t (SymbolPart token) at = record { piece = at.piece; behind = omega (arith, place_cut from text t.further, at.behind); ends_at = at.ends_at }
   part_on from text t (PrecedencePart token) at = record { piece = at.piece; behind = omega (arith, place_cut from text t.further, at.behind); ends_at = at.ends_at }
   part_on from text t (EmptyPart end) at = (omega (arith, place_cut from text t.further, at.0), at.1)
@@ -94,17 +94,17 @@ module _ (whole : List ℕ) (utf8 : IsUtf8 whole) where
     ),
   )
 
-  empty_kept : (from text : List ℕ) → IsReached whole from text → (Q : Part → Type 0) → ((part : Part) → IsPartAt whole from part → Q part) → KeepsPlaces whole (empty len text) from Q
+  empty_kept : (from text : List ℕ) → StandsBehind whole from text → (Q : Part → Type 0) → ((part : Part) → IsPartAt whole from part → Q part) → KeepsPlaces whole (empty len text) from Q
   unfolding empty
   empty_kept from text t Q q = λ behind u. (
     blank_is_at whole utf8 true behind,
     λ _. (
-      q (EmptyPart (place len behind)) (omega (arith, place_cut from behind u.further), boundary_cut whole behind utf8 (reached whole utf8 from behind u)),
+      q (EmptyPart (place len behind)) (omega (arith, place_cut from behind u.further), boundary_cut whole behind utf8 (whole_cut whole utf8 from behind u)),
       λ _ _. fault_is_at whole utf8 NonEmptyProduction from text t,
     ),
   )
 
-  misplaced_empty_kept : (from text : List ℕ) → IsReached whole from text → (Q : Part → Type 0) → KeepsPlaces whole (misplaced_empty len text) from Q
+  misplaced_empty_kept : (from text : List ℕ) → StandsBehind whole from text → (Q : Part → Type 0) → KeepsPlaces whole (misplaced_empty len text) from Q
   unfolding misplaced_empty
   misplaced_empty_kept from text t Q = (blank_is_at whole utf8 true from, λ _ _ _. fault_is_at whole utf8 NonEmptyProduction from text t)
 
@@ -119,7 +119,7 @@ module _ (whole : List ℕ) (utf8 : IsUtf8 whole) where
     precedence_kept text _ (λ part at. q part (part_on from text t part at)),
     (
       word_passed whole utf8 (codes "%empty") refl text,
-      empty_kept text text (reached_here whole utf8 from text t) _ (λ part at. q part (part_on from text t part at)),
+      empty_kept text text (stands_here whole utf8 from text t) _ (λ part at. q part (part_on from text t part at)),
       none,
     ),
   )
@@ -141,7 +141,7 @@ module _ (whole : List ℕ) (utf8 : IsUtf8 whole) where
     precedence_kept text _ (λ part at. q part (part_on from text t part at)),
     (
       word_passed whole utf8 (codes "%empty") refl text,
-      misplaced_empty_kept text text (reached_here whole utf8 from text t) _,
+      misplaced_empty_kept text text (stands_here whole utf8 from text t) _,
       symbol_part_kept text Q (λ part at. q part (part_on from text t part at)) none,
     ),
   )
@@ -151,11 +151,11 @@ module _ (whole : List ℕ) (utf8 : IsUtf8 whole) where
   unfolding parts_row
   row_kept c from before kept at Q q = (
     kept (λ _. Unit {0}) (λ _ _. tt) tt,
-    λ parts givens. q _ (parts_at from before parts at (All-weaker (λ part. Given (IsReached whole) c from (Some part)) (IsPartAt whole from)
-        (λ part. given_passes (IsReached whole) (IsItemAt whole) (IsAt whole) (reached_here whole utf8) (reached_on whole utf8) c from (λ o. IfSome o (IsPartAt whole from)) (kept (λ o. IfSome o (IsPartAt whole from)) (λ part at. at) tt) (Some part)) parts givens)),
+    λ parts givens. q _ (parts_at from before parts at (All-weaker (λ part. Given (StandsBehind whole) c from (Some part)) (IsPartAt whole from)
+        (λ part. given_passes (StandsBehind whole) (IsItemAt whole) (IsAt whole) (stands_here whole utf8) (stands_on whole utf8) c from (λ o. IfSome o (IsPartAt whole from)) (kept (λ o. IfSome o (IsPartAt whole from)) (λ part at. at) tt) (Some part)) parts givens)),
   )
 
-  end_fault_kept : (has_action : Bool) (from text : List ℕ) → IsReached whole from text → IsAt whole (end_fault len has_action text)
+  end_fault_kept : (has_action : Bool) (from text : List ℕ) → StandsBehind whole from text → IsAt whole (end_fault len has_action text)
   end_fault_kept true from text t = fault_is_at whole utf8 ProductionNotTerminated from text t
   end_fault_kept false from [] t = fault_is_at whole utf8 IncompleteRule from [] t
   end_fault_kept false from (b ∷ text) t = fault_is_at whole utf8 (brace_fault (b == 123)) from (b ∷ text) t
@@ -166,14 +166,14 @@ module _ (whole : List ℕ) (utf8 : IsUtf8 whole) where
       search (word_passed whole utf8 (codes "|") refl, word_passed whole utf8 (codes ";") refl, blank_is_at whole utf8, end_fault_kept has_action, p)
 
   -- from where a production begins to a place behind it, and to where its last part ends
-  piece_to : (from text : List ℕ) → IsCut whole from → IsReached whole from text → IsPiece whole (record { start = place (length whole) from; end = place (length whole) text })
+  piece_to : (from text : List ℕ) → IsCut whole from → StandsBehind whole from text → IsPiece whole (record { start = place (length whole) from; end = place (length whole) text })
   piece_to from text cut t = record {
     ordered = omega (arith, place_cut from text t.further);
     begins_at = boundary_cut whole from utf8 cut;
-    ends_at = boundary_cut whole text utf8 (reached whole utf8 from text t);
+    ends_at = boundary_cut whole text utf8 (whole_cut whole utf8 from text t);
   }
 
-  parts_piece : (from text : List ℕ) (parts : Parts) → IsCut whole from → IsReached whole from text → ArePartsAt whole from parts
+  parts_piece : (from text : List ℕ) (parts : Parts) → IsCut whole from → StandsBehind whole from text → ArePartsAt whole from parts
       → IsPiece whole (record { start = place (length whole) from; end = end_of parts (place (length whole) text) })
   parts_piece from text parts cut t at = go parts.end at.end
     where
@@ -197,7 +197,7 @@ module _ (whole : List ℕ) (utf8 : IsUtf8 whole) where
   production_kept from head n = λ text t.
       row_kept (front_part len) text no_parts (front_part_kept text) (no_parts_at text) _
       (λ front front_at. row_kept (part len) text front (part_kept text) front_at _
-      (λ parts at. production_end_kept text head parts (reached whole utf8 from text t) n at))
+      (λ parts at. production_end_kept text head parts (whole_cut whole utf8 from text t) n at))
 
   rule_type_kept : (from : List ℕ) (Q : Option (List ℕ) → Type 0) → ((o : Option (List ℕ)) → Q o) → KeepsPlaces whole (rule_type len) from Q
   unfolding rule_type
@@ -225,5 +225,5 @@ module _ (whole : List ℕ) (utf8 : IsUtf8 whole) where
   unfolding file while_test repeat
   file_keeps from kind = search (word_passed whole utf8 (codes "%%") refl, blank_is_at whole utf8, separator_fault_kept whole utf8, declaration_kept whole utf8, rule_kept, programs_kept) depth 8
 
-  pub file_kept : (from : List ℕ) (kind : YaccKind) → Yields (IsReached whole from) (IsItemAt whole) (IsAt whole) (λ _. Unit {0}) (Says (file kind len))
-  file_kept from kind = keeps (IsReached whole) (IsItemAt whole) (IsAt whole) (reached_here whole utf8) (reached_on whole utf8) (file kind len) from (λ _. Unit {0}) (file_keeps from kind)
+  pub file_kept : (from : List ℕ) (kind : YaccKind) → Yields (StandsBehind whole from) (IsItemAt whole) (IsAt whole) (λ _. Unit {0}) (Says (file kind len))
+  file_kept from kind = keeps (StandsBehind whole) (IsItemAt whole) (IsAt whole) (stands_here whole utf8) (stands_on whole utf8) (file kind len) from (λ _. Unit {0}) (file_keeps from kind)

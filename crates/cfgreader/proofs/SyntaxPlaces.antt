@@ -12,7 +12,8 @@ use Rattle.cfgast.specs.Items.{Item, TokenDeclared, StartDeclared, ActionTypeDec
 use Rattle.cfgast.specs.Occurrences.{declared_once}
 use Rattle.cfgast.specs.Syntax.{Production, RuleSymbol, TokenSymbol, EachProductionSpan, EachTableSpan, EachSpan, symbol_word, word_name, head_name, entry_name, word_entry, firsts, token_named, start_named, printed_form_declared, expected, expected_reduce_reduce, expected_unused, avoid_insert_said, implicit_tokens_said, precedence_declared, precedence_at, marked, rule_named, typed, typed_rule, symbol_of, finished, alternative, alternatives, token_words, rule_heads, rule_of, settings_of, tables_of, syntax_of}
 use Rattle.cfgast.proofs.Keeps.{All-firsts}
-use Rattle.cfgwords.specs.Places.{IsPiece, IsWithin, IsWordAt}
+use Rattle.cfgwords.specs.Places.{IsPiece, IsWithin}
+use Rattle.cfgwords.proofs.WordPlaces.{IsWordAt}
 use Rattle.cfgwords.proofs.NameStarts.{begins_as_name}
 use Rattle.cfgreader.proofs.Kept.{IsNameAt, IsItemAt}
 

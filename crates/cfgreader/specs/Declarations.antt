@@ -6,13 +6,13 @@ use Rattle.cfgbase.specs.declared.span.Span.{Span}
 use Rattle.cfgwords.specs.declared.fault.Fault.{Fault}
 use Rattle.cfgwords.specs.declared.fault.FaultKind.TheVariants.{PrematureEnd, ReachedEOL, UnknownDeclaration, UnknownSymbol}
 use Rattle.cfgwords.specs.Text.{place, fault_at}
-use Rattle.cfgwords.specs.Words.{Word, IsName, name_of, word_at, word_of}
-use Rattle.cfgwords.proofs.Finders.{name_finder, name_shorter}
+use Rattle.cfgwords.specs.Words.{Word, word_at, word_of}
 use Rattle.cfgast.specs.declared.precedence.AssocKind.{AssocKind}
 use Rattle.cfgast.specs.declared.precedence.AssocKind.TheVariants.{Left, Right, Nonassoc}
 use Rattle.cfgast.specs.Items.{Item, TokenDeclared, StartDeclared, ActionTypeDeclared, PrintedFormDeclared, ExpectDeclared, ExpectReduceReduceDeclared, ExpectedUnused, ParseParamDeclared, GenericsDeclared, AvoidInsertBegun, AvoidInsertDeclared, ImplicitTokensBegun, ImplicitTokenDeclared, PrecedenceDeclared, LevelEnded, RuleSymbol, TokenSymbol}
 use Rattle.cfgkinds.specs.declared.kind.YaccKind.{YaccKind}
 use Rattle.cfgkinds.specs.declared.kind.YaccKind.TheVariants.{Original, Grmtools, Eco}
+use Rattle.cfgreader.specs.Kinds.{name_kind}
 use Rattle.cfgreader.specs.Here.{Strict, Lax, Turn, is_open, blank_here, line_blank, name_here, token_or, token_here, integer_here, line_rest_here, epp_string_here, colon_text_here}
 
 -- a list of `%token` or `%expect-unused` goes on until `%` or the end
@@ -85,7 +85,7 @@ module _ (len : ℕ) where
   -- An unquoted word is a rule's name, since a name is tried first.
   unfoldable pub unused_symbol : Strict (Unit {0})
   unused_symbol = do
-    word_or IsName name_of name_finder name_shorter (word_at len) (λ name. emits (ExpectedUnused (RuleSymbol name)))
+    word_or name_kind (word_at len) (λ name. emits (ExpectedUnused (RuleSymbol name)))
         (token_or len (λ token. emits (ExpectedUnused (TokenSymbol (word_of token)))) (fails (fault_at len UnknownSymbol)))
     blank_here len true
 

@@ -8,16 +8,10 @@ use Rattle.cfgbase.specs.declared.span.Span.{Span}
 use Rattle.cfgwords.specs.declared.fault.Fault.{Fault}
 use Rattle.cfgwords.specs.declared.fault.FaultKind.TheVariants.{IllegalInteger, IllegalName, IllegalString}
 use Rattle.cfgwords.specs.Text.{fault_at}
-use Rattle.cfgwords.specs.Blank.{Blank, blank, passes_line_end}
-use Rattle.cfgwords.specs.ColonText.{ColonText, colon_text}
-use Rattle.cfgwords.specs.Strings.{EppString, epp_string}
-use Rattle.cfgwords.specs.Words.{Word, Token, IsName, IsToken, IsInteger, LineRest, name_of, token_of, integer_of, line_rest, word_at, token_at, integer_at}
-use Rattle.cfgwords.proofs.Blanks.{blank_graph, blank_no_longer}
-use Rattle.cfgwords.proofs.ColonTexts.{colon_text_graph, colon_text_no_longer}
-use Rattle.cfgwords.proofs.EppStrings.{epp_string_graph, epp_string_no_longer}
-use Rattle.cfgwords.proofs.LineRests.{line_rest_graph, line_rest_no_longer}
-use Rattle.cfgwords.proofs.Finders.{name_finder, name_shorter, token_finder, token_shorter, integer_finder, integer_shorter}
+use Rattle.cfgwords.specs.Blank.{passes_line_end}
+use Rattle.cfgwords.specs.Words.{Word, Token, word_at, token_at, integer_at}
 use Rattle.cfgast.specs.Items.{Item}
+use Rattle.cfgreader.specs.Kinds.{name_kind, token_kind, integer_kind, blank_kind, line_rest_kind, epp_string_kind, colon_text_kind}
 
 -- a construct that leaves less text than it found, as each turn of a repetition must
 abbrev pub Strict : Type 0 → Type 1
@@ -42,7 +36,7 @@ stands word text = option_map_or (λ _. true) (strip word text) false
 -- len is the whole text's length
 module _ (len : ℕ) where
   abbrev pub blank_here : Bool → Lax (Unit {0})
-  blank_here lines = silently (Blank len lines) (blank len lines) (blank_graph len lines) (λ text u rest. blank_no_longer len lines text rest u)
+  blank_here lines = silently (blank_kind len lines)
 
   -- a blank, and whether it stays on its line
   unfoldable pub line_blank : Lax Bool
@@ -51,23 +45,23 @@ module _ (len : ℕ) where
     here (λ rest. gives (not (passes_line_end text rest))))
 
   abbrev pub name_here : Strict Word
-  name_here = word_or IsName name_of name_finder name_shorter (word_at len) gives (fails (fault_at len IllegalName))
+  name_here = word_or name_kind (word_at len) gives (fails (fault_at len IllegalName))
 
   -- what a token makes follow, or d where none stands
   abbrev pub token_or : {l m : Leaves} {G : Gives} → (Token → Construct Item Fault l G) → Construct Item Fault m G → Construct Item Fault m G
-  token_or c d = word_or IsToken token_of token_finder token_shorter (token_at len) c d
+  token_or c d = word_or token_kind (token_at len) c d
 
   abbrev pub token_here : Strict Token
   token_here = token_or gives (fails (fault_at len IllegalString))
 
   abbrev pub integer_here : Strict (ℕ × Span)
-  integer_here = word_or IsInteger integer_of integer_finder integer_shorter (integer_at len) gives (fails (fault_at len IllegalInteger))
+  integer_here = word_or integer_kind (integer_at len) gives (fails (fault_at len IllegalInteger))
 
   abbrev pub line_rest_here : Lax (List ℕ)
-  line_rest_here = silently LineRest line_rest line_rest_graph line_rest_no_longer
+  line_rest_here = silently line_rest_kind
 
   abbrev pub epp_string_here : Lax (List ℕ)
-  epp_string_here = silently (EppString len) (epp_string len) (epp_string_graph len) (epp_string_no_longer len)
+  epp_string_here = silently (epp_string_kind len)
 
   abbrev pub colon_text_here : Lax (List ℕ)
-  colon_text_here = silently (ColonText len) (colon_text len) (colon_text_graph len) (colon_text_no_longer len)
+  colon_text_here = silently (colon_text_kind len)

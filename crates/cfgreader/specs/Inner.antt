@@ -1,3 +1,3 @@
--- Words of clauses inside the crate, of its loops and helpers. No call that users make rests on them.
+-- Definitions for clauses inside the crate, of its loops and helpers. No call that users make rests on them.
 pub mod Builds
 pub mod Lists

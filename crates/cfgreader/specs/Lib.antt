@@ -1,6 +1,7 @@
--- Who relies on the calls of this crate has to read these files; those in Inner have the words of private clauses.
+-- Who relies on the calls of this crate has to read these files; those in Inner have the definitions for private clauses.
 pub mod Declarations
 pub mod Grammar
 pub mod Here
 pub mod Inner
+pub mod Kinds
 pub mod Rules

@@ -10,12 +10,12 @@ use Rattle.cfgwords.specs.declared.fault.FaultKind.{FaultKind}
 use Rattle.cfgwords.specs.declared.fault.FaultKind.TheVariants.{IllegalString, IncompleteAction, IncompleteRule, MissingColon, MissingRightArrow, NonEmptyProduction, ProductionNotTerminated}
 use Rattle.cfgwords.specs.Text.{place, fault_at}
 use Rattle.cfgwords.specs.Words.{Token, word_of}
-use Rattle.cfgwords.specs.Actions.{IsAction, action_of, action_at}
-use Rattle.cfgwords.proofs.ActionFinder.{action_finder, action_shorter}
+use Rattle.cfgwords.specs.Actions.{action_at}
 use Rattle.cfgast.specs.Syntax.{last_of}
 use Rattle.cfgast.specs.Items.{Item, RuleHead, Body, RuleBegun, RuleNamed, TokenQuoted, PrecedenceUsed, Alternative}
 use Rattle.cfgkinds.specs.declared.kind.YaccKind.{YaccKind}
 use Rattle.cfgkinds.specs.declared.kind.YaccKind.TheVariants.{Grmtools}
+use Rattle.cfgreader.specs.Kinds.{action_kind}
 use Rattle.cfgreader.specs.Here.{Strict, Lax, Turn, is_open, stands, blank_here, name_here, token_or, token_here, colon_text_here}
 
 -- a part of a production: a symbol, the token behind a `%prec`, or an `%empty`, by the place where it ends
@@ -164,7 +164,7 @@ module _ (len : ℕ) where
   -- the end of a production that begins at text: its action, if it has one, and what ends it
   unfoldable pub production_end : RuleHead → ℕ → Parts → Turn (Unit {0})
   production_end head start parts = here (λ behind.
-      word_or IsAction action_of action_finder action_shorter (action_at len)
+      word_or action_kind (action_at len)
       (λ action. do
         blank_here len true
         finish true (Alternative head (body_of parts (Some action) (record { start = start; end = place len behind }))))

@@ -10,7 +10,7 @@ use Rattle.cfgheader.specs.SectionGrammar.{Entry}
 use Rattle.cfgheader.specs.SectionReads.{section_of}
 use Rattle.cfgheader.proofs.SectionParsed.{IsParsed}
 use Rattle.cfgheader.proofs.SectionPlaces.{IsSectionAt, section_at}
-use Rattle.cfgsyntax.specs.Steps.{IsBehindSection}
+use Rattle.cfgsyntax.specs.Inner.Steps.{IsBehindSection}
 
 section_cut : (text : List ℕ) → IsUtf8 text → (entries : List Entry) (rest : List ℕ) → section_of false text ≡ Ok (entries, rest) → IsCut text rest
 section_cut text utf8 entries rest is = (subst (IsSectionAt text) is (section_at false text utf8)).0

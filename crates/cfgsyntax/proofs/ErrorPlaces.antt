@@ -32,12 +32,12 @@ use Rattle.cfgheader.proofs.SectionPlaces.{IsSectionAt, section_at}
 use Rattle.cfgerrors.specs.Errors.{ErrorKind, GrammarError, header_error, InvalidStartRule, UnknownRuleRef, UnknownToken, NoPrecForToken, UnknownEPP, Nameless, error_at}
 use Rattle.cfgcheck.specs.Check.{is_rule, is_token, nowhere, first_error, start_error, symbol_error, precedence_error, production_error, printed_error, place_error, rule_error, check_of}
 use Rattle.cfgsyntax.specs.Faults.{kind_of, error_of, duplicate_error, stop_errors, errors_of}
-use Rattle.cfgwords.specs.Places.{IsPiece, IsWithin, IsWordAt}
+use Rattle.cfgwords.specs.Places.{IsPiece, IsWithin}
 use Rattle.cfgsyntax.specs.Reads.{Stop, InSection, InFile, ReadsFile, ReadsBehind, Reads}
 use Rattle.cfgsyntax.specs.Spans.{EachErrorSpan}
 use Rattle.cfgreader.proofs.Kept.{IsItemAt}
 use Rattle.cfgreader.proofs.KeptRules.{file_kept}
-use Rattle.cfgwords.proofs.WordPlaces.{IsReached}
+use Rattle.cfgwords.proofs.WordPlaces.{IsWordAt, StandsBehind}
 use Rattle.cfgreader.proofs.SyntaxPlaces.{syntax_at, rules_are_names}
 use Rattle.cfgwords.proofs.NameStarts.{begins_as_name}
 
@@ -191,12 +191,12 @@ pub record IsReadAt (text : List ℕ) (items : List Item) (stop : Option Stop) :
 file_read_at : (kind : YaccKind) (text rest : List ℕ) → IsUtf8 text → IsCut text rest → (items : List Item) (stop : Option Stop) → ReadsFile kind (length text) rest items stop
     → IsReadAt text items stop
 file_read_at kind text rest utf8 cut items stop reads =
-    let start : IsReached text rest rest = record { origin = cut; further = cut_here rest } in
+    let start : StandsBehind text rest rest = record { origin = cut; further = cut_here rest } in
     let kept = (file_kept text utf8 rest kind).passes rest reads.read start reads.says in
     record {
       items_at = subst (All (IsItemAt text)) reads.items_are kept.items;
       stop_at = subst (IsStopAt text) reads.stop_is
-          (file_stop_at text (stop_of reads.read.outcome) (ended_at text (IsReached text rest) (λ fault. IsPiece text fault.span) (λ _. Unit {0}) reads.read.outcome kept.outcome));
+          (file_stop_at text (stop_of reads.read.outcome) (ended_at text (StandsBehind text rest) (λ fault. IsPiece text fault.span) (λ _. Unit {0}) reads.read.outcome kept.outcome));
     }
 
 behind_read_at : (kind : YaccKind) (text : List ℕ) → IsUtf8 text → (section : Result (List Entry × List ℕ) (List (ShownError Span))) → IsSectionAt text section

@@ -9,7 +9,8 @@ use Rattle.cfgheader.specs.SectionPlaces.{IsErrorAt}
 use Rattle.cfgerrors.specs.Errors.{GrammarError, header_error}
 use Rattle.cfgerrors.specs.declared.error.YaccFault.{YaccFault}
 use Rattle.cfgerrors.specs.declared.error.YaccFault.TheVariants as faults
-use Rattle.cfgsyntax.specs.OfItself.{IsParsedAs, AnswersNaming, IsRefusedBy, IsKindOf}
+use Rattle.cfgsyntax.specs.Inner.Steps.{IsRefusedBy, IsKindOf}
+use Rattle.cfgsyntax.specs.OfItself.{IsParsedAs, AnswersNaming}
 use Rattle.cfgsyntax.specs.Parsed.{Parsed}
 use Rattle.cfgsyntax.specs.Spans.{EachErrorSpan}
 use Rattle.cfgsyntax.proofs.ErrorPlaces.{section_errors_at}

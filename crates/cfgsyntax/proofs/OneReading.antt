@@ -17,7 +17,7 @@ use Rattle.cfgheader.specs.SectionReads.{section_of}
 use Rattle.cfgheader.proofs.SectionOne.{one_section, section_answered}
 use Rattle.cfgreader.specs.Grammar.{file}
 use Rattle.cfgsyntax.specs.declared.read.Stopped.{Stopped}
-use Rattle.cfgsyntax.specs.Steps.{IsReadBehind, stop_view}
+use Rattle.cfgsyntax.specs.Inner.Steps.{IsReadBehind, stop_view}
 use Rattle.cfgsyntax.specs.Reads.{Stop, InSection, InFile, ReadsBehind, Reads, HasOneReading}
 
 module _ (kind : YaccKind) (len : ℕ) where

@@ -33,14 +33,3 @@ AnswersErrors errors (Err (faults.Errors told)) = told.items ≡ errors
 abbrev pub AnswersNaming : List ℕ → Naming → Result Parsed YaccFault → Type 0
 AnswersNaming text (Ok kind) result = AnswersKind kind text result
 AnswersNaming text (Err errors) result = AnswersErrors (map header_error errors) result
-
--- these are the errors of a text that names no kind
-abbrev pub IsRefusedBy : Naming → List GrammarError → Type 0
-IsRefusedBy (Ok kind) told = ⊥
-IsRefusedBy (Err errors) told = told ≡ map header_error errors
-
--- of a text that names this, where the kind is asked for
-abbrev pub IsKindOf : Naming → Result YaccKind YaccFault → Type 0
-IsKindOf naming (Ok kind) = naming ≡ Ok kind
-IsKindOf naming (Err faults.OutOfMemory) = Unit {0}
-IsKindOf naming (Err (faults.Errors told)) = IsRefusedBy naming told.items

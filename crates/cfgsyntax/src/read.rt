@@ -5,7 +5,7 @@ ghost use Rattle.cfgast.specs.Items.{Item};
 ghost use Rattle.cfgast.specs.Syntax.{syntax_of};
 ghost use Rattle.cfgast.specs.View.{syntax};
 ghost use Rattle.cfgsyntax.specs.Reads.{HasOneReading, InFile, Reads, Stop};
-ghost use Rattle.cfgsyntax.specs.Steps.{IsBehindSection, IsReadBehind, stop_view};
+ghost use Rattle.cfgsyntax.specs.Inner.Steps.{IsBehindSection, IsReadBehind, stop_view};
 
 use cfgast::{AstBuilder, GrammarAST};
 use cfgbase::Span;

@@ -6,9 +6,10 @@ use Rattle.std.proofs.lemmas.Str.{IsCharBoundary-before_ascii, IsUtf8-drop}
 use Rattle.std.proofs.lemmas.List.{append-nil, drop-drop, get_or-drop}
 use Rattle.std.proofs.lemmas.Option.{some_pair_parts}
 use Rattle.reading.specs.Pieces.{strip}
-use Rattle.reading.specs.Finder.{IsFinder, IsShorter}
+use Rattle.reading.specs.WordKind.{IsFinder, IsShorter}
 use Rattle.reading.proofs.PiecesLemmas.{strip_sound, strip_only}
-use Rattle.cfgwords.specs.Actions.{IsAction, IsClosedAt, split_balanced, trimmed_inside, action_of}
+use Rattle.cfgwords.specs.Actions.{IsAction, split_balanced, trimmed_inside, action_of}
+use Rattle.cfgwords.specs.Inner.Ends.{IsClosedAt}
 use Rattle.cfgwords.proofs.Boundaries.{behind_byte}
 use Rattle.cfgwords.proofs.Balance.{behind, split_behind, split_ends, split_sound, Splits}
 

@@ -3,7 +3,8 @@ use Rattle.std.proofs.Common.{◌≡◌, ◌≢◌, ℕ, zero, suc, ◌+◌, ◌
 use Rattle.std.proofs.lemmas.List.{append-nil, drop_all, take_more}
 use Rattle.std.proofs.lemmas.Bool.{or_parts, ne_eqb}
 use Rattle.reading.specs.Pieces.{with_first}
-use Rattle.cfgwords.specs.Actions.{is_brace, Balanced, empty, other, braces, split_balanced, IsClosedAt}
+use Rattle.cfgwords.specs.Actions.{is_brace, Balanced, empty, other, braces, split_balanced}
+use Rattle.cfgwords.specs.Inner.Ends.{IsClosedAt}
 
 -- what is found behind a front
 abbrev pub behind : List ℕ → Option (List ℕ × List ℕ) → Option (List ℕ × List ℕ)

@@ -103,6 +103,6 @@ blank_less len lines (suc n) text rest u e = go (λ mid. blank_less len lines n 
     go ih (Err kind) e1 e2 = cc
 
 -- a blank leaves no more
-pub blank_no_longer : (len : ℕ) (lines : Bool) (text rest : List ℕ) (u : Unit {0}) → blank len lines text ≡ Ok (u, rest) → length rest ≤ length text
+pub blank_no_longer : (len : ℕ) (lines : Bool) (text : List ℕ) (u : Unit {0}) (rest : List ℕ) → blank len lines text ≡ Ok (u, rest) → length rest ≤ length text
 unfolding blank
-blank_no_longer len lines text rest u e = blank_less len lines (suc (length text)) text rest u e
+blank_no_longer len lines text u rest e = blank_less len lines (suc (length text)) text rest u e

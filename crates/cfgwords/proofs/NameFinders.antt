@@ -5,8 +5,7 @@ use Rattle.std.proofs.lemmas.Option.{some_pair_parts}
 use Rattle.lemmas.proofs.Options.{chosen}
 use Rattle.reading.specs.Pieces.{starts, IsRun, run}
 use Rattle.reading.proofs.PiecesLemmas.{IsRun-run, run_only, run_shorter}
-use Rattle.reading.specs.Finder.{IsFinder}
-use Rattle.reading.specs.Finder.{IsShorter}
+use Rattle.reading.specs.WordKind.{IsFinder, IsShorter}
 use Rattle.cfgwords.specs.declared.bytes.ByteClass.{ByteClass}
 use Rattle.cfgwords.specs.declared.bytes.ByteClass.TheVariants as bytes
 use Rattle.cfgwords.specs.Bytes.{holds}

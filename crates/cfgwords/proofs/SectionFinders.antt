@@ -1,9 +1,9 @@
 -- `name_of` and `text_of` of a section find its names and its texts, and nothing else; each leaves less.
-use Rattle.std.proofs.Common.{◌≡◌, ℕ, true, List, [], ◌∷◌, ◌++◌, length, Option, Some, None, option_map, refl, sym, ap, ◌∙◌, arith, length-append, codes}
+use Rattle.std.proofs.Common.{◌≡◌, ℕ, true, List, [], ◌∷◌, ◌++◌, length, Option, Some, None, option_map, refl, ap, ◌∙◌, arith, length-append, codes}
 use Rattle.std.specs.Option.{option_and_then}
 use Rattle.std.proofs.lemmas.Bool.Decides.{nat_tests}
 use Rattle.std.proofs.lemmas.Option.{some_pair_parts}
-use Rattle.reading.specs.Finder.{IsFinder, IsShorter}
+use Rattle.reading.specs.WordKind.{IsFinder, IsShorter}
 use Rattle.reading.specs.Pieces.{strip}
 use Rattle.reading.proofs.PiecesLemmas.{strip_sound, strip_only}
 use Rattle.cfgwords.specs.declared.bytes.ByteClass.TheVariants as bytes

@@ -4,8 +4,7 @@ use Rattle.std.specs.Prelude.{if◌then◌else◌}
 use Rattle.std.proofs.lemmas.Bool.Decides.{nat_tests}
 use Rattle.std.proofs.lemmas.Option.{some_pair_parts}
 use Rattle.reading.specs.Pieces.{starts}
-use Rattle.reading.specs.Finder.{IsFinder}
-use Rattle.reading.specs.Finder.{IsShorter}
+use Rattle.reading.specs.WordKind.{IsFinder, IsShorter}
 use Rattle.cfgwords.specs.declared.bytes.ByteClass.TheVariants as bytes
 use Rattle.cfgwords.specs.Bytes.{holds}
 use Rattle.cfgwords.specs.Words.{TokenText, IsToken, identifier_of, quoted_of, token_text, token_of}

@@ -1,5 +1,5 @@
 -- Actions: what stands between a brace and the one that balances it, whatever stands in strings and comments there.
-use Rattle.std.specs.Prelude.{◌≡◌, ℕ, zero, suc, Bool, false, List, [], ◌∷◌, ◌++◌, ◌+◌, ◌==◌, ◌||◌, Option, Some, None, if◌then◌else◌, codes, take, drop, length, ◌<◌, slice_index}
+use Rattle.std.specs.Prelude.{◌≡◌, ℕ, zero, suc, Bool, false, List, [], ◌∷◌, ◌++◌, ◌+◌, ◌==◌, ◌||◌, Option, Some, None, if◌then◌else◌, codes}
 use Rattle.std.specs.Option.{option_and_then}
 use Rattle.std.specs.Str.{trim}
 use Rattle.cfgbase.specs.declared.span.Span.{Span}
@@ -44,9 +44,3 @@ trimmed_inside (Some (inside, rest)) = Some (trim inside, rest)
 
 unfoldable pub action_of : List ℕ → Option (List ℕ × List ℕ)
 action_of text = option_and_then (λ opened. trimmed_inside (split_balanced 0 opened)) (strip (codes "{") text)
-
--- the brace that closes stands behind n bytes
-pub record IsClosedAt (text : List ℕ) (n : ℕ) : Type 0 where
-  pub splits : split_balanced 0 text ≡ Some (take n text, drop (suc n) text)
-  pub within : n < length text
-  pub closes : slice_index text n ≡ 125

@@ -4,15 +4,11 @@
 use Rattle.std.specs.Prelude.{ℕ, ◌≤◌, List, length}
 use Rattle.std.specs.Str.{IsCharBoundary}
 use Rattle.cfgbase.specs.declared.span.Span.{Span}
-use Rattle.cfgwords.specs.Words.{Word}
 
 pub record IsPiece (text : List ℕ) (span : Span) : Type 0 where
   pub ordered : span.start ≤ span.end
   pub begins_at : IsCharBoundary text span.start
   pub ends_at : IsCharBoundary text span.end
-
-abbrev pub IsWordAt : List ℕ → Word → Type 0
-IsWordAt text word = IsPiece text word.span
 
 pub record IsWithin (text : List ℕ) (span : Span) : Type 0 where
   pub ordered : span.start ≤ span.end

@@ -1,6 +1,6 @@
 -- Words of a grammar file: names, identifiers, quoted tokens, tokens, integers and rests of lines. `P text word rest` says that the text
 -- begins with the word and that rest is left.
-use Rattle.std.specs.Prelude.{◌≡◌, ℕ, Bool, true, false, List, [], ◌∷◌, ◌++◌, length, ◌+◌, ◌^◌, ◌==◌, ◌&&◌, not, take, drop, ◌≤◌, ◌<◌, nat_lt, slice_index, Option, Some, None, Result, Ok, Err, MatchBool, if◌then◌else◌}
+use Rattle.std.specs.Prelude.{◌≡◌, ℕ, Bool, true, false, List, [], ◌∷◌, ◌++◌, ◌+◌, ◌^◌, ◌==◌, ◌&&◌, not, ◌<◌, nat_lt, Option, Some, None, Result, Ok, Err, MatchBool, if◌then◌else◌}
 use Rattle.std.specs.List.{list_all}
 use Rattle.std.specs.Option.{option_and_then}
 use Rattle.std.specs.Str.Parse.{digits_value}
@@ -116,13 +116,6 @@ unfoldable pub quoted_of : List ℕ → Option (List ℕ × List ℕ)
 quoted_of [] = None
 quoted_of (quote ∷ []) = None
 quoted_of (quote ∷ first ∷ text) = opened quote first text
-
--- the name of the quoted token at the front has n bytes; ASCII quotes stand round it
-pub record IsQuotedLen (text : List ℕ) (n : ℕ) : Type 0 where
-  pub is : quoted_of text ≡ Some (take n (drop 1 text), drop 1 (drop n (drop 1 text)))
-  pub opens : slice_index text 0 < 128
-  pub closes : slice_index text (1 + n) < 128
-  pub within : 2 + n ≤ length text
 
 abbrev pub token_text : Bool → Option (List ℕ × List ℕ) → Option (TokenText × List ℕ)
 token_text quoted None = None

@@ -2,7 +2,8 @@
 
 ghost use Rattle.std.specs.Prelude.{◌≡◌, ◌+◌, ◌≤◌, length, None, IfSome, MatchOption};
 ghost use Rattle.std.specs.Option.{option_map};
-ghost use Rattle.cfgwords.specs.Actions.{action_of, split_balanced, IsClosedAt};
+ghost use Rattle.cfgwords.specs.Actions.{action_of, split_balanced};
+ghost use Rattle.cfgwords.specs.Inner.Ends.{IsClosedAt};
 
 use reading::after_word;
 

@@ -4,7 +4,7 @@ ghost use Rattle.std.specs.Prelude.{◌≡◌, ◌+◌, ◌≤◌, length, None,
 ghost use Rattle.std.specs.Prelude.{if◌then◌else◌};
 ghost use Rattle.std.specs.List.{prefix_len};
 ghost use Rattle.cfgwords.specs.Words.{name_of, identifier_of, quoted_of, token_of, integer_of, run_from, is_inside};
-ghost use Rattle.cfgwords.specs.Words.{IsQuotedLen};
+ghost use Rattle.cfgwords.specs.Inner.Ends.{IsQuotedLen};
 
 use crate::bytes::ByteClass;
 use crate::run::{run, starts};

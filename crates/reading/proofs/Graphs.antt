@@ -1,12 +1,12 @@
 -- The function of each combinator gives just what the combinator's relation allows.
 use Rattle.std.proofs.Common.{◌≡◌, ℕ, zero, suc, ◌<◌, Bool, true, false, cond, List, [], ◌++◌, length, Option, Some, None, Result, Ok, Err, refl, ap, ◌∙◌, arith}
 use Rattle.reading.specs.Graph.{IsGraph}
-use Rattle.reading.specs.Finder.{IsFinder}
-use Rattle.reading.specs.Pieces.{strip, IsFirst, split_first}
+use Rattle.reading.specs.WordKind.{IsFinder}
+use Rattle.reading.specs.Pieces.{strip}
 use Rattle.reading.specs.Read.{Read, gives, prefixed, Exactly, Then, on, off, Case, begins, other, Choice, where_true, where_false, WordOr, found, missing, follow, follow_outcome, behind_word, case_of, choose, found_word, word_or}
 use Rattle.reading.specs.Turns.{Turn, again, ends, Turns, last, next, after, turns, all_turns, OneOf, one, Many, turn_outcome, turn_of, many}
 use Rattle.reading.specs.Leaves.{OneOrEnd}
-use Rattle.reading.proofs.PiecesLemmas.{strip_sound, strip_only, strip_none, split_first_sound, split_first_only}
+use Rattle.reading.proofs.PiecesLemmas.{strip_sound, strip_only, strip_none}
 use Rattle.reading.proofs.Lengths.{weight, Shortens}
 
 -- a function of the text
@@ -68,10 +68,6 @@ choice_graph {I = I} {F = F} {A = A} {G = G} {H = H} {g = g} {h = h} test p q = 
 pub here_graph : {I F A : Type 0} {G : List ℕ → List ℕ → Read I F A → Type 0} {g : List ℕ → List ℕ → Read I F A}
     → ((text : List ℕ) → IsGraph (G text) (g text)) → IsGraph (λ text. G text text) (λ text. g text text)
 here_graph p = record { sound = λ text. (p text).sound text; only = λ text. (p text).only text }
-
--- what stands before the first needle is a word
-pub split_first_finder : (needle : List ℕ) → IsFinder (IsFirst needle) (split_first needle)
-split_first_finder needle = record { sound = split_first_sound needle; only = split_first_only needle }
 
 -- choice by a word of a kind
 pub word_or_graph : {I F W A B : Type 0} {P : List ℕ → W → List ℕ → Type 0} {p : List ℕ → Option (W × List ℕ)}

@@ -1,6 +1,6 @@
 -- By how many bytes a reading shortens its text, at least.
 use Rattle.std.proofs.Common.{◌≡◌, ℕ, zero, suc, ◌+◌, ◌≤◌, Bool, true, false, cond, List, [], ◌∷◌, length, Option, Some, None, Result, Ok, Err, refl, ap, sym, ◌∙◌, arith}
-use Rattle.reading.specs.Finder.{IsShorter}
+use Rattle.reading.specs.WordKind.{IsShorter}
 use Rattle.reading.specs.Leaves.{Gives, One, OneOrEnd, ValueOf, Leaves, Less, NoMore, either, both, behind}
 use Rattle.reading.specs.Pieces.{strip}
 use Rattle.reading.specs.Read.{Read, gives, fails, follow, follow_outcome, behind_word, case_of, choose, found_word, word_or}

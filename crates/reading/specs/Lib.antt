@@ -1,8 +1,8 @@
 pub mod Construct
-pub mod Finder
 pub mod Graph
 pub mod Leaves
 pub mod Pieces
 pub mod Read
 pub mod Silent
 pub mod Turns
+pub mod WordKind

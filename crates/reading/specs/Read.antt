@@ -1,8 +1,7 @@
 -- What reading a piece of a text gives, and how pieces stand one behind another.
 --
--- A kind of piece is a relation between a text and what reading it there gives. `>>=` is sequence, so a grammar
--- is written as a `do` block. Item is the type of the parts that count as read, Fault that of what stops a
--- reading.
+-- A kind of piece is a relation between a text and what reading it there gives. Item is the type of the parts that
+-- count as read, Fault that of what stops a reading.
 use Rattle.std.specs.Prelude.{◌≡◌, ◌≢◌, ℕ, Bool, true, false, List, [], ◌∷◌, ◌++◌, Option, Some, None, Result, Ok, Err, if◌then◌else◌}
 use Rattle.reading.specs.Pieces.{strip}
 
@@ -42,12 +41,6 @@ pub data Then {I F A B : Type 0} (G : List ℕ → Read I F A → Type 0) (H : A
   off : (items : List I) (fault : F)
       → G text (record { items = items; outcome = Err fault }) → Then G H text (record { items = items; outcome = Err fault })
 
-abbrev pub ◌>>=◌ : {I F A B : Type 0} → (List ℕ → Read I F A → Type 0) → (A → List ℕ → Read I F B → Type 0) → List ℕ → Read I F B → Type 0
-◌>>=◌ G H = Then G H
-
-abbrev pub ◌>>◌ : {I F A B : Type 0} → (List ℕ → Read I F A → Type 0) → (List ℕ → Read I F B → Type 0) → List ℕ → Read I F B → Type 0
-◌>>◌ G H = Then G (λ _. H)
-
 -- choice by a word: G behind it, H where another thing stands
 pub data Case {I F A : Type 0} (word : List ℕ) (G H : List ℕ → Read I F A → Type 0) (text : List ℕ) (r : Read I F A) : Type 0 where
   begins : (rest : List ℕ) → text ≡ word ++ rest → G rest r → Case word G H text r
@@ -58,11 +51,11 @@ pub data Choice {I F A : Type 0} (test : List ℕ → Bool) (G H : List ℕ → 
   where_true : test text ≡ true → G text r → Choice test G H text r
   where_false : test text ≡ false → H text r → Choice test G H text r
 
--- choice by a word of the kind P: behind it what G makes of its value, H where none stands
-pub data WordOr {I F W A B : Type 0} (P : List ℕ → W → List ℕ → Type 0) (value : List ℕ → W → List ℕ → A)
+-- choice by a word that Is allows: behind it what G makes of its value, H where none stands
+pub data WordOr {I F W A B : Type 0} (Is : List ℕ → W → List ℕ → Type 0) (value : List ℕ → W → List ℕ → A)
     (G : A → List ℕ → Read I F B → Type 0) (H : List ℕ → Read I F B → Type 0) (text : List ℕ) (r : Read I F B) : Type 0 where
-  found : (word : W) (rest : List ℕ) → P text word rest → G (value text word rest) rest r → WordOr P value G H text r
-  missing : ((word : W) (rest : List ℕ) → P text word rest → ⊥) → H text r → WordOr P value G H text r
+  found : (word : W) (rest : List ℕ) → Is text word rest → G (value text word rest) rest r → WordOr Is value G H text r
+  missing : ((word : W) (rest : List ℕ) → Is text word rest → ⊥) → H text r → WordOr Is value G H text r
 
 -- The same by functions: the plain slow program.
 
@@ -89,4 +82,4 @@ found_word value g otherwise None = otherwise
 
 abbrev pub word_or : {I F W A B : Type 0} → (List ℕ → Option (W × List ℕ)) → (List ℕ → W → List ℕ → A)
     → (A → List ℕ → Read I F B) → (List ℕ → Read I F B) → List ℕ → Read I F B
-word_or p value g h text = found_word (value text) g (h text) (p text)
+word_or find value g h text = found_word (value text) g (h text) (find text)

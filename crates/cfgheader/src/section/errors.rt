@@ -5,7 +5,7 @@ ghost use Rattle.std.specs.Prelude.{if◌then◌else◌};
 ghost use Rattle.std.specs.Str.{bytes_eq};
 ghost use Rattle.cfgheader.specs.SectionErrors.{places_of, repeated, duplicate_errors, section_errors};
 ghost use Rattle.cfgheader.specs.SectionReads.{errors_view};
-ghost use Rattle.cfgheader.specs.SectionSteps.{entry_view, end_view, fault_view, spans_at, duplicate_at};
+ghost use Rattle.cfgheader.specs.Inner.Steps.{entry_view, end_view, fault_view, spans_at, duplicate_at};
 
 use crate::section::entry::Entry;
 use crate::section::fault::Fault;

@@ -4,7 +4,7 @@ ghost use Rattle.std.specs.Prelude.{◌≡◌, map, IfOk, OnOk};
 ghost use Rattle.std.specs.String.{string_cmp};
 ghost use Rattle.cfgmarks.specs.Marks.{marks, changed, set_value};
 ghost use Rattle.cfgheader.specs.SectionReads.{IsHeaderOf};
-ghost use Rattle.cfgheader.specs.SectionSteps.{entry_view};
+ghost use Rattle.cfgheader.specs.Inner.Steps.{entry_view};
 
 use crate::section::entry::Entry;
 use cfgbase::Span;

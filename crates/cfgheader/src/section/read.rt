@@ -5,7 +5,7 @@ ghost use Rattle.std.specs.Str.{IsUtf8};
 ghost use Rattle.reading.specs.Construct.{computes};
 ghost use Rattle.cfgheader.specs.SectionGrammar.{section};
 ghost use Rattle.cfgheader.specs.SectionReads.{HasOneSection, end_of};
-ghost use Rattle.cfgheader.specs.SectionSteps.{entry_view, end_view};
+ghost use Rattle.cfgheader.specs.Inner.Steps.{entry_view, end_view};
 
 use crate::section::entry::Entry;
 use crate::section::fault::{Fault, ReadFault};

@@ -49,7 +49,7 @@ pub(crate) struct Reader<'a> {
 }
 
 impl<'a> Reader<'a> {
-    ghost use Rattle.cfgheader.specs.SectionSteps.{Builds, entries_of, fault_view};
+    ghost use Rattle.cfgheader.specs.Inner.Steps.{Builds, entries_of, fault_view};
 
     /// In a text of `len` bytes, where `rest` is left of it, with nothing read.
     pub(super) fn new(alloc: Global, len: usize, rest: &'a str) -> Self
@@ -128,7 +128,7 @@ impl<'a> Reader<'a> {
     }
 
     /// Passes the word that must stand here.
-    #[tactic(auto, unfolding(crate::specs::SectionSteps::noted))]
+    #[tactic(auto, unfolding(crate::specs::Inner::Steps::noted))]
     pub(super) fn expect(&mut self, word: &str, kind: HeaderErrorKind) -> Result<(), ReadFault>
         ensures { Builds (λ x. x) self.old self.new result
             (expect word.now (fault_at self.old.len (error_kind_view kind))) }
@@ -141,7 +141,7 @@ impl<'a> Reader<'a> {
     }
 
     /// Passes a character of white space past ASCII, and tells whether one stood here.
-    #[tactic(auto, unfolding(crate::specs::SectionGrammar::wide_character, crate::specs::SectionSteps::noted))]
+    #[tactic(auto, unfolding(crate::specs::SectionGrammar::wide_character, crate::specs::Inner::Steps::noted))]
     fn wide_character(&mut self) -> bool
         ensures { Builds goes_on self.old self.new (Ok result) wide_character }
     {
@@ -153,7 +153,7 @@ impl<'a> Reader<'a> {
     }
 
     /// Passes a character of white space, and tells whether one stood here.
-    #[tactic(auto, unfolding(crate::specs::SectionGrammar::white_character, crate::specs::SectionSteps::noted))]
+    #[tactic(auto, unfolding(crate::specs::SectionGrammar::white_character, crate::specs::Inner::Steps::noted))]
     fn white_character(&mut self) -> bool
         ensures { Builds goes_on self.old self.new (Ok result) white_character }
     {
@@ -167,7 +167,7 @@ impl<'a> Reader<'a> {
     }
 
     /// Passes a comma or a character of white space, and tells whether one stood here.
-    #[tactic(auto, unfolding(crate::specs::SectionGrammar::separator, crate::specs::SectionSteps::noted))]
+    #[tactic(auto, unfolding(crate::specs::SectionGrammar::separator, crate::specs::Inner::Steps::noted))]
     fn separator(&mut self) -> bool
         ensures { Builds goes_on self.old self.new (Ok result) separator }
     {
@@ -189,7 +189,7 @@ impl<'a> Reader<'a> {
     }
 
     /// Passes the comma that stands here and the white space behind it, and tells whether one stood here.
-    #[tactic(auto, unfolding(crate::specs::SectionGrammar::comma, crate::specs::SectionSteps::noted))]
+    #[tactic(auto, unfolding(crate::specs::SectionGrammar::comma, crate::specs::Inner::Steps::noted))]
     pub(super) fn comma(&mut self) -> bool
         ensures { Builds (λ x. x) self.old self.new (Ok result) comma }
     {
@@ -213,7 +213,7 @@ impl<'a> Reader<'a> {
     }
 
     /// Passes the name that must stand here, and answers it in lower case with its place.
-    #[tactic(auto, unfolding(crate::specs::SectionGrammar::name, crate::specs::SectionSteps::noted))]
+    #[tactic(auto, unfolding(crate::specs::SectionGrammar::name, crate::specs::Inner::Steps::noted))]
     pub(super) fn name(&mut self) -> Result<(String, Span), ReadFault>
         ensures read { Builds placed_view self.old self.new result (name self.old.len) }
         ensures after { IfOk result (λ name. place self.old.len self.old.rest.now ≤ name.1.end) }

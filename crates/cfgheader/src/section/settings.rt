@@ -16,10 +16,10 @@ use cfgwords::section::leading_text;
 use cfgwords::words::leading_integer;
 
 impl<'a> Reader<'a> {
-    ghost use Rattle.cfgheader.specs.SectionSteps.{Builds, fault_view, settings_list};
+    ghost use Rattle.cfgheader.specs.Inner.Steps.{Builds, fault_view, settings_list};
 
     /// Passes a name, or two names that `::` stands between, and the white space behind it.
-    #[tactic(auto, unfolding(crate::specs::SectionGrammar::namespaced, crate::specs::SectionSteps::noted))]
+    #[tactic(auto, unfolding(crate::specs::SectionGrammar::namespaced, crate::specs::Inner::Steps::noted))]
     fn namespaced(&mut self) -> Result<Namespaced<Span>, ReadFault>
         ensures { Builds namespaced_view self.old self.new result (namespaced self.old.len) }
     {
@@ -41,7 +41,7 @@ impl<'a> Reader<'a> {
     }
 
     /// Passes such a name and the `)` that must stand behind it.
-    #[tactic(auto, unfolding(crate::specs::SectionGrammar::argument, crate::specs::SectionSteps::noted))]
+    #[tactic(auto, unfolding(crate::specs::SectionGrammar::argument, crate::specs::Inner::Steps::noted))]
     fn argument(&mut self) -> Result<Namespaced<Span>, ReadFault>
         ensures { Builds namespaced_view self.old self.new result (argument self.old.len) }
     {
@@ -51,7 +51,7 @@ impl<'a> Reader<'a> {
     }
 
     /// Passes such a name, or two as `a(b)`.
-    #[tactic(auto, unfolding(crate::specs::SectionGrammar::applied, crate::specs::SectionSteps::noted))]
+    #[tactic(auto, unfolding(crate::specs::SectionGrammar::applied, crate::specs::Inner::Steps::noted))]
     fn applied(&mut self) -> Result<Setting<Span>, ReadFault>
         ensures { Builds setting_view self.old self.new result (applied self.old.len) }
     {
@@ -76,7 +76,7 @@ impl<'a> Reader<'a> {
     }
 
     /// Passes the number that must stand here.
-    #[tactic(auto, unfolding(crate::specs::SectionGrammar::number, crate::specs::SectionSteps::noted))]
+    #[tactic(auto, unfolding(crate::specs::SectionGrammar::number, crate::specs::Inner::Steps::noted))]
     fn number(&mut self) -> Result<Setting<Span>, ReadFault>
         ensures { Builds setting_view self.old self.new result (number self.old.len) }
     {
@@ -92,7 +92,7 @@ impl<'a> Reader<'a> {
 
     /// A setting of an array, and what stands between it and the next.
     #[cycle(setting)]
-    #[tactic(auto, unfolding(crate::specs::SectionGrammar::element, crate::specs::SectionSteps::noted))]
+    #[tactic(auto, unfolding(crate::specs::SectionGrammar::element, crate::specs::Inner::Steps::noted))]
     fn element(&mut self, room: usize) -> Result<Setting<Span>, ReadFault>
         ensures { Builds setting_view self.old self.new result (element self.old.len (setting self.old.len room)) }
     {
@@ -117,7 +117,7 @@ impl<'a> Reader<'a> {
 
     /// Passes what stands behind the bracket that opens an array.
     #[cycle(setting)]
-    #[tactic(auto, unfolding(crate::specs::SectionGrammar::array, crate::specs::SectionSteps::noted))]
+    #[tactic(auto, unfolding(crate::specs::SectionGrammar::array, crate::specs::Inner::Steps::noted))]
     fn array(&mut self, room: usize, opens: Span) -> Result<Setting<Span>, ReadFault>
         ensures { Builds setting_view self.old self.new result (array self.old.len (setting self.old.len room) opens) }
     {
@@ -142,7 +142,7 @@ impl<'a> Reader<'a> {
 
     /// A setting, without the white space behind it.
     #[cycle(setting)]
-    #[tactic(auto, unfolding(crate::specs::SectionGrammar::bare_setting, crate::specs::SectionSteps::noted))]
+    #[tactic(auto, unfolding(crate::specs::SectionGrammar::bare_setting, crate::specs::Inner::Steps::noted))]
     fn bare_setting(&mut self, room: usize) -> Result<Setting<Span>, ReadFault>
         ensures { Builds setting_view self.old self.new result
             (bare_setting self.old.len (bracketed self.old.len room)) }
@@ -166,7 +166,7 @@ impl<'a> Reader<'a> {
 
     /// Passes a setting in which `room` brackets may be open at once, and the white space behind it.
     #[cycle(setting)]
-    #[tactic(auto, unfolding(crate::specs::SectionGrammar::setting, crate::specs::SectionGrammar::setting_by, crate::specs::SectionSteps::noted))]
+    #[tactic(auto, unfolding(crate::specs::SectionGrammar::setting, crate::specs::SectionGrammar::setting_by, crate::specs::Inner::Steps::noted))]
     pub(super) fn setting(&mut self, room: usize) -> Result<Setting<Span>, ReadFault>
         ensures { Builds setting_view self.old self.new result (setting self.old.len room) }
     {

@@ -6,7 +6,7 @@ ghost use Rattle.cfgast.specs.View.{syntax, occurrence_view};
 ghost use Rattle.cfgheader.specs.SectionReads.{errors_view};
 ghost use Rattle.cfgerrors.specs.Errors.{kind_view, header_error};
 ghost use Rattle.cfgsyntax.specs.Faults.{repeated_kind, duplicate_error, stop_errors, all_errors};
-ghost use Rattle.cfgsyntax.specs.Steps.{stop_view};
+ghost use Rattle.cfgsyntax.specs.Inner.Steps.{stop_view};
 
 use super::fault::error_of;
 use crate::read::Stopped;

@@ -2,7 +2,7 @@
 
 ghost use Rattle.std.specs.Prelude.{IfErr};
 ghost use Rattle.cfgheader.specs.Named.{HasOneNaming, Names, Naming};
-ghost use Rattle.cfgsyntax.specs.OfItself.{IsKindOf};
+ghost use Rattle.cfgsyntax.specs.Inner.Steps.{IsKindOf};
 ghost use Rattle.cfgsyntax.specs.Spans.{EachFaultSpan};
 ghost use Rattle.cfgwords.specs.Places.{IsPiece};
 

@@ -1,7 +1,7 @@
 use Rattle.std.proofs.Common.{◌≡◌, [], map, Ok, Err, ap, ◌∙◌, arith, rules}
 use Rattle.std.proofs.lemmas.Grind.{common_steps}
 use Rattle.cfgheader.specs.SectionErrors.{section_errors}
-use Rattle.cfgheader.specs.SectionSteps.{entry_view, end_view}
+use Rattle.cfgheader.specs.Inner.Steps.{entry_view, end_view}
 use Rattle.cfgheader.specs.declared.section.header_fault.HeaderFault.TheVariants as faults
 use Rattle.cfgheader.proofs.SectionAnswers.{section_end, section_fault}
 use Rattle.cfgheader.proofs.SectionOne.{answer_is, by_readings, stopped_answer, repeated_answer}

@@ -1,5 +1,5 @@
 use Rattle.std.proofs.Common.{map}
-use Rattle.cfgheader.specs.SectionSteps.{entry_view}
+use Rattle.cfgheader.specs.Inner.Steps.{entry_view}
 use Rattle.cfgheader.proofs.SectionRepeats.{all_errors_of}
 use Rattle.cfgheader.proofs.section.errors.duplicate_errors.Goals as goal
 

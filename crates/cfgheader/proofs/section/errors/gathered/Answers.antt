@@ -1,5 +1,5 @@
 use Rattle.std.proofs.Common.{ℕ, List, Bor, Vec, Global, sym, ap, ◌∙◌}
-use Rattle.cfgheader.specs.SectionSteps.{entry_view}
+use Rattle.cfgheader.specs.Inner.Steps.{entry_view}
 use Rattle.cfgheader.proofs.SectionRepeats.{places_start, places_again, places_once, entries_more}
 use Rattle.cfgheader.proofs.section.errors.gathered.Goals as goal
 use Rattle.cfgheader.proofs.section.errors.gathered.Goals.{then-branch+in_ok-push, else-branch}

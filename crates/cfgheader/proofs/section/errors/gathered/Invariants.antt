@@ -1,5 +1,5 @@
 use Rattle.std.proofs.Common.{map, take}
-use Rattle.cfgheader.specs.SectionSteps.{entry_view}
+use Rattle.cfgheader.specs.Inner.Steps.{entry_view}
 use Rattle.cfgheader.proofs.SectionRepeats.{InPlaces}
 use Rattle.cfgheader.proofs.section.errors.gathered.Given as goal
 

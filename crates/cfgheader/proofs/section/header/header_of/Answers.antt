@@ -1,7 +1,7 @@
 use Rattle.std.proofs.Common.{[], ◌∷◌, subst, sym}
 use Rattle.std.proofs.lemmas.List.{map-append}
 use Rattle.cfgheader.specs.SectionReads.{IsHeaderOf}
-use Rattle.cfgheader.specs.SectionSteps.{entry_view}
+use Rattle.cfgheader.specs.Inner.Steps.{entry_view}
 use Rattle.cfgheader.proofs.SectionHeader.{header_start, header_on}
 use Rattle.cfgheader.proofs.section.header.header_of.Goals as goal
 

@@ -1,5 +1,5 @@
 use Rattle.std.proofs.Common.{All, option_map, sym, subst}
-use Rattle.cfgsyntax.specs.Steps.{stop_view}
+use Rattle.cfgsyntax.specs.Inner.Steps.{stop_view}
 use Rattle.cfgcheck.specs.Check.{check_of}
 use Rattle.cfgast.specs.WellFormed.{IsWellFormed}
 use Rattle.cfgast.proofs.WellFormedLemmas.{syntax_of-IsWellFormed}

@@ -1,5 +1,5 @@
 -- What the steps of reading a text do, told by its section.
-use Rattle.std.specs.Prelude.{◌≡◌, ℕ, false, List, Option, option_map, Result, Ok, Err}
+use Rattle.std.specs.Prelude.{◌≡◌, ℕ, false, List, map, Option, option_map, Result, Ok, Err}
 use denote.Ref.{Bor}
 use Rattle.reading.specs.Construct.{computes}
 use Rattle.reading.specs.Read.{stop_of}
@@ -9,8 +9,12 @@ use Rattle.cfgast.specs.declared.ast.GrammarAST.{GrammarAST}
 use Rattle.cfgkinds.specs.declared.kind.YaccKind.{YaccKind}
 use Rattle.cfgheader.specs.declared.section.header_fault.HeaderFault.{HeaderFault}
 use Rattle.cfgheader.specs.declared.section.header_fault.HeaderFault.TheVariants as header
+use Rattle.cfgheader.specs.Named.{Naming}
 use Rattle.cfgheader.specs.SectionGrammar.{Entry}
 use Rattle.cfgheader.specs.SectionReads.{section_of, errors_view}
+use Rattle.cfgerrors.specs.Errors.{GrammarError, header_error}
+use Rattle.cfgerrors.specs.declared.error.YaccFault.{YaccFault}
+use Rattle.cfgerrors.specs.declared.error.YaccFault.TheVariants as faults
 use Rattle.cfgreader.specs.Grammar.{file}
 use Rattle.cfgsyntax.specs.Reads.{Stop, InSection, InFile}
 use Rattle.cfgsyntax.specs.declared.read.Stopped.{Stopped}
@@ -31,3 +35,14 @@ IsBehindSection text (Err header.OutOfMemory) = Unit {0}
 abbrev pub IsReadBehind : YaccKind → ℕ → List ℕ → GrammarAST × Option Stopped → Type 0
 IsReadBehind kind len rest (tree, stop) = (syntax tree ≡ syntax_of (computes (file kind len) rest).items)
     × (option_map stop_view stop ≡ option_map InFile (stop_of (computes (file kind len) rest).outcome))
+
+-- these are the errors of a text that names no kind
+abbrev pub IsRefusedBy : Naming → List GrammarError → Type 0
+IsRefusedBy (Ok kind) told = ⊥
+IsRefusedBy (Err errors) told = told ≡ map header_error errors
+
+-- of a text that names this, where the kind is asked for
+abbrev pub IsKindOf : Naming → Result YaccKind YaccFault → Type 0
+IsKindOf naming (Ok kind) = naming ≡ Ok kind
+IsKindOf naming (Err faults.OutOfMemory) = Unit {0}
+IsKindOf naming (Err (faults.Errors told)) = IsRefusedBy naming told.items

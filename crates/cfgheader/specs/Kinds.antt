@@ -1,0 +1,16 @@
+-- The kinds of words that a section has. Each holds the proofs that its program finds just it, so this file names those.
+use Rattle.std.specs.Prelude.{ℕ, List}
+use Rattle.reading.specs.WordKind.{WordKind}
+use Rattle.cfgwords.specs.SectionWords.{IsName, IsText, name_of, text_of}
+use Rattle.cfgwords.specs.Words.{IsInteger, integer_of}
+use Rattle.cfgwords.proofs.Finders.{integer_finder, integer_shorter}
+use Rattle.cfgwords.proofs.SectionFinders.{name_finder, name_shorter, text_finder, text_shorter}
+
+abbrev pub name_kind : WordKind (List ℕ)
+name_kind = record { Is = IsName; find = name_of; finds = name_finder; shortens = name_shorter }
+
+abbrev pub text_kind : WordKind (List ℕ)
+text_kind = record { Is = IsText; find = text_of; finds = text_finder; shortens = text_shorter }
+
+abbrev pub integer_kind : WordKind ℕ
+integer_kind = record { Is = IsInteger; find = integer_of; finds = integer_finder; shortens = integer_shorter }

@@ -1,0 +1,17 @@
+-- Where the code finds the end of a quoted token's name, and of what stands between the braces of an action.
+use Rattle.std.specs.Prelude.{◌≡◌, ℕ, suc, List, length, ◌+◌, ◌≤◌, ◌<◌, take, drop, Some, slice_index}
+use Rattle.cfgwords.specs.Actions.{split_balanced}
+use Rattle.cfgwords.specs.Words.{quoted_of}
+
+-- the name of the quoted token at the front has n bytes; ASCII quotes stand round it
+pub record IsQuotedLen (text : List ℕ) (n : ℕ) : Type 0 where
+  pub is : quoted_of text ≡ Some (take n (drop 1 text), drop 1 (drop n (drop 1 text)))
+  pub opens : slice_index text 0 < 128
+  pub closes : slice_index text (1 + n) < 128
+  pub within : 2 + n ≤ length text
+
+-- the brace that closes stands behind n bytes
+pub record IsClosedAt (text : List ℕ) (n : ℕ) : Type 0 where
+  pub splits : split_balanced 0 text ≡ Some (take n text, drop (suc n) text)
+  pub within : n < length text
+  pub closes : slice_index text n ≡ 125
