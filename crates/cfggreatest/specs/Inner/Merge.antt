@@ -1,7 +1,7 @@
 -- Two sets of rules made one.
 use Rattle.std.specs.Prelude.{◌≡◌, ℕ, ◌<◌, ◌⊎◌, Bool, true, false, List, length, slice_set}
-use Rattle.cfggreatest.specs.Rows.{in_set}
-use Rattle.cfggreatest.specs.Peel.{count_removed}
+use Rattle.cfggreatest.specs.Inner.Rows.{in_set}
+use Rattle.cfggreatest.specs.Inner.Peel.{count_removed}
 
 -- of the rules below n those of the further set were added
 pub record Merges (n : ℕ) (further old new : List Bool) (changed : Bool) : Type 0 where

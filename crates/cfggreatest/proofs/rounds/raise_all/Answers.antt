@@ -1,11 +1,11 @@
 use Rattle.std.proofs.Common.{◌+◌, ◌*◌, sym, subst}
 use Rattle.std.specs.List.{slice_index}
 use Rattle.cfganalysis.specs.Openings.{nth_production}
-use Rattle.cfggreatest.specs.Rows.{in_set}
-use Rattle.cfggreatest.specs.Tops.{IsTopped, sum_ranks}
+use Rattle.cfggreatest.specs.Inner.Rows.{in_set}
+use Rattle.cfggreatest.specs.Inner.Tops.{IsTopped, sum_ranks}
 use Rattle.cfggreatest.proofs.Ending.{round_smaller_by}
 use Rattle.cfggreatest.proofs.Tops.{ranks_small}
-use Rattle.cfggreatest.proofs.rounds.settle.Goals as goal
+use Rattle.cfggreatest.proofs.rounds.raise_all.Goals as goal
 
 pub loop-changed-smaller : goal.loop-changed-smaller
 loop-changed-smaller g c =

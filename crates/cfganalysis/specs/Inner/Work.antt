@@ -1,11 +1,6 @@
 -- Work that is left: for each rule the productions that rest on it, and the productions that wait.
-use Rattle.std.specs.Prelude.{◌≡◌, ◌↔◌, ◌⊎◌, ℕ, Bool, List, [], length, Contains, slice_index_or, Vec}
-use Rattle.std.specs.declared.alloc.Global.{Global}
-use Rattle.cfganalysis.specs.Waiting.{Waits}
-
--- the elements of a list of the code
-abbrev pub items_of : Vec ℕ Global → List ℕ
-items_of list = list.items
+use Rattle.std.specs.Prelude.{◌≡◌, ◌↔◌, ◌⊎◌, ℕ, Bool, List, [], length, Contains, slice_index_or}
+use Rattle.cfganalysis.specs.Inner.Waiting.{Waits}
 
 -- the productions that rest on a rule
 abbrev pub users_of : List (List ℕ) → ℕ → List ℕ
@@ -17,7 +12,7 @@ pub record Notes (p : ℕ) (rests : ℕ → Type 0) (old new : List (List ℕ)) 
   pub users : (r q : ℕ) → (Contains (users_of new r) q ↔ (Contains (users_of old r) q ⊎ ((q ≡ p) × rests r)))
 
 -- the production rests on a rule that gained
-pub record RestsOn (users : List (List ℕ)) (gained : ℕ → Type 0) (q : ℕ) : Type 0 where
+pub record RestsOnGained (users : List (List ℕ)) (gained : ℕ → Type 0) (q : ℕ) : Type 0 where
   pub rule : ℕ
   pub gains : gained rule
   pub noted : Contains (users_of users rule) q
@@ -25,4 +20,4 @@ pub record RestsOn (users : List (List ℕ)) (gained : ℕ → Type 0) (q : ℕ)
 -- beside the productions that waited, those wait that rest on a rule that gained
 pub record LetsWait (users : List (List ℕ)) (gained : ℕ → Type 0) (old new : List Bool) : Type 0 where
   pub shape : length new ≡ length old
-  pub waits : (q : ℕ) → (Waits new q ↔ (Waits old q ⊎ RestsOn users gained q))
+  pub waits : (q : ℕ) → (Waits new q ↔ (Waits old q ⊎ RestsOnGained users gained q))

@@ -1,11 +1,11 @@
 use Rattle.std.proofs.Common.{◌≤◌, MatchBool, length, subst, refl, sym, arith, ◌<◌, ◌∙◌}
 use Rattle.derivation.specs.Grammar.{IsGrammar}
 use Rattle.cfganalysis.specs.Openings.{most_openings, most_openings_all}
-use Rattle.cfganalysis.specs.Growth.{Visited, left_to_do}
-use Rattle.cfganalysis.specs.Waiting.{NoneWaits}
+use Rattle.cfganalysis.specs.Inner.Growth.{Visited, left_to_do}
+use Rattle.cfganalysis.specs.Inner.Waiting.{NoneWaits}
 use Rattle.cfganalysis.proofs.Fitting.{all_openings_fit}
 use Rattle.cfganalysis.proofs.Visiting.{visited_all, visited_none, few_opened, few_opened_all}
-use Rattle.cfganalysis.proofs.visits.settle.Goals as goal
+use Rattle.cfganalysis.proofs.visits.visit_all.Goals as goal
 
 pub visit_each-requires-clause-visited : goal.visit_each-requires-clause-visited
 visit_each-requires-clause-visited g c =
@@ -119,8 +119,8 @@ returns-clause-content g c = c.visit_next.ensures.content ∙ c.loop.invariant.c
 pub returns-clause-holds : goal.returns-clause-holds
 returns-clause-holds g c = subst (λ h. g.A.Analysis.holds h c.visit_next.new.analysis) c.loop.invariant.content c.visit_next.ensures.visited.sound
 
-pub returns-clause-settled : goal.returns-clause-settled
-returns-clause-settled g c =
+pub returns-clause-covered : goal.returns-clause-covered
+returns-clause-covered g c =
     let w = subst (λ h. Visited g.A.Analysis.holds g.A.Analysis.covers g.A.Analysis.bits g.A.Analysis.rests_on h (length h.productions) c.visit_next.new.analysis
     c.visit_next.new.work.users c.visit_next.new.work.waiting c.visit_next.new.work.gained (g.P.Productions.opened c.visit_next.new.productions)
     (g.P.Productions.opened_all c.visit_next.new.productions)) c.loop.invariant.content c.visit_next.ensures.visited in

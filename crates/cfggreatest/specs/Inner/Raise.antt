@@ -2,7 +2,7 @@
 use Rattle.std.specs.Prelude.{◌≡◌, ℕ, ◌<◌, ◌+◌, min, Bool, true, false, List, Option, Some, slice_set}
 use Rattle.derivation.specs.Grammar.{Sym}
 use Rattle.cfgsums.specs.Lists.{rule_cost, sum_by_lists}
-use Rattle.cfggreatest.specs.Tops.{IsAtLeastCut, rank}
+use Rattle.cfggreatest.specs.Inner.Tops.{IsAtLeastCut, rank}
 
 -- the sum is above the rule's cost, and the table has it, cut down to the limit, as that cost
 pub record HasRaised (costs : List ℕ) (limit rule : ℕ) (symbols : List Sym) (old new : List (Option ℕ)) : Type 0 where

@@ -1,7 +1,7 @@
 -- Rules that were removed, which wait till the productions that hold them are gone through.
 use Rattle.std.specs.Prelude.{◌≡◌, ℕ, ◌+◌, ◌<◌, ◌≤◌, Bool, List, All, Option, length}
 use Rattle.derivation.specs.Grammar.{Grammar, IsGrammar}
-use Rattle.cfggreatest.specs.Peel.{IsPeeled, count_removed}
+use Rattle.cfggreatest.specs.Inner.Peel.{IsPeeled, count_removed}
 
 -- removed rules rise, and rules of the grammar wait
 pub record IsRemoving (g : Grammar) (signs : List (Option ℕ)) (bounded further : List Bool) (waiting : List ℕ) : Type 0 where

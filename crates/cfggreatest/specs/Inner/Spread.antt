@@ -1,7 +1,7 @@
 -- A table of costs that productions raise, and the rules that were raised, which wait.
 use Rattle.std.specs.Prelude.{◌≡◌, ℕ, ◌+◌, ◌<◌, ◌≤◌, Bool, List, All, Option, length, slice_index}
 use Rattle.derivation.specs.Grammar.{Grammar, IsGrammar}
-use Rattle.cfggreatest.specs.Tops.{AreReached, sum_ranks}
+use Rattle.cfggreatest.specs.Inner.Tops.{AreReached, sum_ranks}
 
 -- what the table says is so, and rules of the grammar wait
 pub record IsSpreading (g : Grammar) (costs : List ℕ) (limit : ℕ) (set : List Bool) (table : List (Option ℕ)) (waiting : List ℕ) : Type 0 where

@@ -1,10 +1,10 @@
 -- Groups of rules that are bounded beside the rules found so far.
 use Rattle.std.specs.Prelude.{◌≡◌, ℕ, ◌<◌, ◌≤◌, ◌⊎◌, Bool, true, List, Option, length, slice_index_or}
 use Rattle.derivation.specs.Grammar.{Sym, Grammar, IsGrammar, HasProduction}
-use Rattle.cfggreatest.specs.Rows.{in_set}
-use Rattle.cfggreatest.specs.Tops.{live_in, positive_in}
-use Rattle.cfggreatest.specs.Peel.{Keeps}
-use Rattle.cfggreatest.specs.Stages.{AreFoundBounded}
+use Rattle.cfggreatest.specs.Inner.Rows.{in_set}
+use Rattle.cfggreatest.specs.Inner.Tops.{live_in, positive_in}
+use Rattle.cfggreatest.specs.Inner.Peel.{Keeps}
+use Rattle.cfggreatest.specs.Inner.Stages.{AreFoundBounded}
 
 -- the rule stands in the group, at this place or behind it
 pub record StandsFrom (group : List ℕ) (i r : ℕ) : Type 0 where

@@ -3,8 +3,8 @@ use Rattle.std.specs.Prelude.{◌≡◌, ℕ, ◌+◌, ◌-◌, ◌*◌, ◌<◌
 use Rattle.derivation.specs.Grammar.{Grammar, Production, IsGrammar}
 use Rattle.cfganalysis.specs.Openings.{nth_production}
 use Rattle.cfganalysis.specs.Table.{bits_on}
-use Rattle.cfganalysis.specs.Waiting.{waits, Waits, NoneWaits}
-use Rattle.cfganalysis.specs.Work.{users_of, RestsOn}
+use Rattle.cfganalysis.specs.Inner.Waiting.{waits, Waits, NoneWaits}
+use Rattle.cfganalysis.specs.Inner.Work.{users_of, RestsOnGained}
 
 -- of sets: what they say is so, they have all that a production gives, how many bits are on, on which rules a
 -- production rests
@@ -19,7 +19,7 @@ module _ {X : Type 0} (holds : Grammar → X → Type 0) (covers : X → Product
     pub noted : (q r : ℕ) → q < n → rests_on (nth_production g q) r → Contains (users_of users r) q
     pub within : (q r : ℕ) → Contains (users_of users r) q → q < n
     pub known : (q : ℕ) → Waits waiting q → q < n
-    pub settled : (q : ℕ) → q < n → waits waiting q ≡ false → covers x (nth_production g q)
+    pub covered : (q : ℕ) → q < n → waits waiting q ≡ false → covers x (nth_production g q)
     pub few : (q : ℕ) → q < n → opened q + cond (waits waiting q) 1 0 ≤ bits x + 1
     pub fresh : (q : ℕ) → n ≤ q → q < length g.productions → opened q ≡ 0
     pub together : all + bits_on waiting ≤ n + length g.productions * bits x
@@ -42,10 +42,14 @@ module _ {X : Type 0} (holds : Grammar → X → Type 0) (covers : X → Product
       pub no_less : bits old ≤ bits new
       pub more : (r : ℕ) → (no_more r old new → ⊥) → bits old < bits new
       pub shape : length waiting' ≡ length waiting
-      pub again : (q : ℕ) → (Waits waiting' q ↔ (Waits waiting q ⊎ RestsOn users (λ r. no_more r old new → ⊥) q))
+      pub again : (q : ℕ) → (Waits waiting' q ↔ (Waits waiting q ⊎ RestsOnGained users (λ r. no_more r old new → ⊥) q))
       pub closed : (n : ℕ) → ((r : ℕ) → rests_on p r → Contains (users_of users r) n) → waits waiting' n ≡ false → covers new p
       pub stays : (q : Production) (n : ℕ) → ((r : ℕ) → rests_on q r → Contains (users_of users r) n) → waits waiting' n ≡ false
           → covers old q → covers new q
+
+-- no production gives more
+abbrev pub CoversEach : {X : Type 0} → (X → Production → Type 0) → Grammar → X → Type 0
+CoversEach covers g x = (q : ℕ) → q < length g.productions → covers x (nth_production g q)
 
 -- how much is left to do: bits to turn on, and productions that wait
 abbrev pub left_to_do : Grammar → ℕ → List Bool → ℕ

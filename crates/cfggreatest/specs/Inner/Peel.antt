@@ -1,11 +1,12 @@
 -- Which rules may have bounded costs: those that no production shows to rise from rules outside.
-use Rattle.std.specs.Prelude.{◌≡◌, ℕ, ◌≤◌, ◌⊎◌, Bool, true, false, cond, List, [], ◌∷◌, Option, length, slice_set, sum_by}
+use Rattle.std.specs.Prelude.{◌≡◌, ℕ, ◌<◌, ◌≤◌, ◌⊎◌, Bool, true, false, cond, List, [], ◌∷◌, Option, length, slice_set, sum_by}
 use Rattle.derivation.specs.Grammar.{Sym, Rule, Grammar, Production, HasProduction}
 use Rattle.derivation.specs.Sentence.{cost_of}
 use Rattle.derivation.specs.Tree.{Yields}
-use Rattle.cfggreatest.specs.Rows.{are_in, count_positive, in_set}
-use Rattle.cfggreatest.specs.Rising.{AtLeast, Rises, TokensCost}
-use Rattle.cfggreatest.specs.Tops.{live_in, positive_in}
+use Rattle.cfganalysis.specs.Openings.{nth_production}
+use Rattle.cfggreatest.specs.Inner.Rows.{are_in, count_positive, in_set}
+use Rattle.cfggreatest.specs.Inner.Rising.{AtLeast, Rises, TokensCost}
+use Rattle.cfggreatest.specs.Inner.Tops.{live_in, positive_in}
 
 module _ (live positive bounded further : ℕ → Bool) (a : List Sym) where
   -- if the row's rules all have sentences, they are all in the further set, and in the bounded one if two of the symbols
@@ -15,7 +16,7 @@ module _ (live positive bounded further : ℕ → Bool) (a : List Sym) where
 
   -- the row's rules all have sentences, and one is outside the further set, or outside the bounded one beside another
   -- symbol that costs something
-  pub record Leaves : Type 0 where
+  pub record Removes : Type 0 where
     pub lives : are_in live a ≡ true
     pub outside : (are_in further a ≡ false) ⊎ ((are_in bounded a ≡ false) × (2 ≤ count_positive positive a))
 
@@ -56,13 +57,17 @@ pub record IsPeeled (g : Grammar) (signs : List (Option ℕ)) (bounded further :
 abbrev pub IsKept : List (Option ℕ) → List Bool → List Bool → Production → Type 0
 IsKept signs bounded further p = in_set further p.rule ≡ true → Keeps (live_in signs) (positive_in signs) (in_set bounded) (in_set further) p.symbols
 
+-- each production keeps its rule
+abbrev pub AreKept : Grammar → List (Option ℕ) → List Bool → List Bool → Type 0
+AreKept g signs bounded further = (q : ℕ) → q < length g.productions → IsKept signs bounded further (nth_production g q)
+
 -- how many rules were removed
 abbrev pub count_removed : List Bool → ℕ
 count_removed further = sum_by (λ b. cond b 0 1) further
 
--- the rule was removed, if it was in the further set and its production leaves; else all stays
+-- the rule was removed, if it was in the further set and its production removes it; else all stays
 pub record Peels (signs : List (Option ℕ)) (bounded : List Bool) (rule : ℕ) (symbols : List Sym) (old new : List Bool) (changed : Bool) : Type 0 where
-  pub leaves : changed ≡ true → Leaves (live_in signs) (positive_in signs) (in_set bounded) (in_set old) symbols
+  pub removes : changed ≡ true → Removes (live_in signs) (positive_in signs) (in_set bounded) (in_set old) symbols
   pub was : changed ≡ true → in_set old rule ≡ true
   pub put : changed ≡ true → new ≡ slice_set old rule false
   pub same : changed ≡ false → new ≡ old

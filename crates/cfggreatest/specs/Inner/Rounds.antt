@@ -1,4 +1,4 @@
--- Sets that grow by what productions give, till none gives more.
+-- Rounds over productions: a set that grows by what each gives, till none gives more.
 use Rattle.std.specs.Prelude.{◌≡◌, ℕ, ◌<◌, Bool, true, false, length, Contains}
 use Rattle.derivation.specs.Grammar.{Grammar, Production, IsGrammar}
 use Rattle.cfganalysis.specs.Openings.{nth_production}
@@ -6,7 +6,7 @@ use Rattle.cfganalysis.specs.Openings.{nth_production}
 -- of sets: what they say is so, they have all that a production gives, how many bits are on
 module _ {X : Type 0} (holds : Grammar → X → Type 0) (covers : X → Production → Type 0) (bits : X → ℕ) where
   -- a production was taken in
-  pub record TakesIn (p : Production) (old new : X) (changed : Bool) : Type 0 where
+  pub record SweepsOne (p : Production) (old new : X) (changed : Bool) : Type 0 where
     pub sound : (g : Grammar) → IsGrammar g → Contains g.productions p → holds g old → holds g new
     pub more : changed ≡ true → bits old < bits new
     pub same : changed ≡ false → new ≡ old
@@ -18,7 +18,3 @@ module _ {X : Type 0} (holds : Grammar → X → Type 0) (covers : X → Product
     pub more : changed ≡ true → bits old < bits new
     pub same : changed ≡ false → new ≡ old
     pub closed : changed ≡ false → (q : ℕ) → q < n → covers old (nth_production g q)
-
--- no production gives more
-abbrev pub IsSettled : {X : Type 0} → (X → Production → Type 0) → Grammar → X → Type 0
-IsSettled covers g x = (q : ℕ) → q < length g.productions → covers x (nth_production g q)

@@ -4,8 +4,9 @@ use Rattle.std.proofs.Math.Nat.{add-le-add, mul-add, mul-one}
 use Rattle.std.proofs.lemmas.List.Sums.{sum_by-le, count_by-le-length}
 use Rattle.derivation.specs.Grammar.{Grammar}
 use Rattle.cfganalysis.specs.Table.{Table, IsTable, bits_on, count_of}
-use Rattle.cfganalysis.specs.Firsts.{FirstSets, SayFirsts, count_firsts}
-use Rattle.cfganalysis.specs.Follows.{FollowSets, SayFollows, count_follows}
+use Rattle.cfganalysis.specs.Firsts.{FirstSets}
+use Rattle.cfganalysis.specs.Inner.GrowingFirsts.{SayFirsts, count_firsts}
+use Rattle.cfganalysis.specs.Inner.GrowingFollows.{FollowSets, SayFollows, count_follows}
 
 count_of-le : (rows columns : ℕ) (x : Table) → IsTable rows columns x → count_of x ≤ rows * columns
 count_of-le rows columns x is = subst (λ n. count_of x ≤ n * columns) is.height

@@ -1,8 +1,8 @@
 use Rattle.std.proofs.Common.{◌≡◌, ◌+◌, ◌*◌, ◌-◌, cond, false}
 use Rattle.std.specs.List.{slice_index}
-use Rattle.cfggreatest.specs.Rows.{in_set}
-use Rattle.cfggreatest.specs.Tops.{AreReached, AreTopped, sum_ranks}
-use Rattle.cfggreatest.proofs.rounds.settle.Given as goal
+use Rattle.cfggreatest.specs.Inner.Rows.{in_set}
+use Rattle.cfggreatest.specs.Inner.Tops.{AreReached, AreTopped, sum_ranks}
+use Rattle.cfggreatest.proofs.rounds.raise_all.Given as goal
 
 abbrev pub invariant-loop-changed : goal.invariant-loop-changed
 invariant-loop-changed g l = record {

@@ -2,10 +2,10 @@
 use Rattle.std.specs.Prelude.{◌≡◌, ℕ, ◌<◌, ◌≤◌, Bool, true, false, List, Option, length}
 use Rattle.derivation.specs.Grammar.{Sym, Grammar, HasProduction}
 use Rattle.derivation.specs.Costs.{Unbounded}
-use Rattle.cfggreatest.specs.Rows.{in_set}
-use Rattle.cfggreatest.specs.Rising.{TokensCost}
-use Rattle.cfggreatest.specs.Tops.{live_in, positive_in}
-use Rattle.cfggreatest.specs.Peel.{AreBounded, AreSigns, count_removed}
+use Rattle.cfggreatest.specs.Inner.Rows.{in_set}
+use Rattle.cfggreatest.specs.Inner.Rising.{TokensCost}
+use Rattle.cfggreatest.specs.Inner.Tops.{live_in, positive_in}
+use Rattle.cfggreatest.specs.Inner.Peel.{AreBounded, AreSigns, count_removed}
 
 -- the rules of the set are bounded, whatever the costs for which the signs are true
 pub record AreFoundBounded (g : Grammar) (signs : List (Option ℕ)) (bounded : List Bool) : Type 0 where

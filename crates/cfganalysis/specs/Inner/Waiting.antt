@@ -11,8 +11,8 @@ Waits x n = IsTrue (waits x n)
 abbrev pub NoneWaits : List Bool → Type 0
 NoneWaits x = (n : ℕ) → waits x n ≡ false
 
--- a number that waited waits no longer
-pub record Leaves (n : ℕ) (old new : List Bool) : Type 0 where
+-- a number that waited waits no more
+pub record WaitsNoMore (n : ℕ) (old new : List Bool) : Type 0 where
   pub waited : Waits old n
   pub rest : new ≡ slice_set old n false
 
