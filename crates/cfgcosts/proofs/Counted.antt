@@ -13,7 +13,7 @@ use Rattle.derivation.specs.Sentence.{cost_of}
 use Rattle.derivation.specs.Costs.{Least}
 use Rattle.derivation.proofs.Costs.{least_is_one}
 use Rattle.cfganalysis.specs.Openings.{nth_production, OpensOne}
-use Rattle.cfganalysis.proofs.Settling.{same_production}
+use Rattle.cfganalysis.proofs.Placed.{same_production}
 use Rattle.cfgsums.specs.Lists.{rule_cost}
 use Rattle.cfgcosts.specs.Generator.{CostTables, IsGenerator, cost_answer, choice_answer, token_cost}
 use Rattle.cfgcosts.specs.Splits.{Split, done, itself, part}

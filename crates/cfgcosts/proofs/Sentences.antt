@@ -12,7 +12,7 @@ use Rattle.derivation.proofs.Trees.{trees_split, trees_join, derivation_from_tre
 use Rattle.derivation.proofs.Costs.{minimal_if_least}
 use Rattle.cfgindex.specs.declared.idxnewtype.PIdx.{PIdx}
 use Rattle.cfganalysis.specs.Openings.{nth_production}
-use Rattle.cfganalysis.proofs.Settling.{at_place}
+use Rattle.cfganalysis.proofs.Placed.{at_place}
 use Rattle.cfgsums.specs.Sums.{sum_of, symbol_cost}
 use Rattle.cfgsums.specs.Lists.{rule_cost}
 use Rattle.cfgcosts.specs.Certificate.{IsChosenBelow, rule_choice}
