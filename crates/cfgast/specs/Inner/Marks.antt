@@ -21,9 +21,9 @@ abbrev pub IsMarked : Marks → Place → Type 0
 IsMarked x (RulePlace place) = IsTrue (slice_index_or x.rules.items place false)
 IsMarked x (TokenPlace place) = IsTrue (slice_index_or x.tokens.items place false)
 
--- how many bits are on
-abbrev pub bits_on : List Bool → ℕ
-bits_on bits = count_by (λ b. b) bits
+-- how many marks are set
+abbrev pub count_marked : List Bool → ℕ
+count_marked marks = count_by (λ marked. marked) marks
 
 -- a mark for each rule and for each token, whose names differ
 pub record AreMarksOf (s : Syntax) (x : Marks) : Type 0 where
@@ -45,8 +45,8 @@ pub record MarksMore (s : Syntax) (Is : Name → Type 0) (old new : Marks) : Typ
   pub fresh : (r : ℕ) → IsMarked new (RulePlace r) → IsMarked old (RulePlace r) ⊎ Contains new.waiting.items r
   pub still : (r : ℕ) → Contains old.waiting.items r → Contains new.waiting.items r
   pub waits : (r : ℕ) → Contains new.waiting.items r → Contains old.waiting.items r ⊎ IsMarked new (RulePlace r)
-  pub grows : bits_on old.rules.items ≤ bits_on new.rules.items
-  pub together : length new.waiting.items + bits_on old.rules.items ≡ length old.waiting.items + bits_on new.rules.items
+  pub grows : count_marked old.rules.items ≤ count_marked new.rules.items
+  pub together : length new.waiting.items + count_marked old.rules.items ≡ length old.waiting.items + count_marked new.rules.items
 
 -- only the start rule is marked, and it waits
 pub record IsOfStart (s : Syntax) (x : Marks) : Type 0 where
