@@ -7,8 +7,9 @@ use Rattle.derivation.specs.First.{First, Empty}
 use Rattle.derivation.specs.FirstSets.{Covers, IsClosed}
 use Rattle.derivation.proofs.Firsts.{vanishes_map, begins_map, closed_first, closed_empty, derived_closed}
 use Rattle.cfganalysis.specs.Table.{IsTable, Joins}
-use Rattle.cfganalysis.specs.Firsts.{FirstSets, AreFirsts, SayFirsts, HaveFirstsOf, IsAmongFirsts, IsEpsilon, BeginsBy, VanishesBy, no_firsts, with_epsilon}
-use Rattle.cfganalysis.specs.Rounds.{IsSettled}
+use Rattle.cfganalysis.specs.Firsts.{FirstSets, AreFirsts, IsAmongFirsts, IsEpsilon}
+use Rattle.cfganalysis.specs.Inner.GrowingFirsts.{SayFirsts, HaveFirstsOf, BeginsBy, VanishesBy, no_firsts, with_epsilon}
+use Rattle.cfganalysis.specs.Inner.Growth.{CoversEach}
 use Rattle.cfganalysis.proofs.OneBit.{bit-no_bits, IsTable-no_bits}
 
 -- a production's rule and symbols are of the grammar
@@ -58,8 +59,8 @@ say_none g rules tokens e h = record {
 }
 
 -- sets that say nothing wrong, to which no production adds, are exact
-pub are_firsts : (g : Grammar) (x : FirstSets) → SayFirsts g x → IsSettled HaveFirstsOf g x → AreFirsts g x
-are_firsts g x say settled = record {
+pub are_firsts : (g : Grammar) (x : FirstSets) → SayFirsts g x → CoversEach HaveFirstsOf g x → AreFirsts g x
+are_firsts g x say covered = record {
   fits = say.fits;
   first = λ r t. (say.first r t, closed_first (HasProduction g) (IsEpsilon x) (IsAmongFirsts x) closed r t);
   empty = λ r. (say.empty r, closed_empty (HasProduction g) (IsEpsilon x) (IsAmongFirsts x) closed r);
@@ -67,4 +68,4 @@ are_firsts g x say settled = record {
   where
     closed : IsClosed (HasProduction g) (IsEpsilon x) (IsAmongFirsts x)
     closed r symbols has = subst (λ (p : Production). Covers (IsEpsilon x) (IsAmongFirsts x) p.rule p.symbols)
-        (get_or_default g.productions has.0 _ _ has.1 ∙ has.2) (settled has.0 has.1)
+        (get_or_default g.productions has.0 _ _ has.1 ∙ has.2) (covered has.0 has.1)

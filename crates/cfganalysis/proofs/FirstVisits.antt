@@ -7,11 +7,12 @@ use Rattle.derivation.specs.Grammar.{Sym, Rule, Token, Grammar, Production, IsGr
 use Rattle.derivation.specs.FirstSets.{Vanishes}
 use Rattle.derivation.proofs.Firsts.{vanishes_parts, vanishes_both, begins_parts, begins_map}
 use Rattle.cfganalysis.specs.Table.{Joins, bits_on}
-use Rattle.cfganalysis.specs.Firsts.{FirstSets, SayFirsts, HasNoMoreFirsts, HaveFirstsOf, HoldsRule, BeginsBy, VanishesBy, IsAmongFirsts, IsEpsilon, epsilon_bit, count_firsts, is_empty_symbol, with_epsilon}
-use Rattle.cfganalysis.specs.Growth.{TakesIn}
-use Rattle.cfganalysis.specs.Waiting.{Waits, NoneWaits}
+use Rattle.cfganalysis.specs.Firsts.{FirstSets, IsAmongFirsts, IsEpsilon, epsilon_bit}
+use Rattle.cfganalysis.specs.Inner.GrowingFirsts.{SayFirsts, HasNoMoreFirsts, HaveFirstsOf, HoldsRule, BeginsBy, VanishesBy, count_firsts, is_empty_symbol, with_epsilon}
+use Rattle.cfganalysis.specs.Inner.Growth.{TakesIn}
+use Rattle.cfganalysis.specs.Inner.Waiting.{Waits, NoneWaits}
 use Rattle.cfganalysis.proofs.Noting.{put_waits, put_there}
-use Rattle.cfganalysis.proofs.Settling.{grown}
+use Rattle.cfganalysis.proofs.Joins.{grown}
 use Rattle.cfganalysis.proofs.OneBit.{bits_on-set, bits_on-fewer, count_of-fewer}
 use Rattle.cfganalysis.proofs.Fronts.{begins_front, begins_past, vanishes_among, begins_among, vanishes_alone, stays_alone}
 use Rattle.cfganalysis.proofs.FirstBits.{owner, say_first, say_epsilon}

@@ -9,8 +9,9 @@ use Rattle.derivation.proofs.Firsts.{vanishes_map, begins_map, derived_closed}
 use Rattle.derivation.proofs.Follows.{closed_follow, closed_end, end_of_start}
 use Rattle.cfganalysis.specs.Table.{IsTable, HasBit, Joins, no_bits, with_bit}
 use Rattle.cfganalysis.specs.Firsts.{FirstSets, AreFirsts, IsAmongFirsts, IsEpsilon}
-use Rattle.cfganalysis.specs.Follows.{FollowSets, AreFollows, SayFollows, HaveFollowsOf, FlowIn}
-use Rattle.cfganalysis.specs.Rounds.{IsSettled}
+use Rattle.cfganalysis.specs.Follows.{AreFollows}
+use Rattle.cfganalysis.specs.Inner.GrowingFollows.{FollowSets, SayFollows, HaveFollowsOf, FlowIn}
+use Rattle.cfganalysis.specs.Inner.Growth.{CoversEach}
 use Rattle.cfganalysis.proofs.OneBit.{bit-no_bits, IsTable-with_bit, IsTable-no_bits}
 use Rattle.cfganalysis.proofs.Joins.{joins_bit}
 
@@ -24,8 +25,8 @@ firsts_closed g x are r symbols has =
     }
 
 -- sets that say nothing wrong, to which no production adds, are exact
-pub are_follows : (g : Grammar) (x : FollowSets) → SayFollows g x → IsSettled HaveFollowsOf g x → AreFollows g x.follows
-are_follows g x say settled = record {
+pub are_follows : (g : Grammar) (x : FollowSets) → SayFollows g x → CoversEach HaveFollowsOf g x → AreFollows g x.follows
+are_follows g x say covered = record {
   fits = say.fits;
   follow = λ r t. (
     say.follow r t,
@@ -41,7 +42,7 @@ are_follows g x say settled = record {
 
     flows : IsFollowClosed (HasProduction g) (IsEpsilon x.firsts) (IsAmongFirsts x.firsts) (HasBit x.follows)
     flows r symbols has = subst (λ (p : Production). FlowIn x p.rule p.symbols)
-        (get_or_default g.productions has.0 _ _ has.1 ∙ has.2) (settled has.0 has.1)
+        (get_or_default g.productions has.0 _ _ has.1 ∙ has.2) (covered has.0 has.1)
 
 -- at first the end token stands behind the start rule, and nothing else anywhere
 pub say_start : (g : Grammar) (f : FirstSets) (rules tokens : ℕ) → IsGrammar g → AreFirsts g f → rules ≡ g.rules → tokens ≡ g.tokens

@@ -10,9 +10,9 @@ use Rattle.derivation.proofs.Firsts.{vanishes_map, begins_map}
 use Rattle.derivation.proofs.Follows.{derived_flows}
 use Rattle.cfganalysis.specs.Table.{HasBit, count_of}
 use Rattle.cfganalysis.specs.Firsts.{FitsGrammar, AreFirsts, IsAmongFirsts, IsEpsilon}
-use Rattle.cfganalysis.specs.Follows.{FollowSets, FitFollows, SayFollows, HasNoMoreFollows, HaveFollowsOf, IsOwner, FlowIn, Behind, Puts, PutsBehind, count_follows}
-use Rattle.cfganalysis.specs.Growth.{TakesIn}
-use Rattle.cfganalysis.specs.Waiting.{waits, Waits, NoneWaits}
+use Rattle.cfganalysis.specs.Inner.GrowingFollows.{FollowSets, FitFollows, SayFollows, HasNoMoreFollows, HaveFollowsOf, IsOwner, FlowIn, Behind, Puts, PutsBehind, count_follows}
+use Rattle.cfganalysis.specs.Inner.Growth.{TakesIn}
+use Rattle.cfganalysis.specs.Inner.Waiting.{waits, Waits, NoneWaits}
 use Rattle.cfganalysis.proofs.Noting.{put_waits, put_keeps, put_there}
 use Rattle.cfganalysis.proofs.OneBit.{count_of-fewer}
 

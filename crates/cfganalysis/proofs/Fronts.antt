@@ -2,7 +2,8 @@
 use Rattle.std.proofs.Common.{◌≡◌, ℕ, suc, inl, inr, true, false, List, [], ◌∷◌, ◌++◌, Contains, arith, refl, sym, ◌∙◌, true≢false}
 use Rattle.derivation.specs.Grammar.{Sym, Rule, Token}
 use Rattle.derivation.specs.FirstSets.{Vanishes, Begins}
-use Rattle.cfganalysis.specs.Firsts.{FirstSets, VanishesBy, is_empty_symbol}
+use Rattle.cfganalysis.specs.Firsts.{FirstSets}
+use Rattle.cfganalysis.specs.Inner.GrowingFirsts.{VanishesBy, is_empty_symbol}
 
 module _ (E : ℕ → Type 0) (F : ℕ → ℕ → Type 0) where
   pub begins_front : (a b : List Sym) (t : ℕ) → Begins E F a t → Begins E F (a ++ b) t

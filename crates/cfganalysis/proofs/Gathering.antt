@@ -11,9 +11,11 @@ use Rattle.cfgindex.specs.declared.idxnewtype.Symbol.{Symbol}
 use Rattle.cfganalysis.specs.declared.follows.Front.{Front}
 use Rattle.cfganalysis.specs.declared.follows.Front.TheVariants as fronts
 use Rattle.cfganalysis.specs.Symbols.{sym_of}
-use Rattle.cfganalysis.specs.Table.{HasBit, joined, row_of}
-use Rattle.cfganalysis.specs.Firsts.{IsAmongFirsts, IsEpsilon, is_empty_symbol}
-use Rattle.cfganalysis.specs.Follows.{FollowSets, BeginsList, VanishesList, Behind, IsGathered, Gathers, FrontGives, IsFrontOf, IsEnd, StepsBack}
+use Rattle.cfganalysis.specs.Table.{HasBit, row_of}
+use Rattle.cfganalysis.specs.Inner.Joined.{joined}
+use Rattle.cfganalysis.specs.Firsts.{IsAmongFirsts, IsEpsilon}
+use Rattle.cfganalysis.specs.Inner.GrowingFirsts.{is_empty_symbol}
+use Rattle.cfganalysis.specs.Inner.GrowingFollows.{FollowSets, BeginsList, VanishesList, Behind, IsGathered, Gathers, FrontGives, IsFrontOf, IsEnd, StepsBack}
 use Rattle.cfganalysis.proofs.Fronts.{begins_front, begins_past, vanishes_alone, stays_alone}
 use Rattle.cfganalysis.proofs.FollowVisits.{behind_grow}
 

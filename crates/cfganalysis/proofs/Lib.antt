@@ -1,4 +1,4 @@
-pub mod Settling
+pub mod Placed
 pub mod OneBit
 pub mod Stacking
 pub mod Noting

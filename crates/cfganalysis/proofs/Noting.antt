@@ -1,11 +1,11 @@
 -- The productions that rest on rules: one noted more, and those let wait that rest on one.
-use Rattle.std.proofs.Common.{◌≡◌, ℕ, ◌+◌, ◌<◌, ◌≤◌, ◌⊎◌, inl, inr, Bool, true, false, List, [], ◌∷◌, ◌++◌, Contains, map, take, get_or, length, slice_set, arith, refl, sym, ap, ◌∙◌, subst, true≢false, length-set, get_or-set_same, get_or-set_other}
+use Rattle.std.proofs.Common.{◌≡◌, ℕ, ◌+◌, ◌<◌, ◌≤◌, ◌⊎◌, inl, inr, Bool, true, false, List, [], ◌∷◌, ◌++◌, Contains, map, take, get_or, length, slice_set, Vec, Global, arith, refl, sym, ap, ◌∙◌, subst, true≢false, length-set, get_or-set_same, get_or-set_other}
 use Rattle.std.proofs.lemmas.Bool.{cases_eq}
 use Rattle.std.proofs.lemmas.List.{get_or-map, map-set, length-map, take_more, take_all}
 use Rattle.std.proofs.lemmas.List.Elements.{Contains-append_left, Contains-push, Contains-push_cases}
 use Rattle.lemmas.proofs.Elements.{get_or-set}
-use Rattle.cfganalysis.specs.Waiting.{Waits, NoneWaits, Leaves, waits}
-use Rattle.cfganalysis.specs.Work.{users_of, Notes, RestsOn, LetsWait}
+use Rattle.cfganalysis.specs.Inner.Waiting.{Waits, NoneWaits, WaitsNoMore, waits}
+use Rattle.cfganalysis.specs.Inner.Work.{users_of, Notes, RestsOnGained, LetsWait}
 
 pub nothing_among : (q : ℕ) → Contains [] q → ⊥
 nothing_among q h = omega (arith, h.1)
@@ -43,19 +43,23 @@ notes_one users rule p lt = record {
         (at_rule q (subst (λ n. Contains (users_of users rule ++ p ∷ []) n) (sym h.0) (Contains-push (users_of users rule) p)))
 
 -- a list of the code is what is shown of it
-pub row_shown : {A : Type 0} (f : A → List ℕ) (lists : List A) (users : List (List ℕ)) (rule : ℕ) (x : A) → map f lists ≡ users → rule < length users
-    → x ≡ get_or lists rule x → f x ≡ users_of users rule
-row_shown f lists users rule x shown lt is = sym (ap (λ l. get_or l rule []) (sym shown)
-    ∙ get_or-map f lists rule x [] (subst (λ n. rule < n) (sym (ap length shown) ∙ length-map lists f) lt) ∙ ap f (sym is))
+pub row_shown : (lists : List (Vec ℕ Global)) (users : List (List ℕ)) (rule : ℕ) (x : Vec ℕ Global) → map (λ list. list.items) lists ≡ users → rule < length users
+    → x ≡ get_or lists rule x → x.items ≡ users_of users rule
+row_shown lists users rule x shown lt is =
+    let items : Vec ℕ Global → List ℕ = λ list. list.items in
+    sym (ap (λ l. get_or l rule []) (sym shown)
+    ∙ get_or-map items lists rule x [] (subst (λ n. rule < n) (sym (ap length shown) ∙ length-map lists items) lt) ∙ ap items (sym is))
 
 -- the same of lists of the code
-pub notes_pushed : {A : Type 0} (f : A → List ℕ) (lists : List A) (users : List (List ℕ)) (rule p : ℕ) (was now : A) → map f lists ≡ users → rule < length users
-    → was ≡ get_or lists rule was → f now ≡ f was ++ p ∷ [] → Notes p (λ r. r ≡ rule) users (map f (slice_set lists rule now))
-notes_pushed f lists users rule p was now shown lt is push =
+pub notes_pushed : (lists : List (Vec ℕ Global)) (users : List (List ℕ)) (rule p : ℕ) (was now : Vec ℕ Global) → map (λ list. list.items) lists ≡ users
+    → rule < length users → was ≡ get_or lists rule was → now.items ≡ was.items ++ p ∷ []
+    → Notes p (λ r. r ≡ rule) users (map (λ list. list.items) (slice_set lists rule now))
+notes_pushed lists users rule p was now shown lt is push =
     subst (λ l. Notes p (λ r. r ≡ rule) users l) (sym written) (notes_one users rule p lt)
   where
-    written : map f (slice_set lists rule now) ≡ slice_set users rule (users_of users rule ++ p ∷ [])
-    written = map-set f lists rule now ∙ ap (λ l. slice_set l rule (f now)) shown ∙ ap (λ l. slice_set users rule l) (push ∙ ap (λ l. l ++ p ∷ []) (row_shown f lists users rule was shown lt is))
+    written : map (λ list. list.items) (slice_set lists rule now) ≡ slice_set users rule (users_of users rule ++ p ∷ [])
+    written = map-set (λ list. list.items) lists rule now ∙ ap (λ l. slice_set l rule now.items) shown
+        ∙ ap (λ l. slice_set users rule l) (push ∙ ap (λ l. l ++ p ∷ []) (row_shown lists users rule was shown lt is))
 
 pub notes_none : (p : ℕ) (rests : ℕ → Type 0) (x : List (List ℕ)) → ((r : ℕ) → rests r → ⊥) → Notes p rests x x
 notes_none p rests x never = record {
@@ -160,7 +164,7 @@ pub record LettingWait (users : List (List ℕ)) (gained left : List Bool) (old 
   pub shape : length new ≡ length old
   pub fewer : (r : ℕ) → Waits left r → Waits gained r
   pub same : length left ≡ length gained
-  pub only : (q : ℕ) → Waits new q → Waits old q ⊎ RestsOn users (Waits gained) q
+  pub only : (q : ℕ) → Waits new q → Waits old q ⊎ RestsOnGained users (Waits gained) q
   pub kept : (q : ℕ) → Waits old q → Waits new q
   pub done : (r q : ℕ) → Waits gained r → Contains (users_of users r) q → Waits left r ⊎ Waits new q
 
@@ -168,7 +172,7 @@ module _ (users : List (List ℕ)) (gained : List Bool) where
   pub letting_wait_none : (x : List Bool) → LettingWait users gained gained x x
   letting_wait_none x = record { shape = refl; fewer = λ r h. h; same = refl; only = λ q h. inl h; kept = λ q h. h; done = λ r q h k. inl h }
 
-  pub letting_wait_one : (rule : ℕ) (left left' old mid new : List Bool) → LettingWait users gained left old mid → Leaves rule left left'
+  pub letting_wait_one : (rule : ℕ) (left left' old mid new : List Bool) → LettingWait users gained left old mid → WaitsNoMore rule left left'
       → LetsWait users (λ r. r ≡ rule) mid new → LettingWait users gained left' old new
   letting_wait_one rule left left' old mid new w leaves v = record {
     shape = v.shape ∙ w.shape;

@@ -3,7 +3,7 @@ use Rattle.std.proofs.Common.{◌≡◌, ℕ, ◌+◌, ◌<◌, ◌≤◌, inl, 
 use Rattle.std.proofs.lemmas.List.{take_more, take_all}
 use Rattle.std.proofs.lemmas.List.Elements.{Contains-append_left, Contains-push, Contains-push_cases}
 use Rattle.derivation.specs.Grammar.{Sym, Rule, Token}
-use Rattle.cfganalysis.specs.Work.{Notes}
+use Rattle.cfganalysis.specs.Inner.Work.{Notes}
 use Rattle.cfganalysis.proofs.Noting.{notes_none, notes_as, notes_then}
 
 pub notes_token : (p u : ℕ) (x : List (List ℕ)) → Notes p (λ r. Rule r ≡ Token u) x x

@@ -9,10 +9,10 @@ use Rattle.derivation.specs.Grammar.{Sym, Rule, Token, Grammar, Production, IsGr
 use Rattle.derivation.specs.Path.{Holds, Path, one, more}
 use Rattle.cfganalysis.specs.Openings.{nth_production}
 use Rattle.cfganalysis.specs.Table.{bits_on}
-use Rattle.cfganalysis.specs.Paths.{Reached, IsHeldBy, IsReached, Reaches, ArePlacesOf}
+use Rattle.cfganalysis.specs.Paths.{SearchState, IsHeldBy, IsReachedIn, Reaches, ArePlacesOf}
 use Rattle.cfganalysis.proofs.OneBit.{bits_on-set}
 
-pub reaches_none : (found : ℕ → Type 0) (x : Reached) → ((r : ℕ) → found r → ⊥) → Reaches found x x
+pub reaches_none : (found : ℕ → Type 0) (x : SearchState) → ((r : ℕ) → found r → ⊥) → Reaches found x x
 reaches_none found x never = record {
   shape = refl;
   rules = λ r. (λ h. inl h, λ h. elim h [ inl i ↦ i | inr i ↦ absurd (never r i) ]);
@@ -23,7 +23,7 @@ reaches_none found x never = record {
   together = refl;
 }
 
-pub reaches_as : (found found' : ℕ → Type 0) (old new : Reached) → ((r : ℕ) → found r → found' r)
+pub reaches_as : (found found' : ℕ → Type 0) (old new : SearchState) → ((r : ℕ) → found r → found' r)
     → ((r : ℕ) → found' r → found r) → Reaches found old new → Reaches found' old new
 reaches_as found found' old new to from w = record {
   shape = w.shape;
@@ -38,7 +38,7 @@ reaches_as found found' old new to from w = record {
   together = w.together;
 }
 
-pub reaches_then : (found found' : ℕ → Type 0) (old mid new : Reached) → Reaches found old mid → Reaches found' mid new
+pub reaches_then : (found found' : ℕ → Type 0) (old mid new : SearchState) → Reaches found old mid → Reaches found' mid new
     → Reaches (λ r. found r ⊎ found' r) old new
 reaches_then found found' old mid new w v = record {
   shape = v.shape ∙ w.shape;
@@ -105,7 +105,7 @@ module _ (bits : List Bool) (waiting : List ℕ) (rule : ℕ) (lt : rule < lengt
       })
 
 -- the same of lists of indices
-module _ {R : Type 0} (number : R → ℕ) (bits now : List Bool) (waiting : List R) (x : Reached) (rule : R) (place : ℕ)
+module _ {R : Type 0} (number : R → ℕ) (bits now : List Bool) (waiting : List R) (x : SearchState) (rule : R) (place : ℕ)
     (is : record { rules = bits; waiting = map number waiting } ≡ x) (at : place ≡ number rule) (lt : number rule < length x.rules)
     (put : now ≡ slice_set bits place true) where
   within : number rule < length bits
@@ -129,23 +129,23 @@ module _ {R : Type 0} (number : R → ℕ) (bits now : List Bool) (waiting : Lis
       (subst (λ l. Reaches (λ r. r ≡ number rule) (record { rules = bits; waiting = map number waiting }) (record { rules = l; waiting = map number waiting })) (sym set)
       (reaches_again bits (map number waiting) (number rule) within (subst (λ n. slice_get bits n ≡ Some true) at on)))
 
-pub reaches_no_token : (u : ℕ) (x : Reached) → Reaches (λ r. Rule r ≡ Token u) x x
+pub reaches_no_token : (u : ℕ) (x : SearchState) → Reaches (λ r. Rule r ≡ Token u) x x
 reaches_no_token u x = reaches_none _ x (λ r e. not_token r e)
   where
     not_token : (r : ℕ) → Rule r ≡ Token u → ⊥
     not_token r e = cc
 
-pub reaches_the_rule : (q : ℕ) (old new : Reached) → Reaches (λ r. r ≡ q) old new → Reaches (λ r. Rule r ≡ Rule q) old new
+pub reaches_the_rule : (q : ℕ) (old new : SearchState) → Reaches (λ r. r ≡ q) old new → Reaches (λ r. Rule r ≡ Rule q) old new
 reaches_the_rule q old new w = reaches_as _ _ old new (λ r e. ap Rule e) (λ r e. cc) w
 
 -- the rules among the first n symbols were reached
-abbrev pub ReachesFront : List Sym → ℕ → Reached → Reached → Type 0
+abbrev pub ReachesFront : List Sym → ℕ → SearchState → SearchState → Type 0
 ReachesFront a n old new = Reaches (λ r. Contains (take n a) (Rule r)) old new
 
-pub front_none : (a : List Sym) (x : Reached) → ReachesFront a 0 x x
+pub front_none : (a : List Sym) (x : SearchState) → ReachesFront a 0 x x
 front_none a x = reaches_none _ x (λ r h. absurd (omega (arith, h.1)))
 
-pub front_more : (a : List Sym) (n : ℕ) (s : Sym) (old mid new : Reached) → n < length a → s ≡ get_or a n s
+pub front_more : (a : List Sym) (n : ℕ) (s : Sym) (old mid new : SearchState) → n < length a → s ≡ get_or a n s
     → ReachesFront a n old mid → Reaches (λ r. Rule r ≡ s) mid new → ReachesFront a (n + 1) old new
 front_more a n s old mid new lt is w v = reaches_as _ _ old new
     (λ r h. subst (λ l. Contains l (Rule r)) (sym longer) (elim h [
@@ -161,19 +161,19 @@ front_more a n s old mid new lt is w v = reaches_as _ _ old new
     longer : take (n + 1) a ≡ take n a ++ (s ∷ [])
     longer = take_more a n s lt ∙ ap (λ y. take n a ++ (y ∷ [])) (sym is)
 
-pub front_all : (a : List Sym) (n : ℕ) (old new : Reached) → length a ≤ n → ReachesFront a n old new
+pub front_all : (a : List Sym) (n : ℕ) (old new : SearchState) → length a ≤ n → ReachesFront a n old new
     → Reaches (λ r. Contains a (Rule r)) old new
 front_all a n old new le w = subst (λ l. Reaches (λ r. Contains l (Rule r)) old new) (take_all n a le) w
 
 -- the rules that the first n of these productions hold were reached
-abbrev pub ReachesHeld : Grammar → List ℕ → ℕ → Reached → Reached → Type 0
+abbrev pub ReachesHeld : Grammar → List ℕ → ℕ → SearchState → SearchState → Type 0
 ReachesHeld g places n old new = Reaches (IsHeldBy g (take n places)) old new
 
 module _ (g : Grammar) (places : List ℕ) where
-  pub held_none : (x : Reached) → ReachesHeld g places 0 x x
+  pub held_none : (x : SearchState) → ReachesHeld g places 0 x x
   held_none x = reaches_none _ x (λ r h. absurd (omega (arith, h.among.1)))
 
-  pub held_more : (n p : ℕ) (old mid new : Reached) → n < length places → p ≡ get_or places n p → ReachesHeld g places n old mid
+  pub held_more : (n p : ℕ) (old mid new : SearchState) → n < length places → p ≡ get_or places n p → ReachesHeld g places n old mid
       → Reaches (λ r. Contains (nth_production g p).symbols (Rule r)) mid new → ReachesHeld g places (n + 1) old new
   held_more n p old mid new lt is w v = reaches_as _ _ old new
       (λ r h. subst (λ l. IsHeldBy g l r) (sym longer) (elim h [
@@ -189,10 +189,10 @@ module _ (g : Grammar) (places : List ℕ) where
       longer : take (n + 1) places ≡ take n places ++ (p ∷ [])
       longer = take_more places n p lt ∙ ap (λ q. take n places ++ (q ∷ [])) (sym is)
 
-  pub held_all : (n : ℕ) (old new : Reached) → length places ≤ n → ReachesHeld g places n old new → Reaches (IsHeldBy g places) old new
+  pub held_all : (n : ℕ) (old new : SearchState) → length places ≤ n → ReachesHeld g places n old new → Reaches (IsHeldBy g places) old new
   held_all n old new le w = subst (λ l. Reaches (IsHeldBy g l) old new) (take_all n places le) w
 
-  pub held_by_rule : (rule : ℕ) (old new : Reached) → ArePlacesOf g rule places → Reaches (IsHeldBy g places) old new → Reaches (Holds (HasProduction g) rule) old new
+  pub held_by_rule : (rule : ℕ) (old new : SearchState) → ArePlacesOf g rule places → Reaches (IsHeldBy g places) old new → Reaches (Holds (HasProduction g) rule) old new
   held_by_rule rule old new are w = reaches_as _ _ old new (λ r h. to r h) (λ r h. from r h) w
     where
       to : (r : ℕ) → IsHeldBy g places r → Holds (HasProduction g) rule r
@@ -215,23 +215,23 @@ module _ (g : Grammar) (places : List ℕ) where
           }
 
 -- What was reached has a path from the first rule; what a rule holds is reached, or the rule waits.
-pub record Searching (g : Grammar) (first : ℕ) (x : Reached) : Type 0 where
+pub record Searching (g : Grammar) (first : ℕ) (x : SearchState) : Type 0 where
   pub shape : length x.rules ≡ g.rules
-  pub sound : (r : ℕ) → IsReached x r → Path (HasProduction g) first r
-  pub waits : (r : ℕ) → Contains x.waiting r → IsReached x r
-  pub begun : (r : ℕ) → Holds (HasProduction g) first r → IsReached x r
-  pub closed : (r : ℕ) → IsReached x r → Contains x.waiting r ⊎ ((q : ℕ) → Holds (HasProduction g) r q → IsReached x q)
+  pub sound : (r : ℕ) → IsReachedIn x r → Path (HasProduction g) first r
+  pub waits : (r : ℕ) → Contains x.waiting r → IsReachedIn x r
+  pub begun : (r : ℕ) → Holds (HasProduction g) first r → IsReachedIn x r
+  pub closed : (r : ℕ) → IsReachedIn x r → Contains x.waiting r ⊎ ((q : ℕ) → Holds (HasProduction g) r q → IsReachedIn x q)
 
 -- how much there is to do
-abbrev pub left_to_do : Reached → ℕ
+abbrev pub left_to_do : SearchState → ℕ
 left_to_do x = (length x.rules - bits_on x.rules) + (length x.rules - bits_on x.rules) + length x.waiting
 
 module _ (g : Grammar) (first : ℕ) where
-  pub search_begins : (n : ℕ) (old new : Reached) → n ≡ g.rules → old ≡ record { rules = replicate n false; waiting = [] }
+  pub search_begins : (n : ℕ) (old new : SearchState) → n ≡ g.rules → old ≡ record { rules = replicate n false; waiting = [] }
       → Reaches (Holds (HasProduction g) first) old new → Searching g first new
   search_begins n old new e is v =
       let w = subst (λ x. Reaches (Holds (HasProduction g) first) x new) is v in
-      let none = λ (r : ℕ) (h : IsReached (record { rules = replicate n false; waiting = [] }) r).
+      let none = λ (r : ℕ) (h : IsReachedIn (record { rules = replicate n false; waiting = [] }) r).
       true≢false (sym h ∙ get_or-replicate_default n r false) in
       record {
         shape = w.shape ∙ length-replicate n false ∙ e;
@@ -242,12 +242,12 @@ module _ (g : Grammar) (first : ℕ) where
       }
 
   -- a rule that waits is a rule of the grammar
-  pub waiting_within : (x : Reached) (r : ℕ) → Searching g first x → Contains x.waiting r → r < g.rules
+  pub waiting_within : (x : SearchState) (r : ℕ) → Searching g first x → Contains x.waiting r → r < g.rules
   waiting_within x r w h = subst (λ n. r < n) w.shape
       (within_from_get_or x.rules r false (λ e. true≢false (sym (w.waits r h) ∙ e)))
 
   -- a rule that waited waits no longer, and its productions were gone through
-  pub search_goes_on : (rule : ℕ) (old mid new : Reached) → Searching g first old → mid.rules ≡ old.rules
+  pub search_goes_on : (rule : ℕ) (old mid new : SearchState) → Searching g first old → mid.rules ≡ old.rules
       → old.waiting ≡ mid.waiting ++ rule ∷ [] → Reaches (Holds (HasProduction g) rule) mid new → Searching g first new
   search_goes_on rule old mid new w same popped v = record {
     shape = v.shape ∙ ap length same ∙ w.shape;
@@ -269,10 +269,10 @@ module _ (g : Grammar) (first : ℕ) where
     ];
   }
     where
-      back : (r : ℕ) → IsReached mid r → IsReached old r
+      back : (r : ℕ) → IsReachedIn mid r → IsReachedIn old r
       back r h = subst (λ l. IsTrue (get_or l r false)) same h
 
-      forth : (r : ℕ) → IsReached old r → IsReached mid r
+      forth : (r : ℕ) → IsReachedIn old r → IsReachedIn mid r
       forth r h = subst (λ l. IsTrue (get_or l r false)) (sym same) h
 
       among : (r : ℕ) → Contains mid.waiting r → Contains old.waiting r
@@ -285,7 +285,7 @@ module _ (g : Grammar) (first : ℕ) where
       path_more (one h) k = more h (one k)
       path_more (more h p) k = more h (path_more p k)
 
-  pub less_to_do : (rule : ℕ) (found : ℕ → Type 0) (old mid new : Reached) → mid.rules ≡ old.rules → old.waiting ≡ mid.waiting ++ rule ∷ []
+  pub less_to_do : (rule : ℕ) (found : ℕ → Type 0) (old mid new : SearchState) → mid.rules ≡ old.rules → old.waiting ≡ mid.waiting ++ rule ∷ []
       → Reaches found mid new → left_to_do new < left_to_do old
   less_to_do rule found old mid new same popped v =
       let length_rules : length mid.rules ≡ length old.rules = ap length same in
@@ -295,13 +295,13 @@ module _ (g : Grammar) (first : ℕ) where
       omega (arith, length_rules, bits, length_waiting, most, v.shape, v.grows, v.together)
 
   -- where nothing waits, all that has a path is reached
-  pub search_ends : (x : Reached) (r : ℕ) → Searching g first x → x.waiting ≡ [] → Path (HasProduction g) first r → IsReached x r
+  pub search_ends : (x : SearchState) (r : ℕ) → Searching g first x → x.waiting ≡ [] → Path (HasProduction g) first r → IsReachedIn x r
   search_ends x r w none p = along w.begun p
     where
       nothing : (b : ℕ) → Contains [] b → ⊥
       nothing b h = omega (arith, h.1)
 
-      along : {a b : ℕ} → ((q : ℕ) → Holds (HasProduction g) a q → IsReached x q) → Path (HasProduction g) a b → IsReached x b
+      along : {a b : ℕ} → ((q : ℕ) → Holds (HasProduction g) a q → IsReachedIn x q) → Path (HasProduction g) a b → IsReachedIn x b
       along {b = b} f (one h) = f b h
       along f (more {b = b} h p) = along (λ q k. elim (w.closed b (f b h)) [
         | inl i ↦ absurd (nothing b (subst (λ l. Contains l b) none i))

@@ -7,12 +7,11 @@ use Rattle.std.proofs.lemmas.List.Sums.{count_by-le-length}
 use Rattle.lemmas.proofs.Elements.{get_or-replicate_default, within_from_get_or}
 use Rattle.derivation.specs.Grammar.{Grammar, Production, IsGrammar}
 use Rattle.cfganalysis.specs.Openings.{nth_production, OpensOne}
-use Rattle.cfganalysis.specs.Rounds.{IsSettled}
+use Rattle.cfganalysis.specs.Inner.Growth.{CoversEach, TakesIn, TakesInto, Visited, left_to_do}
 use Rattle.cfganalysis.specs.Table.{bits_on}
-use Rattle.cfganalysis.specs.Waiting.{waits, Waits, NoneWaits, Leaves}
-use Rattle.cfganalysis.specs.Work.{users_of, Notes, LetsWait}
-use Rattle.cfganalysis.specs.Growth.{TakesIn, TakesInto, Visited, left_to_do}
-use Rattle.cfganalysis.proofs.Settling.{same_production, at_place}
+use Rattle.cfganalysis.specs.Inner.Waiting.{waits, Waits, NoneWaits, WaitsNoMore}
+use Rattle.cfganalysis.specs.Inner.Work.{users_of, Notes, LetsWait}
+use Rattle.cfganalysis.proofs.Placed.{same_production, at_place}
 use Rattle.cfganalysis.proofs.Noting.{nothing_among}
 use Rattle.cfganalysis.proofs.Stacking.{bits_on-clear, bits_on-none}
 
@@ -98,7 +97,7 @@ module _ {X : Type 0} (holds : Grammar → X → Type 0) (covers : X → Product
     noted : (q r : ℕ) → q < n → rests_on (nth_production g q) r → Contains (users_of users r) q
     within : (q r : ℕ) → Contains (users_of users r) q → q < n
     known : (q : ℕ) → Waits waiting q → q < n
-    settled : (q : ℕ) → q < n → q ≢ p → waits waiting q ≡ false → covers x (nth_production g q)
+    covered : (q : ℕ) → q < n → q ≢ p → waits waiting q ≡ false → covers x (nth_production g q)
     few : (q : ℕ) → q < n → opened q + cond (waits waiting q) 1 0 ≤ bits x + 1
     fresh : (q : ℕ) → n ≤ q → q < length g.productions → opened q ≡ 0
     together : all + bits_on waiting ≤ n + length g.productions * bits x
@@ -118,7 +117,7 @@ module _ {X : Type 0} (holds : Grammar → X → Type 0) (covers : X → Product
       | inr i ↦ let e = i.0 in omega (arith, e)
     ];
     known = λ q h. let k = w.known q h in omega (arith, k);
-    settled = λ q h ne off. let k : q < n = omega (arith, h, ne) in w.settled q k off;
+    covered = λ q h ne off. let k : q < n = omega (arith, h, ne) in w.covered q k off;
     few = λ q h. below_more (λ k. o' k + cond (waits waiting k) 1 0 ≤ bits x + 1) n (λ k i. kept k i) new q h;
     fresh = λ q h k. let ne : q ≢ n = omega (arith, h) in let i : n ≤ q = omega (arith, h) in one.others q ne ∙ w.fresh q i k;
     together = let e = one.together in let h = w.together in omega (arith, e, h);
@@ -136,7 +135,7 @@ module _ {X : Type 0} (holds : Grammar → X → Type 0) (covers : X → Product
           omega (arith, e, none, z)
 
   opened_next : (g g' : Grammar) (n p : ℕ) (x : X) (users : List (List ℕ)) (waiting rest gained : List Bool) (o o' : ℕ → ℕ) (a a' : ℕ)
-      → Visited holds covers bits rests_on g n x users waiting gained o a → Leaves p waiting rest → OpensOne p g g' o o' a a'
+      → Visited holds covers bits rests_on g n x users waiting gained o a → WaitsNoMore p waiting rest → OpensOne p g g' o o' a a'
       → Open g n p x users rest o' a'
   opened_next g g' n p x users waiting rest gained o o' a a' w leaves one = record {
     sound = w.sound;
@@ -146,7 +145,7 @@ module _ {X : Type 0} (holds : Grammar → X → Type 0) (covers : X → Product
     noted = w.noted;
     within = w.within;
     known = λ q h. w.known q (waited q h);
-    settled = λ q h ne off. w.settled q h (sym (other q ne) ∙ off);
+    covered = λ q h ne off. w.covered q h (sym (other q ne) ∙ off);
     few = λ q h. elim (cases_eq q p) [
       | inl e ↦ subst (λ k. o' k + cond (waits rest k) 1 0 ≤ bits x + 1) (sym e) here_few
       | inr ne ↦
@@ -212,11 +211,11 @@ module _ {X : Type 0} (holds : Grammar → X → Type 0) (covers : X → Product
       noted = w.noted;
       within = w.within;
       known = λ q h. elim ((takes.again q).0 h) [ inl i ↦ w.known q i | inr i ↦ w.within q i.rule i.noted ];
-      settled = λ q h off. elim (cases_eq q p) [
+      covered = λ q h off. elim (cases_eq q p) [
         | inl e ↦ subst (λ k. covers new (nth_production g k)) (sym e)
             (takes.closed p (λ r rests. w.noted p r w.here rests) (ap (waits waiting') (sym e) ∙ off))
         | inr ne ↦ takes.stays (nth_production g q) q (λ r rests. w.noted q r h rests) off
-            (w.settled q h ne (false_from_ne_true (waits waiting q) (λ on. both ((takes.again q).1 (inl on)) off)))
+            (w.covered q h ne (false_from_ne_true (waits waiting q) (λ on. both ((takes.again q).1 (inl on)) off)))
       ];
       few = λ q h. few_after (o q) (bits old) (bits new) (waits waiting q) (waits waiting' q) (w.few q h) takes.no_less
           (λ on. elim ((takes.again q).0 on) [ inl i ↦ inl i | inr i ↦ inr (takes.more i.rule i.gains) ]);
@@ -238,7 +237,7 @@ module _ {X : Type 0} (holds : Grammar → X → Type 0) (covers : X → Product
         omega (arith, h, product, sum, lt, small)
 
     -- also where a production waits
-    pub all_again : (most m : ℕ) (rest : List Bool) → n ≡ length g.productions → Leaves m waiting rest → bits x ≤ most
+    pub all_again : (most m : ℕ) (rest : List Bool) → n ≡ length g.productions → WaitsNoMore m waiting rest → bits x ≤ most
         → length g.productions * (most + 1) < 2 ^ 128 - 1 → a < 2 ^ 128 - 1
     all_again most m rest top leaves bound small =
         let product : length g.productions * bits x ≤ length g.productions * most = mul-le-mul_left (length g.productions) bound in
@@ -272,7 +271,7 @@ module _ {X : Type 0} (holds : Grammar → X → Type 0) (covers : X → Product
     -- a production that waited was opened again
     pub visited_next : (no_more : ℕ → X → X → Type 0) (g' : Grammar) (place m : ℕ) (p : Production) (new : X) (users' : List (List ℕ)) (rest waiting' gained' : List Bool) (o' : ℕ → ℕ) (a' : ℕ)
         → IsGrammar g → n ≡ length g.productions → place ≡ m → p.rule ≡ (nth_production g place).rule → p.symbols ≡ (nth_production g place).symbols
-        → Leaves m waiting rest → OpensOne place g g' o o' a a' → TakesInto holds covers bits rests_on no_more p users x new rest waiting'
+        → WaitsNoMore m waiting rest → OpensOne place g g' o o' a a' → TakesInto holds covers bits rests_on no_more p users x new rest waiting'
         → users' ≡ users → NoneWaits gained' → length gained' ≡ length gained
         → Visited holds covers bits rests_on g n new users' waiting' gained' o' a'
     visited_next no_more g' place m p new users' rest waiting' gained' o' a' is top at rule symbols leaves one takes same idle gains =
@@ -283,7 +282,7 @@ module _ {X : Type 0} (holds : Grammar → X → Type 0) (covers : X → Product
         (subst (λ q. TakesInto holds covers bits rests_on no_more q users x new rest waiting') e takes) idle (gains ∙ w.gains))
 
     -- and less is left to do
-    pub visited_less : (no_more : ℕ → X → X → Type 0) (m : ℕ) (p : Production) (new : X) (rest waiting' : List Bool) → bits new ≤ g.rules * (g.tokens + 1) → Leaves m waiting rest
+    pub visited_less : (no_more : ℕ → X → X → Type 0) (m : ℕ) (p : Production) (new : X) (rest waiting' : List Bool) → bits new ≤ g.rules * (g.tokens + 1) → WaitsNoMore m waiting rest
         → TakesInto holds covers bits rests_on no_more p users x new rest waiting'
         → left_to_do g (bits new) waiting' < left_to_do g (bits x) waiting
     visited_less no_more m p new rest waiting' bound leaves takes =
@@ -346,8 +345,8 @@ module _ {X : Type 0} (holds : Grammar → X → Type 0) (covers : X → Product
         omega (arith, h, e, product, sum, here)
 
     -- where no production waits, all are covered
-    pub visited_all : n ≡ length g.productions → NoneWaits waiting → IsSettled covers g x
-    visited_all e none q lt = w.settled q (omega (arith, e, lt)) (none q)
+    pub visited_all : n ≡ length g.productions → NoneWaits waiting → CoversEach covers g x
+    visited_all e none q lt = w.covered q (omega (arith, e, lt)) (none q)
 
   -- before the first visit
   pub visited_none : (g : Grammar) (x : X) (o : ℕ → ℕ) (a rules places : ℕ) (users : List (List ℕ)) (waiting gained : List Bool) → holds g x
@@ -363,7 +362,7 @@ module _ {X : Type 0} (holds : Grammar → X → Type 0) (covers : X → Product
     noted = λ q r h. absurd (omega (arith, h));
     within = λ q r h. absurd (nothing_among q (subst (λ l. Contains l q) (ap (λ l. get_or l r []) us ∙ get_or-replicate_default rules r []) h));
     known = λ q h. absurd (both h (ap (waits_at q) ws ∙ get_or-replicate_default places q false));
-    settled = λ q h. absurd (omega (arith, h));
+    covered = λ q h. absurd (omega (arith, h));
     few = λ q h. absurd (omega (arith, h));
     fresh = λ q h lt. fresh q lt;
     together = let e : bits_on waiting ≡ 0 = ap bits_on ws ∙ bits_on-none places in omega (arith, e, none);

@@ -1,11 +1,8 @@
+-- Who relies on the calls of this crate has to read these files; those in Inner have the words of private clauses.
 pub mod Symbols
 pub mod Openings
 pub mod Table
-pub mod Rounds
 pub mod Firsts
 pub mod Follows
 pub mod Paths
-pub mod Bounds
-pub mod Waiting
-pub mod Work
-pub mod Growth
+pub mod Inner

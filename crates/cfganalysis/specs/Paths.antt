@@ -5,20 +5,20 @@ use Rattle.cfganalysis.specs.Openings.{nth_production}
 use Rattle.cfganalysis.specs.Table.{bits_on}
 
 -- a bit for each rule that was reached, and those of them that wait
-pub record Reached : Type 0 where
+pub record SearchState : Type 0 where
   pub rules : List Bool
   pub waiting : List ℕ
 
-abbrev pub IsReached : Reached → ℕ → Type 0
-IsReached x r = IsTrue (slice_index_or x.rules r false)
+abbrev pub IsReachedIn : SearchState → ℕ → Type 0
+IsReachedIn x r = IsTrue (slice_index_or x.rules r false)
 
 -- the rules that were found are reached, and no others; what is newly reached waits
-pub record Reaches (found : ℕ → Type 0) (old new : Reached) : Type 0 where
+pub record Reaches (found : ℕ → Type 0) (old new : SearchState) : Type 0 where
   pub shape : length new.rules ≡ length old.rules
-  pub rules : (r : ℕ) → (IsReached new r ↔ (IsReached old r ⊎ found r))
-  pub fresh : (r : ℕ) → IsReached new r → IsReached old r ⊎ Contains new.waiting r
+  pub rules : (r : ℕ) → (IsReachedIn new r ↔ (IsReachedIn old r ⊎ found r))
+  pub fresh : (r : ℕ) → IsReachedIn new r → IsReachedIn old r ⊎ Contains new.waiting r
   pub still : (r : ℕ) → Contains old.waiting r → Contains new.waiting r
-  pub waits : (r : ℕ) → Contains new.waiting r → Contains old.waiting r ⊎ IsReached new r
+  pub waits : (r : ℕ) → Contains new.waiting r → Contains old.waiting r ⊎ IsReachedIn new r
   pub grows : bits_on old.rules ≤ bits_on new.rules
   pub together : length new.waiting + bits_on old.rules ≡ length old.waiting + bits_on new.rules
 

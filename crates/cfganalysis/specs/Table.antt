@@ -1,6 +1,5 @@
 -- Tables of bits.
-use Rattle.std.specs.Prelude.{◌≡◌, ◌≢◌, ◌↔◌, ◌⊎◌, ◌||◌, ◌<◌, ℕ, Bool, false, true, List, [], length, map, All, IsTrue, MatchBool, sum_by, count_by, replicate, slice_index_or, slice_set}
-use Rattle.std.specs.List.{zip}
+use Rattle.std.specs.Prelude.{◌≡◌, ◌↔◌, ◌⊎◌, ◌<◌, ℕ, Bool, false, true, List, [], length, All, IsTrue, sum_by, count_by, replicate, slice_index_or, slice_set}
 
 pub record Table : Type 0 where
   pub columns : ℕ
@@ -36,14 +35,6 @@ no_bits rows columns = record { columns = columns; rows = replicate rows (replic
 -- with this bit on
 abbrev pub with_bit : Table → ℕ → ℕ → Table
 with_bit x row column = record { columns = x.columns; rows = slice_set x.rows row (slice_set (row_of x row) column true) }
-
--- each bit is on that is on in one of the two
-abbrev pub joined : List Bool → List Bool → List Bool
-joined a b = map (λ pair. pair.0 || pair.1) (zip a b)
-
--- a list of bits is another one, or the same where nothing changed
-abbrev pub GrewTo : List Bool → List Bool → Bool → Type 0
-GrewTo old new changed = MatchBool changed (new ≢ old) (new ≡ old)
 
 -- the bits that are given were turned on, and no others
 pub record Joins (gives : ℕ → ℕ → Type 0) (old new : Table) (changed : Bool) : Type 0 where

@@ -2,7 +2,8 @@
 
 ghost use Rattle.std.specs.Prelude.{◌≡◌, ◌≢◌, ◌<◌, [], false, true, length, slice_index_or, slice_set};
 ghost use Rattle.std.specs.Prelude.{IfOk, IsTrue, MatchBool};
-ghost use Rattle.cfganalysis.specs.Table.{GrewTo, HasBit, Joins, bit, joined, no_bits, row_of, with_bit};
+ghost use Rattle.cfganalysis.specs.Table.{HasBit, Joins, bit, no_bits, row_of, with_bit};
+ghost use Rattle.cfganalysis.specs.Inner.Joined.{GrewTo, joined};
 
 use cfgindex::Vob;
 use std::alloc::{AllocError, Global};

@@ -3,22 +3,22 @@
 ghost use Rattle.std.specs.Prelude.{◌≡◌, ◌<◌, ◌≤◌, ◌↔◌, ℕ, [], ◌∷◌, Contains, false};
 ghost use Rattle.std.specs.Prelude.{true, length, map, IfOk, IsTrue, MatchBool};
 ghost use Rattle.derivation.specs.Grammar.{Grammar, IsGrammar, IsSymbolOf, Rule};
-ghost use Rattle.cfganalysis.specs.Firsts.{AreFirsts, BeginsBy, FitsGrammar, HasNoMoreFirsts, HaveFirstsOf, HoldsRule};
-ghost use Rattle.cfganalysis.specs.Firsts.{IsAmongFirsts, IsEpsilon, SayFirsts, count_firsts, epsilon_bit};
-ghost use Rattle.cfganalysis.specs.Firsts.{is_empty_symbol, no_firsts, with_epsilon, with_first};
+ghost use Rattle.cfganalysis.specs.Firsts.{AreFirsts, FitsGrammar, IsAmongFirsts, IsEpsilon, epsilon_bit, with_first};
+ghost use Rattle.cfganalysis.specs.Inner.GrowingFirsts.{BeginsBy, HasNoMoreFirsts, HaveFirstsOf, HoldsRule, SayFirsts};
+ghost use Rattle.cfganalysis.specs.Inner.GrowingFirsts.{count_firsts, is_empty_symbol, no_firsts, with_epsilon};
 ghost use Rattle.cfganalysis.specs.Openings.{most_openings, most_openings_all};
-ghost use Rattle.cfganalysis.specs.Growth.{TakesIn};
+ghost use Rattle.cfganalysis.specs.Inner.Growth.{TakesIn};
 ghost use Rattle.cfganalysis.specs.Symbols.{sym_of};
 ghost use Rattle.cfganalysis.specs.Table.{Joins, row_of};
-ghost use Rattle.cfganalysis.specs.Bounds.{firsts_bounded};
-ghost use Rattle.cfganalysis.specs.Waiting.{NoneWaits, Waits};
-ghost use Rattle.cfganalysis.specs.Work.{Notes};
+ghost use Rattle.cfganalysis.specs.Inner.Bounds.{firsts_bounded};
+ghost use Rattle.cfganalysis.specs.Inner.Waiting.{NoneWaits, Waits};
+ghost use Rattle.cfganalysis.specs.Inner.Work.{Notes};
 
 use crate::bits::BitTable;
 use crate::counted::{CountedTables, Tables};
 use crate::growth::Analysis;
 use crate::productions::Productions;
-use crate::visits::settle;
+use crate::visits::visit_all;
 use crate::waiting::Waiting;
 use crate::work::Users;
 use cfgindex::{RIdx, Storage, Symbol, TIdx, Vob};
@@ -241,6 +241,6 @@ pub fn firsts_over<S: Storage, P: Productions<S>>(
     let rules = productions.rules_len().0.to_usize();
     let tokens = productions.tokens_len().0.to_usize();
     let mut firsts = YaccFirsts::empty(alloc, rules, tokens)?;
-    settle(alloc, productions, &mut firsts)?;
+    visit_all(alloc, productions, &mut firsts)?;
     Ok(firsts)
 }

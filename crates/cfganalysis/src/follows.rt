@@ -4,23 +4,24 @@ ghost use Rattle.std.specs.Prelude.{◌≡◌, ◌-◌, ◌<◌, ◌≤◌, ◌�
 ghost use Rattle.std.specs.Prelude.{map, IfOk, IsTrue};
 ghost use Rattle.derivation.specs.Grammar.{Grammar, IsGrammar, IsSymbolOf, Rule};
 ghost use Rattle.cfganalysis.specs.Firsts.{AreFirsts};
-ghost use Rattle.cfganalysis.specs.Follows.{AreFollows, BeginsList, FitFollows, FrontGives, Gathers, HasNoMoreFollows};
-ghost use Rattle.cfganalysis.specs.Follows.{HaveFollowsOf, IsFrontOf, IsGathered, IsOwner, Puts, PutsBehind};
-ghost use Rattle.cfganalysis.specs.Follows.{SayFollows, StepsBack, count_follows};
+ghost use Rattle.cfganalysis.specs.Follows.{AreFollows};
+ghost use Rattle.cfganalysis.specs.Inner.GrowingFollows.{BeginsList, FitFollows, FrontGives, Gathers, HasNoMoreFollows};
+ghost use Rattle.cfganalysis.specs.Inner.GrowingFollows.{HaveFollowsOf, IsFrontOf, IsGathered, IsOwner, Puts};
+ghost use Rattle.cfganalysis.specs.Inner.GrowingFollows.{PutsBehind, SayFollows, StepsBack, count_follows};
 ghost use Rattle.cfganalysis.specs.Openings.{most_openings, most_openings_all};
-ghost use Rattle.cfganalysis.specs.Growth.{TakesIn};
+ghost use Rattle.cfganalysis.specs.Inner.Growth.{TakesIn};
 ghost use Rattle.cfganalysis.specs.Symbols.{sym_of};
 ghost use Rattle.cfganalysis.specs.Table.{HasBit, no_bits, row_of, with_bit};
-ghost use Rattle.cfganalysis.specs.Bounds.{follows_bounded};
-ghost use Rattle.cfganalysis.specs.Waiting.{NoneWaits, Waits};
-ghost use Rattle.cfganalysis.specs.Work.{Notes};
+ghost use Rattle.cfganalysis.specs.Inner.Bounds.{follows_bounded};
+ghost use Rattle.cfganalysis.specs.Inner.Waiting.{NoneWaits, Waits};
+ghost use Rattle.cfganalysis.specs.Inner.Work.{Notes};
 
 use crate::bits::BitTable;
 use crate::counted::{CountedTables, Tables};
 use crate::firsts::YaccFirsts;
 use crate::growth::Analysis;
 use crate::productions::Productions;
-use crate::visits::settle;
+use crate::visits::visit_all;
 use crate::waiting::Waiting;
 use crate::work::Users;
 use cfgindex::{RIdx, Storage, Symbol, TIdx, Vob};
@@ -92,7 +93,7 @@ struct GrowingFollows<'a, S: Storage> {
 }
 
 impl<'a, S: Storage> Model for GrowingFollows<'a, S> {
-    ghost use Rattle.cfganalysis.specs.Follows.{FollowSets};
+    ghost use Rattle.cfganalysis.specs.Inner.GrowingFollows.{FollowSets};
 
     ghost Value = { FollowSets };
 
@@ -268,7 +269,7 @@ struct FollowAnalysis<'a, S: Storage> {
 
 impl<'a, S: Storage> Model for FollowAnalysis<'a, S> {
     ghost use Rattle.std.specs.Prelude.{◌≡◌, length};
-    ghost use Rattle.cfganalysis.specs.Follows.{FollowSets};
+    ghost use Rattle.cfganalysis.specs.Inner.GrowingFollows.{FollowSets};
 
     ghost Value = { FollowSets };
 
@@ -367,7 +368,7 @@ pub fn follows_over<S: Storage, P: Productions<S>>(
     let rules = productions.rules_len().0.to_usize();
     let tokens = productions.tokens_len().0.to_usize();
     let mut analysis = FollowAnalysis::new(alloc, firsts, rules, tokens)?;
-    settle(alloc, productions, &mut analysis)?;
+    visit_all(alloc, productions, &mut analysis)?;
     Ok(YaccFollows {
         follows: analysis.sets.follows,
         storage: PhantomData,

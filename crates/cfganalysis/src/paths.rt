@@ -21,9 +21,9 @@ pub struct Search<S: Storage> {
 
 impl<S: Storage> Model for Search<S> {
     ghost use Rattle.std.specs.Prelude.{map};
-    ghost use Rattle.cfganalysis.specs.Paths.{Reached};
+    ghost use Rattle.cfganalysis.specs.Paths.{SearchState};
 
-    ghost Value = { Reached };
+    ghost Value = { SearchState };
 
     ghost view = { λ x. record { rules = x.reached; waiting = map (λ r. S.number r.0) x.waiting.items } };
 }

@@ -4,10 +4,9 @@
 ghost use Rattle.std.specs.Prelude.{◌≡◌, ℕ, ◌+◌, ◌-◌, ◌*◌, ◌^◌, ◌<◌, ◌≤◌, length};
 ghost use Rattle.std.specs.Prelude.{IfOk, MatchBool, OnErr, OnOk};
 ghost use Rattle.derivation.specs.Grammar.{Grammar, IsGrammar};
-ghost use Rattle.cfganalysis.specs.Growth.{Visited, left_to_do};
+ghost use Rattle.cfganalysis.specs.Inner.Growth.{CoversEach, Visited, left_to_do};
 ghost use Rattle.cfganalysis.specs.Openings.{OpensOne, most_openings, most_openings_all};
-ghost use Rattle.cfganalysis.specs.Rounds.{IsSettled};
-ghost use Rattle.cfganalysis.specs.Waiting.{NoneWaits};
+ghost use Rattle.cfganalysis.specs.Inner.Waiting.{NoneWaits};
 
 use crate::growth::{Analysis, take_in};
 use crate::productions::Productions;
@@ -118,7 +117,7 @@ fn visit_next<S: Storage, P: Productions<S>, A: Analysis<S>>(
 /// # Errors
 ///
 /// Want of memory.
-pub fn settle<S: Storage, P: Productions<S>, A: Analysis<S>>(
+pub fn visit_all<S: Storage, P: Productions<S>, A: Analysis<S>>(
     alloc: Global,
     productions: &mut P,
     analysis: &mut A,
@@ -131,7 +130,7 @@ pub fn settle<S: Storage, P: Productions<S>, A: Analysis<S>>(
     requires all_fresh { P.opened_all productions.old ≡ 0 }
     ensures content { P.content productions.new ≡ P.content productions.old }
     ensures holds { A.holds (P.content productions.old) analysis.new }
-    ensures settled { OnOk result (IsSettled A.covers (P.content productions.old) analysis.new) }
+    ensures covered { OnOk result (CoversEach A.covers (P.content productions.old) analysis.new) }
     ensures counts { (q : ℕ) → q < length (P.content productions.old).productions
         → P.opened productions.new q ≤ most_openings (P.content productions.old) }
     ensures all_counts { P.opened_all productions.new ≤ most_openings_all (P.content productions.old) }

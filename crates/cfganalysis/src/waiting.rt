@@ -1,7 +1,7 @@
 //! A stack in which each number stands at most once.
 
 ghost use Rattle.std.specs.Prelude.{◌≡◌, ◌<◌, true, false, length, replicate, slice_set, IfOk, MatchOption};
-ghost use Rattle.cfganalysis.specs.Waiting.{Leaves, NoneWaits};
+ghost use Rattle.cfganalysis.specs.Inner.Waiting.{NoneWaits, WaitsNoMore};
 
 use cfgindex::Vob;
 use std::alloc::{AllocError, Global};
@@ -17,7 +17,7 @@ pub struct Waiting {
 
 impl Model for Waiting {
     ghost use Rattle.std.specs.Prelude.{◌≤◌, List, Bool, length, vec_capacity};
-    ghost use Rattle.cfganalysis.specs.Waiting.{IsStack};
+    ghost use Rattle.cfganalysis.specs.Inner.Waiting.{IsStack};
 
     ghost Value = { List Bool };
 
@@ -54,7 +54,7 @@ impl Waiting {
     /// The number that came last, which then waits no longer.
     pub fn next(&mut self) -> Option<usize>
         ensures { MatchOption result (NoneWaits self.old × (self.new ≡ self.old))
-            (λ n. Leaves n self.old self.new) }
+            (λ n. WaitsNoMore n self.old self.new) }
     {
         let number = self.stack.pop()?;
         self.bits.set(number, false);

@@ -1,8 +1,8 @@
 //! A work list: the productions that an analysis has to visit again.
 
 ghost use Rattle.std.specs.Prelude.{◌≡◌, ◌<◌, ℕ, [], false, length, replicate, Contains, IfOk};
-ghost use Rattle.cfganalysis.specs.Waiting.{NoneWaits, Waits};
-ghost use Rattle.cfganalysis.specs.Work.{Notes, LetsWait, users_of};
+ghost use Rattle.cfganalysis.specs.Inner.Waiting.{NoneWaits, Waits};
+ghost use Rattle.cfganalysis.specs.Inner.Work.{LetsWait, Notes, users_of};
 
 use crate::waiting::Waiting;
 use std::alloc::{AllocError, Global};
@@ -16,11 +16,10 @@ pub struct Users {
 
 impl Model for Users {
     ghost use Rattle.std.specs.Prelude.{ℕ, List, map};
-    ghost use Rattle.cfganalysis.specs.Work.{items_of};
 
     ghost Value = { List (List ℕ) };
 
-    ghost view = { λ x. map items_of x.lists.items };
+    ghost view = { λ x. map (λ list. list.items) x.lists.items };
 }
 
 impl Users {

@@ -6,7 +6,7 @@ use Rattle.std.proofs.lemmas.Option.{same_Some}
 use Rattle.cfgbase.specs.declared.span.Span.{Span}
 use Rattle.cfgast.specs.Syntax.{Syntax, Production}
 use Rattle.cfgast.specs.Unused.{Name, HeldBy, Expected, named, implicit, name_of, entry_token}
-use Rattle.cfgast.specs.Marks.{AreMarksOf, MarksMore}
+use Rattle.cfgast.specs.Inner.Marks.{AreMarksOf, MarksMore}
 use Rattle.cfgast.specs.declared.unused.Marks.{Marks}
 use Rattle.cfgast.proofs.Marking.{marks_same, marks_as, marks_then}
 use Rattle.cfgast.proofs.Warning.{take_one, take_past}

@@ -12,7 +12,7 @@ use Rattle.lemmas.proofs.Elements.{get_or-set}
 use Rattle.lemmas.proofs.Places.{position-distinct}
 use Rattle.cfgast.specs.Syntax.{Syntax, entry_name}
 use Rattle.cfgast.specs.Unused.{Name, RuleName, TokenName}
-use Rattle.cfgast.specs.Marks.{Place, RulePlace, TokenPlace, StandsAt, IsMarked, AreMarksOf, MarksMore, bits_on}
+use Rattle.cfgast.specs.Inner.Marks.{Place, RulePlace, TokenPlace, StandsAt, IsMarked, AreMarksOf, MarksMore, count_marked}
 use Rattle.cfgast.specs.declared.unused.Marks.{Marks}
 
 -- nothing is marked anew where what has such a name is marked already
@@ -101,8 +101,8 @@ module _ (bits : List Bool) (names : List (List ℕ)) (distinct : IsDistinct byt
     ]),
   )
 
-bits_on-set : (bits : List Bool) (i : ℕ) → i < length bits → get_or bits i false ≡ false → bits_on (slice_set bits i true) ≡ bits_on bits + 1
-bits_on-set bits i within off =
+count_marked-set : (bits : List Bool) (i : ℕ) → i < length bits → get_or bits i false ≡ false → count_marked (slice_set bits i true) ≡ count_marked bits + 1
+count_marked-set bits i within off =
     let e = sum_by-set (λ (b : Bool). cond b 1 0) bits i true false within in
     let z : ◌≡◌ {A = ℕ} (cond (get_or bits i false) 1 0) 0 = ap (λ b. cond b 1 0) off in
     omega (arith, e, z)
@@ -146,8 +146,8 @@ module _ (s : Syntax) (x y : Marks) (fits : AreMarksOf s x) (name : List ℕ) (i
       within : i < length x.rules.items
       within = subst (λ n. i < n) (sym long) (slice_get_within (map entry_name s.rules) i name at)
 
-      bits : bits_on y.rules.items ≡ bits_on x.rules.items + 1
-      bits = ap bits_on rules ∙ bits_on-set x.rules.items i within off
+      bits : count_marked y.rules.items ≡ count_marked x.rules.items + 1
+      bits = ap count_marked rules ∙ count_marked-set x.rules.items i within off
 
       now : (r : ℕ) → IsTrue (get_or (slice_set x.rules.items i true) r false) → IsMarked y (RulePlace r)
       now r h = subst (λ l. IsTrue (get_or l r false)) (sym rules) h
@@ -186,8 +186,8 @@ module _ (s : Syntax) (x y : Marks) (fits : AreMarksOf s x) (name : List ℕ) (i
     fresh = λ r h. inl (subst (λ l. IsTrue (get_or l r false)) rules h);
     still = λ r h. subst (λ l. Contains l r) (sym waiting) h;
     waits = λ r h. inl (subst (λ l. Contains l r) waiting h);
-    grows = let same = ap bits_on rules in omega (arith, same);
-    together = let same = ap bits_on rules in let long = ap length waiting in omega (arith, same, long);
+    grows = let same = ap count_marked rules in omega (arith, same);
+    together = let same = ap count_marked rules in let long = ap length waiting in omega (arith, same, long);
   }
     where
       marks : (place : Place) (other : Name) → StandsAt s place other → (IsMarked y place ↔ (IsMarked x place ⊎ (other ≡ TokenName name)))

@@ -11,7 +11,7 @@ use Rattle.lemmas.proofs.Elements.{get_or-replicate_default}
 use Rattle.cfgwords.specs.Words.{Word}
 use Rattle.cfgast.specs.Syntax.{Syntax, Rule, entry_name}
 use Rattle.cfgast.specs.Unused.{Name, RuleName, TokenName, Holds, HeldBy, Reached, start, held}
-use Rattle.cfgast.specs.Marks.{Place, RulePlace, TokenPlace, StandsAt, IsMarked, AreMarksOf, Marked, MarksMore, HeldAt, IsOfStart, bits_on}
+use Rattle.cfgast.specs.Inner.Marks.{Place, RulePlace, TokenPlace, StandsAt, IsMarked, AreMarksOf, Marked, MarksMore, HeldAt, IsOfStart, count_marked}
 use Rattle.cfgast.specs.declared.unused.Marks.{Marks}
 use Rattle.cfgast.proofs.Marking.{marks_as}
 use Rattle.cfgast.proofs.Fronts.{marks_nothing}
@@ -27,7 +27,7 @@ pub record Searching (s : Syntax) (x : Marks) : Type 0 where
 
 -- how much there is to do
 abbrev pub left_to_do : Marks → ℕ
-left_to_do x = (length x.rules.items - bits_on x.rules.items) + (length x.rules.items - bits_on x.rules.items) + length x.waiting.items
+left_to_do x = (length x.rules.items - count_marked x.rules.items) + (length x.rules.items - count_marked x.rules.items) + length x.waiting.items
 
 -- the place of a rule that is found by its name
 place_of : (name : List ℕ) (rules : List (List ℕ × Rule)) (head : Rule) → lookup (bytes_eq name) rules ≡ Some head
@@ -91,7 +91,7 @@ module _ (s : Syntax) where
   pub less_to_do : (r : ℕ) (old mid new : Marks) → Searching s old → mid.rules.items ≡ old.rules.items
       → old.waiting.items ≡ mid.waiting.items ++ r ∷ [] → MarksMore s (HeldAt s r) mid new → left_to_do new < left_to_do old
   less_to_do r old mid new w rules popped v =
-      let same : bits_on mid.rules.items ≡ bits_on old.rules.items = ap bits_on rules in
+      let same : count_marked mid.rules.items ≡ count_marked old.rules.items = ap count_marked rules in
       let one : length old.waiting.items ≡ length mid.waiting.items + 1 = ap length popped ∙ length_push mid.waiting.items r in
       let most = count_by-le-length (λ (b : Bool). b) new.rules.items in
       let long : length new.rules.items ≡ length old.rules.items = v.fits.rules ∙ sym w.fits.rules in

@@ -2,7 +2,7 @@
 use Rattle.std.proofs.Common.{◌≡◌, ℕ, ◌⊎◌, inl, inr, true, false, Bool, List, map, get_or, slice_get, Some, IsTrue, true≢false, sym, ap, ◌∙◌}
 use Rattle.cfgast.specs.Syntax.{Syntax, Rule, entry_name}
 use Rattle.cfgast.specs.Unused.{Name, RuleName, TokenName, IsUnused, Reached, Expected}
-use Rattle.cfgast.specs.Marks.{Place, RulePlace, TokenPlace, StandsAt, IsMarked, Marked, MarksMore, IsKnown}
+use Rattle.cfgast.specs.Inner.Marks.{Place, RulePlace, TokenPlace, StandsAt, IsMarked, Marked, MarksMore, IsKnown}
 use Rattle.cfgast.specs.declared.unused.Marks.{Marks}
 
 module _ (s : Syntax) (x : Marks) (marked : Marked s (IsKnown s) x) where

@@ -1,3 +1,4 @@
+-- Who relies on the calls of this crate has to read these files; those in Inner have the words of private clauses.
 pub mod Items
 pub mod Occurrences
 pub mod Syntax
@@ -5,5 +6,5 @@ pub mod Building
 pub mod View
 pub mod WellFormed
 pub mod Unused
-pub mod Marks
 pub mod Writing
+pub mod Inner

@@ -4,7 +4,7 @@ ghost use Rattle.std.specs.Prelude.{◌≡◌, ◌++◌, [], List, map, Contains
 ghost use Rattle.cfgwarnings.specs.Warnings.{GrammarWarning};
 ghost use Rattle.cfgast.specs.Unused.{RuleName, TokenName, name_of, entry_token, Reached, Expected, AreRuleWarnings};
 ghost use Rattle.cfgast.specs.Unused.{AreTokenWarnings, AreWarnings};
-ghost use Rattle.cfgast.specs.Marks.{AreMarksOf, IsOfStart, Marked, MarksMore, HeldAt, IsKnown};
+ghost use Rattle.cfgast.specs.Inner.Marks.{AreMarksOf, IsOfStart, Marked, MarksMore, HeldAt, IsKnown};
 ghost use Rattle.cfgast.specs.View.{syntax, symbol_view, span_entry};
 
 use crate::ast::GrammarAST;

@@ -1,47 +1,39 @@
 -- Validation of a syntax: the first check that fails, in this order. There is a start; the start is a rule; then, rule by
 -- rule and production by production, the token of its `%prec` is a token and has a precedence, and what each symbol names is
 -- there; then each key of `%epp` is a token; then what each symbol of the `%expect-unused` lists names is there.
-use Rattle.std.specs.Prelude.{ℕ, List, [], ◌∷◌, Option, Some, None, Result, Ok, Err, slice_get, if◌then◌else◌, Bool, not}
-use Rattle.std.specs.List.{list_any}
+use Rattle.std.specs.Prelude.{ℕ, List, [], ◌∷◌, Option, Some, None, Result, Ok, Err, slice_get, if◌then◌else◌, not}
 use Rattle.std.specs.Option.{option_or, option_and_then}
-use Rattle.std.specs.Str.{bytes_eq}
 use Rattle.cfgwords.specs.Words.{Word}
 use Rattle.cfgbase.specs.declared.span.Span.{Span}
-use Rattle.cfgast.specs.Building.{has_entry}
+use Rattle.cfgast.specs.Building.{has_entry, has_name, has_rule}
 use Rattle.cfgast.specs.Syntax.{Syntax, Rule, Production, Symbol, RuleSymbol, TokenSymbol}
 use Rattle.cfgcheck.specs.declared.validation.Unfit.{Unfit}
 use Rattle.cfgcheck.specs.declared.validation.Unfit.TheVariants as unfit
 use Rattle.cfgerrors.specs.declared.error.YaccGrammarErrorKind.TheVariants.{NoStartRule}
 use Rattle.cfgerrors.specs.Errors.{GrammarError, InvalidStartRule, UnknownRuleRef, UnknownToken, NoPrecForToken, UnknownEPP, Nameless, error_at}
 
-abbrev pub is_rule : Syntax → List ℕ → Bool
-is_rule syntax name = list_any (λ rule. bytes_eq name rule.0) syntax.rules
-
-abbrev pub is_token : Syntax → List ℕ → Bool
-is_token syntax name = list_any (bytes_eq name) syntax.tokens
-
 -- the first error of the elements, if there is one
 abbrev pub first_error : {A : Type 0} → (A → Option GrammarError) → List A → Option GrammarError
 first_error f [] = None
 first_error f (x ∷ xs) = option_or (f x) (first_error f xs)
 
--- where no place is told
+-- where no place is told, or none is there
 abbrev pub nowhere : Span
 nowhere = record { start = 0; end = 0 }
 
 abbrev pub start_error : Syntax → Option Word → Option GrammarError
 start_error syntax None = Some (error_at (Nameless NoStartRule) nowhere)
-start_error syntax (Some word) = if is_rule syntax word.name then None else Some (error_at (InvalidStartRule word.name) word.span)
+start_error syntax (Some word) = if has_rule word.name syntax.rules then None else Some (error_at (InvalidStartRule word.name) word.span)
 
 abbrev pub symbol_error : Syntax → Symbol → Option GrammarError
-symbol_error syntax (RuleSymbol word) = if is_rule syntax word.name then None else Some (error_at (UnknownRuleRef word.name) word.span)
-symbol_error syntax (TokenSymbol word) = if is_token syntax word.name then None else Some (error_at (UnknownToken word.name) word.span)
+symbol_error syntax (RuleSymbol word) = if has_rule word.name syntax.rules then None else Some (error_at (UnknownRuleRef word.name) word.span)
+symbol_error syntax (TokenSymbol word) = if has_name word.name syntax.tokens then None else Some (error_at (UnknownToken word.name) word.span)
 
 -- of the token of a `%prec`
 abbrev pub precedence_error : Syntax → Option (List ℕ) → Option GrammarError
 precedence_error syntax None = None
 precedence_error syntax (Some name) =
-    if not (is_token syntax name) then Some (error_at (UnknownToken name) nowhere)
+    if not (has_name name syntax.tokens) then Some (error_at (UnknownToken name) nowhere)
     else if has_entry name syntax.tables.precedences then None else Some (error_at (NoPrecForToken name) nowhere)
 
 abbrev pub production_error : Syntax → Production → Option GrammarError
@@ -56,7 +48,7 @@ rule_error syntax rule = first_error (place_error syntax) rule.1.productions
 
 -- of a token that has a printed form
 abbrev pub printed_error : Syntax → List ℕ × (Span × (List ℕ × Span)) → Option GrammarError
-printed_error syntax entry = if is_token syntax entry.0 then None else Some (error_at (UnknownEPP entry.0) entry.1.0)
+printed_error syntax entry = if has_name entry.0 syntax.tokens then None else Some (error_at (UnknownEPP entry.0) entry.1.0)
 
 unfoldable pub check_of : Syntax → Option GrammarError
 check_of syntax =

@@ -3,4 +3,4 @@
 
 mod validation;
 
-pub use validation::{Unfit, check, is_rule};
+pub use validation::{Unfit, check, has_rule};

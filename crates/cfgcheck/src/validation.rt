@@ -1,9 +1,9 @@
 //! Validation: whether what a syntax names is there.
 
 ghost use Rattle.std.specs.Prelude.{◌≡◌, IfOk, map, option_map, string_bytes};
-ghost use Rattle.cfgast.specs.Building.{has_entry};
+ghost use Rattle.cfgast.specs.Building.{has_entry, has_name, has_rule};
 ghost use Rattle.cfgast.specs.View.{syntax, symbol_view, production_view};
-ghost use Rattle.cfgcheck.specs.Check.{is_rule, is_token, found, unfit_error, start_error, symbol_error};
+ghost use Rattle.cfgcheck.specs.Check.{found, unfit_error, start_error, symbol_error};
 ghost use Rattle.cfgcheck.specs.Check.{precedence_error, production_error, printed_error, place_error, rule_error};
 ghost use Rattle.cfgcheck.specs.Check.{first_error, check_of};
 
@@ -58,14 +58,14 @@ impl Unfit<'_> {
 }
 
 /// Whether a rule of the tree has the name.
-pub fn is_rule(ast: &GrammarAST, name: &str) -> bool
-    ensures { result ≡ is_rule (syntax ast.now) name.now }
+pub fn has_rule(ast: &GrammarAST, name: &str) -> bool
+    ensures { result ≡ has_rule name.now (syntax ast.now).rules }
 {
     ast.get_rule(name).is_some()
 }
 
-fn is_token(ast: &GrammarAST, name: &str) -> bool
-    ensures { result ≡ is_token (syntax ast.now) name.now }
+fn has_token(ast: &GrammarAST, name: &str) -> bool
+    ensures { result ≡ has_name name.now (syntax ast.now).tokens }
 {
     ast.has_token(name)
 }
@@ -75,7 +75,7 @@ fn check_start(ast: &GrammarAST) -> Result<(), Unfit<'_>>
 {
     match ast.start() {
         None => Err(Unfit::NoStart),
-        Some((name, _)) if is_rule(ast, name.as_str()) => Ok(()),
+        Some((name, _)) if has_rule(ast, name.as_str()) => Ok(()),
         Some((name, span)) => Err(Unfit::Start(name.as_str(), *span)),
     }
 }
@@ -84,9 +84,9 @@ fn check_symbol<'a>(ast: &GrammarAST, symbol: &'a Symbol) -> Result<(), Unfit<'a
     ensures { found result ≡ symbol_error (syntax ast.now) (symbol_view symbol.now) }
 {
     match symbol {
-        Symbol::Rule(name, _) if is_rule(ast, name.as_str()) => Ok(()),
+        Symbol::Rule(name, _) if has_rule(ast, name.as_str()) => Ok(()),
         Symbol::Rule(name, span) => Err(Unfit::Rule(name.as_str(), *span)),
-        Symbol::Token(name, _) if is_token(ast, name.as_str()) => Ok(()),
+        Symbol::Token(name, _) if has_token(ast, name.as_str()) => Ok(()),
         Symbol::Token(name, span) => Err(Unfit::Token(name.as_str(), *span)),
     }
 }
@@ -102,7 +102,7 @@ fn check_precedence<'a>(ast: &GrammarAST, token: &'a Option<String>) -> Result<(
 {
     match token {
         None => Ok(()),
-        Some(name) if !is_token(ast, name.as_str()) => {
+        Some(name) if !has_token(ast, name.as_str()) => {
             Err(Unfit::Token(name.as_str(), Span::new(0, 0)))
         }
         Some(name) if has_precedence(ast, name.as_str()) => Ok(()),
@@ -157,7 +157,7 @@ fn check_printed_forms(ast: &GrammarAST) -> Result<(), Unfit<'_>>
     ensures { found result ≡ first_error (printed_error (syntax ast.now)) (syntax ast.now).tables.printed_forms }
 {
     for (name, (span, _)) in ast.epp() {
-        if !is_token(ast, name.as_str()) {
+        if !has_token(ast, name.as_str()) {
             return Err(Unfit::PrintedForm(name.as_str(), *span));
         }
     }

@@ -9,7 +9,7 @@ use Rattle.derivation.proofs.Concatenation.{derives_trans, derives_production}
 use Rattle.derivation.proofs.Costs.{least_is_one}
 use Rattle.derivation.proofs.Trees.{trees_from_derivation, derivation_from_trees}
 use Rattle.cfganalysis.specs.Openings.{nth_production}
-use Rattle.cfganalysis.proofs.Settling.{at_place}
+use Rattle.cfganalysis.proofs.Placed.{at_place}
 use Rattle.cfgsums.specs.Sums.{sum_of, symbol_cost}
 use Rattle.cfgcosts.specs.Numbers.{IsNumberedBelow}
 use Rattle.cfgsums.specs.Lists.{rule_cost}

@@ -5,7 +5,7 @@ use Rattle.std.proofs.lemmas.List.Elements.{Contains-push}
 use Rattle.std.proofs.lemmas.List.Sorted.{Contains-permutation, IsPermutation-sym}
 use Rattle.derivation.specs.Grammar.{Rule, IsGrammar}
 use Rattle.cfganalysis.specs.Openings.{nth_production}
-use Rattle.cfganalysis.specs.Paths.{Reached, IsHeldBy, IsReached, Reaches}
+use Rattle.cfganalysis.specs.Paths.{SearchState, IsHeldBy, IsReachedIn, Reaches}
 use Rattle.cfganalysis.proofs.Searching.{reaches_as}
 use Rattle.cfgcosts.specs.Generator.{CostTables, IsGenerator, cost_answer}
 use Rattle.cfgcosts.specs.Levels.{Along, here, next}
@@ -27,13 +27,13 @@ module _ (x : CostTables) (r : ℕ) where
   abbrev pub IsListed : List (ℕ × ℕ) → ℕ → Type 0
   IsListed listed q = (c : ℕ) × Contains listed (c, q)
 
-  pub record Asking (listed : List (ℕ × ℕ)) (s : Reached) : Type 0 where
+  pub record Asking (listed : List (ℕ × ℕ)) (s : SearchState) : Type 0 where
     pub search : Searching Asks x.grammar.rules HasAnswer (IsListed listed) s
-    pub first : IsReached s r
+    pub first : IsReachedIn s r
     pub costs : (c q : ℕ) → Contains listed (c, q) → cost_answer x q ≡ Some c
-    pub reached : (c q : ℕ) → Contains listed (c, q) → IsReached s q
+    pub reached : (c q : ℕ) → Contains listed (c, q) → IsReachedIn s q
 
-  pub asking_begins : (m : ℕ) (old new : Reached) → m ≡ x.grammar.rules → old ≡ record { rules = replicate m false; waiting = [] } → HasAnswer r → Reaches (λ q. q ≡ r) old new
+  pub asking_begins : (m : ℕ) (old new : SearchState) → m ≡ x.grammar.rules → old ≡ record { rules = replicate m false; waiting = [] } → HasAnswer r → Reaches (λ q. q ≡ r) old new
       → Asking [] new
   asking_begins m old new e empty answer w = record {
     search = search_begins Asks x.grammar.rules HasAnswer (IsListed []) r m old new e empty answer w;
@@ -42,7 +42,7 @@ module _ (x : CostTables) (r : ℕ) where
     reached = λ c q h. absurd (contains_none (c, q) h);
   }
 
-  pub asking_goes_on : (n : ℕ) → IsGenerator x n → IsGrammar x.grammar → (b c : ℕ) (old mid new : Reached) (own : List ℕ) (listed listed' : List (ℕ × ℕ)) → Asking listed old → mid.rules ≡ old.rules
+  pub asking_goes_on : (n : ℕ) → IsGenerator x n → IsGrammar x.grammar → (b c : ℕ) (old mid new : SearchState) (own : List ℕ) (listed listed' : List (ℕ × ℕ)) → Asking listed old → mid.rules ≡ old.rules
       → old.waiting ≡ mid.waiting ++ b ∷ [] → ((p : ℕ) → Contains own p ↔ IsOwnBelow x b p) → Reaches (IsHeldBy x.grammar own) mid new
       → cost_answer x b ≡ Some c → IsPermutation ((c, b) ∷ listed) listed' → Asking listed' new
   asking_goes_on n is grammar b c old mid new own listed listed' a same popped all w answer moved =
@@ -64,14 +64,14 @@ module _ (x : CostTables) (r : ℕ) where
         ];
         reached = λ d q h. elim (contains_cases (c, b) (d, q) listed (from (d, q) h)) [
           | inl e ↦ (let second : b ≡ q = ap (λ (y : ℕ × ℕ). y.1) e in
-              still q (subst (IsReached old) second (a.search.waits b (subst (λ l. Contains l b) (sym popped) (Contains-push mid.waiting b)))))
+              still q (subst (IsReachedIn old) second (a.search.waits b (subst (λ l. Contains l b) (sym popped) (Contains-push mid.waiting b)))))
           | inr before ↦ still q (a.reached d q before)
         ];
       }
 
-  pub asking_ends : (listed : List (ℕ × ℕ)) (s : Reached) → Asking listed s → s.waiting ≡ [] → AreAsked x r listed
+  pub asking_ends : (listed : List (ℕ × ℕ)) (s : SearchState) → Asking listed s → s.waiting ≡ [] → AreAsked x r listed
   asking_ends listed s a none =
-      let ends = λ (q s' : ℕ) (h : IsReached s q) (k : Along Asks q s'). search_ends Asks x.grammar.rules HasAnswer (IsListed listed) s a.search none h k in
+      let ends = λ (q s' : ℕ) (h : IsReachedIn s q) (k : Along Asks q s'). search_ends Asks x.grammar.rules HasAnswer (IsListed listed) s a.search none h k in
       record {
         costs = a.costs;
         first = ends r r a.first here;

@@ -11,7 +11,7 @@ use Rattle.derivation.specs.Tree.{Yields, opened}
 use Rattle.derivation.proofs.Trees.{trees_from_derivation, derivation_from_trees}
 use Rattle.derivation.specs.Costs.{Least}
 use Rattle.cfganalysis.specs.Openings.{nth_production}
-use Rattle.cfganalysis.proofs.Settling.{same_production, at_place}
+use Rattle.cfganalysis.proofs.Placed.{same_production, at_place}
 use Rattle.cfgsums.specs.Sums.{symbol_cost}
 use Rattle.cfgcosts.specs.Numbers.{IsNumberedBelow}
 use Rattle.cfgsums.specs.Lists.{IsListed, rule_cost}

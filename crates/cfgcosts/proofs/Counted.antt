@@ -12,7 +12,7 @@ use Rattle.derivation.specs.Derivation.{Step}
 use Rattle.derivation.specs.Costs.{Least}
 use Rattle.derivation.proofs.Costs.{least_is_one}
 use Rattle.cfganalysis.specs.Openings.{nth_production, OpensOne}
-use Rattle.cfganalysis.proofs.Settling.{same_production}
+use Rattle.cfganalysis.proofs.Placed.{same_production}
 use Rattle.cfgsums.specs.Lists.{rule_cost}
 use Rattle.cfgcosts.specs.Certificate.{rule_choice}
 use Rattle.cfgcosts.specs.FirstChoices.{AreFirst, Opens, Walks}

@@ -3,7 +3,7 @@ use Rattle.std.proofs.Common.{◌≡◌, ◌↔◌, ℕ, ◌+◌, ◌<◌, ◌�
 use Rattle.std.proofs.lemmas.List.{take_all, take_more}
 use Rattle.std.proofs.lemmas.List.Elements.{Contains-append_left, Contains-push, Contains-push_cases}
 use Rattle.cfganalysis.specs.Openings.{nth_production}
-use Rattle.cfganalysis.specs.Paths.{Reached, IsReached, Reaches, ArePlacesOf}
+use Rattle.cfganalysis.specs.Paths.{SearchState, IsReachedIn, Reaches, ArePlacesOf}
 use Rattle.cfganalysis.proofs.Searching.{reaches_as, reaches_none, reaches_then}
 use Rattle.cfgcosts.specs.Generator.{CostTables}
 use Rattle.cfgcosts.specs.Levels.{Along, here}
@@ -26,10 +26,10 @@ lists_one own own' Is p e to from q = (
 
 -- what is linked to the first of some productions was reached
 module _ (Link : ℕ → ℕ → Type 0) (places : List ℕ) where
-  pub links_begin : (s : Reached) → Reaches (IsLinked Link (take 0 places)) s s
+  pub links_begin : (s : SearchState) → Reaches (IsLinked Link (take 0 places)) s s
   links_begin s = reaches_none (IsLinked Link []) s (λ q h. contains_none h.place h.among)
 
-  pub links_more : (n p : ℕ) → n < length places → p ≡ get_or places n p → (old mid new : Reached) → Reaches (IsLinked Link (take n places)) old mid → Reaches (Link p) mid new
+  pub links_more : (n p : ℕ) → n < length places → p ≡ get_or places n p → (old mid new : SearchState) → Reaches (IsLinked Link (take n places)) old mid → Reaches (Link p) mid new
       → Reaches (IsLinked Link (take (n + 1) places)) old new
   links_more n p lt is old mid new w v = reaches_as (λ q. IsLinked Link (take n places) q ⊎ Link p q) (IsLinked Link (take (n + 1) places)) old new
       (λ q h. subst (λ l. IsLinked Link l q) (sym longer) (elim h [
@@ -45,7 +45,7 @@ module _ (Link : ℕ → ℕ → Type 0) (places : List ℕ) where
       longer : take (n + 1) places ≡ take n places ++ (p ∷ [])
       longer = take_more places n p lt ∙ ap (λ q. take n places ++ (q ∷ [])) (sym is)
 
-  pub links_end : (n : ℕ) → length places ≤ n → (old new : Reached) → Reaches (IsLinked Link (take n places)) old new → Reaches (IsLinked Link places) old new
+  pub links_end : (n : ℕ) → length places ≤ n → (old new : SearchState) → Reaches (IsLinked Link (take n places)) old new → Reaches (IsLinked Link places) old new
   links_end n le old new w = subst (λ l. Reaches (IsLinked Link l) old new) (take_all n places le) w
 
 -- the heirs of productions, and the own productions
@@ -54,19 +54,19 @@ module _ (x : CostTables) where
   OwnAmong places q = Contains places q × HasNoHeir x q
 
   -- of a production that isn't tight there is nothing
-  pub slack_reaches : (p : ℕ) (s : Reached) → (IsTight x p → ⊥) → Reaches (IsHeir x p) s s
+  pub slack_reaches : (p : ℕ) (s : SearchState) → (IsTight x p → ⊥) → Reaches (IsHeir x p) s s
   slack_reaches p s slack = reaches_none (IsHeir x p) s (λ q h. slack h.tight)
 
   pub slack_lists : (p : ℕ) (own : List ℕ) → (IsTight x p → ⊥) → Lists (λ q. (q ≡ p) × HasNoHeir x q) own own
   slack_lists p own slack = lists_none own (λ q. (q ≡ p) × HasNoHeir x q) (λ q h. slack (subst (IsTight x) h.0 h.1.tight))
 
-  pub heir_reaches : (p r : ℕ) (s s' : Reached) → IsHeir x p r → Reaches (λ q. q ≡ r) s s' → Reaches (IsHeir x p) s s'
+  pub heir_reaches : (p r : ℕ) (s s' : SearchState) → IsHeir x p r → Reaches (λ q. q ≡ r) s s' → Reaches (IsHeir x p) s s'
   heir_reaches p r s s' heir w = reaches_as (λ q. q ≡ r) (IsHeir x p) s s' (λ q e. subst (IsHeir x p) (sym e) heir) (λ q h. one_heir x p q r h heir) w
 
   pub heir_lists : (p r : ℕ) (own : List ℕ) → IsHeir x p r → Lists (λ q. (q ≡ p) × HasNoHeir x q) own own
   heir_lists p r own heir = lists_none own (λ q. (q ≡ p) × HasNoHeir x q) (λ q h. h.1.none r (subst (λ n. IsHeir x n r) (sym h.0) heir))
 
-  pub own_reaches : (p : ℕ) (s : Reached) → HasNoHeir x p → Reaches (IsHeir x p) s s
+  pub own_reaches : (p : ℕ) (s : SearchState) → HasNoHeir x p → Reaches (IsHeir x p) s s
   own_reaches p s own = reaches_none (IsHeir x p) s own.none
 
   pub own_lists : (p : ℕ) (own own' : List ℕ) → HasNoHeir x p → own' ≡ own ++ p ∷ [] → Lists (λ q. (q ≡ p) × HasNoHeir x q) own own'
@@ -100,7 +100,7 @@ module _ (x : CostTables) where
       )
 
     module _ (n rule : ℕ) (le : length places ≤ n) (are : ArePlacesOf x.grammar rule places) where
-      pub heirs_end : (old new : Reached) → Reaches (IsLinked (IsHeir x) (take n places)) old new → Reaches (HasHeir x rule) old new
+      pub heirs_end : (old new : SearchState) → Reaches (IsLinked (IsHeir x) (take n places)) old new → Reaches (HasHeir x rule) old new
       heirs_end old new w = reaches_as (IsLinked (IsHeir x) places) (HasHeir x rule) old new
           (λ q h. record { place = h.place; owner = (are.listed h.place h.link.tight.place).0 h.among; heir = h.link })
           (λ q h. record { place = h.place; among = (are.listed h.place h.heir.tight.place).1 h.owner; link = h.heir })
@@ -118,19 +118,19 @@ module _ (x : CostTables) (r : ℕ) where
   abbrev OwnListed : List ℕ → ℕ → Type 0
   OwnListed own b = (p : ℕ) → (nth_production x.grammar p).rule ≡ b → HasNoHeir x p → Contains own p
 
-  pub record Level (own : List ℕ) (s : Reached) : Type 0 where
+  pub record Level (own : List ℕ) (s : SearchState) : Type 0 where
     pub search : Searching (HasHeir x) x.grammar.rules (Along (HasHeir x) r) (OwnListed own) s
-    pub first : IsReached s r
+    pub first : IsReachedIn s r
     pub below : (p : ℕ) → Contains own p → IsOwnBelow x r p
 
-  pub level_begins : (n : ℕ) (old new : Reached) → n ≡ x.grammar.rules → old ≡ record { rules = replicate n false; waiting = [] } → Reaches (λ q. q ≡ r) old new → Level [] new
+  pub level_begins : (n : ℕ) (old new : SearchState) → n ≡ x.grammar.rules → old ≡ record { rules = replicate n false; waiting = [] } → Reaches (λ q. q ≡ r) old new → Level [] new
   level_begins n old new e is w = record {
     search = search_begins (HasHeir x) x.grammar.rules (Along (HasHeir x) r) (OwnListed []) r n old new e is here w;
     first = (w.rules r).1 (inr refl);
     below = λ p h. absurd (contains_none p h);
   }
 
-  pub level_goes_on : (b : ℕ) (old mid new : Reached) (own own' : List ℕ) → Level own old → mid.rules ≡ old.rules → old.waiting ≡ mid.waiting ++ b ∷ []
+  pub level_goes_on : (b : ℕ) (old mid new : SearchState) (own own' : List ℕ) → Level own old → mid.rules ≡ old.rules → old.waiting ≡ mid.waiting ++ b ∷ []
       → Reaches (HasHeir x b) mid new → Lists (λ p. ((nth_production x.grammar p).rule ≡ b) × HasNoHeir x p) own own' → Level own' new
   level_goes_on b old mid new own own' l same popped w lists =
       let leads = popped_is (HasHeir x) x.grammar.rules (Along (HasHeir x) r) (OwnListed own) b old mid new l.search same popped in
@@ -144,7 +144,7 @@ module _ (x : CostTables) (r : ℕ) where
         ];
       }
 
-  pub level_ends : (own : List ℕ) (s : Reached) → Level own s → s.waiting ≡ [] → (p : ℕ) → Contains own p ↔ IsOwnBelow x r p
+  pub level_ends : (own : List ℕ) (s : SearchState) → Level own s → s.waiting ≡ [] → (p : ℕ) → Contains own p ↔ IsOwnBelow x r p
   level_ends own s l none p = (
     l.below p,
     (λ h. search_ends (HasHeir x) x.grammar.rules (Along (HasHeir x) r) (OwnListed own) s l.search none l.first h.leads p refl h.own),

@@ -11,7 +11,7 @@ use Rattle.derivation.specs.Sentence.{cost_of}
 use Rattle.derivation.specs.Costs.{Least, Minimal}
 use Rattle.derivation.proofs.Costs.{minimal_costs_least, least_is_one}
 use Rattle.cfganalysis.specs.Openings.{nth_production}
-use Rattle.cfganalysis.proofs.Settling.{at_place}
+use Rattle.cfganalysis.proofs.Placed.{at_place}
 use Rattle.cfgsums.specs.declared.errors.CostError.{CostError}
 use Rattle.cfgsums.specs.declared.errors.CostError.TheVariants.{NoSentence, CostTooLarge}
 use Rattle.cfgsums.specs.Sums.{sum_of, symbol_cost}

@@ -7,8 +7,8 @@ use Rattle.derivation.specs.Grammar.{Sym, Rule}
 use Rattle.derivation.specs.Sentence.{cost_of}
 use Rattle.derivation.specs.Tree.{Yields, empty, token, opened}
 use Rattle.cfgsums.proofs.Made.{cost_of-token}
-use Rattle.cfggreatest.specs.Rows.{are_in, count_positive}
-use Rattle.cfggreatest.specs.Peel.{HasLive, IsBoundBy}
+use Rattle.cfggreatest.specs.Inner.Rows.{are_in, count_positive}
+use Rattle.cfggreatest.specs.Inner.Peel.{HasLive, IsBoundBy}
 
 module _ (P : ℕ → List Sym → Type 0) (cost : ℕ → ℕ) where
   -- what yields a word has rules of such a set alone

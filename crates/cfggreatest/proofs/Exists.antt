@@ -10,8 +10,8 @@ use Rattle.derivation.proofs.Trees.{trees_from_derivation, derivation_from_trees
 use Rattle.cfganalysis.specs.Openings.{nth_production}
 use Rattle.cfgsums.specs.Lists.{rule_cost}
 use Rattle.cfgsums.specs.Sums.{sum_of, symbol_cost}
-use Rattle.cfggreatest.specs.Rows.{are_in}
-use Rattle.cfggreatest.specs.Tops.{AreReached, AreTopped, IsAtLeastCut, IsTopped, rank}
+use Rattle.cfggreatest.specs.Inner.Rows.{are_in}
+use Rattle.cfggreatest.specs.Inner.Tops.{AreReached, AreTopped, IsAtLeastCut, IsTopped, rank}
 use Rattle.cfggreatest.proofs.Tops.{Betters, none_reached, ranks_small, raised_reached, raised_more, rule_topped}
 
 pub at_least_by_rank : (limit : ℕ) (o : Option ℕ) (n : ℕ) → min n limit + 1 ≤ rank o → IsAtLeastCut limit o n
@@ -57,19 +57,19 @@ module _ (g : Grammar) (cost : ℕ → ℕ) (limit : ℕ) (set : ℕ → Bool) w
     pub reached : AreReached g cost limit table
     pub all : AreTopped g cost limit set table
 
-  settle_table : IsGrammar g → (fuel : ℕ) (table : List (Option ℕ)) → AreReached g cost limit table
+  raise_table : IsGrammar g → (fuel : ℕ) (table : List (Option ℕ)) → AreReached g cost limit table
       → g.rules * (limit + 1) < sum_by rank table + fuel → Topped
-  settle_table is zero table reached h = let few = ranks_small g cost limit table reached in absurd (omega (arith, few, h))
-  settle_table is (suc fuel) table reached h = elim (search_below table (length g.productions) (omega arith)) [
+  raise_table is zero table reached h = let few = ranks_small g cost limit table reached in absurd (omega (arith, few, h))
+  raise_table is (suc fuel) table reached h = elim (search_below table (length g.productions) (omega arith)) [
     | inl f ↦
         let more = raised_more g cost limit is table reached f.production f.betters in
-        settle_table is fuel (slice_set table f.production.rule (Some (min f.betters.sum limit)))
+        raise_table is fuel (slice_set table f.production.rule (Some (min f.betters.sum limit)))
         (raised_reached g cost limit is table reached f.production f.betters) (omega (arith, h, more))
     | inr all ↦ record { table = table; reached = reached; all = record { each = all } }
   ]
 
   pub tables_exist : IsGrammar g → Topped
-  tables_exist is = settle_table is (g.rules * (limit + 1) + 1) (replicate g.rules None) (none_reached g cost limit) (omega arith)
+  tables_exist is = raise_table is (g.rules * (limit + 1) + 1) (replicate g.rules None) (none_reached g cost limit) (omega arith)
 
 -- all rules
 abbrev everything : ℕ → Bool

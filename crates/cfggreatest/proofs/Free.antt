@@ -4,7 +4,7 @@ use Rattle.std.proofs.lemmas.Bool.{cases_lt}
 use Rattle.std.proofs.lemmas.List.{get_or-map, get_or_past, length-map}
 use Rattle.derivation.specs.Grammar.{Rule, Grammar, HasProduction}
 use Rattle.cfgsums.specs.Lists.{rule_cost}
-use Rattle.cfggreatest.specs.Tops.{AreReached, Yielded, free_of, rank}
+use Rattle.cfggreatest.specs.Inner.Tops.{AreReached, Yielded, free_of, rank}
 
 free_small : (limit : ℕ) (o : Option ℕ) → rank (free_of o) ≤ limit + 1
 free_small limit None = omega arith

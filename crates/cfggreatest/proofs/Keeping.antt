@@ -6,10 +6,10 @@ use Rattle.lemmas.proofs.Elements.{get_or-set}
 use Rattle.derivation.specs.Grammar.{Sym, Grammar, Production, IsGrammar, HasProduction}
 use Rattle.cfganalysis.specs.Openings.{nth_production}
 use Rattle.cfganalysis.specs.Paths.{ArePlacesOf}
-use Rattle.cfggreatest.specs.Rows.{in_set}
-use Rattle.cfggreatest.specs.Tops.{live_in, positive_in}
-use Rattle.cfggreatest.specs.Keep.{AddsGroup, AreSame, DifferFrom, IsKeeping, IsRuleKept}
-use Rattle.cfggreatest.specs.Stages.{AreFoundBounded}
+use Rattle.cfggreatest.specs.Inner.Rows.{in_set}
+use Rattle.cfggreatest.specs.Inner.Tops.{live_in, positive_in}
+use Rattle.cfggreatest.specs.Inner.Keep.{AddsGroup, AreSame, DifferFrom, IsKeeping, IsRuleKept}
+use Rattle.cfggreatest.specs.Inner.Stages.{AreFoundBounded}
 use Rattle.cfggreatest.proofs.Peeling.{are_in_more, bounded_more}
 use Rattle.cfggreatest.proofs.Widening.{none_found}
 

@@ -2,7 +2,7 @@
 use Rattle.std.proofs.Common.{◌≡◌, ℕ, ◌<◌, All, Vec, Global, List, ◌++◌, length, get_or, take, sym, subst}
 use Rattle.std.proofs.Math.Seq.{take-append_seam}
 use Rattle.std.proofs.lemmas.List.Elements.{All-get_or}
-use Rattle.cfggreatest.specs.Uses.{AreListsBelow}
+use Rattle.cfggreatest.specs.Inner.Uses.{AreListsBelow}
 
 -- what holds of what a slice of a whole list became holds of the list
 pub put_back : {A : Type 0} (P : List A → Type 0) (n : ℕ) (new rest : List A) → length new ≡ n → P new → P (take n (new ++ rest))

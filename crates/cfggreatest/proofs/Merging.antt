@@ -3,9 +3,9 @@ use Rattle.std.proofs.Common.{◌≡◌, ℕ, zero, suc, ◌+◌, ◌<◌, ◌�
 use Rattle.std.proofs.lemmas.Bool.{or_parts}
 use Rattle.lemmas.proofs.Elements.{get_or-set}
 use Rattle.std.proofs.lemmas.List.Sums.{sum_by-set}
-use Rattle.cfggreatest.specs.Rows.{in_set}
-use Rattle.cfggreatest.specs.Peel.{count_removed}
-use Rattle.cfggreatest.specs.Merge.{Adds, Merges}
+use Rattle.cfggreatest.specs.Inner.Rows.{in_set}
+use Rattle.cfggreatest.specs.Inner.Peel.{count_removed}
+use Rattle.cfggreatest.specs.Inner.Merge.{Adds, Merges}
 
 pub merges_none : (further old : List Bool) → Merges 0 further old old false
 merges_none further old = record {

@@ -3,9 +3,9 @@ use Rattle.std.proofs.Common.{◌≡◌, ℕ, ◌+◌, ◌*◌, ◌≤◌, ◌�
 use Rattle.std.proofs.lemmas.Bool.{cases_Bool, and_parts, and_from}
 use Rattle.derivation.specs.Grammar.{Sym, Rule, Token}
 use Rattle.derivation.specs.Costs.{Unbounded}
-use Rattle.cfggreatest.specs.Rows.{are_in}
-use Rattle.cfggreatest.specs.Peel.{AreBounded, AreSigns, IsRemoved, Keeps, Leaves}
-use Rattle.cfggreatest.specs.Rising.{Rises, TokensCost}
+use Rattle.cfggreatest.specs.Inner.Rows.{are_in}
+use Rattle.cfggreatest.specs.Inner.Peel.{AreBounded, AreSigns, IsRemoved, Keeps, Removes}
+use Rattle.cfggreatest.specs.Inner.Rising.{Rises, TokensCost}
 use Rattle.cfggreatest.proofs.Rising.{at_least_fewer, at_least_rule, row_some, row_leads, row_grows, unbounded_from_rises}
 use Rattle.cfggreatest.proofs.Bounded.{bound_more}
 
@@ -28,8 +28,8 @@ module _ (P : ℕ → List Sym → Type 0) (cost : ℕ → ℕ) (live positive :
         rise = λ n i. at_least_fewer P cost symbols (n + 1 + 0) (n + 1) (omega arith) (h.rise (n + 1) (k.rises.rise n i));
       }
 
-      -- a production that leaves removes its rule
-      pub removed_one : Leaves live positive bounded further symbols → IsRemoved P cost bounded r
+      -- such a production's rule rises
+      pub removed_one : Removes live positive bounded further symbols → IsRemoved P cost bounded r
       removed_one h = record {
         some = at_least_rule P cost r symbols 0 has (row_some P cost live positive signs.lives signs.costs symbols h.lives);
         rises = over (elim h.outside [
@@ -38,7 +38,7 @@ module _ (P : ℕ → List Sym → Type 0) (cost : ℕ → ℕ) (live positive :
         ]);
       }
 
-    -- where no production leaves, what stayed is bounded
+    -- where no production removes its rule, what stayed is bounded
     module _ (is : AreBounded P cost live bounded) (dearest longest : ℕ) (cheap : (t : ℕ) → cost t ≤ dearest)
         (short : (r : ℕ) (symbols : List Sym) → P r symbols → length symbols ≤ longest)
         (kept : (r : ℕ) (symbols : List Sym) → P r symbols → further r ≡ true → Keeps live positive bounded further symbols)

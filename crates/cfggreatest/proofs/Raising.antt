@@ -3,17 +3,17 @@ use Rattle.std.proofs.Common.{◌≡◌, ℕ, ◌<◌, ◌≤◌, ◌+◌, arith
 use Rattle.std.specs.List.{slice_index}
 use Rattle.std.proofs.lemmas.Bool.{cases_Bool}
 use Rattle.derivation.specs.Grammar.{Sym, Grammar, IsGrammar}
-use Rattle.cfganalysis.specs.Rounds.{TakesIn}
-use Rattle.cfggreatest.specs.Raise.{HasRaised, Raises}
-use Rattle.cfggreatest.specs.Rows.{in_set}
-use Rattle.cfggreatest.specs.Tops.{AreReached, IsTopped, rank, sum_ranks}
+use Rattle.cfggreatest.specs.Inner.Rounds.{SweepsOne}
+use Rattle.cfggreatest.specs.Inner.Raise.{HasRaised, Raises}
+use Rattle.cfggreatest.specs.Inner.Rows.{in_set}
+use Rattle.cfggreatest.specs.Inner.Tops.{AreReached, IsTopped, rank, sum_ranks}
 use Rattle.cfgsums.specs.Lists.{rule_cost}
 use Rattle.cfggreatest.proofs.Exists.{at_least_by_rank}
 use Rattle.cfggreatest.proofs.Tops.{Betters, raised_reached, raised_more}
 
 module _ (costs : List ℕ) (bits : List Bool) (limit rule : ℕ) (symbols : List Sym) where
   pub takes_none : (x : List (Option ℕ)) (changed : Bool) → changed ≡ false → in_set bits rule ≡ false
-      → TakesIn (λ g x. AreReached g (slice_index costs) limit x)
+      → SweepsOne (λ g x. AreReached g (slice_index costs) limit x)
       (λ x p. IsTopped (slice_index costs) limit (in_set bits) x p) sum_ranks (record { rule = rule; symbols = symbols }) x x changed
   takes_none x changed e out = record {
     sound = λ g is has h. h;
@@ -28,7 +28,7 @@ module _ (costs : List ℕ) (bits : List Bool) (limit rule : ℕ) (symbols : Lis
 
   pub takes_raised : (old new : List (Option ℕ)) (changed : Bool) (g : Grammar) → IsGrammar g → AreReached g (slice_index costs) limit old
       → Contains g.productions (record { rule = rule; symbols = symbols }) → Raises costs limit rule symbols old new changed
-      → TakesIn (λ g x. AreReached g (slice_index costs) limit x)
+      → SweepsOne (λ g x. AreReached g (slice_index costs) limit x)
       (λ x p. IsTopped (slice_index costs) limit (in_set bits) x p) sum_ranks (record { rule = rule; symbols = symbols }) old new changed
   unfolding betters
   takes_raised old new changed g is reached has h = record {

@@ -5,8 +5,8 @@ use Rattle.derivation.specs.Sentence.{cost_of, Sentence}
 use Rattle.derivation.specs.Costs.{Greatest}
 use Rattle.derivation.proofs.Trees.{trees_from_derivation, derivation_from_trees}
 use Rattle.cfgsums.specs.Lists.{rule_cost}
-use Rattle.cfggreatest.specs.Tops.{AreReached, AreTopped, IsAtLeastCut}
-use Rattle.cfggreatest.specs.Peel.{AreBounded, HasLive}
+use Rattle.cfggreatest.specs.Inner.Tops.{AreReached, AreTopped, IsAtLeastCut}
+use Rattle.cfggreatest.specs.Inner.Peel.{AreBounded, HasLive}
 use Rattle.cfggreatest.proofs.Bounded.{row_lives}
 use Rattle.cfggreatest.proofs.Tops.{rule_topped}
 use Rattle.cfggreatest.proofs.Exists.{topped_at, greatest_exists}

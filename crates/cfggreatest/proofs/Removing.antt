@@ -4,11 +4,11 @@ use Rattle.std.proofs.lemmas.Bool.{cases_Bool}
 use Rattle.std.proofs.lemmas.List.Sums.{sum_by-set, sum_by-le}
 use Rattle.lemmas.proofs.Elements.{get_or-set}
 use Rattle.derivation.specs.Grammar.{Sym, Grammar, IsGrammar, HasProduction}
-use Rattle.cfganalysis.specs.Rounds.{TakesIn}
+use Rattle.cfggreatest.specs.Inner.Rounds.{SweepsOne}
 use Rattle.cfganalysis.proofs.FirstBits.{owner}
-use Rattle.cfggreatest.specs.Rows.{in_set}
-use Rattle.cfggreatest.specs.Tops.{live_in, positive_in}
-use Rattle.cfggreatest.specs.Peel.{IsKept, IsPeeled, IsRemoved, Peels, count_removed}
+use Rattle.cfggreatest.specs.Inner.Rows.{in_set}
+use Rattle.cfggreatest.specs.Inner.Tops.{live_in, positive_in}
+use Rattle.cfggreatest.specs.Inner.Peel.{IsKept, IsPeeled, IsRemoved, Peels, count_removed}
 use Rattle.cfggreatest.proofs.Peeling.{removed_one}
 
 pub few_removed : (further : List Bool) → count_removed further ≤ length further
@@ -27,12 +27,12 @@ module _ (signs : List (Option ℕ)) (bounded : List Bool) (rule : ℕ) (symbols
       | inl k ↦ is.removed cost are tokens r (sym k ∙ out)
       | inr k ↦ subst (λ q. IsRemoved (HasProduction g) cost (in_set bounded) q) (sym k.0)
           (removed_one (HasProduction g) cost (live_in signs) (positive_in signs) are (in_set bounded) (in_set old) rule symbols has
-          (tokens rule symbols has) (is.removed cost are tokens) (h.leaves e))
+          (tokens rule symbols has) (is.removed cost are tokens) (h.removes e))
     ];
   }
 
   pub takes_out : (g : Grammar) → IsGrammar g → IsPeeled g signs bounded old → Contains g.productions (record { rule = rule; symbols = symbols })
-      → TakesIn (λ g x. IsPeeled g signs bounded x) (λ x p. IsKept signs bounded x p) count_removed (record { rule = rule; symbols = symbols }) old new changed
+      → SweepsOne (λ g x. IsPeeled g signs bounded x) (λ x p. IsKept signs bounded x p) count_removed (record { rule = rule; symbols = symbols }) old new changed
   takes_out g is peeled has = record {
     sound = λ g' is' has' peeled'. elim (cases_Bool changed) [
       | inl e ↦ subst (IsPeeled g' signs bounded) (sym (h.put e)) (removes g' has' peeled' e)

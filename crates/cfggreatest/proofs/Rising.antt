@@ -8,8 +8,8 @@ use Rattle.derivation.specs.Costs.{Unbounded}
 use Rattle.derivation.specs.Tree.{empty, token, opened}
 use Rattle.derivation.proofs.Trees.{trees_split, trees_join, trees_before, trees_from_derivation, derivation_from_trees}
 use Rattle.cfgsums.proofs.Made.{cost_of-token}
-use Rattle.cfggreatest.specs.Rows.{are_in, count_positive}
-use Rattle.cfggreatest.specs.Rising.{TokensCost, AtLeast, Rises}
+use Rattle.cfggreatest.specs.Inner.Rows.{are_in, count_positive}
+use Rattle.cfggreatest.specs.Inner.Rising.{TokensCost, AtLeast, Rises}
 use Rattle.cfggreatest.specs.Growth.{GrowsFrom, GrowsFromSet}
 
 module _ (P : ℕ → List Sym → Type 0) (cost : ℕ → ℕ) where

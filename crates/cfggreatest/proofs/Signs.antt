@@ -8,10 +8,10 @@ use Rattle.cfganalysis.proofs.FirstBits.{all_symbols}
 use Rattle.cfgsums.specs.Lists.{rule_cost}
 use Rattle.cfgsums.specs.Sums.{sum_of, symbol_cost}
 use Rattle.cfgsums.proofs.Sums.{plus_both}
-use Rattle.cfggreatest.specs.Rows.{are_in, count_positive}
-use Rattle.cfggreatest.specs.Rising.{TokensCost, AtLeast}
-use Rattle.cfggreatest.specs.Tops.{AreReached, AreTopped, has_cost, has_more}
-use Rattle.cfggreatest.specs.Peel.{AreSigns}
+use Rattle.cfggreatest.specs.Inner.Rows.{are_in, count_positive}
+use Rattle.cfggreatest.specs.Inner.Rising.{TokensCost, AtLeast}
+use Rattle.cfggreatest.specs.Inner.Tops.{AreReached, AreTopped, has_cost, has_more}
+use Rattle.cfggreatest.specs.Inner.Peel.{AreSigns}
 use Rattle.cfggreatest.proofs.Exists.{topped_at}
 
 -- each token of a production costs something, if all tokens but the end token do

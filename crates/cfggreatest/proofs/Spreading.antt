@@ -4,20 +4,20 @@ use Rattle.std.specs.List.{slice_index}
 use Rattle.std.proofs.lemmas.List.{get_or-map, length-map}
 use Rattle.std.proofs.lemmas.List.Elements.{All-push}
 use Rattle.derivation.specs.Grammar.{Sym, Grammar, IsGrammar}
-use Rattle.cfganalysis.specs.Rounds.{TakesIn}
+use Rattle.cfggreatest.specs.Inner.Rounds.{SweepsOne}
 use Rattle.cfganalysis.proofs.FirstBits.{owner}
-use Rattle.cfggreatest.specs.Rows.{in_set}
-use Rattle.cfggreatest.specs.Tops.{AreReached, IsTopped, sum_ranks}
-use Rattle.cfggreatest.specs.Spread.{IsPaid, IsSpreading}
-use Rattle.cfggreatest.specs.Peel.{IsKept, IsPeeled, Peels, count_removed}
-use Rattle.cfggreatest.specs.Removal.{IsRemovalPaid, IsRemoving}
+use Rattle.cfggreatest.specs.Inner.Rows.{in_set}
+use Rattle.cfggreatest.specs.Inner.Tops.{AreReached, IsTopped, sum_ranks}
+use Rattle.cfggreatest.specs.Inner.Spread.{IsPaid, IsSpreading}
+use Rattle.cfggreatest.specs.Inner.Peel.{IsKept, IsPeeled, Peels, count_removed}
+use Rattle.cfggreatest.specs.Inner.Removal.{IsRemovalPaid, IsRemoving}
 use Rattle.cfggreatest.proofs.Tops.{ranks_small}
 use Rattle.cfggreatest.proofs.Removing.{few_removed, takes_out}
 
 module _ (g : Grammar) (costs : List ℕ) (limit : ℕ) (set : List Bool) (old new : List (Option ℕ)) (waiting : List ℕ)
     (state : IsSpreading g costs limit set old waiting) where
   pub waits_more : (rule : ℕ) (symbols : List Sym) (changed : Bool) → Contains g.productions (record { rule = rule; symbols = symbols })
-      → TakesIn (λ g x. AreReached g (slice_index costs) limit x) (λ x p. IsTopped (slice_index costs) limit (in_set set) x p) sum_ranks
+      → SweepsOne (λ g x. AreReached g (slice_index costs) limit x) (λ x p. IsTopped (slice_index costs) limit (in_set set) x p) sum_ranks
       (record { rule = rule; symbols = symbols }) old new changed → (waiting' : List ℕ) → waiting' ≡ waiting ++ rule ∷ []
       → IsSpreading g costs limit set new waiting'
   waits_more rule symbols changed has taken waiting' put = record {
@@ -43,7 +43,7 @@ All-shown f P xs all = λ k d lt. subst P (get_or-map f xs k d (f d) lt) (all k 
 module _ (g : Grammar) (signs : List (Option ℕ)) (bounded old new : List Bool) (waiting : List ℕ) (state : IsRemoving g signs bounded old waiting)
     (rule : ℕ) (symbols : List Sym) (changed : Bool) (has : Contains g.productions (record { rule = rule; symbols = symbols }))
     (peels : Peels signs bounded rule symbols old new changed) where
-  taken : TakesIn (λ g x. IsPeeled g signs bounded x) (λ x p. IsKept signs bounded x p) count_removed (record { rule = rule; symbols = symbols }) old new changed
+  taken : SweepsOne (λ g x. IsPeeled g signs bounded x) (λ x p. IsKept signs bounded x p) count_removed (record { rule = rule; symbols = symbols }) old new changed
   taken = takes_out signs bounded rule symbols old new changed peels g state.grammar state.peeled has
 
   pub stays_removing : IsRemoving g signs bounded new waiting

@@ -11,11 +11,12 @@ use Rattle.derivation.proofs.Costs.{greatest_is_bound, greatest_is_one}
 use Rattle.cfgsums.specs.Lists.{rule_cost}
 use Rattle.cfgsums.specs.declared.errors.CostError.{CostError}
 use Rattle.cfgsums.specs.declared.errors.CostError.TheVariants.{NoSentence, CostTooLarge}
-use Rattle.cfggreatest.specs.Rows.{in_set}
-use Rattle.cfggreatest.specs.Tops.{AreReached, AreTopped, live_in, positive_in}
-use Rattle.cfggreatest.specs.Peel.{AreBounded, AreSigns}
-use Rattle.cfggreatest.specs.Stages.{AreFoundBounded, AreOthersUnbounded}
-use Rattle.cfggreatest.specs.Words.{AreReadOff, AreTold, Means, read_off}
+use Rattle.cfggreatest.specs.Inner.Rows.{in_set}
+use Rattle.cfggreatest.specs.Inner.Tops.{AreReached, AreTopped, live_in, positive_in}
+use Rattle.cfggreatest.specs.Inner.Peel.{AreBounded, AreSigns}
+use Rattle.cfggreatest.specs.Inner.Stages.{AreFoundBounded, AreOthersUnbounded}
+use Rattle.cfggreatest.specs.Inner.ReadOff.{AreReadOff, read_off}
+use Rattle.cfggreatest.specs.Words.{AreTold, Means}
 use Rattle.cfggreatest.proofs.Signs.{tokens_cost}
 use Rattle.cfggreatest.proofs.Readings.{table_none, table_greatest, table_larger}
 

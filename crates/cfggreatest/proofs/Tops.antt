@@ -13,8 +13,8 @@ use Rattle.cfgsums.specs.Lists.{rule_cost}
 use Rattle.cfgsums.specs.Sums.{sum_of, symbol_cost}
 use Rattle.cfgsums.proofs.Sums.{plus_both, plus_zero}
 use Rattle.cfgsums.proofs.Made.{cut_over, made_row, cost_of-token}
-use Rattle.cfggreatest.specs.Rows.{are_in}
-use Rattle.cfggreatest.specs.Tops.{AreReached, IsAtLeastCut, Yielded, rank}
+use Rattle.cfggreatest.specs.Inner.Rows.{are_in}
+use Rattle.cfggreatest.specs.Inner.Tops.{AreReached, IsAtLeastCut, Yielded, rank}
 
 -- costs that are the same when they are cut down to the limit
 abbrev pub IsCutSame : ℕ → ℕ → ℕ → Type 0

@@ -1,6 +1,6 @@
 -- A walk through rules ends: what is entered is entered once.
 use Rattle.std.proofs.Common.{◌≡◌, ℕ, zero, suc, ◌+◌, ◌<◌, Bool, true, false, List, [], ◌∷◌, Vec, Global, length, get_or, slice_set, arith}
-use Rattle.cfggreatest.specs.Walk.{unentered}
+use Rattle.cfggreatest.specs.Inner.Walk.{unentered}
 
 pub entered_once : {X : Type 0} (entered : List Bool) (users : List (Vec X Global)) (r : ℕ) (d : Bool) (list : Vec X Global) → r < length entered → r < length users
     → get_or entered r d ≡ false → unentered (slice_set entered r true) users + (length (get_or users r list).items + 1) ≡ unentered entered users

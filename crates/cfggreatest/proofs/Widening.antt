@@ -5,13 +5,12 @@ use Rattle.std.proofs.lemmas.Bool.{cases_lt}
 use Rattle.lemmas.proofs.Elements.{get_or-replicate_default}
 use Rattle.derivation.specs.Grammar.{Sym, Rule, Grammar, Production, IsGrammar, HasProduction}
 use Rattle.derivation.specs.Tree.{Yields, opened}
-use Rattle.cfganalysis.specs.Rounds.{IsSettled}
 use Rattle.cfganalysis.proofs.FirstBits.{owner}
-use Rattle.cfggreatest.specs.Rows.{in_set}
-use Rattle.cfggreatest.specs.Tops.{live_in, positive_in}
-use Rattle.cfggreatest.specs.Peel.{IsKept, IsPeeled, IsRemoved, Keeps}
-use Rattle.cfggreatest.specs.Merge.{Merges}
-use Rattle.cfggreatest.specs.Stages.{AreFoundBounded, Widens}
+use Rattle.cfggreatest.specs.Inner.Rows.{in_set}
+use Rattle.cfggreatest.specs.Inner.Tops.{live_in, positive_in}
+use Rattle.cfggreatest.specs.Inner.Peel.{AreKept, IsKept, IsPeeled, IsRemoved, Keeps}
+use Rattle.cfggreatest.specs.Inner.Merge.{Merges}
+use Rattle.cfggreatest.specs.Inner.Stages.{AreFoundBounded, Widens}
 use Rattle.cfggreatest.proofs.Peeling.{bounded_more, unbounded_at_end}
 
 -- the set of all rules
@@ -48,7 +47,7 @@ module _ (g : Grammar) (is : IsGrammar g) where
 
   module _ (signs : List (Option ℕ)) (longest : ℕ) (short : All (λ p. length p.symbols ≤ longest) g.productions)
       (old new further : List Bool) (found : AreFoundBounded g signs old) (peeled : IsPeeled g signs old further)
-      (kept : IsSettled (λ x p. IsKept signs old x p) g further) (changed : Bool)
+      (kept : AreKept g signs old further) (changed : Bool)
       (merged : Merges (length old) further old new changed) where
     short_at : (r : ℕ) (symbols : List Sym) → HasProduction g r symbols → length symbols ≤ longest
     short_at r symbols has = subst (λ (p : Production). length p.symbols ≤ longest) has.2 (short has.0 _ has.1)

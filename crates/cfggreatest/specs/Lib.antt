@@ -1,14 +1,4 @@
-pub mod Rows
-pub mod Rising
+-- Who relies on the calls of this crate has to read these files; those in Inner have the words of private clauses.
 pub mod Growth
-pub mod Tops
-pub mod Raise
-pub mod Peel
-pub mod Merge
-pub mod Stages
 pub mod Words
-pub mod Uses
-pub mod Spread
-pub mod Walk
-pub mod Keep
-pub mod Removal
+pub mod Inner

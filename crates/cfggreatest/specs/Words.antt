@@ -1,12 +1,10 @@
 -- What is told of a rule's greatest cost.
-use Rattle.std.specs.Prelude.{◌≡◌, ℕ, ◌<◌, ◌≤◌, nat_le, if◌then◌else◌, Bool, true, false, List, Option, Some, None, Result, Ok, Err, length, slice_index_or}
+use Rattle.std.specs.Prelude.{◌≡◌, ℕ, ◌<◌, ◌≤◌, List, Option, Some, None, Result, Ok, Err, length, slice_index_or}
 use Rattle.derivation.specs.Grammar.{Sym, Grammar, HasProduction}
 use Rattle.derivation.specs.Sentence.{Sentence}
 use Rattle.derivation.specs.Costs.{Greatest, Unbounded}
-use Rattle.cfgsums.specs.Lists.{rule_cost}
 use Rattle.cfgsums.specs.declared.errors.CostError.{CostError}
 use Rattle.cfgsums.specs.declared.errors.CostError.TheVariants.{NoSentence, CostTooLarge}
-use Rattle.cfggreatest.specs.Rows.{in_set}
 
 -- what an answer means for a rule
 abbrev pub Means : (ℕ → List Sym → Type 0) → (ℕ → ℕ) → ℕ → Result (Option ℕ) CostError → Type 0
@@ -19,14 +17,3 @@ Means P cost r (Err CostTooLarge) = (n : ℕ) × Greatest P cost r n × (65535 <
 pub record AreTold (g : Grammar) (cost : ℕ → ℕ) (answers : List (Result (Option ℕ) CostError)) : Type 0 where
   pub rules : length answers ≡ g.rules
   pub means : (r : ℕ) → r < g.rules → Means (HasProduction g) cost r (slice_index_or answers r (Err NoSentence))
-
--- how an answer is read off: whether the rule is bounded, and its greatest cost, cut down to 65536
-abbrev pub read_off : Bool → Option ℕ → Result (Option ℕ) CostError
-read_off false top = Ok None
-read_off true None = Err NoSentence
-read_off true (Some c) = if nat_le c 65535 then Ok (Some c) else Err CostTooLarge
-
--- each answer was read off
-pub record AreReadOff (bounded : List Bool) (table : List (Option ℕ)) (answers : List (Result (Option ℕ) CostError)) : Type 0 where
-  pub rules : length answers ≡ length bounded
-  pub each : (r : ℕ) → r < length bounded → slice_index_or answers r (Err NoSentence) ≡ read_off (in_set bounded r) (rule_cost table r)

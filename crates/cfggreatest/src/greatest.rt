@@ -3,11 +3,12 @@
 ghost use Rattle.std.specs.Prelude.{◌≡◌, ◌<◌, ◌≤◌, All, Err, IfOk, Ok, Some, length, slice_index};
 ghost use Rattle.derivation.specs.Grammar.{HasProduction};
 ghost use Rattle.cfgsums.specs.Lists.{rule_cost};
-ghost use Rattle.cfggreatest.specs.Rows.{in_set};
-ghost use Rattle.cfggreatest.specs.Tops.{AreReached, live_in, positive_in};
-ghost use Rattle.cfggreatest.specs.Peel.{AreSigns};
-ghost use Rattle.cfggreatest.specs.Uses.{AreListsBelow};
-ghost use Rattle.cfggreatest.specs.Words.{AreReadOff, AreTold, read_off};
+ghost use Rattle.cfggreatest.specs.Inner.Rows.{in_set};
+ghost use Rattle.cfggreatest.specs.Inner.Tops.{AreReached, live_in, positive_in};
+ghost use Rattle.cfggreatest.specs.Inner.Peel.{AreSigns};
+ghost use Rattle.cfggreatest.specs.Inner.Uses.{AreListsBelow};
+ghost use Rattle.cfggreatest.specs.Inner.ReadOff.{AreReadOff, read_off};
+ghost use Rattle.cfggreatest.specs.Words.{AreTold};
 
 use crate::order::rule_groups;
 use crate::rounds::rule_top;

@@ -3,9 +3,9 @@
 ghost use Rattle.std.specs.Prelude.{◌≡◌, ℕ, ◌<◌, ◌≤◌, All, Bool, IfOk, List, OnOk, Option, length};
 ghost use Rattle.std.specs.Prelude.{replicate, true};
 ghost use Rattle.derivation.specs.Grammar.{Grammar, IsGrammar};
-ghost use Rattle.cfggreatest.specs.Keep.{AddsGroup, AreSame, DifferFrom, IsKeeping, IsRuleKept, StandsFrom};
-ghost use Rattle.cfggreatest.specs.Stages.{AreFoundBounded};
-ghost use Rattle.cfggreatest.specs.Uses.{AreListsBelow};
+ghost use Rattle.cfggreatest.specs.Inner.Keep.{AddsGroup, AreSame, DifferFrom, IsKeeping, IsRuleKept, StandsFrom};
+ghost use Rattle.cfggreatest.specs.Inner.Stages.{AreFoundBounded};
+ghost use Rattle.cfggreatest.specs.Inner.Uses.{AreListsBelow};
 
 use crate::peel::is_kept;
 use crate::stages::rule_set;

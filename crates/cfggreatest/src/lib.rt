@@ -5,11 +5,11 @@ pub mod greatest;
 mod keep;
 pub mod laws;
 mod order;
-pub mod peel;
+mod peel;
 mod removal;
-pub mod rounds;
+mod rounds;
 mod spread;
-pub mod stages;
+mod stages;
 mod tables;
 mod uses;
 

@@ -7,8 +7,8 @@ ghost use Rattle.std.specs.Prelude.{length, map};
 ghost use Rattle.derivation.specs.Grammar.{IsGrammar};
 ghost use Rattle.cfganalysis.specs.Symbols.{sym_of};
 ghost use Rattle.cfgsums.specs.Lists.{IsListed};
-ghost use Rattle.cfggreatest.specs.Uses.{AreListsBelow};
-ghost use Rattle.cfggreatest.specs.Walk.{IsWalking, unentered};
+ghost use Rattle.cfggreatest.specs.Inner.Uses.{AreListsBelow};
+ghost use Rattle.cfggreatest.specs.Inner.Walk.{IsWalking, unentered};
 
 use crate::peel::are_live;
 use crate::stages::rule_set;

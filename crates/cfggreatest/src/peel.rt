@@ -4,13 +4,13 @@
 ghost use Rattle.std.specs.Prelude.{◌≡◌, ℕ, ◌<◌, ◌≤◌, All, Bool, Contains, IfOk, List, Option, false};
 ghost use Rattle.std.specs.Prelude.{length, map, true};
 ghost use Rattle.derivation.specs.Grammar.{Grammar, IsGrammar};
-ghost use Rattle.cfganalysis.specs.Rounds.{IsSettled, Sweeps};
 ghost use Rattle.cfganalysis.specs.Symbols.{sym_of};
 ghost use Rattle.cfgsums.specs.Lists.{IsListed};
-ghost use Rattle.cfggreatest.specs.Rows.{are_in, count_positive, in_set, is_in};
-ghost use Rattle.cfggreatest.specs.Tops.{has_more, live_in, positive_in};
-ghost use Rattle.cfggreatest.specs.Merge.{Adds, Merges};
-ghost use Rattle.cfggreatest.specs.Peel.{IsKept, IsPeeled, Keeps, Leaves, Peels, count_removed};
+ghost use Rattle.cfggreatest.specs.Inner.Rows.{are_in, count_positive, in_set, is_in};
+ghost use Rattle.cfggreatest.specs.Inner.Tops.{has_more, live_in, positive_in};
+ghost use Rattle.cfggreatest.specs.Inner.Rounds.{Sweeps};
+ghost use Rattle.cfggreatest.specs.Inner.Merge.{Adds, Merges};
+ghost use Rattle.cfggreatest.specs.Inner.Peel.{AreKept, IsKept, IsPeeled, Keeps, Peels, Removes, count_removed};
 
 use crate::rounds::rule_top;
 use cfganalysis::Tables;
@@ -109,7 +109,7 @@ pub(crate) fn is_kept<S: Storage>(
         × (length bounded.now ≡ length signs.now) × (length further.now ≡ length signs.now) }
     ensures keeps { result ≡ true → Keeps (live_in signs.now) (positive_in signs.now) (in_set bounded.now)
         (in_set further.now) (map (sym_of S.number) symbols.now) }
-    ensures leaves { result ≡ false → Leaves (live_in signs.now) (positive_in signs.now) (in_set bounded.now)
+    ensures removes { result ≡ false → Removes (live_in signs.now) (positive_in signs.now) (in_set bounded.now)
         (in_set further.now) (map (sym_of S.number) symbols.now) }
 {
     if !are_live(signs, symbols) {
@@ -178,7 +178,7 @@ pub(crate) fn peel<S: Storage, T: Tables<S>>(
     requires peeled { IsPeeled (T.grammar grm.now) signs.now bounded.now further.old }
     requires content { IsGrammar (T.grammar grm.now) }
     ensures peeled { IsPeeled (T.grammar grm.now) signs.now bounded.now further.new }
-    ensures kept { IsSettled (λ x p. IsKept signs.now bounded.now x p) (T.grammar grm.now) further.new }
+    ensures kept { AreKept (T.grammar grm.now) signs.now bounded.now further.new }
 {
     let mut changed = true;
     while changed {

@@ -1,8 +1,8 @@
 //! Rules that are removed: a rule that was removed waits till the productions that hold it are gone through.
 
 ghost use Rattle.std.specs.Prelude.{◌≡◌, ℕ, ◌<◌, ◌≤◌, All, List, OnOk, Option, length};
-ghost use Rattle.cfggreatest.specs.Removal.{IsRemovalPaid, IsRemoving};
-ghost use Rattle.cfggreatest.specs.Uses.{AreListsBelow};
+ghost use Rattle.cfggreatest.specs.Inner.Removal.{IsRemovalPaid, IsRemoving};
+ghost use Rattle.cfggreatest.specs.Inner.Uses.{AreListsBelow};
 
 use crate::peel::peel_one;
 use cfganalysis::Tables;

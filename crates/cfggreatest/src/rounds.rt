@@ -4,14 +4,14 @@ ghost use Rattle.std.specs.Prelude.{◌≡◌, ◌↔◌, ℕ, ◌<◌, ◌≤�
 ghost use Rattle.std.specs.Prelude.{IfOk, IsTrue, List, None, Option, Some, length, map, min, option_map, replicate};
 ghost use Rattle.std.specs.Prelude.{slice_index, slice_index_or};
 ghost use Rattle.derivation.specs.Grammar.{Grammar, HasProduction, IsGrammar};
-ghost use Rattle.cfganalysis.specs.Rounds.{Sweeps, TakesIn};
 ghost use Rattle.cfganalysis.specs.Symbols.{sym_of};
 ghost use Rattle.cfgsums.specs.Lists.{IsListed, rule_cost, sum_by_lists};
 ghost use Rattle.cfgsums.specs.Sums.{symbol_cost};
-ghost use Rattle.cfggreatest.specs.Raise.{Raises};
-ghost use Rattle.cfggreatest.specs.Rows.{in_set};
-ghost use Rattle.cfggreatest.specs.Tops.{AreReached, AreTopped, IsTopped, live_in, positive_in, rank, sum_ranks};
-ghost use Rattle.cfggreatest.specs.Peel.{AreSigns};
+ghost use Rattle.cfggreatest.specs.Inner.Rounds.{Sweeps, SweepsOne};
+ghost use Rattle.cfggreatest.specs.Inner.Raise.{Raises};
+ghost use Rattle.cfggreatest.specs.Inner.Rows.{in_set};
+ghost use Rattle.cfggreatest.specs.Inner.Tops.{AreReached, AreTopped, IsTopped, live_in, positive_in, rank, sum_ranks};
+ghost use Rattle.cfggreatest.specs.Inner.Peel.{AreSigns};
 
 use cfganalysis::Tables;
 use cfgindex::{PIdx, RIdx, Storage, Symbol, to_storage};
@@ -114,7 +114,7 @@ pub(crate) fn take_in<S: Storage>(
         × Contains g.productions (record { rule = rule; symbols = map (sym_of S.number) symbols.now })
         × (length costs.now ≡ g.tokens) × (length set.now ≡ g.rules) }
     requires limit { limit < 4294967295 }
-    ensures { TakesIn (λ g x. AreReached g (slice_index costs.now) limit x)
+    ensures { SweepsOne (λ g x. AreReached g (slice_index costs.now) limit x)
         (λ x p. IsTopped (slice_index costs.now) limit (in_set set.now) x p) sum_ranks
         (record { rule = rule; symbols = map (sym_of S.number) symbols.now }) table.old table.new result }
 {
@@ -149,7 +149,7 @@ fn sweep<S: Storage, T: Tables<S>>(
 }
 
 /// Rounds over all productions, till one changes nothing.
-pub(crate) fn settle<S: Storage, T: Tables<S>>(
+pub(crate) fn raise_all<S: Storage, T: Tables<S>>(
     grm: &T,
     costs: &[u8],
     set: &[bool],

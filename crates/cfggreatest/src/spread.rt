@@ -2,8 +2,8 @@
 //! through. The order in which rules are raised decides how long it takes, and nothing else.
 
 ghost use Rattle.std.specs.Prelude.{◌≡◌, ℕ, ◌<◌, ◌≤◌, All, List, OnOk, Option, length};
-ghost use Rattle.cfggreatest.specs.Spread.{IsPaid, IsSpreading};
-ghost use Rattle.cfggreatest.specs.Uses.{AreListsBelow};
+ghost use Rattle.cfggreatest.specs.Inner.Spread.{IsPaid, IsSpreading};
+ghost use Rattle.cfggreatest.specs.Inner.Uses.{AreListsBelow};
 
 use crate::rounds::take_in;
 use cfganalysis::Tables;

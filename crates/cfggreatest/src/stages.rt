@@ -3,10 +3,9 @@
 ghost use Rattle.std.specs.Prelude.{◌≡◌, ℕ, ◌<◌, ◌≤◌, All, Bool, IfOk, List, Option, false, length};
 ghost use Rattle.std.specs.Prelude.{replicate};
 ghost use Rattle.derivation.specs.Grammar.{Grammar, IsGrammar};
-ghost use Rattle.cfganalysis.specs.Rounds.{IsSettled};
-ghost use Rattle.cfggreatest.specs.Peel.{IsKept, IsPeeled};
-ghost use Rattle.cfggreatest.specs.Uses.{AreListsBelow};
-ghost use Rattle.cfggreatest.specs.Stages.{AreFoundBounded, AreOthersUnbounded, Widens};
+ghost use Rattle.cfggreatest.specs.Inner.Peel.{AreKept, IsPeeled};
+ghost use Rattle.cfggreatest.specs.Inner.Uses.{AreListsBelow};
+ghost use Rattle.cfggreatest.specs.Inner.Stages.{AreFoundBounded, AreOthersUnbounded, Widens};
 
 use crate::keep::keep_groups;
 use crate::peel::{merge, peel};
@@ -44,8 +43,7 @@ fn kept_rules<S: Storage, T: Tables<S>>(
     requires users { length users.now ≡ (T.grammar grm.now).rules }
     requires places { AreListsBelow (λ p. S.number p.0) (length (T.grammar grm.now).productions) users.now }
     ensures peeled { IfOk result (λ x. IsPeeled (T.grammar grm.now) signs.now bounded.now x.items) }
-    ensures kept { IfOk result (λ x.
-        IsSettled (λ y p. IsKept signs.now bounded.now y p) (T.grammar grm.now) x.items) }
+    ensures kept { IfOk result (λ x. AreKept (T.grammar grm.now) signs.now bounded.now x.items) }
 {
     let rules_len = grm.rules_len().0.to_usize();
     let mut further = rule_set(alloc, true, rules_len)?;

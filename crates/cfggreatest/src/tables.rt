@@ -3,13 +3,13 @@
 ghost use Rattle.std.specs.Prelude.{◌≡◌, ℕ, ◌<◌, ◌≤◌, All, IfOk, List, OnOk, Option, length, map};
 ghost use Rattle.std.specs.Prelude.{replicate, slice_index};
 ghost use Rattle.derivation.specs.Grammar.{HasProduction, IsGrammar};
-ghost use Rattle.cfggreatest.specs.Rows.{in_set};
-ghost use Rattle.cfggreatest.specs.Tops.{AreReached, AreTopped, free_of, live_in, positive_in};
-ghost use Rattle.cfggreatest.specs.Peel.{AreSigns};
-ghost use Rattle.cfggreatest.specs.Uses.{AreListsBelow};
+ghost use Rattle.cfggreatest.specs.Inner.Rows.{in_set};
+ghost use Rattle.cfggreatest.specs.Inner.Tops.{AreReached, AreTopped, free_of, live_in, positive_in};
+ghost use Rattle.cfggreatest.specs.Inner.Peel.{AreSigns};
+ghost use Rattle.cfggreatest.specs.Inner.Uses.{AreListsBelow};
 
 use crate::keep::copy_group;
-use crate::rounds::settle;
+use crate::rounds::raise_all;
 use crate::spread::{spread, visit_rules};
 use crate::stages::rule_set;
 use crate::uses::uses;
@@ -73,7 +73,7 @@ fn raise_groups<S: Storage, T: Tables<S>>(
         visit_rules(grm, costs, &known, limit, group, table, &mut waiting)?;
         spread(grm, costs, &known, limit, users, table, &mut waiting)?;
     }
-    settle(grm, costs, set, limit, table);
+    raise_all(grm, costs, set, limit, table);
     Ok(())
 }
 

@@ -3,7 +3,7 @@
 ghost use Rattle.std.specs.Prelude.{◌≡◌, ℕ, ◌<◌, All, IfOk, List, OnOk, Option, length, map};
 ghost use Rattle.cfganalysis.specs.Symbols.{sym_of};
 ghost use Rattle.cfgsums.specs.Lists.{IsListed};
-ghost use Rattle.cfggreatest.specs.Uses.{AreListsBelow};
+ghost use Rattle.cfggreatest.specs.Inner.Uses.{AreListsBelow};
 
 use crate::peel::are_live;
 use cfganalysis::Tables;

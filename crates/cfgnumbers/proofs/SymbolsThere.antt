@@ -6,14 +6,15 @@ use Rattle.std.specs.Str.{bytes_eq}
 use Rattle.std.proofs.lemmas.List.Elements.{All-nil, All-cons, All-append, All-head, All-tail}
 use Rattle.cfgwords.specs.Words.{Word}
 use Rattle.derivation.specs.Grammar.{Sym, Rule, Token, Grammar, IsSymbolOf}
+use Rattle.cfgast.specs.Building.{has_name, has_rule}
 use Rattle.cfgast.specs.Syntax as file
 use Rattle.cfgast.specs.Syntax.{Syntax, Production, Symbol, RuleSymbol, TokenSymbol}
 use Rattle.lemmas.proofs.Places.{found-position}
-use Rattle.cfgcheck.specs.Check.{is_rule, is_token, symbol_error}
+use Rattle.cfgcheck.specs.Check.{symbol_error}
 use Rattle.cfgerrors.specs.Errors.{GrammarError, UnknownRuleRef, UnknownToken, error_at}
 use Rattle.cfgcheck.specs.Sound.{IsSound}
 use Rattle.cfgnumbers.specs.Numbered.{NumberedProduction, rules_before, rule_index, token_index, file_symbol, file_symbols, spaced, start_symbols, added_production, added_productions}
-use Rattle.cfgnumbers.specs.Resolved.{AreTokens, Resolves}
+use Rattle.cfgnumbers.specs.Inner.Resolved.{AreTokens, Resolves}
 use Rattle.cfgnumbers.proofs.Added.{All-added}
 use Rattle.cfgnumbers.proofs.Valid.{resolved}
 
@@ -28,19 +29,19 @@ All-flat_map P f (x ∷ xs) all =
 
 -- symbols of a grammar that has the rules and tokens of the file, and the added ones
 module _ (s : Syntax) (sound : IsSound s []) (g : Grammar) (tokens_are : g.tokens ≡ length s.tokens + 1) where
-  rule_there : (implicit : Option (List (List ℕ))) (name : List ℕ) → g.rules ≡ rules_before implicit + length s.rules → is_rule s name ≡ true → rule_index implicit s name < g.rules
+  rule_there : (implicit : Option (List (List ℕ))) (name : List ℕ) → g.rules ≡ rules_before implicit + length s.rules → has_rule name s.rules ≡ true → rule_index implicit s name < g.rules
   rule_there implicit name rules_are known =
       let place = ltb-true _ _ (found-position (λ (rule : List ℕ × file.Rule). bytes_eq name rule.0) s.rules ∙ known) in
       omega (arith, place, rules_are)
 
-  token_there : (name : List ℕ) → is_token s name ≡ true → token_index s name + 1 < g.tokens
+  token_there : (name : List ℕ) → has_name name s.tokens ≡ true → token_index s name + 1 < g.tokens
   token_there name known =
       let place = ltb-true _ _ (found-position (bytes_eq name) s.tokens ∙ known) in
       omega (arith, place, tokens_are)
 
   symbol_there : (implicit : Option (List (List ℕ))) (symbol : Symbol) → g.rules ≡ rules_before implicit + length s.rules → symbol_error s symbol ≡ None → IsSymbolOf g (file_symbol implicit s symbol)
-  symbol_there implicit (RuleSymbol word) rules_are right = rule_there implicit word.name rules_are (none_wrong (is_rule s word.name) (error_at (UnknownRuleRef word.name) word.span) right)
-  symbol_there implicit (TokenSymbol word) rules_are right = token_there word.name (none_wrong (is_token s word.name) (error_at (UnknownToken word.name) word.span) right)
+  symbol_there implicit (RuleSymbol word) rules_are right = rule_there implicit word.name rules_are (none_wrong (has_rule word.name s.rules) (error_at (UnknownRuleRef word.name) word.span) right)
+  symbol_there implicit (TokenSymbol word) rules_are right = token_there word.name (none_wrong (has_name word.name s.tokens) (error_at (UnknownToken word.name) word.span) right)
 
   spaced_there : (implicit : Option (List (List ℕ))) (symbol : Sym) → g.rules ≡ rules_before implicit + length s.rules → IsSymbolOf g symbol → All (IsSymbolOf g) (spaced implicit symbol)
   spaced_there implicit (Rule r) rules_are there = All-cons (IsSymbolOf g) (Rule r) [] there (All-nil (IsSymbolOf g))

@@ -4,11 +4,12 @@ use Rattle.std.specs.Option.{option_or, option_and_then}
 use Rattle.std.proofs.lemmas.List.Elements.{All-nil, All-cons, All-contains}
 use Rattle.std.proofs.lemmas.Option.{slice_get-get_or}
 use Rattle.cfgwords.specs.Words.{Word}
+use Rattle.cfgast.specs.Building.{has_rule}
 use Rattle.cfgast.specs.Syntax.{Syntax, Production}
-use Rattle.cfgcheck.specs.Check.{is_rule, first_error, start_error, symbol_error, precedence_error, printed_error, production_error, place_error, rule_error, check_of}
+use Rattle.cfgcheck.specs.Check.{first_error, start_error, symbol_error, precedence_error, printed_error, production_error, place_error, rule_error, check_of}
 use Rattle.cfgerrors.specs.Errors.{GrammarError, InvalidStartRule, error_at}
 use Rattle.cfgcheck.specs.Sound.{IsSound}
-use Rattle.cfgnumbers.specs.Resolved.{IsResolved}
+use Rattle.cfgnumbers.specs.Inner.Resolved.{IsResolved}
 use Rattle.cfgnumbers.proofs.Places.{listed_somewhere}
 
 none_first : (a b : Option GrammarError) → option_or a b ≡ None → a ≡ None
@@ -25,11 +26,11 @@ no_errors f [] e = All-nil (λ x. f x ≡ None)
 no_errors f (x ∷ xs) e = All-cons (λ x. f x ≡ None) x xs (none_first (f x) (first_error f xs) e) (no_errors f xs (none_second (f x) (first_error f xs) e))
 
 -- the start is there, and is a rule
-started : (s : Syntax) (o : Option Word) → start_error s o ≡ None → (word : Word) × (o ≡ Some word) × (is_rule s word.name ≡ true)
+started : (s : Syntax) (o : Option Word) → start_error s o ≡ None → (word : Word) × (o ≡ Some word) × (has_rule word.name s.rules ≡ true)
 started s None e = let no : Some _ ≡ None = e in cc
-started s (Some word) e = (word, refl, known (is_rule s word.name) refl e)
+started s (Some word) e = (word, refl, known (has_rule word.name s.rules) refl e)
   where
-    known : (b : Bool) → is_rule s word.name ≡ b → cond b None (Some (error_at (InvalidStartRule word.name) word.span)) ≡ None → is_rule s word.name ≡ true
+    known : (b : Bool) → has_rule word.name s.rules ≡ b → cond b None (Some (error_at (InvalidStartRule word.name) word.span)) ≡ None → has_rule word.name s.rules ≡ true
     known true is e = is
     known false is e = let no : Some (error_at (InvalidStartRule word.name) word.span) ≡ None = e in cc
 
@@ -54,7 +55,7 @@ resolved s sound = record {
     behind_start : Option GrammarError
     behind_start = option_or (first_error (rule_error s) s.rules) behind_rules
 
-    start : (word : Word) × (s.start ≡ Some word) × (is_rule s word.name ≡ true)
+    start : (word : Word) × (s.start ≡ Some word) × (has_rule word.name s.rules ≡ true)
     start = started s s.start (none_first (start_error s s.start) behind_start passes)
 
     rules_ok : All (λ rule. rule_error s rule ≡ None) s.rules

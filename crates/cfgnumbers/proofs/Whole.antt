@@ -17,7 +17,7 @@ use Rattle.cfgcheck.specs.Sound.{IsSound}
 use Rattle.cfgnumbers.specs.Numbered.{Numbered, NumberedProduction, core, production_core, numbered_by, rules_before, file_production, added_productions, file_token, end_token}
 use Rattle.cfgnumbers.specs.WellNumbered.{IsWhole}
 use Rattle.cfgnumbers.specs.Shown.{production_part, rule_part, token_part}
-use Rattle.cfgnumbers.specs.Resolved.{AreTokens, Resolves}
+use Rattle.cfgnumbers.specs.Inner.Resolved.{AreTokens, Resolves}
 use Rattle.cfgnumbers.proofs.Lengths.{rules_len, tokens_len}
 use Rattle.cfgnumbers.proofs.Owners.{owners, owners_are, owners_within, start_owner}
 use Rattle.cfgnumbers.proofs.OwnPlaces.{lists_are}

@@ -10,6 +10,7 @@ use Rattle.cfgast.specs.Syntax as file
 use Rattle.cfgast.specs.declared.precedence.Precedence.{Precedence}
 use Rattle.cfgast.specs.Building.{has_entry}
 use Rattle.cfgast.specs.Syntax.{Settings, Syntax, RuleSymbol, TokenSymbol, entry_name, index_of, last_of}
+use Rattle.cfgcheck.specs.Check.{nowhere}
 use Rattle.cfgkinds.specs.declared.kind.YaccKind.{YaccKind}
 use Rattle.cfgkinds.specs.declared.kind.YaccKind.TheVariants.{Eco}
 
@@ -49,10 +50,6 @@ production_core p = record { rule = p.rule; symbols = p.symbols }
 
 abbrev pub core : Numbered → Grammar
 core g = record { rules = length g.rules; tokens = length g.tokens; productions = map production_core g.productions }
-
--- the span of what the file doesn't have
-abbrev pub nowhere : Span
-nowhere = record { start = 0; end = 0 }
 
 -- The names of the rules that are added: of rule 0; in an Eco file with implicit tokens also of the rule for these, and of
 -- the rule that puts them before all else. They are no names that a file can give.

@@ -1,5 +1,5 @@
 -- What holds of every grammar: the invariant of its type.
-use Rattle.std.specs.Prelude.{◌≡◌, ◌↔◌, ◌==◌, ℕ, ◌+◌, ◌<◌, if◌then◌else◌, List, [], ◌∷◌, filter, map, length, All, Some, None, IfSome}
+use Rattle.std.specs.Prelude.{◌≡◌, ◌↔◌, ◌==◌, nat_eq, ℕ, ◌+◌, ◌<◌, if◌then◌else◌, List, [], ◌∷◌, map, length, count_by, All, Some, None, IfSome}
 use Rattle.std.specs.List.{IsDistinct, filter_map}
 use Rattle.std.specs.Str.{bytes_eq}
 use Rattle.derivation.specs.Grammar.{IsGrammar}
@@ -24,14 +24,10 @@ pub record HasDistinctNames (g : Numbered) : Type 0 where
   pub rules : IsDistinct bytes_eq (map (λ rule. rule.name) g.rules)
   pub tokens : IsDistinct bytes_eq (filter_map (λ token. token.name) g.tokens)
 
--- how often a list of productions has one
-abbrev pub times : ℕ → List ℕ → ℕ
-times p productions = length (filter (λ other. p == other) productions)
-
 -- each production stands in the list of its own rule once, and in no other
 abbrev pub ListsEachOnce : Numbered → Type 0
 ListsEachOnce g = (p owner r : ℕ) (listed : List ℕ) → production_part (λ x. x.rule) g p ≡ Some owner
-    → rule_part (λ x. x.productions) g r ≡ Some listed → times p listed ≡ (if r == owner then 1 else 0)
+    → rule_part (λ x. x.productions) g r ≡ Some listed → count_by (nat_eq p) listed ≡ (if r == owner then 1 else 0)
 
 -- A grammar in numbers, for an index type of this greatest number.
 pub record IsWellNumbered (max : ℕ) (g : Numbered) : Type 0 where

@@ -9,6 +9,7 @@ use Rattle.lemmas.proofs.Zips.{All-zip}
 use Rattle.cfgbase.specs.declared.span.Span.{Span}
 use Rattle.cfgwords.specs.Places.{IsPiece}
 use Rattle.cfgast.specs.Syntax.{EachProductionSpan, EachSpan, Production, Syntax}
+use Rattle.cfgcheck.specs.Check.{nowhere}
 use Rattle.cfgerrors.specs.Errors.{Nameless, error_at}
 use Rattle.cfgsyntax.specs.Spans.{EachErrorSpan}
 use Rattle.cfgkinds.specs.declared.kind.YaccKind.{YaccKind}
@@ -16,7 +17,7 @@ use Rattle.cfgerrors.specs.declared.error.YaccFault.{YaccFault}
 use Rattle.cfgerrors.specs.declared.error.YaccFault.TheVariants as faults
 use Rattle.cfgerrors.specs.declared.error.YaccGrammarErrorKind.TheVariants.{StorageTooSmall}
 use Rattle.cfgrammar.specs.Answer.{IsTooSmall}
-use Rattle.cfgnumbers.specs.Numbered.{nowhere, implicit_of, numbered, numbered_by, added_rules, file_rule, added_productions, file_production, end_token, file_token}
+use Rattle.cfgnumbers.specs.Numbered.{implicit_of, numbered, numbered_by, added_rules, file_rule, added_productions, file_production, end_token, file_token}
 use Rattle.cfgrammar.specs.Spans.{EachGrammarSpan, EachAnswerSpan}
 use Rattle.cfgnumbers.proofs.Added.{All-added_rules, All-added_productions}
 

@@ -1,11 +1,12 @@
 -- What a constructor of a grammar answers.
 use Rattle.std.specs.Prelude.{◌≡◌, ℕ, List, [], ◌∷◌, Result, Ok, Err}
+use Rattle.cfgcheck.specs.Check.{nowhere}
 use Rattle.cfgerrors.specs.Errors.{GrammarError, Nameless, error_at}
 use Rattle.cfgerrors.specs.declared.error.YaccGrammarErrorKind.TheVariants.{StorageTooSmall}
 use Rattle.cfgerrors.specs.declared.error.YaccFault.{YaccFault}
 use Rattle.cfgerrors.specs.declared.error.YaccFault.TheVariants as faults
 use Rattle.cfgsyntax.specs.Parsed.{Parsed}
-use Rattle.cfgnumbers.specs.Numbered.{Numbered, numbered, nowhere}
+use Rattle.cfgnumbers.specs.Numbered.{Numbered, numbered}
 use Rattle.cfgnumbers.specs.Fits.{Fits}
 
 -- What a text is found to be: it names no kind of Yacc, because of these errors; or it was read as this.

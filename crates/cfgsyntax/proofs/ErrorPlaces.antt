@@ -17,7 +17,7 @@ use Rattle.cfgwords.specs.declared.fault.Fault.{Fault}
 use Rattle.cfgwords.specs.Words.{Word}
 use Rattle.cfgwords.proofs.Cuts.{IsCut, cut_here}
 use Rattle.cfgast.specs.Items.{Item}
-use Rattle.cfgast.specs.Building.{has_entry}
+use Rattle.cfgast.specs.Building.{has_entry, has_name, has_rule}
 use Rattle.cfgast.specs.Occurrences.{Unique, Occurrence, is_same, each_once, repeats, places_of, duplicates}
 use Rattle.cfgast.proofs.Repeats.{is_same_equivalence}
 use Rattle.cfgast.specs.Syntax.{Symbol, RuleSymbol, TokenSymbol, EachProductionSpan, EachSpan, symbol_word, Production, Rule, Syntax, syntax_of}
@@ -30,7 +30,7 @@ use Rattle.cfgheader.specs.SectionPlaces.{IsErrorAt as IsSectionErrorAt}
 use Rattle.cfgheader.proofs.SectionOne.{section_answered}
 use Rattle.cfgheader.proofs.SectionPlaces.{IsSectionAt, section_at}
 use Rattle.cfgerrors.specs.Errors.{ErrorKind, GrammarError, header_error, InvalidStartRule, UnknownRuleRef, UnknownToken, NoPrecForToken, UnknownEPP, Nameless, error_at}
-use Rattle.cfgcheck.specs.Check.{is_rule, is_token, nowhere, first_error, start_error, symbol_error, precedence_error, production_error, printed_error, place_error, rule_error, check_of}
+use Rattle.cfgcheck.specs.Check.{nowhere, first_error, start_error, symbol_error, precedence_error, production_error, printed_error, place_error, rule_error, check_of}
 use Rattle.cfgsyntax.specs.Faults.{kind_of, error_of, duplicate_error, stop_errors, errors_of}
 use Rattle.cfgwords.specs.Places.{IsPiece, IsWithin}
 use Rattle.cfgsyntax.specs.Reads.{Stop, InSection, InFile, ReadsFile, ReadsBehind, Reads}
@@ -115,15 +115,15 @@ module _ (text : List ℕ) where
 
   start_error_at : IsUtf8 text → (s : Syntax) (start : Option Word) → IfSome start (IsWordAt text) → IfSome (start_error s start) (IsErrorAt text)
   start_error_at utf8 s None h = one_span (Nameless NoStartRule) nowhere (nowhere_at utf8)
-  start_error_at utf8 s (Some word) h = unless_known (is_rule s word.name) (InvalidStartRule word.name) word.span h
+  start_error_at utf8 s (Some word) h = unless_known (has_rule word.name s.rules) (InvalidStartRule word.name) word.span h
 
   symbol_error_at : (s : Syntax) (symbol : Symbol) → IsWordAt text (symbol_word symbol) → IfSome (symbol_error s symbol) (IsErrorAt text)
-  symbol_error_at s (RuleSymbol word) h = unless_known (is_rule s word.name) (UnknownRuleRef word.name) word.span h
-  symbol_error_at s (TokenSymbol word) h = unless_known (is_token s word.name) (UnknownToken word.name) word.span h
+  symbol_error_at s (RuleSymbol word) h = unless_known (has_rule word.name s.rules) (UnknownRuleRef word.name) word.span h
+  symbol_error_at s (TokenSymbol word) h = unless_known (has_name word.name s.tokens) (UnknownToken word.name) word.span h
 
   precedence_error_at : IsUtf8 text → (s : Syntax) (token : Option (List ℕ)) → IfSome (precedence_error s token) (IsErrorAt text)
   precedence_error_at utf8 s None = tt
-  precedence_error_at utf8 s (Some name) = go (is_token s name) (has_entry name s.tables.precedences)
+  precedence_error_at utf8 s (Some name) = go (has_name name s.tokens) (has_entry name s.tables.precedences)
     where
       go : (there ranked : Bool) → IfSome (if not there then Some (error_at (UnknownToken name) nowhere) else if ranked then None else Some (error_at (NoPrecForToken name) nowhere)) (IsErrorAt text)
       go false ranked = one_span (UnknownToken name) nowhere (nowhere_at utf8)
@@ -143,7 +143,7 @@ module _ (text : List ℕ) (utf8 : IsUtf8 text) (Q : Span → Type 0) (s : Synta
   rule_error_at rule = first_of_all (IsErrorAt text) (place_error s) rule.1.productions (λ k d lt. place_error_at (get_or rule.1.productions k d))
 
   printed_error_at : (entry : List ℕ × (Span × (List ℕ × Span))) → IsPiece text entry.1.0 → IfSome (printed_error s entry) (IsErrorAt text)
-  printed_error_at entry h = unless_known text (is_token s entry.0) (UnknownEPP entry.0) entry.1.0 h
+  printed_error_at entry h = unless_known text (has_name entry.0 s.tokens) (UnknownEPP entry.0) entry.1.0 h
 
   check_at : IfSome (check_of s) (IsErrorAt text)
   unfolding check_of

@@ -1,10 +1,11 @@
 -- What was read is well formed, and without errors it passes validation.
 use Rattle.std.proofs.Common.{◌≡◌, ℕ, true, List, [], ◌∷◌, ◌++◌, Option, Some, None, if◌then◌else◌, refl, sym, ap, ◌∙◌, subst, append_assoc}
 use Rattle.std.specs.Option.{option_to_list, option_or}
+use Rattle.cfgast.specs.Building.{has_rule}
 use Rattle.cfgast.specs.Syntax.{Syntax, syntax_of}
 use Rattle.cfgkinds.specs.declared.kind.YaccKind.{YaccKind}
 use Rattle.cfgerrors.specs.Errors.{GrammarError, InvalidStartRule, error_at}
-use Rattle.cfgcheck.specs.Check.{is_rule, first_error, start_error, rule_error, printed_error, symbol_error, check_of}
+use Rattle.cfgcheck.specs.Check.{first_error, start_error, rule_error, printed_error, symbol_error, check_of}
 use Rattle.cfgsyntax.specs.Faults.{all_errors, errors_of}
 use Rattle.cfgsyntax.specs.Reads.{Stop, Reads, HasOneReading}
 use Rattle.cfgast.specs.Items.{Item}
@@ -43,7 +44,7 @@ asked s =
     option_or (first_error (rule_error s) s.rules)
     (option_or (first_error (printed_error s) s.tables.printed_forms) (first_error (symbol_error s) s.expect_unused))
 
-pub IsSound-restarted : (s : Syntax) (errors : List GrammarError) (word : Word) → IsSound s errors → is_rule s word.name ≡ true → IsSound (started_at s word) errors
+pub IsSound-restarted : (s : Syntax) (errors : List GrammarError) (word : Word) → IsSound s errors → has_rule word.name s.rules ≡ true → IsSound (started_at s word) errors
 unfolding check_of
 IsSound-restarted s errors word sound there = record {
   well_formed = record {

@@ -1,11 +1,11 @@
 -- What was parsed, with another start, and why it isn't given one.
 use Rattle.std.specs.Prelude.{◌≡◌, ℕ, List, true, false, codes}
 use Rattle.cfgwords.specs.Words.{Word}
+use Rattle.cfgast.specs.Building.{has_rule}
 use Rattle.cfgast.specs.Syntax.{Syntax}
 use Rattle.cfgast.specs.Writing.{started_at}
 use Rattle.cfgerrors.specs.Errors.{InvalidStartRule}
 use Rattle.cfgerrors.specs.Texts.{error_text}
-use Rattle.cfgcheck.specs.Check.{is_rule}
 use Rattle.cfgsyntax.specs.Parsed.{Parsed}
 use Rattle.cfgsyntax.specs.declared.yacc.ast.start.StartFault.{StartFault}
 use Rattle.cfgsyntax.specs.declared.yacc.ast.start.StartFault.TheVariants as faults
@@ -16,8 +16,8 @@ restarted parsed word = record parsed { syntax = started_at parsed.syntax word }
 
 -- Memory is wanted only for the name of a rule.
 abbrev pub IsStartFault : Syntax → List ℕ → StartFault → Type 0
-IsStartFault s name (faults.Modification error) = (error ≡ InvalidStartRule name) × (is_rule s name ≡ false)
-IsStartFault s name faults.OutOfMemory = is_rule s name ≡ true
+IsStartFault s name (faults.Modification error) = (error ≡ InvalidStartRule name) × (has_rule name s.rules ≡ false)
+IsStartFault s name faults.OutOfMemory = has_rule name s.rules ≡ true
 
 abbrev pub start_fault_text : StartFault → List ℕ
 start_fault_text (faults.Modification error) = error_text error

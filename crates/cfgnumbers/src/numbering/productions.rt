@@ -5,12 +5,12 @@ ghost use Rattle.std.specs.Prelude.{map, option_map, string_bytes, IfOk, OnOk};
 ghost use Rattle.std.specs.List.{zip};
 ghost use Rattle.std.specs.Option.{option_to_list};
 ghost use Rattle.derivation.specs.Grammar.{Rule, Token};
+ghost use Rattle.cfgast.specs.Building.{has_name};
 ghost use Rattle.cfgast.specs.View.{production_view as plain_production};
-ghost use Rattle.cfgcheck.specs.Check.{is_token};
 ghost use Rattle.cfgcheck.specs.Sound.{IsSound};
 ghost use Rattle.cfgnumbers.specs.Fits.{LeavesRoom};
 ghost use Rattle.cfgnumbers.specs.Numbered.{added_production, added_productions, file_production, token_index};
-ghost use Rattle.cfgnumbers.specs.Resolved.{AreTokens, IsResolved, Resolves};
+ghost use Rattle.cfgnumbers.specs.Inner.Resolved.{AreTokens, IsResolved, Resolves};
 ghost use Rattle.cfgnumbers.specs.View.{names, file_of, implicit_in, production_view};
 ghost use Rattle.cfganalysis.specs.Symbols.{sym_of};
 
@@ -122,7 +122,7 @@ impl Numbering<'_> {
     ) -> Result<(), AllocError>
         requires own { implicit_in self.now ≡ Some (names tokens.now.entries) }
         requires resolved { IsResolved (file_of self.now) }
-        requires implicit { All (λ name. is_token (file_of self.now) name ≡ true) (names tokens.now.entries) }
+        requires implicit { All (λ name. has_name name (file_of self.now).tokens ≡ true) (names tokens.now.entries) }
         requires room { LeavesRoom S.MAX (Some (names tokens.now.entries)) (file_of self.now) }
         ensures { OnOk result (map (production_view S.number) rows.new.items
             ≡ map (production_view S.number) rows.old.items
@@ -144,7 +144,7 @@ impl Numbering<'_> {
         rows: &mut Vec<ProductionRow<S>>,
         tokens: &IndexMap<String, Span, NameHashes>,
     ) -> Result<(), AllocError>
-        requires implicit { All (λ name. is_token (file_of self.now) name ≡ true) (names tokens.now.entries) }
+        requires implicit { All (λ name. has_name name (file_of self.now).tokens ≡ true) (names tokens.now.entries) }
         requires rule { 1 ≤ S.MAX }
         requires room { LeavesRoom S.MAX (implicit_in self.now) (file_of self.now) }
         ensures { OnOk result (map (production_view S.number) rows.new.items

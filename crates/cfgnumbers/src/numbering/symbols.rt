@@ -2,12 +2,13 @@
 
 ghost use Rattle.std.specs.Prelude.{◌≡◌, ◌+◌, ◌≤◌, ◌++◌, ◌∷◌, [], true, All, None, map, IfOk};
 ghost use Rattle.std.specs.Prelude.{OnOk};
+ghost use Rattle.cfgast.specs.Building.{has_name, has_rule};
 ghost use Rattle.cfgast.specs.View.{symbol_view};
-ghost use Rattle.cfgcheck.specs.Check.{is_rule, is_token, symbol_error};
+ghost use Rattle.cfgcheck.specs.Check.{symbol_error};
 ghost use Rattle.cfgnumbers.specs.Fits.{LeavesRoom};
 ghost use Rattle.cfgnumbers.specs.Numbered.{rule_index, rules_before, token_index, file_symbol, file_symbols, spaced};
 ghost use Rattle.cfgnumbers.specs.Numbered.{start_symbols};
-ghost use Rattle.cfgnumbers.specs.Resolved.{IsResolved};
+ghost use Rattle.cfgnumbers.specs.Inner.Resolved.{IsResolved};
 ghost use Rattle.cfgnumbers.specs.View.{file_of, implicit_in};
 ghost use Rattle.cfganalysis.specs.Symbols.{sym_of};
 
@@ -75,7 +76,7 @@ impl Numbering<'_> {
 
     /// The rule of this name.
     fn rule_of<S: Storage>(&self, name: &str) -> RIdx<S>
-        requires known { is_rule (file_of self.now) name.now ≡ true }
+        requires known { has_rule name.now (file_of self.now).rules ≡ true }
         requires room { LeavesRoom S.MAX (implicit_in self.now) (file_of self.now) }
         ensures { S.number result.0 ≡ rule_index (implicit_in self.now) (file_of self.now) name.now }
     {
@@ -93,7 +94,7 @@ impl Numbering<'_> {
 
     /// The token of this name.
     pub(super) fn token_of<S: Storage>(&self, name: &str) -> TIdx<S>
-        requires known { is_token (file_of self.now) name.now ≡ true }
+        requires known { has_name name.now (file_of self.now).tokens ≡ true }
         requires room { LeavesRoom S.MAX (implicit_in self.now) (file_of self.now) }
         ensures { S.number result.0 ≡ token_index (file_of self.now) name.now }
     {

@@ -7,11 +7,11 @@ mod start;
 
 ghost use Rattle.std.specs.Prelude.{◌≡◌, ◌↔◌, [], true, List, Option, string_bytes, IsTrue, IfOk, IfErr};
 ghost use Rattle.std.specs.Prelude.{OnOk};
+ghost use Rattle.cfgast.specs.Building.{has_rule};
 ghost use Rattle.cfgast.specs.Items.{Item};
 ghost use Rattle.cfgast.specs.Syntax.{syntax_of};
 ghost use Rattle.cfgast.specs.View.{syntax, named_view};
 ghost use Rattle.cfgheader.specs.Named.{HasOneNaming, Names, Naming};
-ghost use Rattle.cfgcheck.specs.Check.{is_rule};
 ghost use Rattle.cfgsyntax.specs.Faults.{errors_of};
 ghost use Rattle.cfgwords.specs.Places.{IsPiece, IsWithin};
 ghost use Rattle.cfgsyntax.specs.OfItself.{AnswersNaming};
@@ -23,7 +23,7 @@ ghost use Rattle.cfgsyntax.specs.Starts.{restarted, IsStartFault};
 use crate::read::read;
 use cfgast::clone_with_start;
 pub use cfgast::{GrammarAST, Production, Rule, Settings, Symbol};
-use cfgcheck::is_rule;
+use cfgcheck::has_rule;
 use cfgerrors::{YaccGrammarError, YaccGrammarErrorKind, YaccGrammarResult};
 use cfgkinds::YaccKind;
 use errors::errors_found;
@@ -133,11 +133,11 @@ impl ASTWithValidityInfo {
     /// `Modification`, of kind `InvalidStartRule`, exactly where no rule has the name; and want of memory.
     pub fn clone_and_change_start_rule(&self, alloc: Global, rule: Rule) -> Result<Self, StartFault>
         ensures changed { IfOk result (λ parsed. parsed ≡ restarted self.now (named_view rule.name)) }
-        ensures known { OnOk result (is_rule self.now.syntax (string_bytes rule.name.0) ≡ true) }
+        ensures known { OnOk result (has_rule (string_bytes rule.name.0) self.now.syntax.rules ≡ true) }
         ensures fault { IfErr result (IsStartFault self.now.syntax (string_bytes rule.name.0)) }
     {
         let name = rule.name;
-        if !is_rule(&self.ast, &name.0) {
+        if !has_rule(&self.ast, &name.0) {
             let kind = YaccGrammarErrorKind::InvalidStartRule(name.0);
             return Err(StartFault::Modification(ASTModificationError { kind }));
         }

@@ -1,20 +1,20 @@
 use Rattle.std.proofs.Common.{sym, subst, ◌∙◌}
-use Rattle.cfganalysis.specs.Firsts.{SayFirsts}
+use Rattle.cfganalysis.specs.Inner.GrowingFirsts.{SayFirsts}
 use Rattle.cfganalysis.proofs.Fitting.{openings_fit}
 use Rattle.cfganalysis.proofs.FirstBits.{are_firsts, say_none}
 use Rattle.cfganalysis.proofs.firsts.firsts_over.Goals as goal
 
-pub settle-requires-clause-small : goal.settle-requires-clause-small
-settle-requires-clause-small g c =
+pub visit_all-requires-clause-small : goal.visit_all-requires-clause-small
+visit_all-requires-clause-small g c =
     openings_fit (g.P.Productions.content c.args.productions.now) c.to_usize-rules.result c.to_usize-tokens.result _
     (c.to_usize-rules.ensures.value ∙ c.rules_len.ensures.value) (c.to_usize-tokens.ensures.value ∙ c.tokens_len.ensures)
     c.to_usize-rules.ensures.range c.to_usize-tokens.ensures.range c.to_usize-rules.ensures.limit
 
-pub settle-requires-clause-holds : goal.settle-requires-clause-holds
-settle-requires-clause-holds g c =
+pub visit_all-requires-clause-holds : goal.visit_all-requires-clause-holds
+visit_all-requires-clause-holds g c =
     let grammar = g.P.Productions.content c.args.productions.now in
     subst (SayFirsts grammar) (sym c.in_ok-firsts.ensures) (say_none grammar c.to_usize-rules.result c.to_usize-tokens.result
     (c.to_usize-rules.ensures.value ∙ c.rules_len.ensures.value) (c.to_usize-tokens.ensures.value ∙ c.tokens_len.ensures))
 
 pub returns-clause-firsts : goal.returns-clause-firsts
-returns-clause-firsts g c = are_firsts _ _ c.in_ok-settle.ensures.holds c.in_ok-settle.ensures.settled
+returns-clause-firsts g c = are_firsts _ _ c.in_ok-visit_all.ensures.holds c.in_ok-visit_all.ensures.covered

@@ -1,9 +1,9 @@
 use Rattle.std.proofs.Common.{length, sym, ap, subst, ◌∙◌}
 use Rattle.std.specs.List.{slice_index}
 use Rattle.std.proofs.lemmas.Result.{IfOk-weaker}
-use Rattle.cfggreatest.specs.Rows.{in_set}
-use Rattle.cfggreatest.specs.Tops.{AreTopped}
-use Rattle.cfggreatest.specs.Words.{AreReadOff}
+use Rattle.cfggreatest.specs.Inner.Rows.{in_set}
+use Rattle.cfggreatest.specs.Inner.Tops.{AreTopped}
+use Rattle.cfggreatest.specs.Inner.ReadOff.{AreReadOff}
 use Rattle.cfggreatest.proofs.Telling.{answers_mean}
 use Rattle.cfggreatest.proofs.greatest.greatest_by_groups.Goals as goal
 

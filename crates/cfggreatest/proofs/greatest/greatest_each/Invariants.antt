@@ -1,8 +1,8 @@
 use Rattle.std.proofs.Common.{◌≡◌, ℕ, ◌<◌, Err, length, get_or}
 use Rattle.cfgsums.specs.Lists.{rule_cost}
 use Rattle.cfgsums.specs.declared.errors.CostError.TheVariants.{NoSentence}
-use Rattle.cfggreatest.specs.Rows.{in_set}
-use Rattle.cfggreatest.specs.Words.{read_off}
+use Rattle.cfggreatest.specs.Inner.Rows.{in_set}
+use Rattle.cfggreatest.specs.Inner.ReadOff.{read_off}
 use Rattle.cfggreatest.proofs.greatest.greatest_each.Given as goal
 
 abbrev pub invariant-loop-rule : goal.invariant-loop-rule

@@ -1,4 +1,4 @@
-use Rattle.cfggreatest.specs.Keep.{AddsGroup}
+use Rattle.cfggreatest.specs.Inner.Keep.{AddsGroup}
 use Rattle.cfggreatest.proofs.keep.add_group.Given as goal
 
 abbrev pub invariant-loop-rule : goal.invariant-loop-rule

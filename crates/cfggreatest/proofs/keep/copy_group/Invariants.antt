@@ -1,4 +1,4 @@
-use Rattle.cfggreatest.specs.Keep.{DifferFrom}
+use Rattle.cfggreatest.specs.Inner.Keep.{DifferFrom}
 use Rattle.cfggreatest.proofs.keep.copy_group.Given as goal
 
 abbrev pub invariant-loop-rule : goal.invariant-loop-rule

@@ -1,5 +1,5 @@
 use Rattle.std.proofs.Common.{refl, arith}
-use Rattle.cfggreatest.specs.Keep.{IsRuleKept}
+use Rattle.cfggreatest.specs.Inner.Keep.{IsRuleKept}
 use Rattle.cfggreatest.proofs.Keeping.{rules_all, rules_more}
 use Rattle.cfggreatest.proofs.keep.is_group_kept.Goals as goal
 

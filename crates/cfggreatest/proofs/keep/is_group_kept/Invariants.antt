@@ -1,5 +1,5 @@
 use Rattle.std.proofs.Common.{ℕ, ◌<◌, get_or}
-use Rattle.cfggreatest.specs.Keep.{IsRuleKept}
+use Rattle.cfggreatest.specs.Inner.Keep.{IsRuleKept}
 use Rattle.cfggreatest.proofs.keep.is_group_kept.Given as goal
 
 abbrev pub invariant-loop-rule : goal.invariant-loop-rule

@@ -1,9 +1,9 @@
 use Rattle.std.proofs.Common.{refl, ◌<◌, All, map, length, sym, subst, ◌∙◌, arith}
 use Rattle.std.proofs.lemmas.List.{length-map}
 use Rattle.cfganalysis.specs.Paths.{ArePlacesOf}
-use Rattle.cfggreatest.specs.Rows.{in_set}
-use Rattle.cfggreatest.specs.Tops.{live_in, positive_in}
-use Rattle.cfggreatest.specs.Peel.{Keeps}
+use Rattle.cfggreatest.specs.Inner.Rows.{in_set}
+use Rattle.cfggreatest.specs.Inner.Tops.{live_in, positive_in}
+use Rattle.cfggreatest.specs.Inner.Peel.{Keeps}
 use Rattle.cfggreatest.proofs.Keeping.{places_more, rule_kept}
 use Rattle.cfganalysis.specs.Symbols.{sym_of}
 use Rattle.cfganalysis.proofs.Slices.{mapped_all, mapped_at, mapped_within}

@@ -1,8 +1,8 @@
 use Rattle.std.proofs.Common.{ℕ, ◌<◌, map, get_or}
 use Rattle.cfganalysis.specs.Openings.{nth_production}
-use Rattle.cfggreatest.specs.Rows.{in_set}
-use Rattle.cfggreatest.specs.Tops.{live_in, positive_in}
-use Rattle.cfggreatest.specs.Peel.{Keeps}
+use Rattle.cfggreatest.specs.Inner.Rows.{in_set}
+use Rattle.cfggreatest.specs.Inner.Tops.{live_in, positive_in}
+use Rattle.cfggreatest.specs.Inner.Peel.{Keeps}
 use Rattle.cfggreatest.proofs.keep.is_rule_kept.Given as goal
 
 abbrev pub invariant-loop-p : goal.invariant-loop-p

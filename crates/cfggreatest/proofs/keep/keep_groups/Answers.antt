@@ -1,5 +1,5 @@
 use Rattle.std.proofs.Common.{ℕ, List, ◌++◌, Bool, false, take, drop, replicate, length, sym, subst, ap, ◌∙◌}
-use Rattle.cfggreatest.specs.Keep.{IsKeeping}
+use Rattle.cfggreatest.specs.Inner.Keep.{IsKeeping}
 use Rattle.cfggreatest.proofs.Keeping.{none_kept}
 use Rattle.cfggreatest.proofs.Lent.{list_lent, put_back}
 use Rattle.cfggreatest.proofs.keep.keep_groups.Goals as goal

@@ -1,4 +1,4 @@
-use Rattle.cfggreatest.specs.Keep.{IsKeeping}
+use Rattle.cfggreatest.specs.Inner.Keep.{IsKeeping}
 use Rattle.cfggreatest.proofs.keep.keep_groups.Given as goal
 
 abbrev pub invariant-loop-group : goal.invariant-loop-group

@@ -1,7 +1,7 @@
 use Rattle.std.proofs.Common.{ℕ, ◌+◌, ◌<◌, ◌≤◌, All, Bool, true, length, length-set, slice_set, subst, sym, ap, ◌∙◌, arith}
 use Rattle.std.proofs.lemmas.List.Elements.{All-push}
 use Rattle.std.proofs.lemmas.Result.{on_ok_weaker}
-use Rattle.cfggreatest.specs.Walk.{IsWalking, unentered}
+use Rattle.cfggreatest.specs.Inner.Walk.{IsWalking, unentered}
 use Rattle.cfggreatest.proofs.Walking.{entered_once}
 use Rattle.cfggreatest.proofs.order.enter.Goals as goal
 

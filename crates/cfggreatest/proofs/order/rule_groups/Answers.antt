@@ -1,7 +1,7 @@
 use Rattle.std.proofs.Common.{◌≡◌, ◌<◌, All, false, length, sym, subst, ap, ◌∙◌}
 use Rattle.std.proofs.lemmas.List.{length-replicate}
 use Rattle.std.proofs.lemmas.List.Elements.{All-nil, All-push}
-use Rattle.cfggreatest.specs.Uses.{AreListsBelow}
+use Rattle.cfggreatest.specs.Inner.Uses.{AreListsBelow}
 use Rattle.cfggreatest.proofs.Lent.{put_back}
 use Rattle.cfggreatest.proofs.order.rule_groups.Goals as goal
 

@@ -1,7 +1,7 @@
 use Rattle.std.proofs.Common.{◌≡◌, ◌+◌, ◌<◌, ◌≤◌, ◌++◌, ◌∷◌, [], ℕ, All, Bool, false, List, Contains, length, sym, subst, ap, ◌∙◌, arith}
 use Rattle.std.proofs.lemmas.List.{length-replicate}
 use Rattle.std.proofs.lemmas.List.Elements.{All-contains_itself, All-nil, All-get_or, All-weaker, Contains-append_left, Contains-push}
-use Rattle.cfggreatest.specs.Walk.{unentered}
+use Rattle.cfggreatest.specs.Inner.Walk.{unentered}
 use Rattle.cfggreatest.proofs.Lent.{put_back}
 use Rattle.cfggreatest.proofs.order.walk.Goals as goal
 

@@ -1,5 +1,5 @@
 use Rattle.std.proofs.Common.{◌+◌, ◌<◌, All, length}
-use Rattle.cfggreatest.specs.Walk.{IsWalking, unentered}
+use Rattle.cfggreatest.specs.Inner.Walk.{IsWalking, unentered}
 use Rattle.cfggreatest.proofs.order.walk.Given as goal
 
 abbrev pub invariant-loop-top : goal.invariant-loop-top

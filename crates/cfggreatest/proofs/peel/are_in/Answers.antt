@@ -3,7 +3,7 @@ use Rattle.std.proofs.lemmas.List.{drop_all}
 use Rattle.cfganalysis.specs.Symbols.{sym_of}
 use Rattle.cfgsums.specs.Lists.{IsListed}
 use Rattle.cfgsums.proofs.Rows.{next_shown, shown_holds}
-use Rattle.cfggreatest.specs.Rows.{are_in, in_set}
+use Rattle.cfggreatest.specs.Inner.Rows.{are_in, in_set}
 use Rattle.cfggreatest.proofs.peel.are_in.Goals as goal
 
 pub is_in-requires : goal.is_in-requires

@@ -3,8 +3,8 @@ use Rattle.std.proofs.lemmas.List.{drop_all}
 use Rattle.cfganalysis.specs.Symbols.{sym_of}
 use Rattle.cfgsums.specs.Lists.{IsListed}
 use Rattle.cfgsums.proofs.Rows.{next_shown, shown_holds}
-use Rattle.cfggreatest.specs.Rows.{are_in}
-use Rattle.cfggreatest.specs.Tops.{live_in}
+use Rattle.cfggreatest.specs.Inner.Rows.{are_in}
+use Rattle.cfggreatest.specs.Inner.Tops.{live_in}
 use Rattle.cfggreatest.proofs.peel.are_live.Goals as goal
 
 pub is_live-requires : goal.is_live-requires

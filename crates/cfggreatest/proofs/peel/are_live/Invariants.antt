@@ -1,7 +1,7 @@
 use Rattle.std.proofs.Common.{◌≡◌, map, drop}
 use Rattle.cfganalysis.specs.Symbols.{sym_of}
-use Rattle.cfggreatest.specs.Rows.{are_in}
-use Rattle.cfggreatest.specs.Tops.{live_in}
+use Rattle.cfggreatest.specs.Inner.Rows.{are_in}
+use Rattle.cfggreatest.specs.Inner.Tops.{live_in}
 use Rattle.cfggreatest.proofs.peel.are_live.Given as goal
 
 abbrev pub invariant-loop-symbol : goal.invariant-loop-symbol

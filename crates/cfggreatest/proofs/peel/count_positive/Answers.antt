@@ -4,8 +4,8 @@ use Rattle.std.proofs.lemmas.List.{drop_all}
 use Rattle.cfganalysis.specs.Symbols.{sym_of}
 use Rattle.cfgsums.specs.Lists.{IsListed}
 use Rattle.cfgsums.proofs.Rows.{next_shown, shown_holds}
-use Rattle.cfggreatest.specs.Rows.{count_positive}
-use Rattle.cfggreatest.specs.Tops.{positive_in}
+use Rattle.cfggreatest.specs.Inner.Rows.{count_positive}
+use Rattle.cfggreatest.specs.Inner.Tops.{positive_in}
 use Rattle.cfggreatest.proofs.peel.count_positive.Goals as goal
 
 one_if : (b : Bool) → bool_byte b ≡ cond b 1 0

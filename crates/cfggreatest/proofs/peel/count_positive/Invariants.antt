@@ -1,7 +1,7 @@
 use Rattle.std.proofs.Common.{◌≡◌, ◌+◌, ◌≤◌, map, drop}
 use Rattle.cfganalysis.specs.Symbols.{sym_of}
-use Rattle.cfggreatest.specs.Rows.{count_positive}
-use Rattle.cfggreatest.specs.Tops.{positive_in}
+use Rattle.cfggreatest.specs.Inner.Rows.{count_positive}
+use Rattle.cfggreatest.specs.Inner.Tops.{positive_in}
 use Rattle.cfggreatest.proofs.peel.count_positive.Given as goal
 
 abbrev pub invariant-loop-symbol : goal.invariant-loop-symbol

@@ -19,28 +19,28 @@ count_positive-requires g c = (c.requires.0, c.requires.1)
 pub returns-then-not-are_live-clause-keeps : goal.returns-then-not-are_live-clause-keeps
 returns-then-not-are_live-clause-keeps g c = λ _ lives. absurd (true≢false (sym (c.are_live.ensures ∙ lives) ∙ c.if-not-are_live.true))
 
-pub returns-then-not-are_live-clause-leaves : goal.returns-then-not-are_live-clause-leaves
-returns-then-not-are_live-clause-leaves g c = λ e. absurd (true≢false e)
+pub returns-then-not-are_live-clause-removes : goal.returns-then-not-are_live-clause-removes
+returns-then-not-are_live-clause-removes g c = λ e. absurd (true≢false e)
 
 pub returns-then-not-are_in-clause-keeps : goal.returns-then-not-are_in-clause-keeps
 returns-then-not-are_in-clause-keeps g c = λ e. absurd (true≢false (sym e))
 
-pub returns-then-not-are_in-clause-leaves : goal.returns-then-not-are_in-clause-leaves
-returns-then-not-are_in-clause-leaves g c =
+pub returns-then-not-are_in-clause-removes : goal.returns-then-not-are_in-clause-removes
+returns-then-not-are_in-clause-removes g c =
     λ _. record { lives = sym c.are_live.ensures ∙ c.if-not-are_live.false; outside = inl (sym c.are_in.ensures ∙ c.if-not-are_in.true) }
 
 pub returns-then-are_in-clause-keeps : goal.returns-then-are_in-clause-keeps
 returns-then-are_in-clause-keeps g c = λ e lives. (sym c.are_in.ensures ∙ c.if-not-are_in.false, inl (sym c.are_in-2.ensures ∙ e))
 
-pub returns-then-are_in-clause-leaves : goal.returns-then-are_in-clause-leaves
-returns-then-are_in-clause-leaves g c = λ e. absurd (true≢false (sym c.if-are_in.true ∙ e))
+pub returns-then-are_in-clause-removes : goal.returns-then-are_in-clause-removes
+returns-then-are_in-clause-removes g c = λ e. absurd (true≢false (sym c.if-are_in.true ∙ e))
 
 pub returns-else-are_in-clause-keeps : goal.returns-else-are_in-clause-keeps
 returns-else-are_in-clause-keeps g c =
     λ e lives. (sym c.are_in.ensures ∙ c.if-not-are_in.false, inr (subst (λ n. n ≤ 1) c.count_positive.ensures (leb-true c.count_positive.result 1 e)))
 
-pub returns-else-are_in-clause-leaves : goal.returns-else-are_in-clause-leaves
-returns-else-are_in-clause-leaves g c = λ e. record {
+pub returns-else-are_in-clause-removes : goal.returns-else-are_in-clause-removes
+returns-else-are_in-clause-removes g c = λ e. record {
   lives = sym c.are_live.ensures ∙ c.if-not-are_live.false;
   outside = inr (sym c.are_in-2.ensures ∙ c.if-are_in.false, subst (λ n. 2 ≤ n) c.count_positive.ensures (leb-false c.count_positive.result 1 e));
 }

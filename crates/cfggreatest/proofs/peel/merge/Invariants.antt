@@ -1,4 +1,4 @@
-use Rattle.cfggreatest.specs.Merge.{Merges}
+use Rattle.cfggreatest.specs.Inner.Merge.{Merges}
 use Rattle.cfggreatest.proofs.peel.merge.Given as goal
 
 abbrev pub invariant-loop-rule : goal.invariant-loop-rule

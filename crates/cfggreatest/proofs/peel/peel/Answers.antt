@@ -1,6 +1,6 @@
 use Rattle.std.proofs.Common.{◌≤◌, sym, subst}
 use Rattle.cfganalysis.specs.Openings.{nth_production}
-use Rattle.cfggreatest.specs.Peel.{IsKept, count_removed}
+use Rattle.cfggreatest.specs.Inner.Peel.{IsKept, count_removed}
 use Rattle.cfggreatest.proofs.Ending.{round_smaller_by}
 use Rattle.cfggreatest.proofs.Removing.{few_removed}
 use Rattle.cfggreatest.proofs.peel.peel.Goals as goal

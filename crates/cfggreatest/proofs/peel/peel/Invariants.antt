@@ -1,12 +1,11 @@
 use Rattle.std.proofs.Common.{◌≡◌, ◌+◌, ◌-◌, cond, false}
-use Rattle.cfganalysis.specs.Rounds.{IsSettled}
-use Rattle.cfggreatest.specs.Peel.{IsKept, IsPeeled, count_removed}
+use Rattle.cfggreatest.specs.Inner.Peel.{AreKept, IsPeeled, count_removed}
 use Rattle.cfggreatest.proofs.peel.peel.Given as goal
 
 abbrev pub invariant-loop-changed : goal.invariant-loop-changed
 invariant-loop-changed g l = record {
   peeled : IsPeeled (g.T.Tables.grammar l.grm) l.signs l.bounded l.further;
-  kept : l.changed ≡ false → IsSettled (λ x p. IsKept l.signs l.bounded x p) (g.T.Tables.grammar l.grm) l.further;
+  kept : l.changed ≡ false → AreKept (g.T.Tables.grammar l.grm) l.signs l.bounded l.further;
 }
 
 abbrev pub decreases-loop-changed : goal.decreases-loop-changed

@@ -1,7 +1,8 @@
 use Rattle.std.proofs.Common.{◌<◌, [], length, subst, sym, ap, ◌∙◌, All, map, arith}
 use Rattle.cfganalysis.specs.Symbols.{sym_of}
 use Rattle.cfganalysis.specs.Openings.{nth_production}
-use Rattle.cfganalysis.proofs.Settling.{at_place, sweep_one}
+use Rattle.cfganalysis.proofs.Placed.{at_place}
+use Rattle.cfggreatest.proofs.Sweeping.{sweep_one}
 use Rattle.cfgsums.specs.Lists.{IsListed}
 use Rattle.cfgsums.proofs.Listed.{symbols_listed}
 use Rattle.cfggreatest.proofs.Removing.{takes_out}

@@ -1,5 +1,5 @@
-use Rattle.cfganalysis.specs.Rounds.{Sweeps}
-use Rattle.cfggreatest.specs.Peel.{IsKept, IsPeeled, count_removed}
+use Rattle.cfggreatest.specs.Inner.Rounds.{Sweeps}
+use Rattle.cfggreatest.specs.Inner.Peel.{IsKept, IsPeeled, count_removed}
 use Rattle.cfggreatest.proofs.peel.peel_round.Given as goal
 
 abbrev pub invariant-loop-number : goal.invariant-loop-number

@@ -1,6 +1,6 @@
 use Rattle.std.proofs.Common.{◌<◌, length, sym, subst}
 use Rattle.std.proofs.lemmas.List.Elements.{All-get_or}
-use Rattle.cfggreatest.specs.Peel.{count_removed}
+use Rattle.cfggreatest.specs.Inner.Peel.{count_removed}
 use Rattle.cfggreatest.proofs.Ending.{paid_both}
 use Rattle.cfggreatest.proofs.removal.remove_each.Goals as goal
 

@@ -1,4 +1,4 @@
-use Rattle.cfggreatest.specs.Removal.{IsRemovalPaid, IsRemoving}
+use Rattle.cfggreatest.specs.Inner.Removal.{IsRemovalPaid, IsRemoving}
 use Rattle.cfggreatest.proofs.removal.remove_each.Given as goal
 
 abbrev pub invariant-loop-p : goal.invariant-loop-p

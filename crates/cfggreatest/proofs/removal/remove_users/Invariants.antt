@@ -1,6 +1,6 @@
 use Rattle.std.proofs.Common.{◌+◌, ◌-◌, length}
-use Rattle.cfggreatest.specs.Peel.{count_removed}
-use Rattle.cfggreatest.specs.Removal.{IsRemoving}
+use Rattle.cfggreatest.specs.Inner.Peel.{count_removed}
+use Rattle.cfggreatest.specs.Inner.Removal.{IsRemoving}
 use Rattle.cfggreatest.proofs.removal.remove_users.Given as goal
 
 abbrev pub invariant-loop-rule : goal.invariant-loop-rule

@@ -1,5 +1,5 @@
 use Rattle.std.proofs.Common.{◌≤◌, ◌+◌, subst}
-use Rattle.cfggreatest.specs.Tops.{rank}
+use Rattle.cfggreatest.specs.Inner.Tops.{rank}
 use Rattle.cfggreatest.proofs.Raising.{raises_none}
 use Rattle.cfggreatest.proofs.rounds.raise_top.Goals as goal
 

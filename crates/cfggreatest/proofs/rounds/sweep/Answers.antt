@@ -1,6 +1,6 @@
 use Rattle.std.proofs.Common.{ap, ◌∙◌, arith}
 use Rattle.cfganalysis.specs.Openings.{nth_production}
-use Rattle.cfganalysis.proofs.Settling.{sweep_one}
+use Rattle.cfggreatest.proofs.Sweeping.{sweep_one}
 use Rattle.cfggreatest.proofs.rounds.sweep.Goals as goal
 
 pub loop-number-preserved : goal.loop-number-preserved

@@ -1,7 +1,7 @@
 use Rattle.std.specs.List.{slice_index}
-use Rattle.cfganalysis.specs.Rounds.{Sweeps}
-use Rattle.cfggreatest.specs.Rows.{in_set}
-use Rattle.cfggreatest.specs.Tops.{AreReached, IsTopped, sum_ranks}
+use Rattle.cfggreatest.specs.Inner.Rounds.{Sweeps}
+use Rattle.cfggreatest.specs.Inner.Rows.{in_set}
+use Rattle.cfggreatest.specs.Inner.Tops.{AreReached, IsTopped, sum_ranks}
 use Rattle.cfggreatest.proofs.rounds.sweep.Given as goal
 
 abbrev pub invariant-loop-number : goal.invariant-loop-number

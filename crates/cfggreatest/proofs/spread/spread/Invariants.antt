@@ -1,6 +1,6 @@
 use Rattle.std.proofs.Common.{◌+◌, ◌*◌, ◌-◌, length}
-use Rattle.cfggreatest.specs.Tops.{sum_ranks}
-use Rattle.cfggreatest.specs.Spread.{IsSpreading}
+use Rattle.cfggreatest.specs.Inner.Tops.{sum_ranks}
+use Rattle.cfggreatest.specs.Inner.Spread.{IsSpreading}
 use Rattle.cfggreatest.proofs.spread.spread.Given as goal
 
 abbrev pub invariant-loop-rule : goal.invariant-loop-rule

@@ -1,6 +1,6 @@
 use Rattle.std.proofs.Common.{◌<◌, length, sym, subst}
 use Rattle.std.proofs.lemmas.List.Elements.{All-get_or}
-use Rattle.cfggreatest.specs.Tops.{sum_ranks}
+use Rattle.cfggreatest.specs.Inner.Tops.{sum_ranks}
 use Rattle.cfggreatest.proofs.Ending.{paid_both}
 use Rattle.cfggreatest.proofs.spread.visit_each.Goals as goal
 

@@ -1,4 +1,4 @@
-use Rattle.cfggreatest.specs.Spread.{IsPaid, IsSpreading}
+use Rattle.cfggreatest.specs.Inner.Spread.{IsPaid, IsSpreading}
 use Rattle.cfggreatest.proofs.spread.visit_each.Given as goal
 
 abbrev pub invariant-loop-p : goal.invariant-loop-p

@@ -1,4 +1,4 @@
-use Rattle.cfggreatest.specs.Spread.{IsSpreading}
+use Rattle.cfggreatest.specs.Inner.Spread.{IsSpreading}
 use Rattle.cfggreatest.proofs.spread.visit_rules.Given as goal
 
 abbrev pub invariant-loop-rule : goal.invariant-loop-rule

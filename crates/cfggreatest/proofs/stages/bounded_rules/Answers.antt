@@ -1,6 +1,6 @@
 use Rattle.std.proofs.Common.{◌+◌, ◌<◌, List, Bool, cond, length, sym, subst, ap, ◌∙◌, true≢false}
-use Rattle.cfggreatest.specs.Peel.{count_removed}
-use Rattle.cfggreatest.specs.Stages.{AreFoundBounded, AreOthersUnbounded}
+use Rattle.cfggreatest.specs.Inner.Peel.{count_removed}
+use Rattle.cfggreatest.specs.Inner.Stages.{AreFoundBounded, AreOthersUnbounded}
 use Rattle.cfggreatest.proofs.Ending.{round_smaller}
 use Rattle.cfggreatest.proofs.Lent.{put_back}
 use Rattle.cfggreatest.proofs.stages.bounded_rules.Goals as goal

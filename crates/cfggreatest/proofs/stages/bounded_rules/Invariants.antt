@@ -1,6 +1,6 @@
 use Rattle.std.proofs.Common.{◌≡◌, ◌+◌, cond, false}
-use Rattle.cfggreatest.specs.Peel.{count_removed}
-use Rattle.cfggreatest.specs.Stages.{AreFoundBounded, AreOthersUnbounded}
+use Rattle.cfggreatest.specs.Inner.Peel.{count_removed}
+use Rattle.cfggreatest.specs.Inner.Stages.{AreFoundBounded, AreOthersUnbounded}
 use Rattle.cfggreatest.proofs.stages.bounded_rules.Given as goal
 
 abbrev pub invariant-loop-changed : goal.invariant-loop-changed

@@ -1,7 +1,6 @@
 use Rattle.std.proofs.Common.{◌<◌, ℕ, All, true, replicate, length, sym, subst, ap, ◌∙◌}
 use Rattle.std.proofs.lemmas.List.{length-replicate}
-use Rattle.cfganalysis.specs.Rounds.{IsSettled}
-use Rattle.cfggreatest.specs.Peel.{IsKept, IsPeeled}
+use Rattle.cfggreatest.specs.Inner.Peel.{AreKept, IsPeeled}
 use Rattle.cfggreatest.proofs.Lent.{put_back}
 use Rattle.cfggreatest.proofs.Widening.{all_peeled}
 use Rattle.cfggreatest.proofs.stages.kept_rules.Goals as goal
@@ -38,6 +37,6 @@ returns-clause-peeled g c =
 pub returns-clause-kept : goal.returns-clause-kept
 returns-clause-kept g c =
     let grammar = g.T.Tables.grammar c.args.grm.now in
-    put_back (IsSettled (λ y p. IsKept c.args.signs.now c.args.bounded.now y p) grammar) c.in_ok-further.further.len c.peel.new.further _
+    put_back (AreKept grammar c.args.signs.now c.args.bounded.now) c.in_ok-further.further.len c.peel.new.further _
     (c.peel.ensures.peeled.rules ∙ sym c.rules_len.ensures.value ∙ sym c.to_usize-rules_len.ensures.value
     ∙ sym (ap length c.in_ok-further.ensures ∙ length-replicate c.to_usize-rules_len.result true) ∙ sym c.in_ok-further.further.ok.0) c.peel.ensures.kept

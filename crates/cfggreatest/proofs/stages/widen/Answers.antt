@@ -1,5 +1,5 @@
 use Rattle.std.proofs.Common.{length, subst}
-use Rattle.cfggreatest.specs.Merge.{Merges}
+use Rattle.cfggreatest.specs.Inner.Merge.{Merges}
 use Rattle.cfggreatest.proofs.Widening.{stage_widens}
 use Rattle.cfggreatest.proofs.stages.widen.Goals as goal
 

@@ -1,6 +1,6 @@
 use Rattle.std.proofs.Common.{◌≡◌, ◌<◌, All, List, Bool, false, length, sym, ap, subst, ◌∙◌}
 use Rattle.std.proofs.lemmas.List.{length-replicate}
-use Rattle.cfggreatest.specs.Spread.{IsSpreading}
+use Rattle.cfggreatest.specs.Inner.Spread.{IsSpreading}
 use Rattle.cfggreatest.proofs.Lent.{list_lent, put_back}
 use Rattle.cfggreatest.proofs.Spreading.{none_spreading}
 use Rattle.cfggreatest.proofs.tables.raise_groups.Goals as goal
@@ -55,23 +55,23 @@ loop-group-preserved g c =
     subst (λ (s : List Bool). IsSpreading (g.T.Tables.grammar c.args.grm.now) c.args.costs.now c.args.limit s c.spread.new.table c.spread.new.waiting.items)
     c.deref-in-loop-group-3.ensures.value c.in_ok-spread.ensures
 
-pub settle-requires-clause-costs : goal.settle-requires-clause-costs
-settle-requires-clause-costs g c = c.requires.costs
+pub raise_all-requires-clause-costs : goal.raise_all-requires-clause-costs
+raise_all-requires-clause-costs g c = c.requires.costs
 
-pub settle-requires-clause-set : goal.settle-requires-clause-set
-settle-requires-clause-set g c = c.requires.set
+pub raise_all-requires-clause-set : goal.raise_all-requires-clause-set
+raise_all-requires-clause-set g c = c.requires.set
 
-pub settle-requires-clause-limit : goal.settle-requires-clause-limit
-settle-requires-clause-limit g c = c.requires.limit
+pub raise_all-requires-clause-limit : goal.raise_all-requires-clause-limit
+raise_all-requires-clause-limit g c = c.requires.limit
 
-pub settle-requires-clause-reached : goal.settle-requires-clause-reached
-settle-requires-clause-reached g c = c.loop-group.invariant.reached
+pub raise_all-requires-clause-reached : goal.raise_all-requires-clause-reached
+raise_all-requires-clause-reached g c = c.loop-group.invariant.reached
 
-pub settle-requires-clause-content : goal.settle-requires-clause-content
-settle-requires-clause-content g c = c.rules_len.ensures.content
+pub raise_all-requires-clause-content : goal.raise_all-requires-clause-content
+raise_all-requires-clause-content g c = c.rules_len.ensures.content
 
 pub returns-clause-reached : goal.returns-clause-reached
-returns-clause-reached g c = c.settle.ensures.reached
+returns-clause-reached g c = c.raise_all.ensures.reached
 
 pub returns-clause-topped : goal.returns-clause-topped
-returns-clause-topped g c = c.settle.ensures.topped
+returns-clause-topped g c = c.raise_all.ensures.topped

@@ -1,4 +1,4 @@
-use Rattle.cfggreatest.specs.Spread.{IsSpreading}
+use Rattle.cfggreatest.specs.Inner.Spread.{IsSpreading}
 use Rattle.cfggreatest.proofs.tables.raise_groups.Given as goal
 
 abbrev pub invariant-loop-group : goal.invariant-loop-group

@@ -1,6 +1,6 @@
 use Rattle.std.proofs.Common.{◌<◌, ℕ, [], All, Vec, Global, length, sym, ap, subst, ◌∙◌}
 use Rattle.std.proofs.lemmas.List.Elements.{All-cons, All-nil}
-use Rattle.cfggreatest.specs.Uses.{AreListsBelow}
+use Rattle.cfggreatest.specs.Inner.Uses.{AreListsBelow}
 use Rattle.cfggreatest.proofs.tables.raise_signs.Goals as goal
 
 pub raise_groups-requires-clause-costs : goal.raise_groups-requires-clause-costs

@@ -3,9 +3,9 @@ use Rattle.std.specs.List.{slice_index}
 use Rattle.std.proofs.lemmas.List.{length-replicate}
 use Rattle.lemmas.proofs.Elements.{get_or-replicate_default}
 use Rattle.derivation.specs.Grammar.{HasProduction}
-use Rattle.cfggreatest.specs.Rows.{in_set}
-use Rattle.cfggreatest.specs.Peel.{AreSigns}
-use Rattle.cfggreatest.specs.Tops.{AreReached, live_in, positive_in}
+use Rattle.cfggreatest.specs.Inner.Rows.{in_set}
+use Rattle.cfggreatest.specs.Inner.Peel.{AreSigns}
+use Rattle.cfggreatest.specs.Inner.Tops.{AreReached, live_in, positive_in}
 use Rattle.cfggreatest.proofs.Lent.{put_back}
 use Rattle.cfggreatest.proofs.Signs.{signs_from_table, tokens_cost}
 use Rattle.cfggreatest.proofs.Tops.{none_reached}

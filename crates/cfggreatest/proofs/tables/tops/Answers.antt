@@ -1,8 +1,8 @@
 use Rattle.std.proofs.Common.{length, sym, ap, subst, ◌∙◌}
 use Rattle.std.proofs.lemmas.List.{length-map}
 use Rattle.std.specs.List.{slice_index}
-use Rattle.cfggreatest.specs.Rows.{in_set}
-use Rattle.cfggreatest.specs.Tops.{AreReached, AreTopped, free_of}
+use Rattle.cfggreatest.specs.Inner.Rows.{in_set}
+use Rattle.cfggreatest.specs.Inner.Tops.{AreReached, AreTopped, free_of}
 use Rattle.cfggreatest.proofs.Lent.{put_back}
 use Rattle.cfggreatest.proofs.Free.{free_reached}
 use Rattle.cfggreatest.proofs.tables.tops.Goals as goal

@@ -1,5 +1,5 @@
 use Rattle.std.proofs.Common.{ℕ, ◌<◌}
-use Rattle.cfggreatest.specs.Uses.{AreListsBelow}
+use Rattle.cfggreatest.specs.Inner.Uses.{AreListsBelow}
 use Rattle.cfggreatest.proofs.uses.add_uses.Given as goal
 
 abbrev pub invariant-loop-symbol : goal.invariant-loop-symbol

@@ -1,7 +1,7 @@
 use Rattle.std.proofs.Common.{◌+◌, ◌<◌, All, length, sym, subst, ap, ◌∙◌}
 use Rattle.std.proofs.lemmas.List.{length_push}
 use Rattle.std.proofs.lemmas.List.Elements.{All-nil, All-push}
-use Rattle.cfggreatest.specs.Uses.{AreListsBelow}
+use Rattle.cfggreatest.specs.Inner.Uses.{AreListsBelow}
 use Rattle.cfggreatest.proofs.Ending.{at_end}
 use Rattle.cfggreatest.proofs.uses.no_uses.Goals as goal
 

@@ -2,7 +2,7 @@ use Rattle.std.proofs.Common.{◌≡◌, ◌<◌, All, map, length, sym, subst, 
 use Rattle.cfganalysis.specs.Symbols.{sym_of}
 use Rattle.cfgsums.specs.Lists.{IsListed}
 use Rattle.cfgsums.proofs.Listed.{symbols_listed}
-use Rattle.cfggreatest.specs.Uses.{AreListsBelow}
+use Rattle.cfggreatest.specs.Inner.Uses.{AreListsBelow}
 use Rattle.cfggreatest.proofs.Lent.{put_back}
 use Rattle.cfggreatest.proofs.uses.uses.Goals as goal
 

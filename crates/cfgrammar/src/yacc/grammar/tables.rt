@@ -1,7 +1,7 @@
 //! The tables of a grammar.
 
 ghost use Rattle.std.specs.Prelude.{◌≡◌, ◌↔◌, ◌==◌, ℕ, ◌+◌, ◌<◌, if◌then◌else◌, List};
-ghost use Rattle.std.specs.Prelude.{[], Some, map, length, position};
+ghost use Rattle.std.specs.Prelude.{[], Some, count_by, map, nat_eq, length, position};
 ghost use Rattle.std.specs.Prelude.{option_map, All, Err, IfErr, IfOk, IfSome, IsSome};
 ghost use Rattle.std.specs.HashMap.{get_by};
 ghost use Rattle.std.specs.Str.{IsUtf8, bytes_eq};
@@ -19,7 +19,7 @@ ghost use Rattle.cfgnumbers.specs.Numbered.{implicit_of, numbered};
 ghost use Rattle.cfgnumbers.specs.Shown.{IsSymbolWithin, has_token_name, production_part, production_text, rule_part};
 ghost use Rattle.cfgnumbers.specs.Shown.{token_part};
 ghost use Rattle.cfgrammar.specs.Spans.{EachAnswerSpan};
-ghost use Rattle.cfgnumbers.specs.WellNumbered.{IsWellNumbered, times};
+ghost use Rattle.cfgnumbers.specs.WellNumbered.{IsWellNumbered};
 
 use super::fault::storage_too_small;
 use super::iter::{PIdxIter, RIdxIter, TIdxIter};
@@ -306,7 +306,8 @@ impl<S: Storage> YaccGrammar<S> {
             ≡ Some (map (λ p. S.number p.0) result.now) }
         ensures within { All (λ p. S.number p.0 < length self.now.productions) result.now }
         ensures own { (p owner : ℕ) → production_part (λ x. x.rule) self.now p ≡ Some owner
-            → times p (map (λ p. S.number p.0) result.now) ≡ (if S.number ridx.0 == owner then 1 else 0) }
+            → count_by (nat_eq p) (map (λ p. S.number p.0) result.now)
+            ≡ (if S.number ridx.0 == owner then 1 else 0) }
     {
         self.rules[usize::from(ridx)].prods.as_slice()
     }

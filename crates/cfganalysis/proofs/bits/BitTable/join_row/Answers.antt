@@ -1,7 +1,7 @@
 use Rattle.std.proofs.Common.{◌≡◌, ℕ, List, Bool, Vec, [], length, get_or, slice_set, subst, sym, ap, ◌∙◌, length-set}
 use Rattle.std.proofs.lemmas.List.{with_items_is}
 use Rattle.std.specs.Vec.{with_items}
-use Rattle.cfganalysis.specs.Table.{GrewTo, joined}
+use Rattle.cfganalysis.specs.Inner.Joined.{GrewTo, joined}
 use Rattle.cfganalysis.proofs.Joins.{rows_wide, rows_joined}
 use Rattle.cfganalysis.proofs.bits.BitTable.join_row.Goals as goal
 

@@ -1,7 +1,8 @@
 use Rattle.std.proofs.Common.{◌<◌, [], ◌∷◌, subst, sym, ap, ◌∙◌}
 use Rattle.derivation.specs.Grammar.{IsSymbolOf}
-use Rattle.cfganalysis.specs.Table.{joined, row_of}
-use Rattle.cfganalysis.specs.Follows.{BeginsList, Gathers}
+use Rattle.cfganalysis.specs.Table.{row_of}
+use Rattle.cfganalysis.specs.Inner.Joined.{joined}
+use Rattle.cfganalysis.specs.Inner.GrowingFollows.{BeginsList, Gathers}
 use Rattle.cfganalysis.specs.Symbols.{sym_of}
 use Rattle.cfganalysis.proofs.OneBit.{row_wide}
 use Rattle.cfganalysis.proofs.Gathering.{gathers_rule}

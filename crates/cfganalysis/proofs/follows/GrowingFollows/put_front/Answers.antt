@@ -1,5 +1,5 @@
 use Rattle.std.proofs.Common.{subst}
-use Rattle.cfganalysis.specs.Follows.{IsFrontOf}
+use Rattle.cfganalysis.specs.Inner.GrowingFollows.{IsFrontOf}
 use Rattle.cfganalysis.proofs.follows.GrowingFollows.put_front.Goals as goal
 
 pub put_first-requires : goal.put_first-requires

@@ -2,7 +2,7 @@ use Rattle.std.proofs.Common.{◌≡◌, ◌+◌, ◌-◌, ◌<◌, map, length,
 use Rattle.std.proofs.lemmas.List.{length-map}
 use Rattle.derivation.specs.Grammar.{IsSymbolOf}
 use Rattle.cfganalysis.specs.Firsts.{FitsGrammar}
-use Rattle.cfganalysis.specs.Follows.{Behind, FrontGives}
+use Rattle.cfganalysis.specs.Inner.GrowingFollows.{Behind, FrontGives}
 use Rattle.cfganalysis.specs.Symbols.{sym_of}
 use Rattle.cfganalysis.proofs.FirstBits.{owner, all_symbols}
 use Rattle.cfganalysis.proofs.Slices.{mapped_all, mapped_drop, mapped_rest}

@@ -1,5 +1,5 @@
 use Rattle.std.proofs.Common.{◌<◌, subst, sym, Contains}
-use Rattle.cfganalysis.specs.Work.{users_of}
+use Rattle.cfganalysis.specs.Inner.Work.{users_of}
 use Rattle.cfganalysis.proofs.work.Work.let_users_wait.Goals as goal
 
 pub let_wait-requires-clause-within : goal.let_wait-requires-clause-within

@@ -1,6 +1,6 @@
 use Rattle.std.proofs.Common.{map, take, Contains}
 use Rattle.cfgast.specs.Unused.{name_of}
-use Rattle.cfgast.specs.Marks.{MarksMore}
+use Rattle.cfgast.specs.Inner.Marks.{MarksMore}
 use Rattle.cfgast.specs.View.{syntax, symbol_view}
 use Rattle.cfgast.proofs.unused.Marks.mark_all.Given as goal
 

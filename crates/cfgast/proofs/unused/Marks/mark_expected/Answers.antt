@@ -1,6 +1,6 @@
 use Rattle.std.proofs.Common.{map, Contains, option_map, subst, ap}
 use Rattle.cfgast.specs.Unused.{name_of}
-use Rattle.cfgast.specs.Marks.{MarksMore}
+use Rattle.cfgast.specs.Inner.Marks.{MarksMore}
 use Rattle.cfgast.specs.View.{syntax, symbol_view, span_entry}
 use Rattle.cfgast.proofs.Fronts.{expected_both, expected_named}
 use Rattle.cfgast.proofs.unused.Marks.mark_expected.Goals as goal

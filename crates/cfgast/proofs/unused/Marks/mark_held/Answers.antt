@@ -4,7 +4,7 @@ use Rattle.std.proofs.lemmas.Option.{slice_get-map, slice_get-get_or, slice_get_
 use Rattle.lemmas.proofs.Lookups.{lookup-map}
 use Rattle.cfgast.specs.Syntax.{entry_name}
 use Rattle.cfgast.specs.Unused.{HeldBy, name_of}
-use Rattle.cfgast.specs.Marks.{MarksMore}
+use Rattle.cfgast.specs.Inner.Marks.{MarksMore}
 use Rattle.cfgast.specs.View.{syntax, production_view, rule_entry, rule_view, symbol_view}
 use Rattle.cfgast.proofs.Fronts.{held_none, held_more, held_past, held_all}
 use Rattle.cfgast.proofs.Searching.{held_at, held_nowhere}

@@ -1,6 +1,6 @@
 use Rattle.std.proofs.Common.{take}
 use Rattle.cfgast.specs.Unused.{HeldBy}
-use Rattle.cfgast.specs.Marks.{MarksMore}
+use Rattle.cfgast.specs.Inner.Marks.{MarksMore}
 use Rattle.cfgast.specs.View.{syntax}
 use Rattle.cfgast.proofs.unused.Marks.mark_held.Given as goal
 

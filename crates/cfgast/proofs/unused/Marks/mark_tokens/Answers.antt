@@ -4,7 +4,7 @@ use Rattle.std.proofs.lemmas.Option.{slice_get-map}
 use Rattle.cfgast.specs.Unused.{TokenName, entry_token}
 use Rattle.cfgast.specs.View.{syntax, span_entry}
 use Rattle.cfgast.proofs.Fronts.{front_none, front_more, front_past, front_all}
-use Rattle.cfgast.specs.Marks.{MarksMore}
+use Rattle.cfgast.specs.Inner.Marks.{MarksMore}
 use Rattle.cfgast.proofs.unused.Marks.mark_tokens.Goals as goal
 use Rattle.cfgast.proofs.unused.Marks.mark_tokens.Goals.{in-Some, in_default}
 

@@ -1,6 +1,6 @@
 use Rattle.std.proofs.Common.{map, take, Contains}
 use Rattle.cfgast.specs.Unused.{entry_token}
-use Rattle.cfgast.specs.Marks.{MarksMore}
+use Rattle.cfgast.specs.Inner.Marks.{MarksMore}
 use Rattle.cfgast.specs.View.{syntax, span_entry}
 use Rattle.cfgast.proofs.unused.Marks.mark_tokens.Given as goal
 

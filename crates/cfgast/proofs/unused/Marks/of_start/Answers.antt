@@ -3,7 +3,7 @@ use Rattle.std.specs.List.{IsDistinct}
 use Rattle.std.specs.Str.{bytes_eq}
 use Rattle.std.proofs.lemmas.List.{length-map, length-replicate}
 use Rattle.cfgast.specs.Syntax.{entry_name}
-use Rattle.cfgast.specs.Marks.{IsOfStart, MarksMore}
+use Rattle.cfgast.specs.Inner.Marks.{IsOfStart, MarksMore}
 use Rattle.cfgast.specs.Unused.{RuleName}
 use Rattle.cfgast.specs.View.{syntax, rule_entry, named_view}
 use Rattle.cfgast.proofs.Found.{names_differ, rule_names}

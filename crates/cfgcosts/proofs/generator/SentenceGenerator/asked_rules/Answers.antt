@@ -3,7 +3,7 @@ use Rattle.std.specs.List.Sorted.{IsPermutation}
 use Rattle.std.proofs.lemmas.List.{length-replicate}
 use Rattle.std.proofs.lemmas.List.Elements.{All-contains_itself, All-weaker}
 use Rattle.derivation.specs.Grammar.{IsGrammar}
-use Rattle.cfganalysis.specs.Paths.{IsHeldBy, Reached, Reaches}
+use Rattle.cfganalysis.specs.Paths.{IsHeldBy, SearchState, Reaches}
 use Rattle.cfganalysis.proofs.Searching.{less_to_do}
 use Rattle.cfgcosts.specs.Generator.{CostTables, IsGenerator}
 use Rattle.cfgcosts.specs.Minimal.{places_of}
@@ -14,7 +14,7 @@ use Rattle.cfgcosts.proofs.generator.SentenceGenerator.asked_rules.Goals as goal
 pub reach-requires : goal.reach-requires
 reach-requires g c =
     let rules = c.from.ensures ∙ c.rules_len.ensures.value ∙ ap (λ (x : CostTables). x.grammar.rules) c.self.view_is in
-    subst (λ m. g.S.Storage.number c.args.rule.0 < m) (sym (ap (λ (s : Reached). length s.rules) c.in_ok-search.ensures ∙ length-replicate _ _ ∙ rules)) c.requires.rule
+    subst (λ m. g.S.Storage.number c.args.rule.0 < m) (sym (ap (λ (s : SearchState). length s.rules) c.in_ok-search.ensures ∙ length-replicate _ _ ∙ rules)) c.requires.rule
 
 pub loop-reached-init : goal.loop-reached-init
 loop-reached-init g c =

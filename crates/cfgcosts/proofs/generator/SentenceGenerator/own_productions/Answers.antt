@@ -1,6 +1,6 @@
 use Rattle.std.proofs.Common.{◌<◌, length, sym, ap, subst, ◌∙◌}
 use Rattle.std.proofs.lemmas.List.{length-replicate}
-use Rattle.cfganalysis.specs.Paths.{Reached}
+use Rattle.cfganalysis.specs.Paths.{SearchState}
 use Rattle.cfganalysis.proofs.Searching.{less_to_do}
 use Rattle.cfgcosts.specs.Generator.{CostTables}
 use Rattle.cfgcosts.specs.Minimal.{places_of}
@@ -11,7 +11,7 @@ use Rattle.cfgcosts.proofs.generator.SentenceGenerator.own_productions.Goals as 
 pub reach-requires : goal.reach-requires
 reach-requires g c =
     let rules = c.from.ensures ∙ c.rules_len.ensures.value ∙ ap (λ (x : CostTables). x.grammar.rules) c.self.view_is in
-    subst (λ m. g.S.Storage.number c.args.rule.0 < m) (sym (ap (λ (s : Reached). length s.rules) c.in_ok-search.ensures ∙ length-replicate _ _ ∙ rules)) c.requires
+    subst (λ m. g.S.Storage.number c.args.rule.0 < m) (sym (ap (λ (s : SearchState). length s.rules) c.in_ok-search.ensures ∙ length-replicate _ _ ∙ rules)) c.requires
 
 pub loop-reached-init : goal.loop-reached-init
 loop-reached-init g c =

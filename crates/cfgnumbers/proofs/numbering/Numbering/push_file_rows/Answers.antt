@@ -4,7 +4,7 @@ use Rattle.std.specs.Slice.Iter.{iter_rest}
 use Rattle.std.proofs.lemmas.Iterator.Consumers.{YieldsList-end}
 use Rattle.cfgast.specs.Syntax.{Production}
 use Rattle.cfgnumbers.specs.Numbered.{file_production}
-use Rattle.cfgnumbers.specs.Resolved.{Resolves}
+use Rattle.cfgnumbers.specs.Inner.Resolved.{Resolves}
 use Rattle.cfgnumbers.specs.View.{file_of, implicit_in, production_view}
 use Rattle.lemmas.proofs.Roads.{item_holds, more_shown, pushed_shown}
 use Rattle.cfgnumbers.proofs.RowLemmas.{production_seen, productions_road}

@@ -2,7 +2,7 @@ use Rattle.std.proofs.Common.{◌≡◌, true, ◌∷◌, ◌++◌, [], map, Bor
 use Rattle.std.proofs.lemmas.Iterator.Consumers.{YieldsList-end}
 use Rattle.cfgbase.specs.declared.span.Span.{Span}
 use Rattle.derivation.specs.Grammar.{Rule, Token}
-use Rattle.cfgcheck.specs.Check.{is_token}
+use Rattle.cfgast.specs.Building.{has_name}
 use Rattle.cfgnumbers.specs.Numbered.{added_production, token_index}
 use Rattle.cfgnumbers.specs.View.{file_of, production_view}
 use Rattle.lemmas.proofs.Roads.{item_holds, more_shown}
@@ -12,9 +12,9 @@ use Rattle.cfgnumbers.proofs.numbering.Numbering.push_implicit.Goals as goal
 pub token_of-requires-clause-known : goal.token_of-requires-clause-known
 token_of-requires-clause-known g c =
     let road = names_road c.args.tokens.now.entries c.into_iter-name-iterator.ensures.into_iter_gives.0 in
-    ap (is_token (file_of c.args.self.now)) c.as_str.ensures.value
+    ap (λ name. has_name name (file_of c.args.self.now).tokens) c.as_str.ensures.value
     ∙ item_holds road c.loop-name.yielded _ c.loop-name.yielded_by _ _ (c.in-Some.name, c.in-Some.field-0-1) c.in-Some.is c.next.ensures.steps
-    (λ name. is_token (file_of c.args.self.now) name ≡ true) c.requires.implicit
+    (λ name. has_name name (file_of c.args.self.now).tokens ≡ true) c.requires.implicit
 
 pub loop-name-preserved : goal.loop-name-preserved
 loop-name-preserved g c =

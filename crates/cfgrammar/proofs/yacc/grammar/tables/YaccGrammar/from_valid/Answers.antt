@@ -6,7 +6,7 @@ use Rattle.cfgast.specs.WellFormed.{IsWellFormed}
 use Rattle.cfgcheck.specs.Sound.{IsSound}
 use Rattle.cfgnumbers.specs.Fits.{LeavesRoom}
 use Rattle.cfgnumbers.specs.Numbered.{added_productions, added_rules, file_production, file_rule, file_token}
-use Rattle.cfgnumbers.specs.Resolved.{AreTokens, IsResolved}
+use Rattle.cfgnumbers.specs.Inner.Resolved.{AreTokens, IsResolved}
 use Rattle.cfgnumbers.specs.WellNumbered.{IsWellNumbered}
 use Rattle.cfgrammar.proofs.Built.{built, of_both, well_numbered}
 use Rattle.cfgnumbers.proofs.Places.{implicit_there}

@@ -1,0 +1,8 @@
+-- Words of clauses inside the crate, of its loops and helpers. No call that users make rests on them.
+pub mod Joined
+pub mod Waiting
+pub mod Work
+pub mod Growth
+pub mod GrowingFirsts
+pub mod GrowingFollows
+pub mod Bounds

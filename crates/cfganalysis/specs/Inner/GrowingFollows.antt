@@ -1,0 +1,113 @@
+-- FOLLOW sets that grow by what productions give, beside the FIRST sets.
+use Rattle.std.specs.Prelude.{◌≡◌, ◌↔◌, ◌⊎◌, ⊤, ◌<◌, ◌≤◌, ℕ, ◌+◌, Bool, false, List, [], ◌∷◌, length, IsTrue, slice_index_or}
+use Rattle.derivation.specs.Grammar.{Sym, Grammar, IsSymbolOf, Production}
+use Rattle.derivation.specs.Follow.{MayFollow}
+use Rattle.derivation.specs.FirstSets.{Vanishes, Begins}
+use Rattle.derivation.specs.FollowSets.{Flows}
+use Rattle.cfganalysis.specs.Table.{Table, IsTable, HasBit, Joins, count_of}
+use Rattle.cfganalysis.specs.Symbols.{sym_of}
+use Rattle.cfganalysis.specs.Inner.Waiting.{Waits}
+use Rattle.cfganalysis.specs.Firsts.{FirstSets, FitsGrammar, AreFirsts, IsAmongFirsts, IsEpsilon}
+use Rattle.cfganalysis.specs.declared.follows.Front.{Front}
+use Rattle.cfganalysis.specs.declared.follows.Front.TheVariants as fronts
+
+-- a row of tokens for each rule, beside the FIRST sets
+pub record FollowSets : Type 0 where
+  pub firsts : FirstSets
+  pub follows : Table
+
+-- a row for each rule, a column for each token
+pub record FitFollows (g : Grammar) (x : FollowSets) : Type 0 where
+  pub firsts : FitsGrammar g x.firsts
+  pub follows : IsTable g.rules g.tokens x.follows
+
+-- nothing but what derivations show, and the end token behind the start rule
+pub record SayFollows (g : Grammar) (x : FollowSets) : Type 0 where
+  pub firsts : AreFirsts g x.firsts
+  pub fits : IsTable g.rules g.tokens x.follows
+  pub finish : (t : ℕ) → t + 1 ≡ g.tokens → HasBit x.follows 0 t
+  pub follow : (r t : ℕ) → HasBit x.follows r t → MayFollow g r t
+
+-- the list's rules are followed by what the list and the rule give
+abbrev pub FlowIn : FollowSets → ℕ → List Sym → Type 0
+FlowIn x rule a = Flows (IsEpsilon x.firsts) (IsAmongFirsts x.firsts) (HasBit x.follows) a (HasBit x.follows rule)
+
+-- they have all that the production gives
+abbrev pub HaveFollowsOf : FollowSets → Production → Type 0
+HaveFollowsOf x p = FlowIn x p.rule p.symbols
+
+-- what a production gives depends on the set of its own rule
+abbrev pub IsOwner : Production → ℕ → Type 0
+IsOwner p r = r ≡ p.rule
+
+-- the rule's set has no more than it had
+abbrev pub HasNoMoreFollows : ℕ → FollowSets → FollowSets → Type 0
+HasNoMoreFollows r old new = (t : ℕ) → HasBit new.follows r t → HasBit old.follows r t
+
+-- how many bits are on
+abbrev pub count_follows : FollowSets → ℕ
+count_follows x = count_of x.follows
+
+-- what begins the list
+abbrev pub BeginsList : FollowSets → List Sym → ℕ → Type 0
+BeginsList x a t = Begins (IsEpsilon x.firsts) (IsAmongFirsts x.firsts) a t
+
+abbrev pub VanishesList : FollowSets → List Sym → Type 0
+VanishesList x a = Vanishes (IsEpsilon x.firsts) a
+
+-- what stands behind a symbol of the rule's production: what begins the rest, or, where it vanishes, what follows
+-- the rule
+abbrev pub Behind : FollowSets → ℕ → List Sym → ℕ → Type 0
+Behind x rule rest t = BeginsList x rest t ⊎ (VanishesList x rest × HasBit x.follows rule t)
+
+-- tokens were put behind rules
+pub record Puts (gives : ℕ → ℕ → Type 0) (old new : FollowSets) (changed : Bool) : Type 0 where
+  pub firsts : new.firsts ≡ old.firsts
+  pub joins : Joins gives old.follows new.follows changed
+
+-- tokens were put behind rules, and each rule whose set gained waits
+pub record PutsBehind (gives : ℕ → ℕ → Type 0) (old new : FollowSets) (waiting waiting' : List Bool) : Type 0 where
+  pub firsts : new.firsts ≡ old.firsts
+  pub shape : (rows columns : ℕ) → IsTable rows columns old.follows → IsTable rows columns new.follows
+  pub bits : (r t : ℕ) → (HasBit new.follows r t ↔ (HasBit old.follows r t ⊎ gives r t))
+  pub no_less : count_follows old ≤ count_follows new
+  pub rules : length waiting' ≡ length waiting
+  pub kept : (r : ℕ) → Waits waiting r → Waits waiting' r
+  pub gained : (r : ℕ) → Waits waiting' r → Waits waiting r ⊎ (count_follows old < count_follows new)
+  pub more : (r : ℕ) → Waits waiting' r → Waits waiting r ⊎ (HasNoMoreFollows r old new → ⊥)
+  pub told : (r t : ℕ) → HasBit new.follows r t → HasBit old.follows r t ⊎ Waits waiting' r
+
+-- the token is gathered
+abbrev pub IsGathered : List Bool → ℕ → Type 0
+IsGathered tokens t = IsTrue (slice_index_or tokens t false)
+
+-- tokens were gathered beside those that were before
+pub record Gathers (gives : ℕ → Type 0) (old new : List Bool) : Type 0 where
+  pub long : length new ≡ length old
+  pub tokens : (t : ℕ) → (IsGathered new t ↔ (IsGathered old t ⊎ gives t))
+
+-- what stands at a front: what follows the rule, what begins the symbol, or what was gathered
+abbrev pub FrontGives : {S : Type 0} → (S → ℕ) → FollowSets → ℕ → List Bool → Front S → ℕ → Type 0
+FrontGives number x rule tokens fronts.End t = HasBit x.follows rule t
+FrontGives number x rule tokens (fronts.Symbol symbol) t = BeginsList x (sym_of number symbol ∷ []) t
+FrontGives number x rule tokens fronts.Gathered t = IsGathered tokens t
+
+-- its symbol is one of the grammar
+abbrev pub IsFrontOf : {S : Type 0} → (S → ℕ) → Grammar → Front S → Type 0
+IsFrontOf number g fronts.End = ⊤
+IsFrontOf number g (fronts.Symbol symbol) = IsSymbolOf g (sym_of number symbol)
+IsFrontOf number g fronts.Gathered = ⊤
+
+abbrev pub IsEnd : {S : Type 0} → Front S → Type 0
+IsEnd fronts.End = ⊤
+IsEnd (fronts.Symbol symbol) = ⊥
+IsEnd fronts.Gathered = ⊥
+
+-- the front before a symbol: what begins the symbol, and, where it vanishes, what stands at the front behind it
+pub record StepsBack {S : Type 0} (number : S → ℕ) (x : FollowSets) (rule : ℕ) (s : Sym) (front : Front S) (tokens : List Bool)
+    (front' : Front S) (tokens' : List Bool) : Type 0 where
+  pub past : (t : ℕ) → (FrontGives number x rule tokens' front' t
+      ↔ (BeginsList x (s ∷ []) t ⊎ (VanishesList x (s ∷ []) × FrontGives number x rule tokens front t)))
+  pub begun : IsEnd front' → ⊥
+  pub fits : (g : Grammar) → IsSymbolOf g s → IsFrontOf number g front'
+  pub long : length tokens' ≡ length tokens

@@ -1,0 +1,56 @@
+-- Sets that grow by what productions give; what a production gives depends on the sets of the rules on which it rests.
+use Rattle.std.specs.Prelude.{◌≡◌, ℕ, ◌+◌, ◌-◌, ◌*◌, ◌<◌, ◌≤◌, ◌⊎◌, ◌↔◌, Bool, false, cond, List, length, Contains}
+use Rattle.derivation.specs.Grammar.{Grammar, Production, IsGrammar}
+use Rattle.cfganalysis.specs.Openings.{nth_production}
+use Rattle.cfganalysis.specs.Table.{bits_on}
+use Rattle.cfganalysis.specs.Inner.Waiting.{waits, Waits, NoneWaits}
+use Rattle.cfganalysis.specs.Inner.Work.{users_of, RestsOnGained}
+
+-- of sets: what they say is so, they have all that a production gives, how many bits are on, on which rules a
+-- production rests
+module _ {X : Type 0} (holds : Grammar → X → Type 0) (covers : X → Production → Type 0) (bits : X → ℕ) (rests_on : Production → ℕ → Type 0) where
+  -- The first n productions were visited: each of them is covered, or waits; and how often productions were opened.
+  pub record Visited (g : Grammar) (n : ℕ) (x : X) (users : List (List ℕ)) (waiting gained : List Bool) (opened : ℕ → ℕ) (all : ℕ) : Type 0 where
+    pub sound : holds g x
+    pub rules : length users ≡ g.rules
+    pub gains : length gained ≡ g.rules
+    pub places : length waiting ≡ length g.productions
+    pub idle : NoneWaits gained
+    pub noted : (q r : ℕ) → q < n → rests_on (nth_production g q) r → Contains (users_of users r) q
+    pub within : (q r : ℕ) → Contains (users_of users r) q → q < n
+    pub known : (q : ℕ) → Waits waiting q → q < n
+    pub covered : (q : ℕ) → q < n → waits waiting q ≡ false → covers x (nth_production g q)
+    pub few : (q : ℕ) → q < n → opened q + cond (waits waiting q) 1 0 ≤ bits x + 1
+    pub fresh : (q : ℕ) → n ≤ q → q < length g.productions → opened q ≡ 0
+    pub together : all + bits_on waiting ≤ n + length g.productions * bits x
+
+  -- of a rule: its set has no more in the second sets than in the first
+  module _ (no_more : ℕ → X → X → Type 0) where
+    -- a production was taken in: the sets have what it gives, and have still what each other one gives, but for
+    -- productions that rest on a rule that gained
+    pub record TakesIn (p : Production) (old new : X) (gained : ℕ → Type 0) : Type 0 where
+      pub sound : (g : Grammar) → IsGrammar g → Contains g.productions p → holds g old → holds g new
+      pub no_less : bits old ≤ bits new
+      pub more : (r : ℕ) → gained r → bits old < bits new
+      pub gains : (r : ℕ) → (gained r ↔ (no_more r old new → ⊥))
+      pub closed : ((r : ℕ) → rests_on p r → gained r → ⊥) → covers new p
+      pub stays : (q : Production) → ((r : ℕ) → rests_on q r → gained r → ⊥) → covers old q → covers new q
+
+    -- a production was taken in, and those that rest on a rule that gained wait, beside those that waited
+    pub record TakesInto (p : Production) (users : List (List ℕ)) (old new : X) (waiting waiting' : List Bool) : Type 0 where
+      pub sound : (g : Grammar) → IsGrammar g → Contains g.productions p → holds g old → holds g new
+      pub no_less : bits old ≤ bits new
+      pub more : (r : ℕ) → (no_more r old new → ⊥) → bits old < bits new
+      pub shape : length waiting' ≡ length waiting
+      pub again : (q : ℕ) → (Waits waiting' q ↔ (Waits waiting q ⊎ RestsOnGained users (λ r. no_more r old new → ⊥) q))
+      pub closed : (n : ℕ) → ((r : ℕ) → rests_on p r → Contains (users_of users r) n) → waits waiting' n ≡ false → covers new p
+      pub stays : (q : Production) (n : ℕ) → ((r : ℕ) → rests_on q r → Contains (users_of users r) n) → waits waiting' n ≡ false
+          → covers old q → covers new q
+
+-- no production gives more
+abbrev pub CoversEach : {X : Type 0} → (X → Production → Type 0) → Grammar → X → Type 0
+CoversEach covers g x = (q : ℕ) → q < length g.productions → covers x (nth_production g q)
+
+-- how much is left to do: bits to turn on, and productions that wait
+abbrev pub left_to_do : Grammar → ℕ → List Bool → ℕ
+left_to_do g bits waiting = (g.rules * (g.tokens + 1) - bits) * (length waiting + 1) + bits_on waiting

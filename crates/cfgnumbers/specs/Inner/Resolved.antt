@@ -1,0 +1,20 @@
+-- Syntaxes in which every name is that of something that is there.
+use Rattle.std.specs.Prelude.{◌≡◌, ℕ, List, Option, true, All, IfSome, Some, None}
+use Rattle.cfgwords.specs.Words.{Word}
+use Rattle.cfgast.specs.Building.{has_name, has_rule}
+use Rattle.cfgast.specs.Syntax.{Syntax, Production}
+use Rattle.cfgcheck.specs.Check.{symbol_error}
+
+-- the symbols name rules and tokens of the syntax
+abbrev pub Resolves : Syntax → Production → Type 0
+Resolves s production = All (λ symbol. symbol_error s symbol ≡ None) production.symbols
+
+pub record IsResolved (s : Syntax) : Type 0 where
+  pub start : Word
+  pub starts : s.start ≡ Some start
+  pub start_is_rule : has_rule start.name s.rules ≡ true
+  pub symbols : All (Resolves s) s.productions
+
+-- the names are those of tokens of the syntax, where there are some
+abbrev pub AreTokens : Syntax → Option (List (List ℕ)) → Type 0
+AreTokens s implicit = IfSome implicit (All (λ name. has_name name s.tokens ≡ true))
