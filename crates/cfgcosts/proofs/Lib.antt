@@ -23,6 +23,7 @@ pub mod Tokens
 pub mod Counted
 pub mod Contained
 pub mod Joins
+pub mod Keys
 pub mod Tables
 pub mod Firsts
 pub mod Popped
@@ -32,3 +33,4 @@ pub mod Searches
 pub mod OwnBelow
 pub mod AskedRules
 pub mod Filled
+pub mod OnlyHeirs

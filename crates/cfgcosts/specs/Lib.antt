@@ -8,5 +8,7 @@ pub mod Generator
 pub mod Sentences
 pub mod Splits
 pub mod Levels
+pub mod Heirs
 pub mod Minimal
+pub mod Marks
 pub mod DerivedBy

@@ -11,6 +11,7 @@ ghost use Rattle.cfgcosts.specs.Certificate.{IsCovered, IsReached, choice_of, ru
 ghost use Rattle.cfgcosts.specs.Generator.{AnswersLeast, HasNone, IsLeastProduction, IsTooDear, choice_answer};
 ghost use Rattle.cfgcosts.specs.Generator.{cost_answer, token_cost};
 
+use crate::heirs::last_heirs;
 use crate::kinds::{Kind, kinds};
 use crate::settle::{Settled, settle};
 use crate::walk::TOO_LARGE;
@@ -50,6 +51,8 @@ pub struct SentenceGenerator<'a, S: Storage, T: Tables<S>> {
     pub(crate) costs: Vec<u8>,
     pub(crate) settled: Settled<S>,
     pub(crate) kinds: Vec<Kind<S>>,
+    /// For each rule one of the same minimal sentences: the last of a row of rules that are handed on to alone.
+    pub(crate) last_heirs: Vec<RIdx<S>>,
     greatest: Vec<Result<Option<u16>, CostError>>,
 }
 
@@ -57,6 +60,7 @@ impl<'a, S: Storage, T: Tables<S>> Model for SentenceGenerator<'a, S, T> {
     ghost use Rattle.std.specs.Prelude.{slice_index};
     ghost use Rattle.cfggreatest.specs.Words.{AreTold};
     ghost use Rattle.cfgcosts.specs.Generator.{CostTables, IsGenerator, tables_of};
+    ghost use Rattle.cfgcosts.specs.Heirs.{AreHeirs, rules_of};
     ghost use Rattle.cfgcosts.specs.Minimal.{AreKinds};
 
     ghost Value = { CostTables };
@@ -68,7 +72,8 @@ impl<'a, S: Storage, T: Tables<S>> Model for SentenceGenerator<'a, S, T> {
         x.settled.least.items x.settled.choices.items) x.settled.number
         × AreTold (T.grammar x.tables.now) (slice_index x.costs.items) x.greatest.items
         × AreKinds S.number (tables_of S.number (T.grammar x.tables.now) x.costs.items x.settled.least.items
-        x.settled.choices.items) x.kinds.items };
+        x.settled.choices.items) x.kinds.items
+        × AreHeirs S.number (T.grammar x.tables.now) x.kinds.items (rules_of S.number x.last_heirs.items) };
 }
 
 impl<'a, S: Storage, T: Tables<S>> SentenceGenerator<'a, S, T> {
@@ -96,12 +101,14 @@ impl<'a, S: Storage, T: Tables<S>> SentenceGenerator<'a, S, T> {
         let costs = token_costs(alloc, tokens_len, cost)?;
         let settled = settle(alloc, tables, &costs)?;
         let kinds = kinds(alloc, tables, &costs, &settled)?;
+        let last_heirs = last_heirs(alloc, tables, &kinds)?;
         let greatest = greatest_costs(alloc, tables, &costs)?;
         Ok(SentenceGenerator {
             tables,
             costs,
             settled,
             kinds,
+            last_heirs,
             greatest,
         })
     }

@@ -4,6 +4,7 @@
 pub mod certificate;
 pub mod errors;
 pub mod generator;
+mod heirs;
 mod kinds;
 pub mod laws;
 mod minimal;
