@@ -1,18 +1,15 @@
 -- A table that is filled rule by rule, by rising costs, has all minimal sentences of the rules that were asked for.
-use Rattle.std.proofs.Common.{◌≡◌, ◌↔◌, ℕ, ◌<◌, ◌≤◌, ◌⊎◌, inl, inr, List, [], ◌∷◌, ◌++◌, Some, All, Contains, length, replicate, arith, sym, ap, subst, ◌∙◌}
+use Rattle.std.proofs.Common.{◌≡◌, ◌↔◌, ℕ, ◌<◌, ◌≤◌, ◌⊎◌, inl, inr, List, [], ◌∷◌, ◌++◌, Some, All, Contains, arith, sym, ap, subst, ◌∙◌}
 use Rattle.std.specs.List.Sorted.{IsPermutation}
-use Rattle.std.proofs.lemmas.List.{length-replicate}
-use Rattle.std.proofs.lemmas.List.Elements.{All-contains, Contains-push_cases}
+use Rattle.std.proofs.lemmas.Bool.{cases_eq}
+use Rattle.std.proofs.lemmas.List.Elements.{All-contains, Contains-append_left, Contains-push, Contains-push_cases}
 use Rattle.std.proofs.lemmas.List.Sorted.{Contains-permutation, IsPermutation-sym}
-use Rattle.lemmas.proofs.Elements.{get_or-replicate_default}
-use Rattle.derivation.specs.Grammar.{Sym, Rule, IsGrammar}
+use Rattle.derivation.specs.Grammar.{Grammar, Sym, Rule, IsGrammar}
 use Rattle.cfganalysis.specs.Openings.{nth_production}
 use Rattle.cfgcosts.specs.Generator.{CostTables, IsGenerator, cost_answer}
-use Rattle.cfgcosts.specs.Minimal.{AddsMinimal, AddsSentence, AddsSentences, AreAsked, AreMinimal, HasAllMinimal, HasSentence, IsMinimal, IsOwnBelow, IsReadyFor, sentences_of}
+use Rattle.cfgcosts.specs.Minimal.{AreAsked, HasMinimal, HasSentence, IsMadeBy, IsMinimal, IsOwnBelow, IsReadyFor, Puts}
 use Rattle.cfgcosts.specs.Splits.{Split, done, itself, part}
-use Rattle.cfgcosts.proofs.Contained.{contains_cases, contains_first, contains_later, contains_none}
-use Rattle.cfgcosts.proofs.Splits.{Split-map}
-use Rattle.cfgcosts.proofs.Tables.{Table, adds, added_has, extends_as, extends_both, extends_none, still_minimal}
+use Rattle.cfgcosts.proofs.Contained.{contains_cases, contains_first, contains_later, contains_none, contains_one}
 use Rattle.cfgcosts.proofs.Tight.{free_minimal, minimal_free, minimal_made, own_less, own_makes}
 
 -- a word cut otherwise, as the rules of the row allow
@@ -22,65 +19,57 @@ cut_within F G f (itself {a = a} s) = itself (cut_within F G (λ r u h k. f r u 
 cut_within F G f (part {r = r} {a = a} {u = u} h s e) =
     part (f r u (contains_first (Rule r) a) h) (cut_within F G (λ q v k l. f q v (contains_later (Rule r) (Rule q) a k) l) s) e
 
-module _ (x : CostTables) where
-  -- what own productions below the rule make of minimal sentences was added
-  module _ (r : ℕ) (old : Table) where
-    pub record Making (own : List ℕ) (table : Table) : Type 0 where
-      pub extends : AddsMinimal x old table
-      pub made : (p : ℕ) (w : List ℕ) → Contains own p → Split (IsMinimal x) (nth_production x.grammar p).symbols w → HasSentence table r w
+-- what productions make of a table
+module _ (g : Grammar) (table : List (ℕ × List (List ℕ))) where
+  pub made_none : (words : List (List ℕ)) → words ≡ [] → (w : List ℕ) → Contains words w ↔ IsMadeBy g table [] w
+  made_none words none w = (λ h. absurd (contains_none w (subst (λ l. Contains l w) none h)), λ m. absurd (contains_none m.place m.among))
 
-    pub making_begins : Making [] old
-    making_begins = record { extends = extends_none (IsMinimal x) old; made = λ p w h cut. absurd (contains_none p h) }
-
-    module _ (n : ℕ) (is : IsGenerator x n) (grammar : IsGrammar x.grammar) (ready : IsReadyFor x old r) (minimal : AreMinimal x old) where
-      pub making_more : (own : List ℕ) (p : ℕ) (table table' : Table) (words : List (List ℕ)) → Making own table → IsOwnBelow x r p
-          → ((w : List ℕ) → Contains words w ↔ Split (HasSentence table) (nth_production x.grammar p).symbols w) → AddsSentences r words table table'
-          → Making (own ++ p ∷ []) table'
-      making_more own p table table' words m below all added =
-          let symbols = (nth_production x.grammar p).symbols in
-          let now = still_minimal x old table minimal m.extends in
-          record {
-            extends = extends_both (IsMinimal x) old table table' m.extends (extends_as (λ q w. (q ≡ r) × Contains words w) (IsMinimal x)
-                (λ q w h. subst (λ q. IsMinimal x q w) (sym h.0)
-                (own_makes x n is grammar r p w below (Split-map (HasSentence table) (IsMinimal x) now ((all w).0 h.1)))) table table' added.extends);
-            made = λ q w h cut. elim (Contains-push_cases own p q h) [
-              | inl before ↦ added.extends.kept r w (m.made q w before cut)
-              | inr same ↦ added.all w ((all w).1 (cut_within (IsMinimal x) (HasSentence table) {a = symbols}
-                  (λ s u k l. m.extends.kept s u (ready p s below k u l)) (subst (λ y. Split (IsMinimal x) (nth_production x.grammar y).symbols w) (sym same) cut)))
-            ];
-          }
-
-    pub making_ends : (n : ℕ) → IsGenerator x n → IsGrammar x.grammar → (c : ℕ) (own : List ℕ) (table : Table) → cost_answer x r ≡ Some c → 0 < c → ((p : ℕ) → Contains own p ↔ IsOwnBelow x r p) → Making own table
-        → HasAllMinimal x table r
-    making_ends n is grammar c own table answer some all m w least =
-        let made = minimal_made x n is grammar r c w answer some least in
-        m.made made.place w ((all made.place).1 made.below) made.parts
-
-  -- the empty sentence of a rule that costs nothing
-  pub free_added : (n : ℕ) → IsGenerator x n → IsGrammar x.grammar → (r : ℕ) (table table' : Table) → r < length table → cost_answer x r ≡ Some 0 → AddsSentence r [] table table'
-      → AddsMinimal x table table' × HasAllMinimal x table' r
-  free_added n is grammar r table table' within free a = (
-    extends_as (λ q w. (q ≡ r) × (w ≡ [])) (IsMinimal x) (λ q w h. subst (λ q. IsMinimal x q w) (sym h.0) (subst (IsMinimal x r) (sym h.1) (free_minimal x n is grammar r free)))
-        table table' (adds [] r table table' within a),
-    (λ w m. subst (HasSentence table' r) (sym (minimal_free x n is grammar r w free m)) (added_has [] r table table' within a)),
+  pub made_more : (places : List ℕ) (p : ℕ) (old new words : List (List ℕ)) → ((w : List ℕ) → Contains old w ↔ IsMadeBy g table places w)
+      → ((w : List ℕ) → Contains words w ↔ Split (HasSentence table) (nth_production g p).symbols w)
+      → ((w : List ℕ) → Contains new w ↔ (Contains old w ⊎ Contains words w)) → (w : List ℕ) → Contains new w ↔ IsMadeBy g table (places ++ p ∷ []) w
+  made_more places p old new words before here both w = (
+    (λ h. elim ((both w).0 h) [
+      | inl i ↦ let m = (before w).0 i in record { place = m.place; among = Contains-append_left places (p ∷ []) m.place m.among; parts = m.parts }
+      | inr i ↦ record { place = p; among = Contains-push places p; parts = (here w).0 i }
+    ]),
+    (λ m. (both w).1 (elim (Contains-push_cases places p m.place m.among) [
+      | inl i ↦ inl ((before w).1 (record { place = m.place; among = i; parts = m.parts }))
+      | inr same ↦ inr ((here w).1 (subst (λ q. Split (HasSentence table) (nth_production g q).symbols w) (sym same) m.parts))
+    ])),
   )
 
+module _ (x : CostTables) where
+  -- what own productions below a rule make of minimal sentences are those of the rule
+  module _ (n : ℕ) (is : IsGenerator x n) (grammar : IsGrammar x.grammar) (r c : ℕ) (answer : cost_answer x r ≡ Some c) where
+    pub made_minimal : (table : List (ℕ × List (List ℕ))) (own : List ℕ) → 0 < c → IsReadyFor x table r → ((p : ℕ) → Contains own p ↔ IsOwnBelow x r p)
+        → (w : List ℕ) → IsMadeBy x.grammar table own w ↔ IsMinimal x r w
+    made_minimal table own some ready all w = (
+      (λ m. let below = (all m.place).0 m.among in
+          own_makes x n is grammar r m.place w below (cut_within (HasSentence table) (IsMinimal x) (λ q u among has. (ready m.place q below among u).0 has) m.parts)),
+      (λ m. let made = minimal_made x n is grammar r c w answer some m in record {
+        place = made.place;
+        among = (all made.place).1 made.below;
+        parts = cut_within (IsMinimal x) (HasSentence table) (λ q u among least. (ready made.place q made.below among u).1 least) made.parts;
+      }),
+    )
+
+    -- a rule that costs nothing has the empty sentence
+    pub free_alone : c ≡ 0 → (w : List ℕ) → Contains ([] ∷ []) w ↔ IsMinimal x r w
+    free_alone none w =
+        let free = answer ∙ ap Some none in (
+          (λ h. subst (IsMinimal x r) (contains_one [] w h) (free_minimal x n is grammar r free)),
+          (λ m. subst (Contains ([] ∷ [])) (sym (minimal_free x n is grammar r w free m)) (contains_first [] [])),
+        )
+
   -- of the rules that were asked for, some are left
-  pub record Filling (asked left : List (ℕ × ℕ)) (table : Table) : Type 0 where
-    pub rules : length table ≡ x.grammar.rules
-    pub minimal : AreMinimal x table
+  pub record Filling (asked left : List (ℕ × ℕ)) (table : List (ℕ × List (List ℕ))) : Type 0 where
     pub among : (c q : ℕ) → Contains left (c, q) → Contains asked (c, q)
-    pub filled : (c q : ℕ) → Contains asked (c, q) → Contains left (c, q) ⊎ HasAllMinimal x table q
+    pub filled : (c q : ℕ) → Contains asked (c, q) → Contains left (c, q) ⊎ HasMinimal x table q
 
-  pub filling_begins : (asked : List (ℕ × ℕ)) (m : ℕ) (table : Table) → m ≡ x.grammar.rules → table ≡ replicate m [] → Filling asked asked table
-  filling_begins asked m table e empty = record {
-    rules = ap length empty ∙ length-replicate m [] ∙ e;
-    minimal = λ q w h. absurd (contains_none w (subst (λ l. Contains l w) (ap (λ t. sentences_of t q) empty ∙ get_or-replicate_default m q []) h));
-    among = λ c q h. h;
-    filled = λ c q h. inl h;
-  }
+  pub filling_begins : (asked : List (ℕ × ℕ)) (table : List (ℕ × List (List ℕ))) → Filling asked asked table
+  filling_begins asked table = record { among = λ c q h. h; filled = λ c q h. inl h }
 
-  module _ (r : ℕ) (asked left rest : List (ℕ × ℕ)) (top : ℕ × ℕ) (table : Table) (all : AreAsked x r asked) (f : Filling asked left table)
+  module _ (r : ℕ) (asked left rest : List (ℕ × ℕ)) (top : ℕ × ℕ) (table : List (ℕ × List (List ℕ))) (all : AreAsked x r asked) (f : Filling asked left table)
       (out : IsPermutation left (top ∷ rest)) (least : All (λ entry. top.0 ≤ entry.0) rest) where
     inside : (e : ℕ × ℕ) → Contains (top ∷ rest) e → Contains left e
     inside e h = Contains-permutation (top ∷ rest) left e (IsPermutation-sym left (top ∷ rest) out) h
@@ -104,23 +93,28 @@ module _ (x : CostTables) where
           ]
         ]
 
-    pub filling_goes_on : (table' : Table) → AddsMinimal x table table' → HasAllMinimal x table' top.1 → Filling asked rest table'
-    filling_goes_on table' adds full = record {
-      rules = adds.rules ∙ f.rules;
-      minimal = still_minimal x table table' f.minimal adds;
+    pub filling_goes_on : (table' : List (ℕ × List (List ℕ))) (words : List (List ℕ)) → Puts top.1 words table table' → ((w : List ℕ) → Contains words w ↔ IsMinimal x top.1 w)
+        → Filling asked rest table'
+    filling_goes_on table' words puts minimal = record {
       among = λ c q h. f.among c q (inside (c, q) (contains_later top (c, q) rest h));
       filled = λ c q h. elim (f.filled c q h) [
-        | inr before ↦ inr (λ w m. adds.kept q w (before w m))
+        | inr before ↦ inr (still q before)
         | inl waits ↦ elim (contains_cases top (c, q) rest (Contains-permutation left (top ∷ rest) (c, q) out waits)) [
-          | inl same ↦ inr (subst (HasAllMinimal x table') (ap (λ (y : ℕ × ℕ). y.1) same) full)
+          | inl same ↦ inr (subst (HasMinimal x table') (ap (λ (y : ℕ × ℕ). y.1) same) now)
           | inr later ↦ inl later
         ]
       ];
     }
+      where
+        now : HasMinimal x table' top.1
+        now w = subst (λ l. Contains l w ↔ IsMinimal x top.1 w) (sym puts.here) (minimal w)
 
-  -- where none is left, the table has all of the rule, and nothing else of it
-  pub filling_ends : (r : ℕ) (asked : List (ℕ × ℕ)) (table : Table) → AreAsked x r asked → Filling asked [] table → (w : List ℕ) → HasSentence table r w ↔ IsMinimal x r w
-  filling_ends r asked table all f w = (
-    f.minimal r w,
-    (λ m. elim (f.filled all.first.0 r all.first.1) [ inl waits ↦ absurd (contains_none (all.first.0, r) waits) | inr full ↦ full w m ]),
-  )
+        still : (q : ℕ) → HasMinimal x table q → HasMinimal x table' q
+        still q before = elim (cases_eq q top.1) [
+          | inl same ↦ subst (HasMinimal x table') (sym same) now
+          | inr apart ↦ (λ w. subst (λ l. Contains l w ↔ IsMinimal x q w) (sym (puts.others q apart)) (before w))
+        ]
+
+  -- where none is left, the table has all of the rule
+  pub filling_ends : (r : ℕ) (asked : List (ℕ × ℕ)) (table : List (ℕ × List (List ℕ))) → AreAsked x r asked → Filling asked [] table → HasMinimal x table r
+  filling_ends r asked table all f = elim (f.filled all.first.0 r all.first.1) [ inl waits ↦ absurd (contains_none (all.first.0, r) waits) | inr full ↦ full ]

@@ -5,7 +5,7 @@ use Rattle.std.proofs.lemmas.List.Elements.{All-contains_itself, All-weaker}
 use Rattle.derivation.specs.Grammar.{Sym, Rule, Token, IsGrammar}
 use Rattle.derivation.specs.Sentence.{cost_of}
 use Rattle.cfganalysis.specs.Openings.{nth_production}
-use Rattle.cfganalysis.proofs.Settling.{at_place}
+use Rattle.cfganalysis.proofs.Placed.{at_place}
 use Rattle.cfgsums.specs.Lists.{rule_cost}
 use Rattle.cfgcosts.specs.Certificate.{rule_choice}
 use Rattle.cfgcosts.specs.FirstChoices.{IsNotAbove, Opens, Walks}

@@ -1,5 +1,5 @@
 -- Sets of words of the code, seen through their numbers.
-use Rattle.std.proofs.Common.{◌≡◌, ℕ, ◌<◌, List, [], ◌∷◌, length, map, get_or, slice_set, refl, sym, ap, ◌∙◌}
+use Rattle.std.proofs.Common.{◌≡◌, ◌↔◌, ◌⊎◌, inl, inr, ℕ, List, [], ◌∷◌, map, Contains, refl, sym, ap, subst, ◌∙◌}
 use Rattle.std.specs.Prelude.{Vec}
 use Rattle.std.specs.declared.alloc.Global.{Global}
 use Rattle.std.specs.declared.cmp.Ordering.{Ordering}
@@ -10,8 +10,9 @@ use Rattle.std.specs.List.Sorted.{IsStrictlySortedBy}
 use Rattle.std.specs.List.{AllByRecursion}
 use Rattle.std.specs.BTreeSet.{BTreeSet, insert_key}
 use Rattle.cfgindex.specs.declared.idxnewtype.TIdx.{TIdx}
-use Rattle.cfgcosts.specs.Minimal.{AddsSentence, dictionary, numbers_of, sentences_of, set_of}
-use Rattle.cfgsums.proofs.Rows.{item_shown, set_shown}
+use Rattle.cfgcosts.specs.Minimal.{dictionary, numbers_of, set_of}
+use Rattle.cfgcosts.proofs.Contained.{contains_cases, contains_first, contains_later}
+use Rattle.cfgcosts.proofs.Tables.{inserts}
 
 pub order_shown : {A : Type 0} (cmp : A → A → Ordering) (f : A → ℕ) → ((x y : A) → cmp x y ≡ nat_cmp (f x) (f y)) → (v w : List A) → slice_cmp cmp v w ≡ dictionary (map f v) (map f w)
 order_shown cmp f same [] [] = refl
@@ -34,14 +35,36 @@ module _ {K : Type 0} (cmp : K → K → Ordering) (f : K → List ℕ) (shown :
 
 module _ {S : Type 0} (number : S → ℕ) (cmp : Vec (TIdx S) Global → Vec (TIdx S) Global → Ordering)
     (shown : (v w : Vec (TIdx S) Global) → cmp v w ≡ dictionary (numbers_of number v) (numbers_of number w)) where
-  pub added_shown : (sets : List (BTreeSet (Vec (TIdx S) Global))) (table : List (List (List ℕ))) (r : ℕ) (k : Vec (TIdx S) Global) (old new : BTreeSet (Vec (TIdx S) Global))
-      → map (set_of number) sets ≡ table → r < length table → old ≡ get_or sets r old → new.keys ≡ insert_key cmp old.keys k
-      → AddsSentence r (numbers_of number k) table (map (set_of number) (slice_set sets r new))
-  added_shown sets table r k old new view within at keys =
-      let item : sentences_of table r ≡ set_of number old = item_shown (set_of number) sets table r old [] view within at in
-      let put = set_shown (set_of number) sets table r new view in
-      let inserted = ap (map (numbers_of number)) keys ∙ inserted_shown cmp (numbers_of number) shown k old.keys in
-      put ∙ ap (slice_set table r) (inserted ∙ ap (λ l. insert_key dictionary l (numbers_of number k)) (sym item))
+  -- a set has a word more, unless it was there
+  pub added_shown : (old new : BTreeSet (Vec (TIdx S) Global)) (k : Vec (TIdx S) Global) → new.keys ≡ insert_key cmp old.keys k
+      → (w : List ℕ) → Contains (set_of number new) w ↔ (Contains (set_of number old) w ⊎ (numbers_of number k ≡ w))
+  added_shown old new k keys w =
+      let whole = ap (map (numbers_of number)) keys ∙ inserted_shown cmp (numbers_of number) shown k old.keys in
+      let there = inserts (numbers_of number k) (set_of number old) in (
+        (λ h. elim (there.only w (subst (λ l. Contains l w) whole h)) [ inl before ↦ inl before | inr is ↦ inr (sym is) ]),
+        (λ h. subst (λ l. Contains l w) (sym whole) (elim h [ inl before ↦ there.kept w before | inr is ↦ subst (Contains (insert_key dictionary (set_of number old) (numbers_of number k))) is there.has ])),
+      )
+
+  -- the empty word alone
+  pub empty_alone : (old new : BTreeSet (Vec (TIdx S) Global)) (k : Vec (TIdx S) Global) → old.keys ≡ [] → k.items ≡ [] → new.keys ≡ insert_key cmp old.keys k → set_of number new ≡ [] ∷ []
+  empty_alone old new k none empty keys = ap (map (numbers_of number)) (keys ∙ ap (λ l. insert_key cmp l k) none) ∙ ap (λ l. map (λ t. number t.0) l ∷ []) empty
+
+  -- the words that were added, from the last one
+  pub added_more : (first old new : BTreeSet (Vec (TIdx S) Global)) (k : Vec (TIdx S) Global) (added : List (List ℕ)) → new.keys ≡ insert_key cmp old.keys k
+      → ((w : List ℕ) → Contains (set_of number old) w ↔ (Contains (set_of number first) w ⊎ Contains added w))
+      → (w : List ℕ) → Contains (set_of number new) w ↔ (Contains (set_of number first) w ⊎ Contains (numbers_of number k ∷ added) w)
+  added_more first old new k added keys all w =
+      let word = numbers_of number k in
+      let one = added_shown old new k keys w in (
+        (λ h. elim (one.0 h) [
+          | inl before ↦ elim ((all w).0 before) [ inl i ↦ inl i | inr i ↦ inr (contains_later word w added i) ]
+          | inr is ↦ inr (subst (Contains (word ∷ added)) is (contains_first word added))
+        ]),
+        (λ h. one.1 (elim h [
+          | inl i ↦ inl ((all w).1 (inl i))
+          | inr i ↦ elim (contains_cases word w added i) [ inl is ↦ inr is | inr later ↦ inl ((all w).1 (inr later)) ]
+        ])),
+      )
 
 module _ {K : Type 0} (cmp : K → K → Ordering) (f : K → List ℕ) (shown : (v w : K) → cmp v w ≡ dictionary (f v) (f w)) where
   all_less : (k : K) (xs : List K) → AllByRecursion (λ y. cmp k y ≡ Less) xs → AllByRecursion (λ y. dictionary (f k) y ≡ Less) (map f xs)

@@ -4,11 +4,18 @@ use Rattle.std.proofs.lemmas.List.Elements.{Contains-append_left, Contains-appen
 use Rattle.derivation.specs.Grammar.{Sym, Rule, Token}
 use Rattle.cfgcosts.specs.Splits.{Split, done, itself, part}
 use Rattle.cfgcosts.specs.Minimal.{HasSentence, IsJoined, words_of_symbol}
-use Rattle.cfgcosts.proofs.Contained.{contains_first, contains_later, contains_one, contains_cases, contains_mapped, contains_source}
+use Rattle.cfgcosts.proofs.Contained.{contains_first, contains_later, contains_none, contains_one, contains_cases, contains_mapped, contains_source}
 
 -- a list of words holds just those that are joined
 abbrev pub AreJoined : List (List ℕ) → List (List ℕ) → List (List ℕ) → Type 0
 AreJoined words fronts backs = (w : List ℕ) → Contains words w ↔ IsJoined fronts backs w
+
+-- no word is made where there is no back
+pub none_joined : (words fronts backs : List (List ℕ)) → words ≡ [] → backs ≡ [] → AreJoined words fronts backs
+none_joined words fronts backs e f w = (
+  (λ h. absurd (contains_none w (subst (λ l. Contains l w) e h))),
+  (λ j. absurd (contains_none j.back (subst (λ l. Contains l j.back) f j.second))),
+)
 
 joined_later : (front : List ℕ) (fronts backs : List (List ℕ)) (w : List ℕ) → IsJoined fronts backs w → IsJoined (front ∷ fronts) backs w
 joined_later front fronts backs w j = record { front = j.front; back = j.back; first = contains_later front j.front fronts j.first; second = j.second; whole = j.whole }
@@ -30,7 +37,7 @@ joined_front words more front fronts backs all e w = (
 )
 
 -- a row with a symbol more
-module _ (table : List (List (List ℕ))) where
+module _ (table : List (ℕ × List (List ℕ))) where
   abbrev Cut : List Sym → List ℕ → Type 0
   Cut = Split (HasSentence table)
 

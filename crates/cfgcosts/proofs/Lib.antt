@@ -24,6 +24,7 @@ pub mod Tokens
 pub mod Counted
 pub mod Contained
 pub mod Joins
+pub mod Keys
 pub mod Tables
 pub mod Firsts
 pub mod Popped
@@ -38,3 +39,4 @@ pub mod FirstChosen
 pub mod ChoosingFirsts
 pub mod FirstsMade
 pub mod RowsInOrder
+pub mod OnlyHeirs

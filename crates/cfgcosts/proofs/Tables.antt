@@ -1,18 +1,19 @@
--- Tables of sentences: a sentence more, and what stays.
-use Rattle.std.proofs.Common.{◌≡◌, ℕ, ◌<◌, ◌⊎◌, inl, inr, List, [], ◌∷◌, length, Contains, refl, sym, ap, subst, ◌∙◌}
+-- Words in the order of a dictionary, and tables of sentences.
+use Rattle.std.proofs.Common.{◌≡◌, ℕ, ◌<◌, ◌⊎◌, inl, inr, List, [], ◌∷◌, Option, Some, None, map, cond, Contains, refl, sym, ap, subst, ◌∙◌}
+use denote.Ref.{Bor}
+use Rattle.std.specs.Prelude.{MatchOption}
 use Rattle.std.specs.declared.cmp.Ordering.{Ordering}
 use Rattle.std.specs.declared.cmp.Ordering.TheVariants.{Less, Equal, Greater}
 use Rattle.std.specs.Ordering.{match_ordering, ordering_then, nat_cmp}
+use Rattle.std.specs.BTreeMap.{is_at}
 use Rattle.std.specs.BTreeSet.{insert_key}
+use Rattle.std.specs.Map.{lookup}
+use Rattle.std.specs.Option.{option_copied, option_map, unwrap_or}
 use Rattle.std.proofs.lemmas.Cmp.{ranked, by_ranked}
-use Rattle.std.proofs.lemmas.List.{length-set, get_or-set_same}
-use Rattle.lemmas.proofs.Elements.{get_or-set}
-use Rattle.cfgcosts.specs.Minimal.{AddsMinimal, AddsSentence, AreMinimal, Extends, HasSentence, dictionary, sentences_of}
-use Rattle.cfgcosts.specs.Generator.{CostTables}
+use Rattle.std.proofs.lemmas.Map.Made.{lookup-map_values}
+use Rattle.cfgcosts.specs.Minimal.{Puts, dictionary, sentences_of}
 use Rattle.cfgcosts.proofs.Contained.{contains_first, contains_later, contains_cases}
-
-abbrev pub Table : Type 0
-Table = List (List (List ℕ))
+use Rattle.cfgcosts.proofs.Keys.{itself_found, same_key}
 
 -- words that the dictionary doesn't tell apart are the same
 pub dictionary_same : (v w : List ℕ) → dictionary v w ≡ Equal → v ≡ w
@@ -25,13 +26,10 @@ dictionary_same (x ∷ v) (y ∷ w) e = by_ranked (x < y) (x ≡ y) (y < x) (nat
     (λ o h. absurd (let no : ◌≡◌ {A = Ordering} Greater Equal = sym (ap (λ r. ordering_then r (dictionary v w)) o) ∙ e in cc))
 
 module _ (w : List ℕ) where
-  inserted : List (List ℕ) → List (List ℕ)
-  inserted words = insert_key dictionary words w
-
-  record Inserts (words new : List (List ℕ)) : Type 0 where
-    has : Contains new w
-    kept : (v : List ℕ) → Contains words v → Contains new v
-    only : (v : List ℕ) → Contains new v → Contains words v ⊎ (v ≡ w)
+  pub record Inserts (words new : List (List ℕ)) : Type 0 where
+    pub has : Contains new w
+    pub kept : (v : List ℕ) → Contains words v → Contains new v
+    pub only : (v : List ℕ) → Contains new v → Contains words v ⊎ (v ≡ w)
 
   in_order : (o : Ordering) (x : List ℕ) (xs more : List (List ℕ)) → (o ≡ Equal → w ≡ x) → Inserts xs more → Inserts (x ∷ xs) (match_ordering o (w ∷ x ∷ xs) (x ∷ xs) (x ∷ more))
   in_order Less x xs more same h = record {
@@ -49,52 +47,30 @@ module _ (w : List ℕ) where
     ];
   }
 
-  inserts : (words : List (List ℕ)) → Inserts words (insert_key dictionary words w)
+  pub inserts : (words : List (List ℕ)) → Inserts words (insert_key dictionary words w)
   inserts [] = record { has = contains_first w []; kept = λ v k. contains_later w v [] k; only = λ v k. elim (contains_cases w v [] k) [ inl is ↦ inr (sym is) | inr old ↦ inl old ] }
   inserts (x ∷ xs) = in_order (dictionary w x) x xs (insert_key dictionary xs w) (dictionary_same w x) (inserts xs)
 
-  module _ (r : ℕ) (table table' : Table) (within : r < length table) (a : AddsSentence r w table table') where
-    abbrev new : List (List ℕ)
-    new = insert_key dictionary (sentences_of table r) w
+-- what a table has of a rule, through what shows its entries
+module _ {A : Type 0} (shown : A → List (List ℕ)) where
+  abbrev pub table_of : List (ℕ × A) → List (ℕ × List (List ℕ))
+  table_of entries = map (λ entry. (entry.0, shown entry.1)) entries
 
-    there : Inserts (sentences_of table r) (sentences_of table' r)
-    there = subst (Inserts (sentences_of table r)) (sym (ap (λ t. sentences_of t r) a ∙ get_or-set_same table r new [] within)) (inserts (sentences_of table r))
+  pub words_found : (entries : List (ℕ × A)) (r : ℕ) (found : Option A) → lookup (is_at (nat_cmp r)) entries ≡ found → sentences_of (table_of entries) r ≡ unwrap_or (option_map shown found) []
+  words_found entries r found e = ap (λ o. unwrap_or o []) (lookup-map_values shown (is_at (nat_cmp r)) entries) ∙ ap (λ o. unwrap_or (option_map shown o) []) e
 
-    -- a sentence was added to the table
-    pub adds : Extends (λ q v. (q ≡ r) × (v ≡ w)) table table'
-    adds = record {
-      rules = ap length a ∙ length-set table r new;
-      kept = λ q v h. elim (get_or-set table r q new []) [
-        | inl same ↦ subst (λ l. Contains l v) (sym (ap (λ t. sentences_of t q) a ∙ same)) h
-        | inr is ↦ subst (λ n. HasSentence table' n v) (sym is.0) (there.kept v (subst (λ n. HasSentence table n v) is.0 h))
-      ];
-      only = λ q v h. elim (get_or-set table r q new []) [
-        | inl same ↦ inl (subst (λ l. Contains l v) (ap (λ t. sentences_of t q) a ∙ same) h)
-        | inr is ↦ elim (there.only v (subst (λ n. HasSentence table' n v) is.0 h)) [
-          | inl old ↦ inl (subst (λ n. HasSentence table n v) (sym is.0) old)
-          | inr it ↦ inr (is.0, it)
-        ]
-      ];
-    }
+  pub words_matched : (entries : List (ℕ × A)) (r : ℕ) (o : Option (Bor A)) → option_copied o ≡ lookup (is_at (nat_cmp r)) entries
+      → MatchOption o (sentences_of (table_of entries) r ≡ []) (λ set. shown set.now ≡ sentences_of (table_of entries) r)
+  words_matched entries r None e = words_found entries r None (sym e)
+  words_matched entries r (Some set) e = sym (words_found entries r (Some set.now) (sym e))
 
-    -- which then has it
-    pub added_has : HasSentence table' r w
-    added_has = there.has
-
-module _ (Q : ℕ → List ℕ → Type 0) where
-  pub extends_none : (table : Table) → Extends Q table table
-  extends_none table = record { rules = refl; kept = λ r w h. h; only = λ r w h. inl h }
-
-  pub extends_both : (t t' t'' : Table) → Extends Q t t' → Extends Q t' t'' → Extends Q t t''
-  extends_both t t' t'' h k = record {
-    rules = k.rules ∙ h.rules;
-    kept = λ r w m. k.kept r w (h.kept r w m);
-    only = λ r w m. elim (k.only r w m) [ inl old ↦ h.only r w old | inr new ↦ inr new ];
+  pub words_put : (old new : List (ℕ × A)) (r : ℕ) (a : A)
+      → ((q : ℕ) → lookup (is_at (nat_cmp q)) new ≡ cond (is_at (nat_cmp r) q) (Some a) (lookup (is_at (nat_cmp q)) old)) → Puts r (shown a) (table_of old) (table_of new)
+  words_put old new r a updates = record {
+    here = words_found new r (Some a) (updates r ∙ ap (λ b. cond b (Some a) (lookup (is_at (nat_cmp r)) old)) (itself_found r));
+    others = λ q apart. elim (same_key r q) [
+      | inl h ↦ absurd (apart (sym h.1))
+      | inr h ↦ words_found new q (lookup (is_at (nat_cmp q)) old) (updates q ∙ ap (λ b. cond b (Some a) (lookup (is_at (nat_cmp q)) old)) h.0)
+          ∙ sym (words_found old q (lookup (is_at (nat_cmp q)) old) refl)
+    ];
   }
-
-  pub extends_as : (R : ℕ → List ℕ → Type 0) → ((r : ℕ) (w : List ℕ) → Q r w → R r w) → (t t' : Table) → Extends Q t t' → Extends R t t'
-  extends_as R turn t t' h = record { rules = h.rules; kept = h.kept; only = λ r w m. elim (h.only r w m) [ inl old ↦ inl old | inr new ↦ inr (turn r w new) ] }
-
--- what is added is minimal
-pub still_minimal : (x : CostTables) (t t' : Table) → AreMinimal x t → AddsMinimal x t t' → AreMinimal x t'
-still_minimal x t t' all h r w m = elim (h.only r w m) [ inl old ↦ all r w old | inr new ↦ new ]

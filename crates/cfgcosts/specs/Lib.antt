@@ -8,6 +8,8 @@ pub mod Generator
 pub mod Sentences
 pub mod Splits
 pub mod Levels
+pub mod Heirs
 pub mod Minimal
 pub mod FirstChoices
+pub mod Marks
 pub mod DerivedBy

@@ -1,21 +1,25 @@
 -- All minimal sentences of a rule, from a table that is filled by rising costs.
-use Rattle.std.specs.Prelude.{◌≡◌, ◌↔◌, ℕ, ◌<◌, ◌⊎◌, List, [], ◌∷◌, ◌++◌, Option, Some, Contains, length, map, slice_index_or, slice_set}
+use Rattle.std.specs.Prelude.{◌≡◌, ◌↔◌, ℕ, ◌<◌, ◌⊎◌, List, [], ◌∷◌, ◌++◌, Option, Some, Contains, length, map, slice_index_or}
 use Rattle.std.specs.declared.cmp.Ordering.{Ordering}
 use Rattle.std.specs.declared.cmp.Ordering.TheVariants.{Greater}
 use Rattle.std.specs.Ordering.{nat_cmp}
 use Rattle.std.specs.Cmp.Lexicographic.{slice_cmp}
-use Rattle.std.specs.BTreeSet.{BTreeSet, insert_key}
+use Rattle.std.specs.BTreeMap.{is_at}
+use Rattle.std.specs.BTreeSet.{BTreeSet}
+use Rattle.std.specs.Map.{lookup}
+use Rattle.std.specs.Option.{unwrap_or}
 use Rattle.std.specs.Prelude.{Vec}
 use Rattle.std.specs.declared.alloc.Global.{Global}
 use Rattle.cfgindex.specs.declared.idxnewtype.PIdx.{PIdx}
 use Rattle.cfgindex.specs.declared.idxnewtype.TIdx.{TIdx}
-use Rattle.derivation.specs.Grammar.{Sym, Rule, Token, HasProduction}
+use Rattle.derivation.specs.Grammar.{Grammar, Sym, Rule, Token, HasProduction}
 use Rattle.derivation.specs.Costs.{Minimal}
 use Rattle.cfganalysis.specs.Openings.{nth_production}
 use Rattle.cfgsums.specs.Sums.{sum_of, symbol_cost}
 use Rattle.cfgsums.specs.Lists.{rule_cost}
 use Rattle.cfgcosts.specs.Generator.{CostTables, cost_answer, token_cost}
 use Rattle.cfgcosts.specs.Levels.{Along}
+use Rattle.cfgcosts.specs.Splits.{Split}
 use Rattle.cfgcosts.specs.declared.kinds.Kind.{Kind}
 use Rattle.cfgcosts.specs.declared.kinds.Kind.TheVariants.{Slack, Own, HandsOn}
 
@@ -117,43 +121,32 @@ pub record IsJoined (fronts backs : List (List ℕ)) (w : List ℕ) : Type 0 whe
   pub whole : w ≡ front ++ back
 
 -- the sentences that a table has of a rule
-abbrev pub sentences_of : List (List (List ℕ)) → ℕ → List (List ℕ)
-sentences_of table r = slice_index_or table r []
+abbrev pub sentences_of : List (ℕ × List (List ℕ)) → ℕ → List (List ℕ)
+sentences_of table r = unwrap_or (lookup (is_at (nat_cmp r)) table) []
 
-abbrev pub HasSentence : List (List (List ℕ)) → ℕ → List ℕ → Type 0
+abbrev pub HasSentence : List (ℕ × List (List ℕ)) → ℕ → List ℕ → Type 0
 HasSentence table r w = Contains (sentences_of table r) w
 
 -- the words that a symbol stands for
-abbrev pub words_of_symbol : List (List (List ℕ)) → Sym → List (List ℕ)
+abbrev pub words_of_symbol : List (ℕ × List (List ℕ)) → Sym → List (List ℕ)
 words_of_symbol table (Token t) = (t ∷ []) ∷ []
 words_of_symbol table (Rule r) = sentences_of table r
 
--- a sentence went to its place among those of the rule, or was there
-abbrev pub AddsSentence : ℕ → List ℕ → List (List (List ℕ)) → List (List (List ℕ)) → Type 0
-AddsSentence r w table table' = table' ≡ slice_set table r (insert_key dictionary (sentences_of table r) w)
+-- these are the sentences of the rule now, and the other rules have theirs
+pub record Puts (r : ℕ) (words : List (List ℕ)) (table table' : List (ℕ × List (List ℕ))) : Type 0 where
+  pub here : sentences_of table' r ≡ words
+  pub others : (q : ℕ) → (q ≡ r → ⊥) → sentences_of table' q ≡ sentences_of table q
 
--- the table has what it had, and beside that only what is Added
-pub record Extends (Added : ℕ → List ℕ → Type 0) (table table' : List (List (List ℕ))) : Type 0 where
-  pub rules : length table' ≡ length table
-  pub kept : (r : ℕ) (w : List ℕ) → HasSentence table r w → HasSentence table' r w
-  pub only : (r : ℕ) (w : List ℕ) → HasSentence table' r w → HasSentence table r w ⊎ Added r w
+-- one of these productions makes the word of the table's sentences
+pub record IsMadeBy (g : Grammar) (table : List (ℕ × List (List ℕ))) (places : List ℕ) (w : List ℕ) : Type 0 where
+  pub place : ℕ
+  pub among : Contains places place
+  pub parts : Split (HasSentence table) (nth_production g place).symbols w
 
--- the table has these words of the rule, and what it had
-pub record AddsSentences (r : ℕ) (words : List (List ℕ)) (table table' : List (List (List ℕ))) : Type 0 where
-  pub extends : Extends (λ q w. (q ≡ r) × Contains words w) table table'
-  pub all : (w : List ℕ) → Contains words w → HasSentence table' r w
+-- the table has just the minimal sentences of the rule
+abbrev pub HasMinimal : CostTables → List (ℕ × List (List ℕ)) → ℕ → Type 0
+HasMinimal x table r = (w : List ℕ) → HasSentence table r w ↔ IsMinimal x r w
 
--- all that a table has are minimal sentences, and it has all of a rule
-abbrev pub AreMinimal : CostTables → List (List (List ℕ)) → Type 0
-AreMinimal x table = (r : ℕ) (w : List ℕ) → HasSentence table r w → IsMinimal x r w
-
-abbrev pub HasAllMinimal : CostTables → List (List (List ℕ)) → ℕ → Type 0
-HasAllMinimal x table r = (w : List ℕ) → IsMinimal x r w → HasSentence table r w
-
--- the table has all of each rule that stands in an own production below the rule
-abbrev pub IsReadyFor : CostTables → List (List (List ℕ)) → ℕ → Type 0
-IsReadyFor x table r = (p q : ℕ) → IsOwnBelow x r p → Contains (nth_production x.grammar p).symbols (Rule q) → HasAllMinimal x table q
-
--- minimal sentences were added
-abbrev pub AddsMinimal : CostTables → List (List (List ℕ)) → List (List (List ℕ)) → Type 0
-AddsMinimal x = Extends (IsMinimal x)
+-- so it has of each rule that stands in an own production below the rule
+abbrev pub IsReadyFor : CostTables → List (ℕ × List (List ℕ)) → ℕ → Type 0
+IsReadyFor x table r = (p q : ℕ) → IsOwnBelow x r p → Contains (nth_production x.grammar p).symbols (Rule q) → HasMinimal x table q

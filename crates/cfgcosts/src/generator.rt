@@ -12,6 +12,7 @@ ghost use Rattle.cfgcosts.specs.Generator.{AnswersLeast, HasNone, IsLeastProduct
 ghost use Rattle.cfgcosts.specs.Generator.{cost_answer, token_cost};
 
 use crate::first_choices::first_choices;
+use crate::heirs::last_heirs;
 use crate::kinds::{Kind, kinds};
 use crate::settle::{Settled, settle};
 use crate::walk::TOO_LARGE;
@@ -53,6 +54,8 @@ pub struct SentenceGenerator<'a, S: Storage, T: Tables<S>> {
     pub(crate) kinds: Vec<Kind<S>>,
     /// For each rule that costs something the production by which its first minimal sentence is made.
     pub(crate) firsts: Vec<Option<(PIdx<S>, u32)>>,
+    /// For each rule one of the same minimal sentences: the last of a row of rules that are handed on to alone.
+    pub(crate) last_heirs: Vec<RIdx<S>>,
     greatest: Vec<Result<Option<u16>, CostError>>,
 }
 
@@ -61,6 +64,7 @@ impl<'a, S: Storage, T: Tables<S>> Model for SentenceGenerator<'a, S, T> {
     ghost use Rattle.cfggreatest.specs.Words.{AreTold};
     ghost use Rattle.cfgcosts.specs.FirstChoices.{AreFirst, Walks};
     ghost use Rattle.cfgcosts.specs.Generator.{CostTables, IsGenerator, tables_of};
+    ghost use Rattle.cfgcosts.specs.Heirs.{AreHeirs, rules_of};
     ghost use Rattle.cfgcosts.specs.Minimal.{AreKinds};
 
     ghost Value = { CostTables };
@@ -74,7 +78,8 @@ impl<'a, S: Storage, T: Tables<S>> Model for SentenceGenerator<'a, S, T> {
         × AreKinds S.number (tables_of S.number (T.grammar x.tables.now) x.costs.items x.settled.least.items
         x.settled.choices.items) x.kinds.items
         × Walks (tables_of S.number (T.grammar x.tables.now) x.costs.items x.settled.least.items x.firsts.items)
-        × AreFirst (tables_of S.number (T.grammar x.tables.now) x.costs.items x.settled.least.items x.firsts.items) };
+        × AreFirst (tables_of S.number (T.grammar x.tables.now) x.costs.items x.settled.least.items x.firsts.items)
+        × AreHeirs S.number (T.grammar x.tables.now) x.kinds.items (rules_of S.number x.last_heirs.items) };
 }
 
 impl<'a, S: Storage, T: Tables<S>> SentenceGenerator<'a, S, T> {
@@ -103,6 +108,7 @@ impl<'a, S: Storage, T: Tables<S>> SentenceGenerator<'a, S, T> {
         let settled = settle(alloc, tables, &costs)?;
         let kinds = kinds(alloc, tables, &costs, &settled)?;
         let firsts = first_choices(alloc, tables, &costs, &settled, &kinds)?;
+        let last_heirs = last_heirs(alloc, tables, &kinds)?;
         let greatest = greatest_costs(alloc, tables, &costs)?;
         Ok(SentenceGenerator {
             tables,
@@ -110,6 +116,7 @@ impl<'a, S: Storage, T: Tables<S>> SentenceGenerator<'a, S, T> {
             settled,
             kinds,
             firsts,
+            last_heirs,
             greatest,
         })
     }

@@ -6,6 +6,7 @@ ghost use Rattle.derivation.specs.Grammar.{Rule};
 ghost use Rattle.cfgsums.specs.Lists.{IsListed, rule_cost};
 ghost use Rattle.cfgsums.specs.Sums.{symbol_cost};
 ghost use Rattle.cfgcosts.specs.Generator.{IsGenerator, tables_of};
+ghost use Rattle.cfgcosts.specs.Heirs.{HasRulesAsHeirs};
 ghost use Rattle.cfgcosts.specs.Minimal.{AreKinds, IsKind, IsRowKind};
 
 use crate::partial::Partial;
@@ -127,8 +128,9 @@ pub(crate) fn kinds<S: Storage, T: Tables<S>>(
 ) -> Result<Vec<Kind<S>>, AllocError>
     requires { IsGenerator (tables_of S.number (T.grammar tables.now) costs.now settled.now.least.items
         settled.now.choices.items) settled.now.number }
-    ensures { IfOk result (λ kinds. AreKinds S.number (tables_of S.number (T.grammar tables.now) costs.now
+    ensures kinds { IfOk result (λ kinds. AreKinds S.number (tables_of S.number (T.grammar tables.now) costs.now
         settled.now.least.items settled.now.choices.items) kinds.items) }
+    ensures heirs { IfOk result (λ kinds. HasRulesAsHeirs S.number (T.grammar tables.now) kinds.items) }
 {
     let prods_len = tables.prods_len().0.to_usize();
     let mut kinds = Vec::new(alloc);

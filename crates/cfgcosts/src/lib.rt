@@ -5,6 +5,7 @@ pub mod certificate;
 pub mod errors;
 mod first_choices;
 pub mod generator;
+mod heirs;
 mod kinds;
 pub mod laws;
 mod minimal;

@@ -4,4 +4,5 @@ mod all;
 mod asked;
 mod levels;
 mod products;
+mod search;
 mod table;

@@ -1,78 +1,83 @@
 //! All minimal sentences of a rule, made of those of the rules that it needs.
 
-ghost use Rattle.std.specs.Prelude.{◌≡◌, ◌↔◌, ℕ, ◌<◌, List, Contains, Err, IfOk, OnOk, Some, length, map};
+ghost use Rattle.std.specs.Prelude.{◌≡◌, ◌↔◌, ℕ, ◌<◌, List, All, Contains, Err, IfOk, Some, length, map};
 ghost use Rattle.std.specs.List.Sorted.{IsStrictlySortedBy};
 ghost use Rattle.derivation.specs.Grammar.{HasProduction};
 ghost use Rattle.derivation.specs.Costs.{Minimal};
 ghost use Rattle.cfgcosts.specs.Generator.{HasNone, IsTooDear, cost_answer, token_cost};
-ghost use Rattle.cfgcosts.specs.Minimal.{AddsMinimal, AreMinimal, HasAllMinimal, HasSentence, IsOwnBelow};
-ghost use Rattle.cfgcosts.specs.Minimal.{IsReadyFor, dictionary, numbers_of, places_of};
+ghost use Rattle.cfgcosts.specs.Minimal.{HasMinimal, IsMadeBy, IsMinimal, IsReadyFor};
+ghost use Rattle.cfgcosts.specs.Minimal.{dictionary, numbers_of, places_of, set_of};
 
 use crate::errors::SentenceError;
 use crate::generator::SentenceGenerator;
 use crate::minimal::products::row_words;
-use crate::minimal::table::SentenceTable;
+use crate::minimal::table::{SentenceTable, add_all};
 use cfganalysis::Tables;
 use cfgindex::{PIdx, RIdx, Storage, TIdx, to_storage};
 use std::alloc::{AllocError, Global};
+use std::collections::BTreeSet;
 
 impl<'a, S: Storage, T: Tables<S>> SentenceGenerator<'a, S, T> {
-    /// Adds what the productions make of the table's sentences to those of the rule.
+    /// A rule of the same minimal sentences: the rule, or where it hands on to one rule alone, the last of a row of such
+    /// rules.
+    fn last_heir(&self, rule: RIdx<S>) -> RIdx<S>
+        requires { S.number rule.0 < self.now.grammar.rules }
+        ensures rule { S.number result.0 < self.now.grammar.rules }
+        ensures cost { cost_answer self.now (S.number result.0) ≡ cost_answer self.now (S.number rule.0) }
+        ensures same { (w : List ℕ) → IsMinimal self.now (S.number result.0) w ↔ IsMinimal self.now (S.number rule.0) w }
+    {
+        let _rules = self.tables.rules_len();
+        self.last_heirs[usize::from(rule)]
+    }
+
+    /// What the productions make of the table's sentences.
     ///
     /// # Errors
     ///
     /// Want of memory.
-    fn add_made(
+    fn made_words(
         &self,
         alloc: Global,
         own: &[PIdx<S>],
-        rule: RIdx<S>,
-        table: &mut SentenceTable<S>,
-    ) -> Result<(), AllocError>
-        requires rule { S.number rule.0 < self.now.grammar.rules }
-        requires cost { (c : ℕ) × (0 < c) × (cost_answer self.now (S.number rule.0) ≡ Some c) }
-        requires own { (p : ℕ) → Contains (places_of S.number own.now) p ↔ IsOwnBelow self.now (S.number rule.0) p }
-        requires rules { length table.old ≡ self.now.grammar.rules }
-        requires minimal { AreMinimal self.now table.old }
-        requires ready { IsReadyFor self.now table.old (S.number rule.0) }
-        ensures adds { OnOk result (AddsMinimal self.now table.old table.new) }
-        ensures all { OnOk result (HasAllMinimal self.now table.new (S.number rule.0)) }
+        table: &SentenceTable<S>,
+    ) -> Result<BTreeSet<Vec<TIdx<S>>>, AllocError>
+        requires { All (λ p. p < length self.now.grammar.productions) (places_of S.number own.now) }
+        ensures { IfOk result (λ words. (w : List ℕ) → Contains (set_of S.number words) w
+            ↔ IsMadeBy self.now.grammar table.now (places_of S.number own.now) w) }
     {
-        let _rules = self.tables.rules_len();
+        let mut words = BTreeSet::new(alloc);
         for p in own {
-            let words = row_words(alloc, table, self.tables.prod(*p))?;
-            table.add_all(usize::from(rule), words)?;
+            let made = row_words(alloc, table, self.tables.prod(*p))?;
+            add_all(&mut words, made)?;
         }
-        Ok(())
+        Ok(words)
     }
 
-    /// Adds all minimal sentences of the rule, where the table has those of the rules that they are made of.
+    /// All minimal sentences of the rule, where the table has those of the rules that they are made of.
     ///
     /// # Errors
     ///
     /// Want of memory.
-    fn add_level(
+    fn level_sentences(
         &self,
         alloc: Global,
         rule: RIdx<S>,
-        table: &mut SentenceTable<S>,
-    ) -> Result<(), AllocError>
+        table: &SentenceTable<S>,
+    ) -> Result<BTreeSet<Vec<TIdx<S>>>, AllocError>
         requires rule { S.number rule.0 < self.now.grammar.rules }
         requires known { (c : ℕ) × (cost_answer self.now (S.number rule.0) ≡ Some c) }
-        requires rules { length table.old ≡ self.now.grammar.rules }
-        requires minimal { AreMinimal self.now table.old }
-        requires ready { IsReadyFor self.now table.old (S.number rule.0) }
-        ensures adds { OnOk result (AddsMinimal self.now table.old table.new) }
-        ensures all { OnOk result (HasAllMinimal self.now table.new (S.number rule.0)) }
+        requires ready { IsReadyFor self.now table.now (S.number rule.0) }
+        ensures { IfOk result (λ words. (w : List ℕ) → Contains (set_of S.number words) w
+            ↔ IsMinimal self.now (S.number rule.0) w) }
     {
         let _rules = self.tables.rules_len();
         if self.is_free(rule) {
-            table.add(usize::from(rule), Vec::new(alloc))?;
-            return Ok(());
+            let mut words = BTreeSet::new(alloc);
+            words.insert(Vec::new(alloc))?;
+            return Ok(words);
         }
         let own = self.own_productions(alloc, rule)?;
-        self.add_made(alloc, &own, rule, table)?;
-        Ok(())
+        self.made_words(alloc, &own, table)
     }
 
     /// A table that has all minimal sentences of the rule.
@@ -83,14 +88,15 @@ impl<'a, S: Storage, T: Tables<S>> SentenceGenerator<'a, S, T> {
     fn full_table(&self, alloc: Global, rule: RIdx<S>) -> Result<SentenceTable<S>, AllocError>
         requires rule { S.number rule.0 < self.now.grammar.rules }
         requires known { (c : ℕ) × (cost_answer self.now (S.number rule.0) ≡ Some c) }
-        ensures rules { IfOk result (λ table. length table ≡ self.now.grammar.rules) }
-        ensures all { IfOk result (λ table. (w : List ℕ) → HasSentence table (S.number rule.0) w
-            ↔ Minimal (HasProduction self.now.grammar) (token_cost self.now) (S.number rule.0) w) }
+        ensures { IfOk result (λ table. HasMinimal self.now table (S.number rule.0)) }
     {
-        let mut table = SentenceTable::new(alloc, self.tables.rules_len().0.to_usize())?;
+        let _rules = self.tables.rules_len().0.to_usize();
+        let mut table = SentenceTable::new(alloc);
         let mut asked = self.asked_rules(alloc, rule)?;
         while let Some((_, number)) = asked.pop() {
-            self.add_level(alloc, RIdx(to_storage(number as usize)), &mut table)?;
+            let level = RIdx(to_storage(number as usize));
+            let sentences = self.level_sentences(alloc, level, &table)?;
+            table.put(number as usize, sentences)?;
         }
         Ok(table)
     }
@@ -119,8 +125,9 @@ impl<'a, S: Storage, T: Tables<S>> SentenceGenerator<'a, S, T> {
             ↔ IsTooDear (HasProduction self.now.grammar) (token_cost self.now) (S.number rule.0) }
     {
         self.min_sentence_cost(rule)?;
-        let table = self.full_table(alloc, rule)?;
-        let sentences = table.take(alloc, usize::from(rule))?;
+        let last = self.last_heir(rule);
+        let table = self.full_table(alloc, last)?;
+        let sentences = table.take(alloc, usize::from(last))?;
         Ok(sentences)
     }
 }

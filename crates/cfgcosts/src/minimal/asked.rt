@@ -5,8 +5,9 @@ ghost use Rattle.cfgcosts.specs.Generator.{cost_answer};
 ghost use Rattle.cfgcosts.specs.Minimal.{AreAsked};
 
 use crate::generator::SentenceGenerator;
+use crate::minimal::search::Search;
 use crate::queue::Queue;
-use cfganalysis::{Search, Tables};
+use cfganalysis::Tables;
 use cfgindex::{RIdx, Storage};
 use std::alloc::{AllocError, Global};
 
@@ -35,7 +36,7 @@ impl<'a, S: Storage, T: Tables<S>> SentenceGenerator<'a, S, T> {
         ensures { IfOk result (AreAsked self.now (S.number rule.0)) }
     {
         let mut asked = Queue::new(alloc);
-        let mut search = Search::new(alloc, usize::from(self.tables.rules_len()))?;
+        let mut search = Search::new(alloc, usize::from(self.tables.rules_len()));
         search.reach(rule)?;
         while let Some(reached) = search.next() {
             let own = self.own_productions(alloc, reached)?;

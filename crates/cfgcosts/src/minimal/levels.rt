@@ -7,7 +7,8 @@ ghost use Rattle.cfgcosts.specs.Minimal.{HasHeir, HasNoHeir, IsHeir, IsOwnBelow,
 
 use crate::generator::SentenceGenerator;
 use crate::kinds::Kind;
-use cfganalysis::{Search, Tables};
+use crate::minimal::search::Search;
+use cfganalysis::Tables;
 use cfgindex::{PIdx, RIdx, Storage};
 use std::alloc::{AllocError, Global};
 
@@ -81,7 +82,7 @@ impl<'a, S: Storage, T: Tables<S>> SentenceGenerator<'a, S, T> {
             ↔ IsOwnBelow self.now (S.number rule.0) p) }
     {
         let mut own = Vec::new(alloc);
-        let mut search = Search::new(alloc, usize::from(self.tables.rules_len()))?;
+        let mut search = Search::new(alloc, usize::from(self.tables.rules_len()));
         search.reach(rule)?;
         while let Some(reached) = search.next() {
             self.go_through(reached, &mut search, &mut own)?;

@@ -1,8 +1,6 @@
 //! What rows of symbols derive by the sentences of a table.
 
-ghost use Rattle.std.specs.Prelude.{◌≡◌, ◌↔◌, ◌++◌, ◌∷◌, [], ℕ, List, All, Contains, IfOk};
-ghost use Rattle.std.specs.Prelude.{OnOk, length, map};
-ghost use Rattle.derivation.specs.Grammar.{Grammar, IsSymbolOf};
+ghost use Rattle.std.specs.Prelude.{◌≡◌, ◌↔◌, ◌++◌, ◌∷◌, [], ℕ, List, Contains, IfOk, OnOk, map};
 ghost use Rattle.cfganalysis.specs.Symbols.{sym_of};
 ghost use Rattle.cfgcosts.specs.Minimal.{HasSentence, IsJoined, numbers_of, words_of_symbol};
 ghost use Rattle.cfgcosts.specs.Splits.{Split};
@@ -102,12 +100,14 @@ fn push_symbol<S: Storage>(
     words: Vec<Vec<TIdx<S>>>,
     symbol: Symbol<S>,
 ) -> Result<Vec<Vec<TIdx<S>>>, AllocError>
-    requires { (g : Grammar) × (length table.now ≡ g.rules) × IsSymbolOf g (sym_of S.number symbol) }
     ensures { IfOk result (λ longer. (w : List ℕ) → Contains (map (numbers_of S.number) longer.items) w
         ↔ IsJoined (map (numbers_of S.number) words.items) (words_of_symbol table.now (sym_of S.number symbol)) w) }
 {
     match symbol {
-        Symbol::Rule(rule) => join_all(alloc, words, table.sentences(usize::from(rule))),
+        Symbol::Rule(rule) => match table.sentences(usize::from(rule)) {
+            Some(backs) => join_all(alloc, words, backs),
+            None => Ok(Vec::new(alloc)),
+        },
         Symbol::Token(token) => push_token(alloc, words, token),
     }
 }
@@ -122,8 +122,6 @@ pub(crate) fn row_words<S: Storage>(
     table: &SentenceTable<S>,
     symbols: &[Symbol<S>],
 ) -> Result<Vec<Vec<TIdx<S>>>, AllocError>
-    requires { (g : Grammar) × (length table.now ≡ g.rules)
-        × All (IsSymbolOf g) (map (sym_of S.number) symbols.now) }
     ensures { IfOk result (λ words. (w : List ℕ) → Contains (map (numbers_of S.number) words.items) w
         ↔ Split (HasSentence table.now) (map (sym_of S.number) symbols.now) w) }
 {

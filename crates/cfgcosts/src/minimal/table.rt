@@ -1,83 +1,78 @@
-//! A table of sentences.
+//! A table of sentences, and sets of words.
 
-ghost use Rattle.std.specs.Prelude.{◌≡◌, ◌<◌, [], IfOk, OnOk, length, map, replicate};
+ghost use Rattle.std.specs.Prelude.{◌≡◌, ◌↔◌, ◌⊎◌, ℕ, [], List, Contains, IfOk, MatchOption, OnOk, map};
 ghost use Rattle.std.specs.List.Sorted.{IsStrictlySortedBy};
-ghost use Rattle.cfgcosts.specs.Minimal.{AddsSentence, AddsSentences, dictionary, numbers_of, sentences_of};
+ghost use Rattle.cfgcosts.specs.Minimal.{Puts, dictionary, numbers_of, sentences_of, set_of};
 
 use cfgindex::{Storage, TIdx};
 use std::alloc::{AllocError, Global};
-use std::collections::BTreeSet;
+use std::collections::{BTreeMap, BTreeSet};
 use std::marker::Model;
-use std::mem;
 
-/// For each rule some of its sentences.
+/// Adds the words that aren't in the set.
+///
+/// # Errors
+///
+/// Want of memory.
+pub(crate) fn add_all<S: Storage>(
+    set: &mut BTreeSet<Vec<TIdx<S>>>,
+    mut words: Vec<Vec<TIdx<S>>>,
+) -> Result<(), AllocError>
+    ensures { OnOk result ((w : List ℕ) → Contains (set_of S.number set.new) w
+        ↔ (Contains (set_of S.number set.old) w ⊎ Contains (map (numbers_of S.number) words.items) w)) }
+{
+    while let Some(word) = words.pop() {
+        set.insert(word)?;
+    }
+    Ok(())
+}
+
+/// Some rules with sentences of theirs.
 #[derive(Drop)]
 pub(crate) struct SentenceTable<S: Storage> {
-    sets: Vec<BTreeSet<Vec<TIdx<S>>>>,
+    sets: BTreeMap<usize, BTreeSet<Vec<TIdx<S>>>>,
 }
 
 impl<S: Storage> Model for SentenceTable<S> {
     ghost use Rattle.std.specs.Prelude.{ℕ, List, map};
     ghost use Rattle.cfgcosts.specs.Minimal.{set_of};
 
-    ghost Value = { List (List (List ℕ)) };
+    ghost Value = { List (ℕ × List (List ℕ)) };
 
-    ghost view = { λ x. map (set_of S.number) x.sets.items };
+    ghost view = { λ x. map (λ entry. (entry.0, set_of S.number entry.1)) x.sets.entries };
 }
 
 impl<S: Storage> SentenceTable<S> {
-    /// A table without sentences, for so many rules.
-    ///
-    /// # Errors
-    ///
-    /// Want of memory.
-    pub(crate) fn new(alloc: Global, rules: usize) -> Result<Self, AllocError>
-        ensures { IfOk result (λ x. x ≡ replicate rules []) }
+    /// A table without rules.
+    pub(crate) fn new(alloc: Global) -> Self
+        ensures { result ≡ [] }
     {
-        let mut sets = Vec::new(alloc);
-        for _rule in 0..rules {
-            sets.push(BTreeSet::new(alloc))?;
+        SentenceTable {
+            sets: BTreeMap::new(alloc),
         }
-        Ok(SentenceTable { sets })
     }
 
-    /// The sentences of the rule.
-    pub(crate) fn sentences(&self, rule: usize) -> &BTreeSet<Vec<TIdx<S>>>
-        requires { rule < length self.now }
-        ensures { map (numbers_of S.number) result.now.keys ≡ sentences_of self.now rule }
+    /// The sentences of the rule, if there are any.
+    pub(crate) fn sentences(&self, rule: usize) -> Option<&BTreeSet<Vec<TIdx<S>>>>
+        ensures { MatchOption result (sentences_of self.now rule ≡ [])
+            (λ set. set_of S.number set.now ≡ sentences_of self.now rule) }
     {
-        &self.sets[rule]
+        self.sets.get(&rule)
     }
 
-    /// Adds a sentence of the rule, unless it is there.
+    /// Puts sentences of the rule in place of those that it had.
     ///
     /// # Errors
     ///
     /// Want of memory.
-    pub(crate) fn add(&mut self, rule: usize, sentence: Vec<TIdx<S>>) -> Result<(), AllocError>
-        requires { rule < length self.old }
-        ensures { OnOk result (AddsSentence rule (numbers_of S.number sentence) self.old self.new) }
-    {
-        self.sets[rule].insert(sentence)?;
-        Ok(())
-    }
-
-    /// Adds the sentences of the rule that aren't there.
-    ///
-    /// # Errors
-    ///
-    /// Want of memory.
-    pub(crate) fn add_all(
+    pub(crate) fn put(
         &mut self,
         rule: usize,
-        mut sentences: Vec<Vec<TIdx<S>>>,
+        sentences: BTreeSet<Vec<TIdx<S>>>,
     ) -> Result<(), AllocError>
-        requires { rule < length self.old }
-        ensures { OnOk result (AddsSentences rule (map (numbers_of S.number) sentences.items) self.old self.new) }
+        ensures { OnOk result (Puts rule (set_of S.number sentences) self.old self.new) }
     {
-        while let Some(sentence) = sentences.pop() {
-            self.add(rule, sentence)?;
-        }
+        self.sets.insert(rule, sentences)?;
         Ok(())
     }
 
@@ -91,13 +86,14 @@ impl<S: Storage> SentenceTable<S> {
         alloc: Global,
         rule: usize,
     ) -> Result<Vec<Vec<TIdx<S>>>, AllocError>
-        requires { rule < length self }
         ensures all { IfOk result (λ sentences. map (numbers_of S.number) sentences.items ≡ sentences_of self rule) }
         ensures order { IfOk result (λ sentences.
             IsStrictlySortedBy dictionary (map (numbers_of S.number) sentences.items)) }
     {
         let mut sentences = Vec::new(alloc);
-        let mut set = mem::replace(&mut self.sets[rule], BTreeSet::new(alloc));
+        let Some(mut set) = self.sets.remove(&rule) else {
+            return Ok(sentences);
+        };
         let _len = set.len();
         while let Some(sentence) = set.pop_first() {
             sentences.push(sentence)?;

@@ -2,6 +2,7 @@ use Rattle.std.proofs.Common.{◌+◌, length, subst, ap, ◌∙◌, arith}
 use Rattle.std.proofs.lemmas.List.{length_push}
 use Rattle.cfgcosts.specs.Generator.{tables_of}
 use Rattle.cfgcosts.specs.Minimal.{IsKind}
+use Rattle.cfgcosts.proofs.OnlyHeirs.{heirs_are_rules}
 use Rattle.cfgcosts.proofs.Tight.{kinds_more}
 use Rattle.cfgcosts.proofs.kinds.kinds.Goals as goal
 
@@ -17,3 +18,9 @@ loop-number-preserved g c =
       each = kinds_more number x c.loop-number.kinds.items _ c.loop-number.number c.kind_of.result c.loop-number.invariant.len c.in_ok-push.ensures.items
           (subst (λ p. IsKind number x p c.kind_of.result) c.to_storage.ensures c.kind_of.ensures) c.loop-number.invariant.each;
     }
+
+pub returns-clause-heirs : goal.returns-clause-heirs
+returns-clause-heirs g c =
+    let number = g.S.Storage.number in
+    let x = tables_of number (g.T.Tables.grammar c.args.tables.now) c.args.costs.now c.args.settled.now.least.items c.args.settled.now.choices.items in
+    heirs_are_rules number x c.loop-number.kinds.items c.args.settled.now.number c.requires c.loop-number.invariant.each

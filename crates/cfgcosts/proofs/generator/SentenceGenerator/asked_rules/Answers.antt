@@ -14,13 +14,13 @@ use Rattle.cfgcosts.proofs.generator.SentenceGenerator.asked_rules.Goals as goal
 pub reach-requires : goal.reach-requires
 reach-requires g c =
     let rules = c.from.ensures ∙ c.rules_len.ensures.value ∙ ap (λ (x : CostTables). x.grammar.rules) c.self.view_is in
-    subst (λ m. g.S.Storage.number c.args.rule.0 < m) (sym (ap (λ (s : SearchState). length s.rules) c.in_ok-search.ensures ∙ length-replicate _ _ ∙ rules)) c.requires.rule
+    subst (λ m. g.S.Storage.number c.args.rule.0 < m) (sym (ap (λ (s : SearchState). length s.rules) c.new-search.ensures ∙ length-replicate _ _ ∙ rules)) c.requires.rule
 
 pub loop-reached-init : goal.loop-reached-init
 loop-reached-init g c =
     let rules = c.from.ensures ∙ c.rules_len.ensures.value ∙ ap (λ (x : CostTables). x.grammar.rules) c.self.view_is in
     subst (λ l. Asking c.args.self.now (g.S.Storage.number c.args.rule.0) l c.reach.new.self) (sym c.new-asked.ensures)
-    (asking_begins c.args.self.now (g.S.Storage.number c.args.rule.0) c.from.result _ _ rules c.in_ok-search.ensures c.requires.known c.in_ok-reach.ensures)
+    (asking_begins c.args.self.now (g.S.Storage.number c.args.rule.0) c.from.result _ _ rules c.new-search.ensures c.requires.known c.in_ok-reach.ensures)
 
 pub own_productions-requires : goal.own_productions-requires
 own_productions-requires g c = popped_within _ _ _ _ _ _ _ c.loop-reached.search c.loop-reached.invariant.search c.in-Some.ensures.rules c.in-Some.ensures.waiting

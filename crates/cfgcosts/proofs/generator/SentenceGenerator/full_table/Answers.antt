@@ -1,22 +1,17 @@
-use Rattle.std.proofs.Common.{◌≡◌, ◌<◌, ℕ, ◌∷◌, Some, sym, ap, subst, ◌∙◌, arith}
+use Rattle.std.proofs.Common.{◌≡◌, ◌↔◌, ◌<◌, ℕ, List, ◌∷◌, Contains, Some, sym, ap, subst, arith}
 use Rattle.std.proofs.lemmas.List.Sorted.{length_permutation}
 use Rattle.derivation.specs.Grammar.{IsGrammar}
 use Rattle.cfgcosts.specs.Generator.{CostTables, IsGenerator, cost_answer}
-use Rattle.cfgcosts.specs.Minimal.{HasAllMinimal, IsReadyFor}
+use Rattle.cfgcosts.specs.Minimal.{IsMinimal, IsReadyFor, set_of}
 use Rattle.cfgcosts.proofs.Filled.{Filling, filling_begins, filling_goes_on, filling_ends, popped_answer, popped_ready}
 use Rattle.cfgcosts.proofs.Tight.{answered_within}
 use Rattle.cfgcosts.proofs.generator.SentenceGenerator.full_table.Goals as goal
 
 pub loop-number-init : goal.loop-number-init
-loop-number-init g c =
-    let rules = c.to_usize.ensures.value ∙ c.rules_len.ensures.value ∙ ap (λ (x : CostTables). x.grammar.rules) c.self.view_is in
-    (c.in_ok-asked.asked, c.in_ok-asked.ensures, filling_begins c.args.self.now c.in_ok-asked.asked c.to_usize.result c.in_ok-table.table rules c.in_ok-table.ensures)
+loop-number-init g c = (c.in_ok-asked.asked, c.in_ok-asked.ensures, filling_begins c.args.self.now c.in_ok-asked.asked c.new-table.result)
 
-pub returns-clause-rules : goal.returns-clause-rules
-returns-clause-rules g c = let (all, asked, filling) = c.loop-number.invariant in filling.rules
-
-pub returns-clause-all : goal.returns-clause-all
-returns-clause-all g c =
+pub returns : goal.returns
+returns g c =
     let (all, asked, filling) = c.loop-number.invariant in
     filling_ends c.args.self.now (g.S.Storage.number c.args.rule.0) all c.loop-number.table asked
     (subst (λ l. Filling c.args.self.now all l c.loop-number.table) c.in_default.ensures.none filling)
@@ -31,12 +26,12 @@ to_storage-requires g c =
     c.in-Some.ensures.out c.in-Some.ensures.least) in
     let rules = ap (λ (x : CostTables). x.grammar.rules) c.self.view_is in
     let counted = c.rules_len.ensures.value in
-    let value = c.to_usize.ensures.value in
-    let range = c.to_usize.ensures.range in
+    let value = c.to_usize-rules.ensures.value in
+    let range = c.to_usize-rules.ensures.range in
     omega (arith, within, rules, counted, value, range)
 
-pub add_level-requires-clause-rule : goal.add_level-requires-clause-rule
-add_level-requires-clause-rule g c =
+pub level_sentences-requires-clause-rule : goal.level_sentences-requires-clause-rule
+level_sentences-requires-clause-rule g c =
     let (all, asked, filling) = c.loop-number.invariant in
     let n = c.self.inside.settled.number in
     let is = subst (λ (x : CostTables). IsGenerator x n) c.self.view_is c.self.invariant.0 in
@@ -44,8 +39,8 @@ add_level-requires-clause-rule g c =
     (popped_answer c.args.self.now (g.S.Storage.number c.args.rule.0) all c.loop-number.asked c.pop.new.self (c.in-Some.field-0-0, c.in-Some.number) c.loop-number.table asked filling
     c.in-Some.ensures.out c.in-Some.ensures.least))
 
-pub add_level-requires-clause-known : goal.add_level-requires-clause-known
-add_level-requires-clause-known g c =
+pub level_sentences-requires-clause-known : goal.level_sentences-requires-clause-known
+level_sentences-requires-clause-known g c =
     let (all, asked, filling) = c.loop-number.invariant in
     subst (λ m. (d : ℕ) × (cost_answer c.args.self.now m ≡ Some d)) (sym c.to_storage.ensures) (
       c.in-Some.field-0-0,
@@ -53,14 +48,8 @@ add_level-requires-clause-known g c =
           c.in-Some.ensures.out c.in-Some.ensures.least,
     )
 
-pub add_level-requires-clause-rules : goal.add_level-requires-clause-rules
-add_level-requires-clause-rules g c = let (all, asked, filling) = c.loop-number.invariant in filling.rules
-
-pub add_level-requires-clause-minimal : goal.add_level-requires-clause-minimal
-add_level-requires-clause-minimal g c = let (all, asked, filling) = c.loop-number.invariant in filling.minimal
-
-pub add_level-requires-clause-ready : goal.add_level-requires-clause-ready
-add_level-requires-clause-ready g c =
+pub level_sentences-requires-clause-ready : goal.level_sentences-requires-clause-ready
+level_sentences-requires-clause-ready g c =
     let (all, asked, filling) = c.loop-number.invariant in
     let n = c.self.inside.settled.number in
     let is = subst (λ (x : CostTables). IsGenerator x n) c.self.view_is c.self.invariant.0 in
@@ -71,12 +60,13 @@ add_level-requires-clause-ready g c =
 
 pub loop-number-preserved : goal.loop-number-preserved
 loop-number-preserved g c =
-    let (all, asked, filling) = c.loop-number.invariant in (
+    let (all, asked, filling) = c.loop-number.invariant in
+    let words = set_of g.S.Storage.number c.in_ok-sentences.sentences in
+    let minimal = subst (λ r. (w : List ℕ) → Contains words w ↔ IsMinimal c.args.self.now r w) c.to_storage.ensures c.in_ok-sentences.ensures in (
       all,
       asked,
       filling_goes_on c.args.self.now (g.S.Storage.number c.args.rule.0) all c.loop-number.asked c.pop.new.self (c.in-Some.field-0-0, c.in-Some.number) c.loop-number.table asked filling
-          c.in-Some.ensures.out c.in-Some.ensures.least c.add_level.new.table c.in_ok-add_level.ensures.adds
-          (subst (HasAllMinimal c.args.self.now c.add_level.new.table) c.to_storage.ensures c.in_ok-add_level.ensures.all),
+          c.in-Some.ensures.out c.in-Some.ensures.least c.put.new.self words c.in_ok-put.ensures minimal,
     )
 
 pub loop-number-smaller : goal.loop-number-smaller

@@ -1,4 +1,4 @@
-use Rattle.std.proofs.Common.{◌↔◌, ◌<◌, List, ℕ, Contains, Ok, length, refl, sym, ap, subst, ◌∙◌}
+use Rattle.std.proofs.Common.{◌↔◌, Contains, Ok, refl, sym, ap, subst, ◌∙◌}
 use Rattle.std.specs.Result.{result_ok}
 use Rattle.derivation.specs.Grammar.{HasProduction}
 use Rattle.cfgsums.specs.declared.errors.CostError.TheVariants as costs
@@ -10,14 +10,18 @@ use Rattle.cfgcosts.proofs.Refused.{memory_none, refusal, refused_dear, refused_
 use Rattle.cfgcosts.proofs.generator.SentenceGenerator.min_sentences.Goals as goal
 
 pub full_table-requires-clause-rule : goal.full_table-requires-clause-rule
-full_table-requires-clause-rule g c = c.requires
+full_table-requires-clause-rule g c = c.last_heir-last.ensures.rule
 
 pub full_table-requires-clause-known : goal.full_table-requires-clause-known
-full_table-requires-clause-known g c = (c.in_ok-min_sentence_cost.field-0, sym c.min_sentence_cost.ensures.answer ∙ ap result_ok c.in_ok-min_sentence_cost.was)
+full_table-requires-clause-known g c =
+    (c.in_ok-min_sentence_cost.field-0, c.last_heir-last.ensures.cost ∙ sym c.min_sentence_cost.ensures.answer ∙ ap result_ok c.in_ok-min_sentence_cost.was)
 
 pub returns-clause-all : goal.returns-clause-all
-returns-clause-all g c = subst (λ l. (w : List ℕ) → Contains l w ↔ IsMinimal c.args.self.now (g.S.Storage.number c.args.rule.0) w)
-    (sym (c.in_ok-sentences.ensures.all ∙ ap (sentences_of c.in_ok-table.table) c.from.ensures)) c.in_ok-table.ensures.all
+returns-clause-all g c = λ w.
+    let last = subst (λ l. Contains l w ↔ IsMinimal c.args.self.now (g.S.Storage.number c.last_heir-last.result.0) w)
+    (sym (c.in_ok-sentences.ensures.all ∙ ap (sentences_of c.in_ok-table.table) c.from.ensures)) (c.in_ok-table.ensures w) in
+    let same = c.last_heir-last.ensures.same w in
+    (λ h. same.0 (last.0 h), λ m. last.1 (same.1 m))
 
 pub returns-in_err-min_sentence_cost-clause-none : goal.returns-in_err-min_sentence_cost-clause-none
 returns-in_err-min_sentence_cost-clause-none g c = refused_none (HasNone (HasProduction c.args.self.now.grammar) (g.S.Storage.number c.args.rule.0))
@@ -59,7 +63,3 @@ returns-clause-dear g c = sentence_none (IsTooDear (HasProduction c.args.self.no
 
 pub returns-clause-order : goal.returns-clause-order
 returns-clause-order g c = c.in_ok-sentences.ensures.order
-
-pub take-requires : goal.take-requires
-take-requires g c = subst (λ n. n < length c.in_ok-table.table) (sym c.from.ensures)
-    (subst (λ n. g.S.Storage.number c.args.rule.0 < n) (sym c.in_ok-table.ensures.rules) c.requires)

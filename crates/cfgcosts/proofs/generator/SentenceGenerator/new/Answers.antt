@@ -4,6 +4,7 @@ use Rattle.cfggreatest.specs.Words.{AreTold}
 use Rattle.cfgcosts.specs.Certificate.{choice_of}
 use Rattle.cfgcosts.specs.FirstChoices.{AreFirst, Walks}
 use Rattle.cfgcosts.specs.Generator.{tables_of}
+use Rattle.cfgcosts.specs.Heirs.{AreHeirs, rules_of}
 use Rattle.cfgcosts.specs.Minimal.{AreKinds}
 use Rattle.cfgcosts.specs.Settled.{AreSettled}
 use Rattle.cfgcosts.proofs.generator.SentenceGenerator.new.Goals as goal
@@ -21,10 +22,11 @@ invariant_of-result g c =
         settled = subst (λ (costs : List ℕ). AreSettled grammar (slice_index costs) least (map (choice_of number) settled.choices.items) settled.number)
             c.deref.ensures.value c.in_ok-settled.ensures;
       },
-      subst (λ (costs : List ℕ). AreTold grammar (slice_index costs) c.in_ok-greatest.greatest.items) c.deref-5.ensures.value c.in_ok-greatest.ensures,
-      subst (λ (costs : List ℕ). AreKinds number (tables_of number grammar costs least settled.choices.items) c.in_ok-kinds.kinds.items) c.deref-2.ensures.value c.in_ok-kinds.ensures,
+      subst (λ (costs : List ℕ). AreTold grammar (slice_index costs) c.in_ok-greatest.greatest.items) c.deref-6.ensures.value c.in_ok-greatest.ensures,
+      subst (λ (costs : List ℕ). AreKinds number (tables_of number grammar costs least settled.choices.items) c.in_ok-kinds.kinds.items) c.deref-2.ensures.value c.in_ok-kinds.ensures.kinds,
       subst (λ (costs : List ℕ). Walks (tables_of number grammar costs least firsts)) c.deref-3.ensures.value c.in_ok-firsts.ensures.walks,
       subst (λ (costs : List ℕ). AreFirst (tables_of number grammar costs least firsts)) c.deref-3.ensures.value c.in_ok-firsts.ensures.first,
+      subst (λ kinds. AreHeirs number grammar kinds (rules_of number c.in_ok-last_heirs.last_heirs.items)) c.deref-5.ensures.value c.in_ok-last_heirs.ensures,
     )
 
 pub returns-clause-costs : goal.returns-clause-costs

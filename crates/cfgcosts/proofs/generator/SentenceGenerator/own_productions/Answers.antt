@@ -11,13 +11,13 @@ use Rattle.cfgcosts.proofs.generator.SentenceGenerator.own_productions.Goals as 
 pub reach-requires : goal.reach-requires
 reach-requires g c =
     let rules = c.from.ensures ∙ c.rules_len.ensures.value ∙ ap (λ (x : CostTables). x.grammar.rules) c.self.view_is in
-    subst (λ m. g.S.Storage.number c.args.rule.0 < m) (sym (ap (λ (s : SearchState). length s.rules) c.in_ok-search.ensures ∙ length-replicate _ _ ∙ rules)) c.requires
+    subst (λ m. g.S.Storage.number c.args.rule.0 < m) (sym (ap (λ (s : SearchState). length s.rules) c.new-search.ensures ∙ length-replicate _ _ ∙ rules)) c.requires
 
 pub loop-reached-init : goal.loop-reached-init
 loop-reached-init g c =
     let rules = c.from.ensures ∙ c.rules_len.ensures.value ∙ ap (λ (x : CostTables). x.grammar.rules) c.self.view_is in
     subst (λ l. Level c.args.self.now (g.S.Storage.number c.args.rule.0) (places_of g.S.Storage.number l) c.reach.new.self) (sym c.new-own.ensures.items)
-    (level_begins c.args.self.now (g.S.Storage.number c.args.rule.0) c.from.result _ _ rules c.in_ok-search.ensures c.in_ok-reach.ensures)
+    (level_begins c.args.self.now (g.S.Storage.number c.args.rule.0) c.from.result _ _ rules c.new-search.ensures c.in_ok-reach.ensures)
 
 pub go_through-requires-clause-rule : goal.go_through-requires-clause-rule
 go_through-requires-clause-rule g c = popped_within _ _ _ _ _ _ _ c.loop-reached.search c.loop-reached.invariant.search c.in-Some.ensures.rules c.in-Some.ensures.waiting

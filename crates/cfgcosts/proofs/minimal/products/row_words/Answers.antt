@@ -1,21 +1,14 @@
 use Rattle.std.proofs.Common.{◌∷◌, ◌++◌, [], map, take, sym, ap, subst, ◌∙◌}
 use Rattle.std.proofs.lemmas.List.{map_more, take_all}
-use Rattle.derivation.specs.Grammar.{IsSymbolOf}
 use Rattle.cfganalysis.specs.Symbols.{sym_of}
 use Rattle.cfgcosts.specs.Minimal.{numbers_of}
 use Rattle.cfgcosts.proofs.Joins.{AreCut, cut_none, cut_more}
-use Rattle.cfgsums.proofs.Rows.{shown_holds}
 use Rattle.cfgcosts.proofs.minimal.products.row_words.Goals as goal
 
 pub loop-symbol-init : goal.loop-symbol-init
 loop-symbol-init g c = let number = g.S.Storage.number in
     cut_none c.args.table.now _ (ap (map (numbers_of number)) (c.in_ok-push.ensures.items ∙ ap (λ l. l ++ c.new.result ∷ []) c.new-words.ensures.items)
     ∙ ap (λ l. map (λ t. number t.0) l ∷ []) c.new.ensures.items)
-
-pub push_symbol-requires : goal.push_symbol-requires
-push_symbol-requires g c =
-    let (grammar, rules, all) = c.requires in
-    (grammar, rules, shown_holds (sym_of g.S.Storage.number) c.args.symbols.now c.loop-symbol.symbol-index _ c.loop-symbol-test.true c.symbol-item.is (IsSymbolOf grammar) all)
 
 pub loop-symbol-preserved : goal.loop-symbol-preserved
 loop-symbol-preserved g c =

@@ -1,0 +1,30 @@
+use Rattle.std.proofs.Common.{◌+◌, ◌<◌, length, ap, sym, subst, ◌∙◌, arith}
+use Rattle.std.specs.Prelude.{IfSome}
+use Rattle.std.proofs.lemmas.List.{length_push, map-append}
+use Rattle.std.proofs.lemmas.List.Elements.{All-push, All-same}
+use Rattle.cfgindex.specs.declared.idxnewtype.RIdx.{RIdx}
+use Rattle.cfgcosts.specs.Heirs.{IsOnlyHeir, rules_of}
+use Rattle.cfgcosts.specs.Levels.{Along}
+use Rattle.cfgcosts.proofs.OnlyHeirs.{heirs_more, only_or_itself}
+use Rattle.cfgcosts.proofs.heirs.only_heirs.Goals as goal
+
+pub loop-number-preserved : goal.loop-number-preserved
+loop-number-preserved g c =
+    let number = g.S.Storage.number in
+    let grammar = g.T.Tables.grammar c.args.tables.now in
+    let kinds = c.args.kinds.now in
+    let n = c.loop-number.number in
+    let heirs = rules_of number c.loop-number.heirs.items in
+    let rule : RIdx _ = record { 0 = c.to_storage.result } in
+    let lt : n < grammar.rules = omega (arith, c.loop-number-test.true, c.to_usize-rules_len.ensures.value, c.rules_len.ensures.value) in
+    let both = only_or_itself number grammar kinds n rule c.only_heir.result c.requires.heirs c.to_storage.ensures lt
+    (subst (λ m. IfSome c.only_heir.result (λ heir. IsOnlyHeir number grammar kinds m (number heir.0))) c.to_storage.ensures c.only_heir.ensures) in
+    let is = c.unwrap_or.ensures in
+    let one = subst (λ (h : RIdx _). Along (IsOnlyHeir number grammar kinds) n (number h.0)) (sym is) both.0 in
+    let rule_one = subst (λ (h : RIdx _). number h.0 < grammar.rules) (sym is) both.1 in
+    let longer = ap (rules_of number) c.in_ok-push.ensures.items ∙ map-append (λ (h : RIdx _). number h.0) c.loop-number.heirs.items _ in
+    record {
+      len = ap length longer ∙ length_push heirs (number c.unwrap_or.result.0) ∙ ap (λ m. m + 1) c.loop-number.invariant.len;
+      within = All-same (λ h. h < grammar.rules) _ _ longer (All-push (λ h. h < grammar.rules) heirs (number c.unwrap_or.result.0) c.loop-number.invariant.within rule_one);
+      each = heirs_more number grammar kinds heirs (rules_of number c.push.new.self.items) n (number c.unwrap_or.result.0) c.loop-number.invariant.len longer c.loop-number.invariant.each one;
+    }

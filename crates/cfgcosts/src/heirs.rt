@@ -1,0 +1,100 @@
+//! Rules that hand on to one rule alone: they have the minimal sentences of that one, and so of the last of a row of
+//! such rules.
+
+ghost use Rattle.std.specs.Prelude.{◌≡◌, ◌<◌, List, All, IfOk, IfSome, length};
+ghost use Rattle.derivation.specs.Grammar.{Grammar};
+ghost use Rattle.cfgcosts.specs.Heirs.{AreHeirs, HasRulesAsHeirs, IsOnlyHeir, rules_of};
+ghost use Rattle.cfgcosts.specs.declared.kinds.Kind.{Kind};
+
+use crate::kinds::Kind;
+use cfganalysis::Tables;
+use cfgindex::{RIdx, Storage, to_storage};
+use std::alloc::{AllocError, Global};
+
+/// The rule that a production of the rule hands on to, where its other productions all cost more.
+fn only_heir<S: Storage, T: Tables<S>>(
+    tables: &T,
+    kinds: &[Kind<S>],
+    rule: RIdx<S>,
+) -> Option<RIdx<S>>
+    requires rule { S.number rule.0 < (T.grammar tables.now).rules }
+    requires kinds { length kinds.now ≡ length (T.grammar tables.now).productions }
+    ensures { IfSome result (λ heir.
+        IsOnlyHeir S.number (T.grammar tables.now) kinds.now (S.number rule.0) (S.number heir.0)) }
+{
+    let mut only = None;
+    for p in tables.rule_to_prods(rule) {
+        let kind = kinds[usize::from(*p)];
+        match kind {
+            Kind::Slack => {}
+            Kind::HandsOn(heir) if only.is_none() => only = Some(heir),
+            _ => return None,
+        }
+    }
+    only
+}
+
+/// For each rule the only one that it hands on to, or else the rule itself.
+///
+/// # Errors
+///
+/// Want of memory.
+fn only_heirs<S: Storage, T: Tables<S>>(
+    alloc: Global,
+    tables: &T,
+    kinds: &[Kind<S>],
+) -> Result<Vec<RIdx<S>>, AllocError>
+    requires kinds { length kinds.now ≡ length (T.grammar tables.now).productions }
+    requires heirs { HasRulesAsHeirs S.number (T.grammar tables.now) kinds.now }
+    ensures { IfOk result (λ heirs.
+        AreHeirs S.number (T.grammar tables.now) kinds.now (rules_of S.number heirs.items)) }
+{
+    let rules_len = tables.rules_len().0.to_usize();
+    let mut heirs = Vec::new(alloc);
+    for number in 0..rules_len {
+        let rule = RIdx(to_storage(number));
+        heirs.push(only_heir(tables, kinds, rule).unwrap_or(rule))?;
+    }
+    Ok(heirs)
+}
+
+/// Puts the heir of each heir in its place, and answers whether any is another one now.
+fn go_on<S: Storage>(heirs: &mut Vec<RIdx<S>>) -> bool
+    requires { All (λ heir. heir < length heirs.old.items) (rules_of S.number heirs.old.items) }
+    ensures { (g : Grammar) (kinds : List (Kind S)) → AreHeirs S.number g kinds (rules_of S.number heirs.old.items)
+        → AreHeirs S.number g kinds (rules_of S.number heirs.new.items) }
+{
+    let mut moved = false;
+    for number in 0..heirs.len() {
+        let heir = heirs[number];
+        let next = heirs[usize::from(heir)];
+        moved = moved || next != heir;
+        heirs[number] = next;
+    }
+    moved
+}
+
+/// For each rule the last of a row of rules, each of which is the only one that the rule before it hands on to.
+///
+/// # Errors
+///
+/// Want of memory.
+pub(crate) fn last_heirs<S: Storage, T: Tables<S>>(
+    alloc: Global,
+    tables: &T,
+    kinds: &[Kind<S>],
+) -> Result<Vec<RIdx<S>>, AllocError>
+    requires kinds { length kinds.now ≡ length (T.grammar tables.now).productions }
+    requires heirs { HasRulesAsHeirs S.number (T.grammar tables.now) kinds.now }
+    ensures { IfOk result (λ heirs.
+        AreHeirs S.number (T.grammar tables.now) kinds.now (rules_of S.number heirs.items)) }
+{
+    let mut heirs = only_heirs(alloc, tables, kinds)?;
+    // Each turn goes twice as far as the one before, and no row is longer than a number of 32 bits.
+    for _turn in 0..32 {
+        if !go_on(&mut heirs) {
+            return Ok(heirs);
+        }
+    }
+    Ok(heirs)
+}
