@@ -51,10 +51,11 @@ kind_view-eq x y h =
         let both = and_parts (header_kinds.eq a.0 b.0) (spanskinds.eq a.1.0 b.1.0) h in
         λ i. Header (error_kind_view-eq a.0 b.0 both.0 i) (same_spanskind a.1.0 b.1.0 both.1 i)
 
--- and where callers see the same, so does it
+-- names with the same bytes
 same_name : (x y : String Global) → string_bytes x ≡ string_bytes y → string_eq x y ≡ true
 same_name x y e = (bytes_decides (string_bytes x) (string_bytes y)).1 e
 
+-- and where callers see the same, so does it
 eq-kind_view : (x y : YaccGrammarErrorKind) → kind_view x ≡ kind_view y → kinds.eq x y ≡ true
 eq-kind_view rust.IllegalInteger rust.IllegalInteger e = refl
 eq-kind_view rust.IllegalName rust.IllegalName e = refl
