@@ -9,8 +9,7 @@ use Rattle.cfgast.specs.Building.{has_entry, has_name, has_rule}
 use Rattle.cfgast.specs.Syntax.{Syntax, Rule, Production, Symbol, RuleSymbol, TokenSymbol}
 use Rattle.cfgcheck.specs.declared.validation.Unfit.{Unfit}
 use Rattle.cfgcheck.specs.declared.validation.Unfit.TheVariants as unfit
-use Rattle.cfgerrors.specs.declared.error.YaccGrammarErrorKind.TheVariants.{NoStartRule}
-use Rattle.cfgerrors.specs.Errors.{GrammarError, InvalidStartRule, UnknownRuleRef, UnknownToken, NoPrecForToken, UnknownEPP, Nameless, error_at}
+use Rattle.cfgerrors.specs.Errors.{GrammarError, InvalidStartRule, UnknownRuleRef, UnknownToken, NoPrecForToken, UnknownEPP, NoStartRule, error_at}
 
 -- the first error of the elements, if there is one
 abbrev pub first_error : {A : Type 0} → (A → Option GrammarError) → List A → Option GrammarError
@@ -22,7 +21,7 @@ abbrev pub nowhere : Span
 nowhere = record { start = 0; end = 0 }
 
 abbrev pub start_error : Syntax → Option Word → Option GrammarError
-start_error syntax None = Some (error_at (Nameless NoStartRule) nowhere)
+start_error syntax None = Some (error_at NoStartRule nowhere)
 start_error syntax (Some word) = if has_rule word.name syntax.rules then None else Some (error_at (InvalidStartRule word.name) word.span)
 
 abbrev pub symbol_error : Syntax → Symbol → Option GrammarError
@@ -59,7 +58,7 @@ check_of syntax =
 
 -- what the code finds, as an error
 abbrev pub unfit_error : Unfit → GrammarError
-unfit_error unfit.NoStart = error_at (Nameless NoStartRule) nowhere
+unfit_error unfit.NoStart = error_at NoStartRule nowhere
 unfit_error (unfit.Start name span) = error_at (InvalidStartRule name.now) span
 unfit_error (unfit.Rule name span) = error_at (UnknownRuleRef name.now) span
 unfit_error (unfit.Token name span) = error_at (UnknownToken name.now) span

@@ -1,9 +1,7 @@
 -- An error in a section as plain data. T is the type of places.
-use Rattle.std.specs.Prelude.{ℕ, Bool, List, [], ◌∷◌}
-use Rattle.std.specs.Cmp.{IsEquivalence}
-use Rattle.std.specs.Str.{bytes_eq}
-use Rattle.std.proofs.lemmas.Cmp.{lists_equiv, nat_list_eq_equiv, on_equiv}
-use lib.Pointwise.{pointwise}
+use Rattle.std.specs.Prelude.{ℕ, List}
+use mathlib.Core.List.{List-discrete}
+use native.Mathlib.Decide.{ℕ_discrete}
 use Rattle.cfgbase.specs.declared.span.SpansKind.{SpansKind}
 use Rattle.cfgbase.specs.declared.span.SpansKind.TheVariants.{DuplicationError, Error}
 use Rattle.cfgerrors.specs.declared.header.HeaderErrorKind.{HeaderErrorKind}
@@ -19,6 +17,7 @@ pub data ShownErrorKind : Type 0 where
   DuplicateEntry : ShownErrorKind
   InvalidEntry : List ℕ → ShownErrorKind
   ConversionError : List ℕ → List ℕ → ShownErrorKind
+  deriving Discrete as ShownErrorKind-discrete
 
 -- what is wrong, and where
 pub record ShownError (T : Type 0) : Type 0 where
@@ -43,19 +42,6 @@ abbrev pub spanskind_of : ShownErrorKind → SpansKind
 spanskind_of DuplicateEntry = DuplicationError
 spanskind_of _ = Error
 
--- which kind, and what it holds
-abbrev pub told : ShownErrorKind → List (List ℕ)
-told MissingGrmtoolsSection = (0 ∷ []) ∷ []
-told IllegalName = (1 ∷ []) ∷ []
-told (ExpectedToken character) = (2 ∷ character ∷ []) ∷ []
-told (UnexpectedToken character hint) = (3 ∷ character ∷ []) ∷ hint ∷ []
-told DuplicateEntry = (4 ∷ []) ∷ []
-told (InvalidEntry what) = (5 ∷ []) ∷ what ∷ []
-told (ConversionError wanted cause) = (6 ∷ []) ∷ wanted ∷ cause ∷ []
-
--- `==` of two kinds
-abbrev pub same_error_kind : ShownErrorKind → ShownErrorKind → Bool
-same_error_kind a b = pointwise bytes_eq (told a) (told b)
-
-pub same_error_kind-equivalence : IsEquivalence same_error_kind
-same_error_kind-equivalence = on_equiv told (lists_equiv nat_list_eq_equiv)
+-- whether two kinds are the same
+pub kinds_decided : Discrete ShownErrorKind
+kinds_decided = ShownErrorKind-discrete ℕ_discrete (List-discrete ℕ_discrete)

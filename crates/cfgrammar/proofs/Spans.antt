@@ -10,12 +10,11 @@ use Rattle.cfgbase.specs.declared.span.Span.{Span}
 use Rattle.cfgwords.specs.Places.{IsPiece}
 use Rattle.cfgast.specs.Syntax.{EachProductionSpan, EachSpan, Production, Syntax}
 use Rattle.cfgcheck.specs.Check.{nowhere}
-use Rattle.cfgerrors.specs.Errors.{Nameless, error_at}
+use Rattle.cfgerrors.specs.Errors.{StorageTooSmall, error_at}
 use Rattle.cfgsyntax.specs.Spans.{EachErrorSpan}
 use Rattle.cfgkinds.specs.declared.kind.YaccKind.{YaccKind}
 use Rattle.cfgerrors.specs.declared.error.YaccFault.{YaccFault}
 use Rattle.cfgerrors.specs.declared.error.YaccFault.TheVariants as faults
-use Rattle.cfgerrors.specs.declared.error.YaccGrammarErrorKind.TheVariants.{StorageTooSmall}
 use Rattle.cfgrammar.specs.Answer.{IsTooSmall}
 use Rattle.cfgnumbers.specs.Numbered.{implicit_of, numbered, numbered_by, added_rules, file_rule, added_productions, file_production, end_token, file_token}
 use Rattle.cfgrammar.specs.Spans.{EachGrammarSpan, EachAnswerSpan}
@@ -67,5 +66,5 @@ module _ (P Q : Span → Type 0) (added : P nowhere) where
   too_small_spans faults.OutOfMemory told = tt
   too_small_spans (faults.Errors list) told =
       subst (All (EachErrorSpan P)) (sym told)
-      (All-cons (EachErrorSpan P) (error_at (Nameless StorageTooSmall) nowhere) []
+      (All-cons (EachErrorSpan P) (error_at StorageTooSmall nowhere) []
       (record { some = omega arith; each = All-cons P nowhere [] added (All-nil P) }) (All-nil (EachErrorSpan P)))

@@ -1,8 +1,7 @@
 -- What a constructor of a grammar answers.
 use Rattle.std.specs.Prelude.{◌≡◌, ℕ, List, [], ◌∷◌, Result, Ok, Err}
 use Rattle.cfgcheck.specs.Check.{nowhere}
-use Rattle.cfgerrors.specs.Errors.{GrammarError, Nameless, error_at}
-use Rattle.cfgerrors.specs.declared.error.YaccGrammarErrorKind.TheVariants.{StorageTooSmall}
+use Rattle.cfgerrors.specs.Errors.{GrammarError, StorageTooSmall, error_at}
 use Rattle.cfgerrors.specs.declared.error.YaccFault.{YaccFault}
 use Rattle.cfgerrors.specs.declared.error.YaccFault.TheVariants as faults
 use Rattle.cfgsyntax.specs.Parsed.{Parsed}
@@ -20,7 +19,7 @@ in_numbers parsed = numbered parsed.kind parsed.syntax
 
 -- the error that the index type is too small, alone
 abbrev pub too_small : List GrammarError
-too_small = error_at (Nameless StorageTooSmall) nowhere ∷ []
+too_small = error_at StorageTooSmall nowhere ∷ []
 
 abbrev pub IsTooSmall : YaccFault → Type 0
 IsTooSmall faults.OutOfMemory = ⊥

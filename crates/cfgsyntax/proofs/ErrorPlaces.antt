@@ -22,14 +22,13 @@ use Rattle.cfgast.specs.Occurrences.{Unique, Occurrence, is_same, each_once, rep
 use Rattle.cfgast.proofs.Repeats.{is_same_equivalence}
 use Rattle.cfgast.specs.Syntax.{Symbol, RuleSymbol, TokenSymbol, EachProductionSpan, EachSpan, symbol_word, Production, Rule, Syntax, syntax_of}
 use Rattle.cfgkinds.specs.declared.kind.YaccKind.{YaccKind}
-use Rattle.cfgerrors.specs.declared.error.YaccGrammarErrorKind.TheVariants.{NoStartRule}
 use Rattle.cfgerrors.specs.HeaderErrors.{ShownError}
 use Rattle.cfgheader.specs.SectionGrammar.{Entry}
 use Rattle.cfgheader.specs.SectionReads.{section_answer}
 use Rattle.cfgheader.specs.SectionPlaces.{IsErrorAt as IsSectionErrorAt}
 use Rattle.cfgheader.proofs.SectionOne.{section_answered}
 use Rattle.cfgheader.proofs.SectionPlaces.{IsSectionAt, section_at}
-use Rattle.cfgerrors.specs.Errors.{ErrorKind, GrammarError, header_error, InvalidStartRule, UnknownRuleRef, UnknownToken, NoPrecForToken, UnknownEPP, Nameless, error_at}
+use Rattle.cfgerrors.specs.Errors.{ErrorKind, GrammarError, header_error, InvalidStartRule, UnknownRuleRef, UnknownToken, NoPrecForToken, UnknownEPP, NoStartRule, error_at}
 use Rattle.cfgcheck.specs.Check.{nowhere, first_error, start_error, symbol_error, precedence_error, production_error, printed_error, place_error, rule_error, check_of}
 use Rattle.cfgsyntax.specs.Faults.{kind_of, error_of, duplicate_error, stop_errors, errors_of}
 use Rattle.cfgwords.specs.Places.{IsPiece, IsWithin}
@@ -114,7 +113,7 @@ module _ (text : List ℕ) where
       record { ordered = omega arith; begins_at = first; ends_at = first }
 
   start_error_at : IsUtf8 text → (s : Syntax) (start : Option Word) → IfSome start (IsWordAt text) → IfSome (start_error s start) (IsErrorAt text)
-  start_error_at utf8 s None h = one_span (Nameless NoStartRule) nowhere (nowhere_at utf8)
+  start_error_at utf8 s None h = one_span NoStartRule nowhere (nowhere_at utf8)
   start_error_at utf8 s (Some word) h = unless_known (has_rule word.name s.rules) (InvalidStartRule word.name) word.span h
 
   symbol_error_at : (s : Syntax) (symbol : Symbol) → IsWordAt text (symbol_word symbol) → IfSome (symbol_error s symbol) (IsErrorAt text)

@@ -10,27 +10,27 @@ use Rattle.cfgast.specs.declared.occurrence.UniqueKind.TheVariants as unique
 use Rattle.cfgast.specs.Items.{Item}
 use Rattle.cfgast.specs.Occurrences.{Duplicate, duplicates}
 use Rattle.cfgast.specs.Syntax.{Syntax, syntax_of}
-use Rattle.cfgerrors.specs.Errors.{ErrorKind, GrammarError, Nameless, error_at, header_error}
-use Rattle.cfgerrors.specs.declared.error.YaccGrammarErrorKind.TheVariants as kinds
+use Rattle.cfgerrors.specs.Errors as kinds
+use Rattle.cfgerrors.specs.Errors.{ErrorKind, GrammarError, error_at, header_error}
 use Rattle.cfgcheck.specs.Check.{check_of}
 use Rattle.cfgsyntax.specs.Reads.{Stop, InSection, InFile}
 
 abbrev pub kind_of : FaultKind → ErrorKind
-kind_of faults.IllegalInteger = Nameless kinds.IllegalInteger
-kind_of faults.IllegalName = Nameless kinds.IllegalName
-kind_of faults.IllegalString = Nameless kinds.IllegalString
-kind_of faults.IncompleteRule = Nameless kinds.IncompleteRule
-kind_of faults.IncompleteComment = Nameless kinds.IncompleteComment
-kind_of faults.IncompleteAction = Nameless kinds.IncompleteAction
-kind_of faults.InvalidString = Nameless kinds.InvalidString
-kind_of faults.MissingColon = Nameless kinds.MissingColon
-kind_of faults.MissingRightArrow = Nameless kinds.MissingRightArrow
-kind_of faults.NonEmptyProduction = Nameless kinds.NonEmptyProduction
-kind_of faults.PrematureEnd = Nameless kinds.PrematureEnd
-kind_of faults.ProductionNotTerminated = Nameless kinds.ProductionNotTerminated
-kind_of faults.UnknownDeclaration = Nameless kinds.UnknownDeclaration
-kind_of faults.ReachedEOL = Nameless kinds.ReachedEOL
-kind_of faults.UnknownSymbol = Nameless kinds.UnknownSymbol
+kind_of faults.IllegalInteger = kinds.IllegalInteger
+kind_of faults.IllegalName = kinds.IllegalName
+kind_of faults.IllegalString = kinds.IllegalString
+kind_of faults.IncompleteRule = kinds.IncompleteRule
+kind_of faults.IncompleteComment = kinds.IncompleteComment
+kind_of faults.IncompleteAction = kinds.IncompleteAction
+kind_of faults.InvalidString = kinds.InvalidString
+kind_of faults.MissingColon = kinds.MissingColon
+kind_of faults.MissingRightArrow = kinds.MissingRightArrow
+kind_of faults.NonEmptyProduction = kinds.NonEmptyProduction
+kind_of faults.PrematureEnd = kinds.PrematureEnd
+kind_of faults.ProductionNotTerminated = kinds.ProductionNotTerminated
+kind_of faults.UnknownDeclaration = kinds.UnknownDeclaration
+kind_of faults.ReachedEOL = kinds.ReachedEOL
+kind_of faults.UnknownSymbol = kinds.UnknownSymbol
 
 -- the error for a fault of the file
 abbrev pub error_of : Fault → GrammarError
@@ -43,14 +43,14 @@ stop_errors (Some (InSection errors)) = map header_error errors
 stop_errors (Some (InFile fault)) = error_of fault ∷ []
 
 abbrev pub repeated_kind : UniqueKind → ErrorKind
-repeated_kind unique.Start = Nameless kinds.DuplicateStartDeclaration
-repeated_kind unique.Expect = Nameless kinds.DuplicateExpectDeclaration
-repeated_kind unique.ExpectReduceReduce = Nameless kinds.DuplicateExpectRRDeclaration
-repeated_kind unique.ActionType = Nameless kinds.DuplicateActiontypeDeclaration
-repeated_kind unique.PrintedForm = Nameless kinds.DuplicateEPP
-repeated_kind unique.Precedence = Nameless kinds.DuplicatePrecedence
-repeated_kind unique.AvoidInsert = Nameless kinds.DuplicateAvoidInsertDeclaration
-repeated_kind unique.ImplicitToken = Nameless kinds.DuplicateImplicitTokensDeclaration
+repeated_kind unique.Start = kinds.DuplicateStartDeclaration
+repeated_kind unique.Expect = kinds.DuplicateExpectDeclaration
+repeated_kind unique.ExpectReduceReduce = kinds.DuplicateExpectRRDeclaration
+repeated_kind unique.ActionType = kinds.DuplicateActiontypeDeclaration
+repeated_kind unique.PrintedForm = kinds.DuplicateEPP
+repeated_kind unique.Precedence = kinds.DuplicatePrecedence
+repeated_kind unique.AvoidInsert = kinds.DuplicateAvoidInsertDeclaration
+repeated_kind unique.ImplicitToken = kinds.DuplicateImplicitTokensDeclaration
 
 -- the error for what is declared more than once, at all its places
 abbrev pub duplicate_error : Duplicate → GrammarError
