@@ -14,7 +14,6 @@ pub loop-symbol-init : goal.loop-symbol-init
 loop-symbol-init g c =
     let number = g.S.Storage.number in
     let r = number c.args.rule.0 in
-    let choices = map (choice_of number) c.self.inside.firsts.items in
     let x = tables_of number (g.T.Tables.grammar c.self.inside.tables.now) c.self.inside.costs.items c.self.inside.settled.least.items c.self.inside.firsts.items in
     let walks = c.self.invariant.3 in
     let grammar = c.rules_len-rules.ensures.content in
@@ -27,7 +26,6 @@ pub take-requires : goal.take-requires
 take-requires g c =
     let number = g.S.Storage.number in
     let r = number c.args.rule.0 in
-    let choices = map (choice_of number) c.self.inside.firsts.items in
     let x = tables_of number (g.T.Tables.grammar c.self.inside.tables.now) c.self.inside.costs.items c.self.inside.settled.least.items c.self.inside.firsts.items in
     let walks = c.self.invariant.3 in
     let grammar = c.rules_len-rules.ensures.content in
@@ -45,7 +43,6 @@ pub push_production-requires : goal.push_production-requires
 push_production-requires g c =
     let number = g.S.Storage.number in
     let r = number c.args.rule.0 in
-    let choices = map (choice_of number) c.self.inside.firsts.items in
     let x = tables_of number (g.T.Tables.grammar c.self.inside.tables.now) c.self.inside.costs.items c.self.inside.settled.least.items c.self.inside.firsts.items in
     let walks = c.self.invariant.3 in
     let grammar = c.rules_len-rules.ensures.content in
@@ -63,7 +60,6 @@ pub loop-symbol-smaller : goal.loop-symbol-smaller
 loop-symbol-smaller g c =
     let number = g.S.Storage.number in
     let r = number c.args.rule.0 in
-    let choices = map (choice_of number) c.self.inside.firsts.items in
     let x = tables_of number (g.T.Tables.grammar c.self.inside.tables.now) c.self.inside.costs.items c.self.inside.settled.least.items c.self.inside.firsts.items in
     let walks = c.self.invariant.3 in
     let grammar = c.rules_len-rules.ensures.content in
@@ -82,7 +78,6 @@ pub loop-symbol-preserved : goal.loop-symbol-preserved
 loop-symbol-preserved g c =
     let number = g.S.Storage.number in
     let r = number c.args.rule.0 in
-    let choices = map (choice_of number) c.self.inside.firsts.items in
     let x = tables_of number (g.T.Tables.grammar c.self.inside.tables.now) c.self.inside.costs.items c.self.inside.settled.least.items c.self.inside.firsts.items in
     let walks = c.self.invariant.3 in
     let grammar = c.rules_len-rules.ensures.content in
@@ -100,7 +95,6 @@ pub returns : goal.returns
 returns g c =
     let number = g.S.Storage.number in
     let r = number c.args.rule.0 in
-    let choices = map (choice_of number) c.self.inside.firsts.items in
     let x = tables_of number (g.T.Tables.grammar c.self.inside.tables.now) c.self.inside.costs.items c.self.inside.settled.least.items c.self.inside.firsts.items in
     let walks = c.self.invariant.3 in
     let grammar = c.rules_len-rules.ensures.content in
