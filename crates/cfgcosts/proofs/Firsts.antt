@@ -32,7 +32,7 @@ same_front (x ∷ u) w w' =
     let one : dictionary (x ∷ u ++ w) (x ∷ u ++ w') ≡ dictionary (u ++ w) (u ++ w') = ap (λ r. ordering_then r (dictionary (u ++ w) (u ++ w'))) same in
     one ∙ same_front u w w'
 
-by_order : {G : Type 0} (o : Ordering) → (o ≡ Less → G) → (o ≡ Equal → G) → (o ≡ Greater → G) → G
+pub by_order : {G : Type 0} (o : Ordering) → (o ≡ Less → G) → (o ≡ Equal → G) → (o ≡ Greater → G) → G
 by_order Less l e g = l refl
 by_order Equal l e g = e refl
 by_order Greater l e g = g refl
@@ -44,13 +44,19 @@ module _ (P : ℕ → List Sym → Type 0) (cost : ℕ → ℕ) (paid : (r : ℕ
       let both = sum_by-append cost u z in
       dear_empty cost z (dear_back cost u z (sentence_dear P cost paid r (u ++ z) k.0)) (omega (arith, low, both))
 
-  pub first_of_row : {a : List Sym} {w v : List ℕ} → Split (FirstMinimal P cost) a w → Split (Minimal P cost) a v → dictionary w v ≡ Greater → ⊥
-  first_of_row done done g = let no : ◌≡◌ {A = Ordering} Equal Greater = g in cc
-  first_of_row (itself {t = t} {w = w} s) (itself {w = v} k) g = first_of_row s k (sym (same_front (t ∷ []) w v) ∙ g)
-  first_of_row (part {r = r} {u = u} {w = w} f s e) (part {u = u'} {w = w'} m k e') g =
+  -- a row whose parts don't come behind those of another, and don't begin them, doesn't come behind the other
+  pub row_before : (G H : ℕ → List ℕ → Type 0)
+      → ((r : ℕ) (u u' : List ℕ) → G r u → H r u' → (dictionary u u' ≡ Greater → ⊥) × ((z : List ℕ) → u' ≡ u ++ z → z ≡ []))
+      → {a : List Sym} {w v : List ℕ} → Split G a w → Split H a v → dictionary w v ≡ Greater → ⊥
+  row_before G H each done done g = let no : ◌≡◌ {A = Ordering} Equal Greater = g in cc
+  row_before G H each (itself {t = t} {w = w} s) (itself {w = v} k) g = row_before G H each s k (sym (same_front (t ∷ []) w v) ∙ g)
+  row_before G H each (part {r = r} {u = u} {w = w} f s e) (part {u = u'} {w = w'} m k e') g =
       let apart = ap (λ l. dictionary l (u' ++ w')) (sym e) ∙ ap (dictionary _) (sym e') ∙ g in
+      let one = each r u u' f m in
       by_order (dictionary u u')
-      (λ less. let no : ◌≡◌ {A = Ordering} Less Greater =
-      sym (less_front u u' w w' less (λ z is. begins_none r u z f.0 (subst (Minimal P cost r) is m))) ∙ apart in cc)
-      (λ equal. first_of_row s k (sym (same_front u w w') ∙ ap (λ l. dictionary (u ++ w) (l ++ w')) (dictionary_same u u' equal) ∙ apart))
-      (λ greater. f.1 u' m greater)
+      (λ less. let no : ◌≡◌ {A = Ordering} Less Greater = sym (less_front u u' w w' less one.1) ∙ apart in cc)
+      (λ equal. row_before G H each s k (sym (same_front u w w') ∙ ap (λ l. dictionary (u ++ w) (l ++ w')) (dictionary_same u u' equal) ∙ apart))
+      one.0
+
+  pub first_of_row : {a : List Sym} {w v : List ℕ} → Split (FirstMinimal P cost) a w → Split (Minimal P cost) a v → dictionary w v ≡ Greater → ⊥
+  first_of_row = row_before (FirstMinimal P cost) (Minimal P cost) (λ r u u' f m. (f.1 u' m, λ z is. begins_none r u z f.0 (subst (Minimal P cost r) is m)))

@@ -106,10 +106,10 @@ module _ (P : ℕ → List Sym → Type 0) (cost : ℕ → ℕ) where
 
     -- the parts of a row's least word are minimal
     module _ (F : ℕ → List ℕ → Type 0) where
-      abbrev IsMinimalAnd : ℕ → List ℕ → Type 0
+      abbrev pub IsMinimalAnd : ℕ → List ℕ → Type 0
       IsMinimalAnd r w = Minimal P cost r w × F r w
 
-      minimal_parts : {a : List Sym} {w : List ℕ} → Split (IsYieldedAnd P F) a w → ((v : List ℕ) → Yields P a v → cost_of cost w ≤ cost_of cost v) → Split IsMinimalAnd a w
+      pub minimal_parts : {a : List Sym} {w : List ℕ} → Split (IsYieldedAnd P F) a w → ((v : List ℕ) → Yields P a v → cost_of cost w ≤ cost_of cost v) → Split IsMinimalAnd a w
       minimal_parts done low = done
       minimal_parts (itself {t = t} {w = w} s) low = itself (minimal_parts s (λ v tree.
           let le = low (t ∷ v) (token tree) in let one = cost_of-token cost t w in let two = cost_of-token cost t v in omega (arith, le, one, two)))

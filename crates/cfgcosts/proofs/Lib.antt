@@ -32,3 +32,17 @@ pub mod Searches
 pub mod OwnBelow
 pub mod AskedRules
 pub mod Filled
+pub mod GrowingChoices
+pub mod FirstChosen
+pub mod ChoosingFirsts
+pub mod FirstsMade
+pub mod RowsInOrder
+pub mod RowSteps
+pub mod Offered
+pub mod Pending
+pub mod Placed
+pub mod Taken
+pub mod Climbed
+pub mod Compared
+pub mod AloneRules
+pub mod Added

@@ -44,7 +44,7 @@ stops_none cost settled symbols r x stop = go (sum_of (symbol_cost cost settled)
         let no : None ≡ Some rule.value = sym stop.unset ∙ rule.is in absurd (cc)
 
 -- a rule and its production cost the same, whoever tells it
-one_cost : (x : CostTables) (r c d : ℕ) → cost_answer x r ≡ Some c → cost_answer x r ≡ Some d → c ≡ d
+pub one_cost : (x : CostTables) (r c d : ℕ) → cost_answer x r ≡ Some c → cost_answer x r ≡ Some d → c ≡ d
 one_cost x r c d e f = let both : Some c ≡ Some d = sym e ∙ f in cc
 
 -- where a row costs something, it has one symbol at most that costs as much
@@ -52,7 +52,7 @@ module _ (x : CostTables) where
   abbrev costs : Sym → Option ℕ
   costs = symbol_cost (token_cost x) (rule_cost x.least)
 
-  rule_within : (a : List Sym) (q c m : ℕ) → sum_of costs a ≡ Some m → Contains a (Rule q) → rule_cost x.least q ≡ Some c → c ≤ m
+  pub rule_within : (a : List Sym) (q c m : ℕ) → sum_of costs a ≡ Some m → Contains a (Rule q) → rule_cost x.least q ≡ Some c → c ≤ m
   rule_within [] q c m e h k = absurd (contains_none (Rule q) h)
   rule_within (s ∷ a) q c m e h k =
       let p = plus_parts (costs s) (sum_of costs a) m e in
@@ -86,6 +86,11 @@ module _ (x : CostTables) where
           | inr later' ↦ one_rule a q r c p.second p.second_is (omega (arith, whole, small)) some later later' k k'
         ]
       ]
+
+-- a production is tight whatever is chosen
+pub tight_whatever : (x : CostTables) (choices : List (Option (ℕ × ℕ))) (p : ℕ) → IsTight x p
+    → IsTight (record { grammar = x.grammar; costs = x.costs; least = x.least; choices = choices }) p
+tight_whatever x choices p t = record { place = t.place; cost = t.cost; positive = t.positive; rule = t.rule; sum = t.sum }
 
 -- what a production is to its rule is told by its symbols, where the rule has a cost that is answered and isn't 0
 module _ (x : CostTables) (p c : ℕ) (place : p < length x.grammar.productions) (rule : rule_cost x.least (nth_production x.grammar p).rule ≡ Some c) where
@@ -200,7 +205,7 @@ module _ (x : CostTables) (n : ℕ) (is : IsGenerator x n) (grammar : IsGrammar 
       let both = sum_by-append cost u w in
       (u ++ w, part (s, λ v t. subst (λ k. k ≤ cost_of cost v) (sym costs) (least.1 v t)) cut refl, omega (arith, both, costs, rest, whole))
 
-  sum_of_cut : {a : List Sym} {w : List ℕ} → Cut a w → cost_of cost w ≤ 65535 → sum_of sums a ≡ Some (cost_of cost w)
+  pub sum_of_cut : {a : List Sym} {w : List ℕ} → Cut a w → cost_of cost w ≤ 65535 → sum_of sums a ≡ Some (cost_of cost w)
   sum_of_cut done small = refl
   sum_of_cut (itself {t = t} {a = a} {w = w} s) small =
       let both = cost_of-token cost t w in
@@ -223,13 +228,13 @@ module _ (x : CostTables) (n : ℕ) (is : IsGenerator x n) (grammar : IsGrammar 
       }
 
   -- a production that costs as its rule, with its place
-  record Placed (r : ℕ) (symbols : List Sym) (c : ℕ) : Type 0 where
-    place : ℕ
-    production : nth_production x.grammar place ≡ record { rule = r; symbols = symbols }
-    tight : IsTight x place
-    costs : tight.cost ≡ c
+  pub record Placed (r : ℕ) (symbols : List Sym) (c : ℕ) : Type 0 where
+    pub place : ℕ
+    pub production : nth_production x.grammar place ≡ record { rule = r; symbols = symbols }
+    pub tight : IsTight x place
+    pub costs : tight.cost ≡ c
 
-  tight_placed : (r : ℕ) (symbols : List Sym) (c : ℕ) → CostsAsItsRule P cost r symbols c → 0 < c → c ≤ 65535 → Placed r symbols c
+  pub tight_placed : (r : ℕ) (symbols : List Sym) (c : ℕ) → CostsAsItsRule P cost r symbols c → 0 < c → c ≤ 65535 → Placed r symbols c
   tight_placed r symbols c tight some small =
       let has = tight.has in
       let costs = tight.is in

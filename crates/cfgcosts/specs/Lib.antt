@@ -9,4 +9,6 @@ pub mod Sentences
 pub mod Splits
 pub mod Levels
 pub mod Minimal
+pub mod FirstChoices
 pub mod DerivedBy
+pub mod Offers

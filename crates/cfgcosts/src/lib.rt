@@ -3,6 +3,7 @@
 
 pub mod certificate;
 pub mod errors;
+mod first;
 pub mod generator;
 mod kinds;
 pub mod laws;
