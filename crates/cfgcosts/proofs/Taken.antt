@@ -1,11 +1,12 @@
 -- A production that was offered is taken out, and what is left till nothing is offered.
-use Rattle.std.proofs.Common.{◌≡◌, ℕ, ◌+◌, ◌-◌, ◌*◌, ◌<◌, ◌≤◌, ◌⊎◌, inl, inr, List, [], ◌∷◌, ◌++◌, get_or, length, None, Contains, arith, refl, sym, ap, subst, ◌∙◌}
+use Rattle.std.proofs.Common.{◌≡◌, ℕ, ◌+◌, ◌-◌, ◌*◌, ◌<◌, ◌≤◌, ◌⊎◌, inl, inr, List, [], ◌∷◌, ◌++◌, append-nil, get_or, length, map, None, Contains, arith, refl, sym, ap, subst, ◌∙◌}
 use Rattle.std.proofs.Math.Seq.{get_or-append_seam}
-use Rattle.std.proofs.lemmas.List.{get_or_append_left, get_or_default, length_push}
+use Rattle.std.proofs.lemmas.List.{get_or_append_left, get_or_default, length_push, map-append}
 use Rattle.std.proofs.lemmas.List.Elements.{Contains-append_left, Contains-push, Contains-push_cases}
 use Rattle.cfgcosts.specs.Certificate.{rule_choice}
 use Rattle.cfgcosts.specs.Generator.{CostTables}
-use Rattle.cfgcosts.specs.Minimal.{IsHeir}
+use Rattle.cfgcosts.specs.Minimal.{IsHeir, places_of}
+use Rattle.cfgindex.specs.declared.idxnewtype.PIdx.{PIdx}
 use Rattle.cfgcosts.specs.Offers.{Adds, Going, Handles, HasChoice, IsDone, IsFloor, IsHandled, IsKnown, IsNext, IsOffered, Known, Level, NotAfter, Offers, Takes, Waits, left_to_choose, owner, row, waiting}
 use Rattle.cfgcosts.proofs.ChoosingFirsts.{few}
 use Rattle.cfgcosts.proofs.Contained.{contains_none}
@@ -126,3 +127,18 @@ module _ (k : Known) (n : ℕ) (is : IsKnown k n) (f : Offers) (p : ℕ) (level 
         where
           spread : (d c m w v whole : ℕ) → whole ≡ (d + 1) * (c + 1) → v ≡ w + m → m ≤ c → d * (c + 1) + v ≤ whole + w
           spread d c m w v whole is all short = omega (arith, is, all, short)
+
+pub lt_from : {a b c : ℕ} → a < b → c ≤ a → c < b
+lt_from less le = omega (arith, less, le)
+
+-- lists of the code, in numbers, one taken from the end
+pub last_taken : {S : Type 0} (number : S → ℕ) (items rest : List (PIdx S)) (p : PIdx S) → items ≡ rest ++ p ∷ [] → places_of number items ≡ places_of number rest ++ number p.0 ∷ []
+last_taken number items rest p e = ap (places_of number) e ∙ map-append (λ (q : PIdx _). number q.0) rest (p ∷ [])
+
+pub none_taken : {S : Type 0} (number : S → ℕ) (items rest : List (PIdx S)) → items ≡ rest ++ [] → places_of number rest ≡ places_of number items
+none_taken number items rest e = ap (places_of number) (sym (append-nil rest) ∙ sym e)
+
+pub same_lists : (f : Offers) (ready level : List ℕ) → ready ≡ f.ready → level ≡ f.level
+    → ◌≡◌ {A = Offers} (record { choices = f.choices; number = f.number; cost = f.cost; ready = ready; level = level }) f
+same_lists f ready level e h = ap (λ (r : List ℕ). record { choices = f.choices; number = f.number; cost = f.cost; ready = r; level = level }) e
+    ∙ ap (λ (l : List ℕ). record { choices = f.choices; number = f.number; cost = f.cost; ready = f.ready; level = l }) h

@@ -37,6 +37,31 @@ fn own_by_cost<S: Storage, T: Tables<S>>(
 }
 
 impl<S: Storage> Firsts<S> {
+    /// Goes on to this cost, when all choices of lesser cost are made.
+    ///
+    /// # Errors
+    ///
+    /// Want of memory.
+    fn rise<T: Tables<S>>(
+        &mut self,
+        tight: &TightTables<S, T>,
+        cost: u32,
+    ) -> Result<(), AllocError>
+        requires { (p : ℕ) × (rest : List (ℕ × ℕ)) × All (λ entry. cost ≤ entry.0) rest
+            × Climbing tight.now (offers_of S.number self.old) ((cost, p) ∷ rest) }
+        ensures climbing { OnOk result ((p : ℕ) (rest : List (ℕ × ℕ)) → All (λ entry. cost ≤ entry.0) rest
+            → Climbing tight.now (offers_of S.number self.old) ((cost, p) ∷ rest)
+            → Climbing tight.now (offers_of S.number self.new) ((cost, p) ∷ rest)) }
+        ensures cost { OnOk result (self.new.cost ≡ cost) }
+    {
+        if self.cost == cost {
+            return Ok(());
+        }
+        self.choose_all(tight)?;
+        self.cost = cost;
+        Ok(())
+    }
+
     /// Offers an own production, when all choices of lesser cost are made.
     ///
     /// # Errors
@@ -54,10 +79,8 @@ impl<S: Storage> Firsts<S> {
             → Climbing tight.now (offers_of S.number self.old) ((cost, S.number p.0) ∷ rest)
             → Climbing tight.now (offers_of S.number self.new) rest) }
     {
-        if cost > self.cost {
-            self.choose_all(tight)?;
-            self.cost = cost;
-        }
+        let _rules = tight.rules_len();
+        self.rise(tight, cost)?;
         self.offer(tight, p)?;
         Ok(())
     }
@@ -76,6 +99,7 @@ impl<S: Storage> Firsts<S> {
         ensures walks { OnOk result (Walks (chosen_tables tight.now.tables (offers_of S.number self.new))) }
         ensures first { OnOk result (AreFirst (chosen_tables tight.now.tables (offers_of S.number self.new))) }
     {
+        let _rules = tight.rules_len();
         let _prods = tight.prods_len();
         while let Some((cost, production)) = own.pop() {
             self.take_up(tight, cost, PIdx(to_storage(production as usize)))?;

@@ -174,10 +174,11 @@ impl<S: Storage> Firsts<S> {
             → MatchOption result (IsDrained (offers_of S.number self.old) (offers_of S.number self.new))
             (λ p. Takes k (S.number p.0) (offers_of S.number self.old) (offers_of S.number self.new)) }
     {
-        match self.ready.pop() {
-            Some(p) => Some(p),
-            None => self.level.pop(),
+        if let Some(p) = self.ready.pop() {
+            return Some(p);
         }
+        let p = self.level.pop()?;
+        Some(p)
     }
 
     /// Chooses among the productions that are offered, till none is left.
