@@ -1,15 +1,17 @@
 -- A production that was offered is taken out, and what is left till nothing is offered.
-use Rattle.std.proofs.Common.{◌≡◌, ℕ, ◌+◌, ◌-◌, ◌*◌, ◌<◌, ◌≤◌, ◌⊎◌, inl, inr, List, [], ◌∷◌, ◌++◌, append-nil, get_or, length, map, None, Contains, arith, refl, sym, ap, subst, ◌∙◌}
+use Rattle.std.proofs.Common.{◌≡◌, ℕ, ◌+◌, ◌-◌, ◌*◌, ◌<◌, ◌≤◌, ◌⊎◌, inl, inr, true, false, true≢false, Option, Some, slice_set, List, [], ◌∷◌, ◌++◌, append-nil, get_or, length, map, None, Contains, arith, refl, sym, ap, subst, ◌∙◌}
 use Rattle.std.proofs.Math.Seq.{get_or-append_seam}
-use Rattle.std.proofs.lemmas.List.{get_or_append_left, get_or_default, length_push, map-append}
+use Rattle.std.proofs.lemmas.List.{get_or_append_left, get_or_default, length_push, map-append, map-set}
 use Rattle.std.proofs.lemmas.List.Elements.{Contains-append_left, Contains-push, Contains-push_cases}
-use Rattle.cfgcosts.specs.Certificate.{rule_choice}
+use Rattle.cfgcosts.specs.Certificate.{choice_of, rule_choice}
 use Rattle.cfgcosts.specs.Generator.{CostTables}
 use Rattle.cfgcosts.specs.Minimal.{IsHeir, places_of}
 use Rattle.cfgindex.specs.declared.idxnewtype.PIdx.{PIdx}
 use Rattle.cfgcosts.specs.Offers.{Adds, Going, Handles, HasChoice, IsDone, IsFloor, IsHandled, IsKnown, IsNext, IsOffered, Known, Level, NotAfter, Offers, Takes, Waits, left_to_choose, owner, row, waiting}
 use Rattle.cfgcosts.proofs.ChoosingFirsts.{few}
 use Rattle.cfgcosts.proofs.Contained.{contains_none}
+use Rattle.cfgcosts.proofs.Pending.{choice_shown}
+use Rattle.std.specs.Prelude.{is_some}
 use Rattle.cfgcosts.proofs.Offered.{choosing, with_choice}
 
 module _ (k : Known) (f : Offers) (level : Level k f) (p : ℕ) (rest : List ℕ) where
@@ -142,3 +144,16 @@ pub same_lists : (f : Offers) (ready level : List ℕ) → ready ≡ f.ready →
     → ◌≡◌ {A = Offers} (record { choices = f.choices; number = f.number; cost = f.cost; ready = ready; level = level }) f
 same_lists f ready level e h = ap (λ (r : List ℕ). record { choices = f.choices; number = f.number; cost = f.cost; ready = r; level = level }) e
     ∙ ap (λ (l : List ℕ). record { choices = f.choices; number = f.number; cost = f.cost; ready = f.ready; level = l }) h
+
+-- whether a rule has a choice, as the code tells it
+module _ {S : Type 0} (number : S → ℕ) (items : List (Option (PIdx S × ℕ))) (i r : ℕ) (at : i ≡ r) (within : r < length items) where
+  pub unset_shown : (o : Option (PIdx S × ℕ)) → o ≡ get_or items i o → is_some o ≡ false → rule_choice (map (choice_of number) items) r ≡ None
+  unset_shown None is e = choice_shown number items i r None None at within (sym is)
+  unset_shown (Some choice) is e = absurd (true≢false e)
+
+  pub has_shown : (o : Option (PIdx S × ℕ)) → o ≡ get_or items i o → is_some o ≡ true → HasChoice (map (choice_of number) items) r
+  has_shown None is e = absurd (true≢false (sym e))
+  has_shown (Some (p, m)) is e = ((number p.0, m), choice_shown number items i r (Some (p, m)) (Some (p, m)) at within (sym is))
+
+  pub chosen_shown : (p : PIdx S) (n : ℕ) → map (choice_of number) (slice_set items i (Some (p, n))) ≡ slice_set (map (choice_of number) items) r (Some (number p.0, n))
+  chosen_shown p n = map-set (choice_of number) items i (Some (p, n)) ∙ ap (λ j. slice_set (map (choice_of number) items) j (Some (number p.0, n))) at

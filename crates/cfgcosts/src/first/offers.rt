@@ -158,6 +158,7 @@ impl<S: Storage> Firsts<S> {
         ensures left { OnOk result (left_to_choose tight.now (offers_of S.number self.new)
             ≤ left_to_choose tight.now (offers_of S.number self.old)) }
     {
+        let _rules = tight.rules_len();
         let rule = tight.rule_of(p);
         if self.choices[usize::from(rule)].is_some() {
             return Ok(());

@@ -1,4 +1,4 @@
-use Rattle.std.proofs.Common.{◌<◌, ◌≡◌, false, length, get_or, sym, ap, subst, ◌∙◌}
+use Rattle.std.proofs.Common.{◌<◌, ◌≡◌, false, length, get_or, sym, ap, subst, ◌∙◌, arith}
 use Rattle.std.proofs.lemmas.List.{get_or_default}
 use Rattle.cfgcosts.specs.Offers.{IsKnown, Known, is_alone}
 use Rattle.cfgcosts.proofs.first.tight.TightTables.is_alone.Goals as goal
@@ -6,8 +6,9 @@ use Rattle.cfgcosts.proofs.first.tight.TightTables.is_alone.Goals as goal
 pub index-requires : goal.index-requires
 index-requires g c =
     let known = c.self.invariant.0 in
-    subst (λ n. n < length c.self.inside.alone.items) (sym c.from.ensures) (subst (λ m. g.S.Storage.number c.args.rule.0 < m) (sym known.flags)
-    (subst (λ (k : Known). g.S.Storage.number c.args.rule.0 < k.tables.grammar.rules) (sym c.self.view_is) c.requires))
+    let lt : c.from.result < length c.self.inside.alone.items = subst (λ n. n < length c.self.inside.alone.items) (sym c.from.ensures) (subst (λ m. g.S.Storage.number c.args.rule.0 < m) (sym known.flags)
+    (subst (λ (k : Known). g.S.Storage.number c.args.rule.0 < k.tables.grammar.rules) (sym c.self.view_is) c.requires)) in
+    omega (arith, lt, c.self.inside.alone.ok.0)
 
 pub returns : goal.returns
 returns g c =
