@@ -54,6 +54,7 @@ impl<S: Storage> Firsts<S> {
             → Climbing tight.now (offers_of S.number self.new) ((cost, p) ∷ rest)) }
         ensures cost { OnOk result (self.new.cost ≡ cost) }
     {
+        let _rules = tight.rules_len();
         if self.cost == cost {
             return Ok(());
         }
