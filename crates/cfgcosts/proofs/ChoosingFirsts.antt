@@ -1,8 +1,10 @@
 -- Choices for first sentences, made one by one: a rule's production is chosen when its rules are free or have choices.
 use Rattle.std.proofs.Common.{◌≡◌, ℕ, zero, suc, ◌+◌, ◌<◌, ◌≤◌, ◌⊎◌, inl, inr, List, [], ◌∷◌, ◌++◌, length, slice_set, Option, Some, None, All, Contains, append-nil, arith, refl, sym, ap, subst, ◌∙◌}
-use Rattle.std.specs.Prelude.{IsSomeAnd}
+use Rattle.std.specs.Prelude.{IfSome, IsSomeAnd, cond, count_by, is_some, sum_by}
+use Rattle.std.proofs.lemmas.Bool.{cases_lt}
 use Rattle.std.proofs.lemmas.List.{get_or-set_same, length-set}
-use Rattle.std.proofs.lemmas.List.Elements.{All-head, All-tail, All-nil, All-cons}
+use Rattle.std.proofs.lemmas.List.Elements.{All-contains_itself, All-head, All-tail, All-nil, All-cons, All-weaker}
+use Rattle.std.proofs.lemmas.List.Sums.{count_by-le-length, sum_by-set}
 use Rattle.lemmas.proofs.Elements.{get_or-set}
 use Rattle.derivation.specs.Grammar.{Sym, Rule, Token}
 use Rattle.cfganalysis.specs.Openings.{nth_production}
@@ -12,31 +14,21 @@ use Rattle.cfgsums.proofs.Sums.{plus_parts, plus_zero}
 use Rattle.cfgcosts.specs.Certificate.{rule_choice}
 use Rattle.cfgcosts.specs.Choices.{ChoicesGive}
 use Rattle.cfgcosts.specs.Choices as gives
+use Rattle.cfgcosts.specs.FirstChoices.{IsNotAbove}
+use Rattle.cfgcosts.specs.Offers.{Choices, Choosing, IsChoice, IsReady, by}
 use Rattle.cfgcosts.specs.Generator.{CostTables, cost_answer, choice_answer, token_cost, where_some}
 use Rattle.cfgcosts.specs.Minimal.{IsHeir, IsTight}
 use Rattle.cfgcosts.proofs.Choices.{choices_join, choices_split}
 use Rattle.cfgcosts.proofs.Contained.{contains_cases, contains_first, contains_later, contains_none}
 use Rattle.cfgcosts.proofs.Generated.{answered_some, some_answered}
-use Rattle.cfgcosts.proofs.GrowingChoices.{Choices, Keeps, by, keeps_one}
+use Rattle.cfgcosts.proofs.GrowingChoices.{Keeps, keeps_one}
 use Rattle.cfgcosts.proofs.Lengths.{IsPaid}
 use Rattle.cfgcosts.proofs.Levels.{no_rule}
 use Rattle.cfgcosts.proofs.Tight.{rule_within}
 
 module _ (x : CostTables) where
-  -- a rule is free, or has a choice with a number below n
-  abbrev pub IsReady : Choices → ℕ → ℕ → Type 0
-  IsReady l n q = (cost_answer x q ≡ Some 0) ⊎ IsSomeAnd (rule_choice l q) (λ choice. choice.1 < n)
-
-  -- the choice of a rule: a production that costs just what the rule does, whose rules are ready
-  pub record IsChoice (l : Choices) (r p m : ℕ) : Type 0 where
-    pub tight : IsTight x p
-    pub owner : (nth_production x.grammar p).rule ≡ r
-    pub ready : (q : ℕ) → Contains (nth_production x.grammar p).symbols (Rule q) → IsReady l m q
-
-  -- so far n rules have choices
-  pub record Choosing (l : Choices) (n : ℕ) : Type 0 where
-    pub listed : length l ≡ x.grammar.rules
-    pub each : (r p m : ℕ) → rule_choice l r ≡ Some (p, m) → IsChoice l r p m × (m < n)
+  pub few : (l : Choices) (n : ℕ) → Choosing x l n → n ≤ x.grammar.rules
+  few l n state = let all = count_by-le-length is_some l in let is = state.count in let len = state.listed in omega (arith, all, is, len)
 
   some_kept : (l l' : Choices) → Keeps l l' → (q m n : ℕ) → m ≤ n → IsSomeAnd (rule_choice l q) (λ choice. choice.1 < m) → IsSomeAnd (rule_choice l' q) (λ choice. choice.1 < n)
   some_kept l l' keeps q m n le h = go (rule_choice l q) refl h
@@ -45,13 +37,13 @@ module _ (x : CostTables) where
       go None e h = absurd h
       go (Some choice) e h = subst (λ (o : Option (ℕ × ℕ)). IsSomeAnd o (λ choice. choice.1 < n)) (sym (keeps q choice e)) (omega (arith, h, le))
 
-  pub ready_kept : (l l' : Choices) → Keeps l l' → (q m n : ℕ) → m ≤ n → IsReady l m q → IsReady l' n q
+  pub ready_kept : (l l' : Choices) → Keeps l l' → (q m n : ℕ) → m ≤ n → IsReady x l m q → IsReady x l' n q
   ready_kept l l' keeps q m n le (inl free) = inl free
   ready_kept l l' keeps q m n le (inr some) = inr (some_kept l l' keeps q m n le some)
 
   -- one rule more
-  module _ (l : Choices) (n r p : ℕ) (state : Choosing l n) (unset : rule_choice l r ≡ None) (within : r < x.grammar.rules) (tight : IsTight x p)
-      (owner : (nth_production x.grammar p).rule ≡ r) (ready : (q : ℕ) → Contains (nth_production x.grammar p).symbols (Rule q) → IsReady l n q) where
+  module _ (l : Choices) (n r p : ℕ) (state : Choosing x l n) (unset : rule_choice l r ≡ None) (within : r < x.grammar.rules) (tight : IsTight x p)
+      (owner : (nth_production x.grammar p).rule ≡ r) (ready : (q : ℕ) → Contains (nth_production x.grammar p).symbols (Rule q) → IsReady x l n q) where
     abbrev pub later : Choices
     later = slice_set l r (Some (p, n))
 
@@ -61,9 +53,14 @@ module _ (x : CostTables) where
     pub chosen_now : rule_choice later r ≡ Some (p, n)
     chosen_now = get_or-set_same l r (Some (p, n)) None (subst (λ m. r < m) (sym state.listed) within)
 
-    pub choosing_more : Choosing later (n + 1)
+    pub choosing_more : Choosing x later (n + 1)
     choosing_more = record {
       listed = length-set l r (Some (p, n)) ∙ state.listed;
+      count =
+          let set = sum_by-set (λ (o : Option (ℕ × ℕ)). cond (is_some o) 1 0) l r (Some (p, n)) None (subst (λ m. r < m) (sym state.listed) within) in
+          let none : ◌≡◌ {A = ℕ} (cond (is_some (rule_choice l r)) 1 0) 0 = ap (λ (o : Option (ℕ × ℕ)). cond (is_some o) 1 0) unset in
+          let old = state.count in
+          omega (arith, set, none, old);
       each = λ q p' m e. elim (get_or-set l r q (Some (p, n)) None) [
         | inl same ↦
             let old = state.each q p' m (sym same ∙ e) in
@@ -74,7 +71,7 @@ module _ (x : CostTables) where
         | inr now ↦
             let both : ◌≡◌ {A = Option (ℕ × ℕ)} (Some (p, n)) (Some (p', m)) = sym now.1 ∙ e in
             let pairs : ◌≡◌ {A = ℕ × ℕ} (p, n) (p', m) = cc in
-            subst (λ (c : ℕ × ℕ). IsChoice later q c.0 c.1 × (c.1 < n + 1)) pairs (
+            subst (λ (c : ℕ × ℕ). IsChoice x later q c.0 c.1 × (c.1 < n + 1)) pairs (
               record { tight = tight; owner = owner ∙ sym now.0; ready = λ s h. ready_kept l later keeps s n n (omega arith) (ready s h) },
               omega arith,
             )
@@ -82,7 +79,7 @@ module _ (x : CostTables) where
     }
 
   -- the choices give something for symbols that are ready
-  module _ (l : Choices) (n : ℕ) (state : Choosing l n) where
+  module _ (l : Choices) (n : ℕ) (state : Choosing x l n) where
     ready_row : (Q : ℕ → Type 0) → ((q : ℕ) → Q q → (w : List ℕ) × ChoicesGive (by x l) (Rule q ∷ []) w) → (a : List Sym) → ((q : ℕ) → Contains a (Rule q) → Q q)
         → (w : List ℕ) × ChoicesGive (by x l) a w
     ready_row Q one [] all = ([], gives.empty)
@@ -92,31 +89,51 @@ module _ (x : CostTables) where
         let (w, k) = ready_row Q one a (λ q h. all q (contains_later (Rule r) (Rule q) a h)) in
         (u ++ w, choices_join (by x l) h k)
 
-    answer_chosen : (r p m : ℕ) → rule_choice l r ≡ Some (p, m) → IsChoice l r p m → choice_answer (by x l) r ≡ Some (p, m)
+    pub answer_chosen : (r p m : ℕ) → rule_choice l r ≡ Some (p, m) → IsChoice x l r p m → choice_answer (by x l) r ≡ Some (p, m)
     answer_chosen r p m e c = ap (λ o. where_some o (rule_choice l r)) (subst (λ q. cost_answer x q ≡ Some c.tight.cost) c.owner c.tight.rule) ∙ e
 
-    pub paid_chosen : (r p m : ℕ) → IsChoice l r p m → cost_answer x r ≡ Some 0 → ⊥
+    pub paid_chosen : (r p m : ℕ) → IsChoice x l r p m → cost_answer x r ≡ Some 0 → ⊥
     paid_chosen r p m c none =
         let some = c.tight.positive in
         let both : Some c.tight.cost ≡ Some 0 = sym (subst (λ q. cost_answer x q ≡ Some c.tight.cost) c.owner c.tight.rule) ∙ none in
         let is : c.tight.cost ≡ 0 = cc in
         omega (arith, is, some)
 
-    ready_rule : (k m : ℕ) → m < k → (q : ℕ) → IsReady l m q → (w : List ℕ) × ChoicesGive (by x l) (Rule q ∷ []) w
+    -- what is ready has no choice, or one with a lesser number
+    not_above : (m q : ℕ) → IsReady x l m q → IsNotAbove l m (Rule q)
+    not_above m q (inl free) = go (rule_choice l q) refl
+      where
+        go : (o : Option (ℕ × ℕ)) → rule_choice l q ≡ o → IfSome (rule_choice l q) (λ choice. choice.1 < m)
+        go None e = subst (λ (o : Option (ℕ × ℕ)). IfSome o (λ choice. choice.1 < m)) (sym e) tt
+        go (Some (p, j)) e = absurd (paid_chosen q p j (state.each q p j e).0 free)
+    not_above m q (inr some) = go (rule_choice l q) some
+      where
+        go : (o : Option (ℕ × ℕ)) → IsSomeAnd o (λ choice. choice.1 < m) → IfSome o (λ choice. choice.1 < m)
+        go None h = tt
+        go (Some choice) h = h
+
+    pub row_not_above : (m : ℕ) (a : List Sym) → ((q : ℕ) → Contains a (Rule q) → IsReady x l m q) → All (IsNotAbove l m) a
+    row_not_above m a ready = All-weaker (Contains a) (IsNotAbove l m) one a (All-contains_itself a)
+      where
+        one : (s : Sym) → Contains a s → IsNotAbove l m s
+        one (Token t) h = tt
+        one (Rule q) h = not_above m q (ready q h)
+
+    ready_rule : (k m : ℕ) → m < k → (q : ℕ) → IsReady x l m q → (w : List ℕ) × ChoicesGive (by x l) (Rule q ∷ []) w
     ready_rule zero m lt q h = absurd (omega (arith, lt))
     ready_rule (suc k) m lt q (inl free) = ([], gives.free free gives.empty)
     ready_rule (suc k) m lt q (inr some) = go (ready_rule k) (rule_choice l q) refl some
       where
-        go : ((j : ℕ) → j < k → (s : ℕ) → IsReady l j s → (w : List ℕ) × ChoicesGive (by x l) (Rule s ∷ []) w)
+        go : ((j : ℕ) → j < k → (s : ℕ) → IsReady x l j s → (w : List ℕ) × ChoicesGive (by x l) (Rule s ∷ []) w)
             → (o : Option (ℕ × ℕ)) → rule_choice l q ≡ o → IsSomeAnd o (λ choice. choice.1 < m) → (w : List ℕ) × ChoicesGive (by x l) (Rule q ∷ []) w
         go one None e h = absurd h
         go one (Some (p, j)) e h =
             let c = (state.each q p j e).0 in
-            let (w, made) = ready_row (IsReady l j) (one j (omega (arith, h, lt))) (nth_production x.grammar p).symbols c.ready in
+            let (w, made) = ready_row (IsReady x l j) (one j (omega (arith, h, lt))) (nth_production x.grammar p).symbols c.ready in
             (w, gives.chosen (paid_chosen q p j c) (answer_chosen q p j e c) made gives.empty (sym (append-nil w)))
 
-    pub gives_ready : (m : ℕ) (a : List Sym) → ((q : ℕ) → Contains a (Rule q) → IsReady l m q) → (w : List ℕ) × ChoicesGive (by x l) a w
-    gives_ready m a all = ready_row (IsReady l m) (ready_rule (suc m) m (omega arith)) a all
+    pub gives_ready : (m : ℕ) (a : List Sym) → ((q : ℕ) → Contains a (Rule q) → IsReady x l m q) → (w : List ℕ) × ChoicesGive (by x l) a w
+    gives_ready m a all = ready_row (IsReady x l m) (ready_rule (suc m) m (omega arith)) a all
 
   -- In a row that hands on to a rule nothing else costs something: so it gives what the rule gives.
   abbrev sums : Sym → Option ℕ
@@ -157,7 +174,7 @@ module _ (x : CostTables) where
 
   -- a production that hands on is ready when its heir has a choice
   pub heir_ready : (l : Choices) (p q m : ℕ) → IsHeir x p q → IsSomeAnd (rule_choice l q) (λ choice. choice.1 < m)
-      → (s : ℕ) → Contains (nth_production x.grammar p).symbols (Rule s) → IsReady l m s
+      → (s : ℕ) → Contains (nth_production x.grammar p).symbols (Rule s) → IsReady x l m s
   heir_ready l p q m heir some s h =
       let c = heir.tight.cost in
       elim (others_free (nth_production x.grammar p).symbols q c c heir.tight.sum (omega arith) heir.among (answered_some (rule_cost x.least q) c heir.same).0 s h) [

@@ -12,47 +12,34 @@ use Rattle.cfgcosts.specs.FirstChoices.{IsNotAbove, Opens, Walks}
 use Rattle.cfgcosts.specs.Generator.{CostTables, IsGenerator, cost_answer, token_cost}
 use Rattle.cfgcosts.specs.Levels.{Along, here, next}
 use Rattle.cfgcosts.specs.Minimal.{HasHeir, HasNoHeir, IsHeir}
-use Rattle.cfgcosts.proofs.ChoosingFirsts.{Choosing, IsReady, paid_chosen}
+use Rattle.cfgcosts.specs.Offers.{Choices, Choosing, HasChoice, IsChoice, by}
+use Rattle.cfgcosts.proofs.ChoosingFirsts.{few, paid_chosen, row_not_above}
 use Rattle.cfgcosts.proofs.Generated.{some_answered}
-use Rattle.cfgcosts.proofs.GrowingChoices.{Choices, by}
-use Rattle.cfgcosts.proofs.Tight.{least_of, minimal_made}
+use Rattle.cfgcosts.proofs.Tight.{least_of, minimal_made, one_cost}
 
-module _ (x : CostTables) (n : ℕ) (is : IsGenerator x n) (grammar : IsGrammar x.grammar) (l : Choices) (k : ℕ) (state : Choosing x l k) (few : k ≤ x.grammar.rules) where
-  abbrev pub HasChoice : ℕ → Type 0
-  HasChoice r = (choice : ℕ × ℕ) × (rule_choice l r ≡ Some choice)
+module _ (x : CostTables) (n : ℕ) (is : IsGenerator x n) (grammar : IsGrammar x.grammar) (l : Choices) (k : ℕ) (state : Choosing x l k) where
+  -- heirs cost as much as what hands on to them
+  along_cost : {a b : ℕ} → Along (HasHeir x) a b → (c d : ℕ) → cost_answer x a ≡ Some c → cost_answer x b ≡ Some d → c ≡ d
+  along_cost {a = a} here c d e f = one_cost x a c d e f
+  along_cost {a = a} (next {b = b} link rest) c d e f =
+      let tight = link.heir.tight in
+      let same = one_cost x a c tight.cost e (subst (λ r. cost_answer x r ≡ Some tight.cost) link.owner tight.rule) in
+      same ∙ along_cost rest tight.cost d link.heir.same f
 
-  -- what is ready has no choice, or one with a lesser number
-  not_above : (m q : ℕ) → IsReady x l m q → IsNotAbove l m (Rule q)
-  not_above m q (inl free) = go (rule_choice l q) refl
-    where
-      go : (o : Option (ℕ × ℕ)) → rule_choice l q ≡ o → IfSome (rule_choice l q) (λ choice. choice.1 < m)
-      go None e = subst (λ (o : Option (ℕ × ℕ)). IfSome o (λ choice. choice.1 < m)) (sym e) tt
-      go (Some (p, j)) e = absurd (paid_chosen x l k state q p j (state.each q p j e).0 free)
-  not_above m q (inr some) = go (rule_choice l q) some
-    where
-      go : (o : Option (ℕ × ℕ)) → IsSomeAnd o (λ choice. choice.1 < m) → IfSome o (λ choice. choice.1 < m)
-      go None h = tt
-      go (Some choice) h = h
-
-  row_not_above : (m : ℕ) (a : List Sym) → ((q : ℕ) → Contains a (Rule q) → IsReady x l m q) → All (IsNotAbove l m) a
-  row_not_above m a ready = All-weaker (Contains a) (IsNotAbove l m) one a (All-contains_itself a)
-    where
-      one : (s : Sym) → Contains a s → IsNotAbove l m s
-      one (Token t) h = tt
-      one (Rule q) h = not_above m q (ready q h)
-
-  module _ (own : (p : ℕ) → HasNoHeir x p → HasChoice (nth_production x.grammar p).rule)
-      (hand : (p q : ℕ) → IsHeir x p q → HasChoice q → HasChoice (nth_production x.grammar p).rule) where
-    back : {a b : ℕ} → Along (HasHeir x) a b → HasChoice b → HasChoice a
+  module _ (bound : ℕ) (own : (p : ℕ) (own : HasNoHeir x p) → own.tight.cost < bound → HasChoice l (nth_production x.grammar p).rule)
+      (hand : (p q : ℕ) → IsHeir x p q → HasChoice l q → HasChoice l (nth_production x.grammar p).rule) where
+    back : {a b : ℕ} → Along (HasHeir x) a b → HasChoice l b → HasChoice l a
     back here h = h
-    back (next {b = b} link rest) h = subst HasChoice link.owner (hand link.place b link.heir (back rest h))
+    back (next {b = b} link rest) h = subst (HasChoice l) link.owner (hand link.place b link.heir (back rest h))
 
-    pub all_chosen : (r c : ℕ) → cost_answer x r ≡ Some c → 0 < c → HasChoice r
-    all_chosen r c answer some =
+    pub all_chosen : (r c : ℕ) → cost_answer x r ≡ Some c → 0 < c → c < bound → HasChoice l r
+    all_chosen r c answer some low =
         let least = least_of x n is grammar r c answer in
         let (w, s, costs) = least.0 in
         let made = minimal_made x n is grammar r c w answer some (s, λ v t. subst (λ k. k ≤ cost_of (token_cost x) v) (sym costs) (least.1 v t)) in
-        back made.below.leads (own made.place made.below.own)
+        let below = made.below in
+        let same = along_cost below.leads c below.own.tight.cost answer below.own.tight.rule in
+        back below.leads (own made.place below.own (subst (λ d. d < bound) same low))
 
     opens : (q d p m : ℕ) → rule_cost x.least q ≡ Some d → d ≤ 65535 → rule_choice l q ≡ Some (p, m) → Opens (by x l) q d p m
     opens q d p m e small choice =
@@ -67,8 +54,8 @@ module _ (x : CostTables) (n : ℕ) (is : IsGenerator x n) (grammar : IsGrammar 
           has = at_place x.grammar p _ c.tight.place (sym c.owner) refl;
           symbols = grammar.symbols p (record { rule = 0; symbols = [] }) c.tight.place;
           sum = c.tight.sum ∙ ap Some same;
-          below = row_not_above m (nth_production x.grammar p).symbols c.ready;
-          deep = omega (arith, less, few);
+          below = row_not_above x l k state m (nth_production x.grammar p).symbols c.ready;
+          deep = let all = few x l k state in omega (arith, less, all);
         }
 
     free_unchosen : (q : ℕ) → rule_cost x.least q ≡ Some 0 → rule_choice l q ≡ None
@@ -78,15 +65,15 @@ module _ (x : CostTables) (n : ℕ) (is : IsGenerator x n) (grammar : IsGrammar 
         go None none = none
         go (Some (p, m)) some = absurd (paid_chosen x l k state q p m (state.each q p m some).0 (some_answered (rule_cost x.least q) 0 e (omega arith)))
 
-    pub walks : Walks (by x l)
-    walks = record {
+    pub walks : 65535 < bound → Walks (by x l)
+    walks high = record {
       settled = x.choices;
       number = n;
       generator = is;
       listed = state.listed;
       free = free_unchosen;
       chosen = λ q d e some small.
-          let ((p, m), choice) = all_chosen q d (some_answered (rule_cost x.least q) d e small) some in
+          let ((p, m), choice) = all_chosen q d (some_answered (rule_cost x.least q) d e small) some (omega (arith, small, high)) in
           (p, m, opens q d p m e small choice);
-      below = λ q p m e. row_not_above m (nth_production x.grammar p).symbols (state.each q p m e).0.ready;
+      below = λ q p m e. row_not_above x l k state m (nth_production x.grammar p).symbols (state.each q p m e).0.ready;
     }

@@ -4,10 +4,8 @@ use Rattle.lemmas.proofs.Elements.{get_or-set}
 use Rattle.derivation.specs.Grammar.{Sym}
 use Rattle.cfgcosts.specs.Certificate.{rule_choice}
 use Rattle.cfgcosts.specs.Choices.{ChoicesGive, empty, token, free, chosen}
+use Rattle.cfgcosts.specs.Offers.{Choices, by}
 use Rattle.cfgcosts.specs.Generator.{CostTables, cost_answer, choice_answer, where_some}
-
-abbrev pub Choices : Type 0
-Choices = List (Option (ℕ × ℕ))
 
 -- each choice is still there
 abbrev pub Keeps : Choices → Choices → Type 0
@@ -20,19 +18,15 @@ keeps_one l r choice unset q old e = elim (get_or-set l r q (Some choice) None) 
 ]
 
 module _ (x : CostTables) where
-  -- the tables with other choices
-  abbrev pub by : Choices → CostTables
-  by l = record { grammar = x.grammar; costs = x.costs; least = x.least; choices = l }
-
   module _ (l l' : Choices) (keeps : Keeps l l') where
-    answer_kept : (q : ℕ) (choice : ℕ × ℕ) → choice_answer (by l) q ≡ Some choice → choice_answer (by l') q ≡ Some choice
+    answer_kept : (q : ℕ) (choice : ℕ × ℕ) → choice_answer (by x l) q ≡ Some choice → choice_answer (by x l') q ≡ Some choice
     answer_kept q choice = go (cost_answer x q)
       where
         go : (o : Option ℕ) → where_some o (rule_choice l q) ≡ Some choice → where_some o (rule_choice l' q) ≡ Some choice
         go None e = e
         go (Some c) e = keeps q choice e
 
-    pub gives_kept : {a : List Sym} {w : List ℕ} → ChoicesGive (by l) a w → ChoicesGive (by l') a w
+    pub gives_kept : {a : List Sym} {w : List ℕ} → ChoicesGive (by x l) a w → ChoicesGive (by x l') a w
     gives_kept empty = empty
     gives_kept (token h) = token (gives_kept h)
     gives_kept (free nothing h) = free nothing (gives_kept h)

@@ -40,3 +40,12 @@ pub mod ChoosingFirsts
 pub mod FirstsMade
 pub mod RowsInOrder
 pub mod OnlyHeirs
+pub mod RowSteps
+pub mod Offered
+pub mod Pending
+pub mod Placed
+pub mod Taken
+pub mod Climbed
+pub mod Compared
+pub mod AloneRules
+pub mod Added

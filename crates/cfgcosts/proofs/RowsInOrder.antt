@@ -2,14 +2,11 @@
 use Rattle.std.proofs.Common.{ℕ, ◌+◌, ◌-◌, ◌<◌, ◌≤◌, inl, inr, List, length, get_or, arith, sym, subst, ◌≡◌}
 use Rattle.std.specs.List.{insert}
 use Rattle.std.proofs.lemmas.Bool.{cases_lt}
+use Rattle.cfgcosts.specs.Offers.{IsInOrder}
 use Rattle.std.proofs.lemmas.List.Edits.{get_or-insert_at, get_or-insert_below, get_or-insert_above}
 
 module _ {X : Type 0} (R : X → X → Type 0) (d : X) where
-  -- each element is before those behind it
-  abbrev pub IsInOrder : List X → Type 0
-  IsInOrder xs = (i j : ℕ) → i < j → j < length xs → R (get_or xs i d) (get_or xs j d)
-
-  module _ (xs : List X) (at : ℕ) (y : X) (within : at ≤ length xs) (ordered : IsInOrder xs)
+  module _ (xs : List X) (at : ℕ) (y : X) (within : at ≤ length xs) (ordered : IsInOrder R d xs)
       (before : (i : ℕ) → i < at → R (get_or xs i d) y) (behind : (i : ℕ) → at ≤ i → i < length xs → R y (get_or xs i d)) where
     abbrev longer : List X
     longer = insert xs at y

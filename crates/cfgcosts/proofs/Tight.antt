@@ -44,7 +44,7 @@ stops_none cost settled symbols r x stop = go (sum_of (symbol_cost cost settled)
         let no : None ≡ Some rule.value = sym stop.unset ∙ rule.is in absurd (cc)
 
 -- a rule and its production cost the same, whoever tells it
-one_cost : (x : CostTables) (r c d : ℕ) → cost_answer x r ≡ Some c → cost_answer x r ≡ Some d → c ≡ d
+pub one_cost : (x : CostTables) (r c d : ℕ) → cost_answer x r ≡ Some c → cost_answer x r ≡ Some d → c ≡ d
 one_cost x r c d e f = let both : Some c ≡ Some d = sym e ∙ f in cc
 
 -- where a row costs something, it has one symbol at most that costs as much

@@ -13,3 +13,4 @@ pub mod Minimal
 pub mod FirstChoices
 pub mod Marks
 pub mod DerivedBy
+pub mod Offers

@@ -11,7 +11,7 @@ ghost use Rattle.cfgcosts.specs.Certificate.{IsCovered, IsReached, choice_of, ru
 ghost use Rattle.cfgcosts.specs.Generator.{AnswersLeast, HasNone, IsLeastProduction, IsTooDear, choice_answer};
 ghost use Rattle.cfgcosts.specs.Generator.{cost_answer, token_cost};
 
-use crate::first_choices::first_choices;
+use crate::first::first_choices;
 use crate::heirs::last_heirs;
 use crate::kinds::{Kind, kinds};
 use crate::settle::{Settled, settle};

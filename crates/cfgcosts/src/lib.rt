@@ -3,7 +3,7 @@
 
 pub mod certificate;
 pub mod errors;
-mod first_choices;
+mod first;
 pub mod generator;
 mod heirs;
 mod kinds;

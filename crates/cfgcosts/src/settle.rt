@@ -31,7 +31,7 @@ pub(crate) struct Settled<S: Storage> {
 /// # Errors
 ///
 /// Want of memory.
-fn no_choices<S: Storage>(
+pub(crate) fn no_choices<S: Storage>(
     alloc: Global,
     rules: usize,
 ) -> Result<Vec<Option<(PIdx<S>, u32)>>, AllocError>
