@@ -18,13 +18,14 @@ use std::alloc::{AllocError, Global};
 use std::collections::BTreeSet;
 
 impl<'a, S: Storage, T: Tables<S>> SentenceGenerator<'a, S, T> {
-    /// A rule of the same minimal sentences: the rule, or where it hands on to one rule alone, the last of a row of such
-    /// rules.
+    /// A rule of the same minimal sentences: the rule itself, or where it hands on to one rule alone, the last of a row
+    /// of such rules.
     fn last_heir(&self, rule: RIdx<S>) -> RIdx<S>
         requires { S.number rule.0 < self.now.grammar.rules }
         ensures rule { S.number result.0 < self.now.grammar.rules }
         ensures cost { cost_answer self.now (S.number result.0) ≡ cost_answer self.now (S.number rule.0) }
-        ensures same { (w : List ℕ) → IsMinimal self.now (S.number result.0) w ↔ IsMinimal self.now (S.number rule.0) w }
+        ensures same { (w : List ℕ)
+            → IsMinimal self.now (S.number result.0) w ↔ IsMinimal self.now (S.number rule.0) w }
     {
         let _rules = self.tables.rules_len();
         self.last_heirs[usize::from(rule)]
