@@ -2,7 +2,7 @@
 
 ghost use Rattle.std.specs.Prelude.{◌≡◌, ◌<◌, length};
 
-use crate::pen;
+use crate::pen::{self, Piece};
 use cfgrammar::yacc::YaccGrammar;
 use cfgrammar::yacc::firsts::YaccFirsts;
 use cfgrammar::{RIdx, Storage, TIdx, Vob};
@@ -33,20 +33,27 @@ fn write_counts<S: Storage>(
     grammar: &YaccGrammar<S>,
     firsts: &YaccFirsts<S>,
 ) -> Result<(), AllocError> {
-    let mut tokens = 0u64;
-    let mut empty = 0u64;
+    let mut tokens = 0usize;
+    let mut empty = 0usize;
     for ridx in grammar.iter_rules() {
         tokens = tokens.saturating_add(tokens_in(grammar, firsts, ridx));
-        empty = empty.saturating_add(u64::from(firsts.is_epsilon_set(ridx)));
+        empty = empty.saturating_add(usize::from(firsts.is_epsilon_set(ridx)));
     }
-    writeln!(out, "    firsts of {tokens} tokens, {empty} rules empty")
+    pen::pieces(
+        out,
+        &[
+            Piece::Number("    firsts of ", tokens),
+            Piece::Number(" tokens, ", empty),
+            Piece::Text(" rules empty\n"),
+        ],
+    )
 }
 
 /// How many tokens a rule begins with.
-fn tokens_in<S: Storage>(grammar: &YaccGrammar<S>, firsts: &YaccFirsts<S>, ridx: RIdx<S>) -> u64 {
-    let mut tokens = 0u64;
+fn tokens_in<S: Storage>(grammar: &YaccGrammar<S>, firsts: &YaccFirsts<S>, ridx: RIdx<S>) -> usize {
+    let mut tokens = 0usize;
     for tidx in grammar.iter_tidxs() {
-        tokens = tokens.saturating_add(u64::from(firsts.is_set(ridx, tidx)));
+        tokens = tokens.saturating_add(usize::from(firsts.is_set(ridx, tidx)));
     }
     tokens
 }
@@ -134,21 +141,26 @@ fn write_with_bit(
     if rule < grammar.rules_len().0 && token < grammar.tokens_len().0 {
         let was_set = firsts.set(RIdx(rule), TIdx(token));
         let is_set = firsts.set(RIdx(rule), TIdx(token));
-        write_set_twice(out, RIdx(rule), TIdx(token), was_set, is_set)?;
+        pen::rule(out, "set(", RIdx(rule))?;
+        pen::token(out, ", ", TIdx(token))?;
+        write_set_twice(out, "): ", was_set, is_set)?;
     }
     write_sets(out, grammar, &firsts)
 }
 
-fn write_set_twice(
+/// Writes whether a bit was set before, and again.
+pub(crate) fn write_set_twice(
     out: &mut String,
-    ridx: RIdx<u32>,
-    tidx: TIdx<u32>,
+    before: &str,
     was_set: bool,
     is_set: bool,
 ) -> Result<(), AllocError> {
-    pen::rule(out, "set(", ridx)?;
-    pen::token(out, ", ", tidx)?;
-    pen::flag(out, "): ", was_set)?;
-    pen::flag(out, ", and again: ", is_set)?;
-    pen::end_line(out)
+    pen::pieces(
+        out,
+        &[
+            Piece::Flag(before, was_set),
+            Piece::Flag(", and again: ", is_set),
+            Piece::Text("\n"),
+        ],
+    )
 }

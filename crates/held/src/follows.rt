@@ -71,11 +71,12 @@ pub fn write_lengths<S: Storage>(
 ) -> Result<(), AllocError> {
     let follows = YaccFollows::new(alloc, grammar)?;
     let tokens = tokens_of_all(grammar, &follows);
-    writeln!(out, "    follows of {tokens} tokens")
+    pen::number(out, "    follows of ", tokens)?;
+    pen::text(out, " tokens\n")
 }
 
-fn tokens_of_all<S: Storage>(grammar: &YaccGrammar<S>, follows: &YaccFollows<S>) -> u64 {
-    let mut tokens = 0u64;
+fn tokens_of_all<S: Storage>(grammar: &YaccGrammar<S>, follows: &YaccFollows<S>) -> usize {
+    let mut tokens = 0usize;
     for ridx in grammar.iter_rules() {
         tokens = tokens.saturating_add(tokens_in(grammar, follows, ridx));
     }
@@ -83,10 +84,14 @@ fn tokens_of_all<S: Storage>(grammar: &YaccGrammar<S>, follows: &YaccFollows<S>)
 }
 
 /// How many tokens follow a rule.
-fn tokens_in<S: Storage>(grammar: &YaccGrammar<S>, follows: &YaccFollows<S>, ridx: RIdx<S>) -> u64 {
-    let mut tokens = 0u64;
+fn tokens_in<S: Storage>(
+    grammar: &YaccGrammar<S>,
+    follows: &YaccFollows<S>,
+    ridx: RIdx<S>,
+) -> usize {
+    let mut tokens = 0usize;
     for tidx in grammar.iter_tidxs() {
-        tokens = tokens.saturating_add(u64::from(follows.is_set(ridx, tidx)));
+        tokens = tokens.saturating_add(usize::from(follows.is_set(ridx, tidx)));
     }
     tokens
 }

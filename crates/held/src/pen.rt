@@ -2,7 +2,8 @@
 
 use cfgrammar::{PIdx, RIdx, Storage, TIdx};
 pub use rows::pen::{
-    end_line, flag, line, name, number, numbers, span, text, text_if, unless_copied, without_memory,
+    Piece, end_line, flag, line, name, number, numbers, pieces, span, text, text_if, unless_copied,
+    without_memory,
 };
 use std::alloc::AllocError;
 
@@ -23,4 +24,14 @@ pub fn production<S: Storage>(
 /// Writes a text and a token's number.
 pub fn token<S: Storage>(out: &mut String, before: &str, tidx: TIdx<S>) -> Result<(), AllocError> {
     number(out, before, usize::from(tidx))
+}
+
+/// The number of a rule that may be there.
+pub fn rule_number<S: Storage>(ridx: Option<RIdx<S>>) -> Option<usize> {
+    Some(usize::from(ridx?))
+}
+
+/// The number of a token that may be there.
+pub fn token_number<S: Storage>(tidx: Option<TIdx<S>>) -> Option<usize> {
+    Some(usize::from(tidx?))
 }

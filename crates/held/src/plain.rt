@@ -2,7 +2,8 @@
 
 ghost use Rattle.std.specs.Prelude.{◌≡◌, length};
 
-use crate::{firsts, follows, pen, tables};
+use crate::firsts::{self, write_set_twice};
+use crate::{follows, pen, tables};
 use cfgrammar::yacc::YaccGrammar;
 use cfgrammar::yacc::firsts::YaccFirsts;
 use cfgrammar::yacc::follows::YaccFollows;
@@ -21,9 +22,7 @@ pub fn write_without_memory(
     let (rule, token) = (grammar.start_rule_idx(), grammar.eof_token_idx());
     let was_set = firsts.set(rule, token);
     let is_set = firsts.set(rule, token);
-    pen::flag(out, "    end token set: ", was_set)?;
-    pen::flag(out, ", and again: ", is_set)?;
-    pen::end_line(out)
+    write_set_twice(out, "    end token set: ", was_set, is_set)
 }
 
 fn write_with_firsts(
@@ -53,8 +52,9 @@ fn write_with_sets(
     write_plain(out, grammar, firsts, follows)?;
     let start = grammar.start_prod();
     let rule = productions.rule_of(start);
+    let symbols = productions.open(start).len();
     pen::rule(out, "    opens one of rule ", rule)?;
-    pen::number(out, ", symbols ", productions.open(start).len())?;
+    pen::number(out, ", symbols ", symbols)?;
     write_counts(out, &productions)
 }
 
@@ -69,7 +69,7 @@ fn write_plain(
     requires follows { length follows.now.rows ≡ length grammar.now.rules }
 {
     pen::without_memory(out)?;
-    tables::write_plain(out, grammar)?;
+    tables::write_tables(out, None, grammar)?;
     firsts::write_sets(out, grammar, firsts)?;
     follows::write_sets(out, grammar, follows)
 }
@@ -84,7 +84,7 @@ fn write_counts<S: Storage, P: Productions<S>>(
     pen::text(out, ", opened")?;
     for number in 0..usize::from(productions.prods_len()) {
         if let Some(number) = S::from_usize(number) {
-            write!(out, " {}", productions.opened(PIdx(number)))?;
+            pen::number(out, " ", productions.opened(PIdx(number)) as usize)?;
         }
     }
     writeln!(out, "; all {}", productions.opened_all())

@@ -21,11 +21,21 @@ pub trait Answers {
 /// Writes the rows of the files that the program's words name, each as its name and what is answered of it.
 pub fn write_files<A: Answers>(rt: &HostRuntime, answers: &A) -> io::Result<()> {
     for name in env::args(rt)?.skip(1) {
-        let text = fs::read_to_string(rt, name.as_str())?;
-        for row in rows(rt.alloc(), text.as_str())?.iter() {
-            let answered = answers_of(rt, answers, row)?;
-            println!(rt; "== {}\n{answered}", row.name)?;
-        }
+        write_file(rt, answers, name.as_str())?;
+    }
+    Ok(())
+}
+
+fn write_file<A: Answers>(rt: &HostRuntime, answers: &A, name: &str) -> io::Result<()> {
+    let text = fs::read_to_string(rt, name)?;
+    let rows = rows(rt.alloc(), text.as_str())?;
+    write_rows(rt, answers, &rows)
+}
+
+fn write_rows<A: Answers>(rt: &HostRuntime, answers: &A, rows: &[Row<'_>]) -> io::Result<()> {
+    for row in rows {
+        let answered = answers_of(rt, answers, row)?;
+        println!(rt; "== {}\n{answered}", row.name)?;
     }
     Ok(())
 }

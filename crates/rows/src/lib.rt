@@ -5,4 +5,5 @@ pub mod digest;
 pub mod files;
 pub mod pen;
 pub mod row;
+pub mod said;
 pub mod text;

@@ -3,6 +3,56 @@
 use cfgbase::Span;
 use std::alloc::AllocError;
 
+/// A piece of a line, most of them behind a text. Those that may be missing have what is written in their place.
+#[derive(Clone, Copy)]
+pub enum Piece<'a> {
+    Text(&'a str),
+    If(bool, &'a str),
+    Number(&'a str, usize),
+    Name(&'a str, &'a str),
+    Flag(&'a str, bool),
+    Span(Span),
+    NumberOr(&'a str, Option<usize>, &'a str),
+    NameOr(&'a str, Option<&'a str>, &'a str),
+    TextOr(&'a str, &'a Option<String>, &'a str),
+    SpanOr(Option<Span>, &'a str),
+}
+
+/// Writes pieces, one behind the other. One call with all of a line's pieces is proved sooner than a call for each.
+pub fn pieces(out: &mut String, pieces: &[Piece<'_>]) -> Result<(), AllocError> {
+    for piece in pieces {
+        write_piece(out, *piece)?;
+    }
+    Ok(())
+}
+
+fn write_piece(out: &mut String, piece: Piece<'_>) -> Result<(), AllocError> {
+    match piece {
+        Piece::Text(word) => text(out, word),
+        Piece::If(is_so, word) => text_if(out, is_so, word),
+        Piece::Number(before, value) => number(out, before, value),
+        Piece::Name(before, word) => name(out, before, word),
+        Piece::Flag(before, is_so) => flag(out, before, is_so),
+        Piece::Span(place) => span(out, place),
+        other => write_or(out, other),
+    }
+}
+
+/// Writes a piece that may be missing, or what stands in its place.
+fn write_or(out: &mut String, piece: Piece<'_>) -> Result<(), AllocError> {
+    match piece {
+        Piece::NumberOr(before, Some(value), _) => number(out, before, value),
+        Piece::NameOr(before, Some(word), _) => name(out, before, word),
+        Piece::TextOr(before, Some(word), _) => name(out, before, word.as_str()),
+        Piece::SpanOr(Some(place), _) => span(out, place),
+        Piece::NumberOr(_, None, otherwise)
+        | Piece::NameOr(_, None, otherwise)
+        | Piece::TextOr(_, None, otherwise)
+        | Piece::SpanOr(None, otherwise) => text(out, otherwise),
+        _ => Ok(()),
+    }
+}
+
 /// Writes a text.
 pub fn text(out: &mut String, text: &str) -> Result<(), AllocError> {
     out.push_str(text)

@@ -46,19 +46,38 @@ impl<'a> Row<'a> {
 /// The rows of a file. A line that isn't indented begins a row, the indented lines below it are the row's own; empty
 /// lines and those that begin with `#` say nothing.
 pub fn rows(alloc: Global, text: &str) -> Result<Vec<Row<'_>>, AllocError> {
-    let mut rows: Vec<Row<'_>> = Vec::new(alloc);
+    let mut rows = Vec::new(alloc);
+    add_rows(alloc, text, &mut rows)?;
+    Ok(rows)
+}
+
+fn add_rows<'a>(alloc: Global, text: &'a str, rows: &mut Vec<Row<'a>>) -> Result<(), AllocError> {
     for line in text.lines() {
-        if let Some(line) = line.strip_prefix("  ") {
-            if let Some(row) = rows.last_mut() {
-                row.lines.push(line.split_once(' ').unwrap_or((line, "")))?;
-            }
-        } else if !line.is_empty() && !line.starts_with('#') {
-            let (tries, name) = line.split_once(' ').unwrap_or((line, ""));
-            let lines = Vec::new(alloc);
-            rows.push(Row { tries, name, lines })?;
+        match line.strip_prefix("  ") {
+            Some(line) => add_line(rows, line)?,
+            None => add_row(alloc, rows, line)?,
         }
     }
-    Ok(rows)
+    Ok(())
+}
+
+/// Adds a line to the last row, where there is one.
+fn add_line<'a>(rows: &mut Vec<Row<'a>>, line: &'a str) -> Result<(), AllocError> {
+    if let Some(row) = rows.last_mut() {
+        row.lines.push(line.split_once(' ').unwrap_or((line, "")))?;
+    }
+    Ok(())
+}
+
+/// Adds a row that begins with a line, where the line says something.
+fn add_row<'a>(alloc: Global, rows: &mut Vec<Row<'a>>, line: &'a str) -> Result<(), AllocError> {
+    if line.is_empty() || line.starts_with('#') {
+        return Ok(());
+    }
+    let (tries, name) = line.split_once(' ').unwrap_or((line, ""));
+    let lines = Vec::new(alloc);
+    rows.push(Row { tries, name, lines })?;
+    Ok(())
 }
 
 /// The number that a word spells, or 0.

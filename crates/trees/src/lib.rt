@@ -7,7 +7,6 @@ pub mod cuts;
 pub mod errors;
 mod made;
 pub mod read;
-pub mod said;
 pub mod syntax;
 pub mod warnings;
 pub mod written;

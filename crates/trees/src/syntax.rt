@@ -2,13 +2,13 @@
 
 use crate::cuts::write_errors;
 use crate::made::{Writer, write_made};
-use crate::said::{write_precedence, write_settings};
 use cfgast::Precedence;
 use cfgbase::Span;
 use cfghash::NameHashes;
 use cfgsyntax::yacc::ast::{ASTWithValidityInfo, GrammarAST, Production, Rule, Symbol};
 use indexmap::IndexMap;
-use rows::pen;
+use rows::pen::{self, Piece};
+use rows::said::{write_precedence, write_settings};
 use std::alloc::{AllocError, Global};
 
 /// Writes all that a syntax holds: its start, what the declarations say, and a line for each rule, production and
@@ -64,17 +64,16 @@ impl Writer<GrammarAST, AllocError> for Whole {
 
 /// Writes how much there is in a syntax.
 pub fn write_lengths(out: &mut String, ast: &GrammarAST) -> Result<(), AllocError> {
-    pen::numbers(
+    pen::pieces(
         out,
-        ("syntax of ", ast.rules().len()),
-        (" rules, ", ast.prods().len()),
-    )?;
-    pen::numbers(
-        out,
-        (" productions, ", ast.tokens().len()),
-        (" tokens, ", ast.token_directives().len()),
-    )?;
-    pen::text(out, " of them declared\n")
+        &[
+            Piece::Number("syntax of ", ast.rules().len()),
+            Piece::Number(" rules, ", ast.prods().len()),
+            Piece::Number(" productions, ", ast.tokens().len()),
+            Piece::Number(" tokens, ", ast.token_directives().len()),
+            Piece::Text(" of them declared\n"),
+        ],
+    )
 }
 
 fn syntax_text(alloc: Global, ast: &GrammarAST) -> Result<String, AllocError> {
@@ -102,26 +101,24 @@ fn write_said_of_file(out: &mut String, ast: &GrammarAST) -> Result<(), AllocErr
 /// Writes the start's name and its place, where there is a start.
 fn write_start(out: &mut String, start: &Option<(String, Span)>) -> Result<(), AllocError> {
     match start {
-        Some((name, span)) => write_named_line(out, "    start ", name.as_str(), *span),
+        Some((name, span)) => write_named(out, "    start ", (name.as_str(), *span), "\n"),
         None => Ok(()),
     }
 }
 
-/// Writes a name and its place, as a line.
-fn write_named_line(
+/// Writes a name and its place between two texts.
+fn write_named<'a>(
     out: &mut String,
-    before: &str,
-    name: &str,
-    span: Span,
+    before: &'a str,
+    (name, span): (&'a str, Span),
+    behind: &'a str,
 ) -> Result<(), AllocError> {
-    write_named(out, before, name, span)?;
-    pen::end_line(out)
-}
-
-/// Writes a name and its place.
-fn write_named(out: &mut String, before: &str, name: &str, span: Span) -> Result<(), AllocError> {
-    pen::name(out, before, name)?;
-    pen::span(out, span)
+    let pieces = [
+        Piece::Name(before, name),
+        Piece::Span(span),
+        Piece::Text(behind),
+    ];
+    pen::pieces(out, &pieces)
 }
 
 /// Writes how many conflicts are expected, and where the text says so.
@@ -131,15 +128,16 @@ fn write_expected(
     expected: &Option<(usize, Span)>,
 ) -> Result<(), AllocError> {
     match expected {
-        Some((number, span)) => write_placed(out, word, *number, *span),
+        Some((number, span)) => {
+            let pieces = [
+                Piece::Number(word, *number),
+                Piece::Span(*span),
+                Piece::Text("\n"),
+            ];
+            pen::pieces(out, &pieces)
+        }
         None => Ok(()),
     }
-}
-
-fn write_placed(out: &mut String, word: &str, number: usize, span: Span) -> Result<(), AllocError> {
-    pen::number(out, word, number)?;
-    pen::span(out, span)?;
-    pen::end_line(out)
 }
 
 /// Writes what the declarations say of single tokens.
@@ -179,8 +177,9 @@ fn write_ranked(
     precedence: Precedence,
     span: Span,
 ) -> Result<(), AllocError> {
-    write_named(out, "    precedence ", name, span)?;
-    write_precedence(out, ": ", precedence)?;
+    let Precedence { level, kind } = precedence;
+    write_named(out, "    precedence ", (name, span), ": ")?;
+    write_precedence(out, "", level, &kind)?;
     pen::end_line(out)
 }
 
@@ -192,16 +191,21 @@ fn write_printed_forms(out: &mut String, ast: &GrammarAST) -> Result<(), AllocEr
     Ok(())
 }
 
-fn write_printed_form(
+fn write_printed_form<'a>(
     out: &mut String,
-    name: &str,
+    name: &'a str,
     key: Span,
-    printed: &(String, Span),
+    printed: &'a (String, Span),
 ) -> Result<(), AllocError> {
     let (printed, span) = printed;
-    write_named(out, "    epp ", name, key)?;
-    write_named(out, ": ", printed.as_str(), *span)?;
-    pen::end_line(out)
+    let pieces = [
+        Piece::Name("    epp ", name),
+        Piece::Span(key),
+        Piece::Name(": ", printed.as_str()),
+        Piece::Span(*span),
+        Piece::Text("\n"),
+    ];
+    pen::pieces(out, &pieces)
 }
 
 /// Writes a list of tokens as a line, where there is such a list.
@@ -223,7 +227,7 @@ fn write_entries(
 ) -> Result<(), AllocError> {
     pen::text(out, word)?;
     for (name, span) in table {
-        write_named(out, " ", name.as_str(), *span)?;
+        write_named(out, " ", (name.as_str(), *span), "")?;
     }
     pen::end_line(out)
 }
@@ -247,12 +251,14 @@ fn write_productions(out: &mut String, ast: &GrammarAST) -> Result<(), AllocErro
 /// Writes a rule: its name, the name's place, and its productions. It is found by its name.
 fn write_rule(out: &mut String, ast: &GrammarAST, rule: &Rule) -> Result<(), AllocError> {
     let (name, span) = &rule.name;
-    write_named(out, "    rule ", name.as_str(), *span)?;
-    pen::text(out, ":")?;
+    write_named(out, "    rule ", (name.as_str(), *span), ":")?;
     write_indices(out, &rule.pidxs)?;
-    write_text(out, ", type ", &rule.actiont)?;
-    pen::text_if(out, !is_found(ast, rule), ", not by its name")?;
-    pen::end_line(out)
+    let pieces = [
+        Piece::TextOr(", type ", &rule.actiont, ""),
+        Piece::If(!is_found(ast, rule), ", not by its name"),
+        Piece::Text("\n"),
+    ];
+    pen::pieces(out, &pieces)
 }
 
 /// Whether a rule is found by its name.
@@ -267,27 +273,24 @@ fn write_indices(out: &mut String, indices: &[usize]) -> Result<(), AllocError> 
     Ok(())
 }
 
-/// Writes a text, where it is there.
-fn write_text(out: &mut String, word: &str, text: &Option<String>) -> Result<(), AllocError> {
-    match text {
-        Some(text) => pen::name(out, word, text.as_str()),
-        None => Ok(()),
-    }
-}
-
 /// Writes a production: its place, its symbols with their places, and its precedence and action, where it has some.
 fn write_production(
     out: &mut String,
     index: usize,
     production: &Production,
 ) -> Result<(), AllocError> {
-    pen::number(out, "    production ", index)?;
-    pen::span(out, production.prod_span)?;
-    pen::text(out, ":")?;
+    let pieces = [
+        Piece::Number("    production ", index),
+        Piece::Span(production.prod_span),
+        Piece::Text(":"),
+    ];
+    pen::pieces(out, &pieces)?;
     write_symbols(out, &production.symbols)?;
-    write_text(out, ", precedence of ", &production.precedence)?;
-    write_action(out, &production.action)?;
-    pen::end_line(out)
+    pen::pieces(
+        out,
+        &[Piece::TextOr(", precedence of ", &production.precedence, "")],
+    )?;
+    write_action(out, &production.action)
 }
 
 fn write_symbols(out: &mut String, symbols: &[Symbol]) -> Result<(), AllocError> {
@@ -297,18 +300,19 @@ fn write_symbols(out: &mut String, symbols: &[Symbol]) -> Result<(), AllocError>
     Ok(())
 }
 
+/// Writes an action and its place, where it is there, and ends the line.
 fn write_action(out: &mut String, action: &Option<(String, Span)>) -> Result<(), AllocError> {
     match action {
-        Some((action, span)) => write_named(out, ", action ", action.as_str(), *span),
-        None => Ok(()),
+        Some((action, span)) => write_named(out, ", action ", (action.as_str(), *span), "\n"),
+        None => pen::end_line(out),
     }
 }
 
 /// Writes a symbol: its kind, its name and the name's place. The name is also what the symbol prints.
 fn write_symbol(out: &mut String, symbol: &Symbol) -> Result<(), AllocError> {
     match symbol {
-        Symbol::Rule(name, span) => write_named(out, " rule ", name.as_str(), *span),
-        Symbol::Token(name, span) => write_named(out, " token ", name.as_str(), *span),
+        Symbol::Rule(name, span) => write_named(out, " rule ", (name.as_str(), *span), ""),
+        Symbol::Token(name, span) => write_named(out, " token ", (name.as_str(), *span), ""),
     }
 }
 
@@ -327,9 +331,14 @@ fn write_token(
     name: &str,
     span: Span,
 ) -> Result<(), AllocError> {
-    pen::number(out, "    token ", index)?;
-    write_named(out, " ", name, span)?;
-    pen::text_if(out, ast.token_directives().contains(&index), " declared")?;
-    pen::text_if(out, !ast.has_token(name), ", not by its name")?;
-    pen::end_line(out)
+    let is_declared = ast.token_directives().contains(&index);
+    let pieces = [
+        Piece::Number("    token ", index),
+        Piece::Name(" ", name),
+        Piece::Span(span),
+        Piece::If(is_declared, " declared"),
+        Piece::If(!ast.has_token(name), ", not by its name"),
+        Piece::Text("\n"),
+    ];
+    pen::pieces(out, &pieces)
 }

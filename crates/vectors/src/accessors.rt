@@ -4,10 +4,10 @@
 ghost use Rattle.std.specs.Prelude.{◌<◌, length};
 
 use cfgrammar::yacc::{Precedence, YaccGrammar};
-use cfgrammar::{PIdx, RIdx, Span, TIdx};
-use held::pen;
+use cfgrammar::{PIdx, RIdx, TIdx};
+use held::pen::{self, Piece};
+use rows::said::write_precedence;
 use std::alloc::AllocError;
-use trees::said::write_precedence;
 
 /// Writes a line for each rule, production and token of a grammar, and one for the whole.
 pub(crate) fn write_accessors(
@@ -35,11 +35,17 @@ fn write_rule(
 ) -> Result<(), AllocError>
     requires { ridx.0 < length grammar.now.rules }
 {
-    pen::rule(out, "    rule ", ridx)?;
-    pen::name(out, ": rule_name ", grammar.rule_name(ridx))?;
-    pen::name(out, ", rule_name_str ", grammar.rule_name_str(ridx))?;
-    write_text(out, ", actiontype ", grammar.actiontype(ridx))?;
-    pen::end_line(out)
+    pen::pieces(
+        out,
+        &[
+            Piece::Number("    rule ", usize::from(ridx)),
+            Piece::Name(": rule_name ", grammar.rule_name(ridx)),
+            Piece::Name(", rule_name_str ", grammar.rule_name_str(ridx)),
+            Piece::Text(", actiontype"),
+            Piece::TextOr(" ", grammar.actiontype(ridx), " none"),
+            Piece::Text("\n"),
+        ],
+    )
 }
 
 fn write_productions(out: &mut String, grammar: &YaccGrammar<u32>) -> Result<(), AllocError> {
@@ -57,19 +63,18 @@ fn write_production(
 ) -> Result<(), AllocError>
     requires { pidx.0 < length grammar.now.productions }
 {
-    pen::production(out, "    production ", pidx)?;
-    write_text(out, ": action ", grammar.action(pidx))?;
-    write_action_span(out, grammar.action_span(pidx))?;
-    write_level(out, ", prod_precedence ", grammar.prod_precedence(pidx))?;
+    pen::pieces(
+        out,
+        &[
+            Piece::Number("    production ", usize::from(pidx)),
+            Piece::TextOr(": action ", grammar.action(pidx), ": action none"),
+            Piece::Text(", action_span"),
+            Piece::SpanOr(grammar.action_span(pidx), " none"),
+            Piece::Text(", prod_precedence "),
+        ],
+    )?;
+    write_level(out, grammar.prod_precedence(pidx))?;
     pen::end_line(out)
-}
-
-fn write_action_span(out: &mut String, answered: Option<Span>) -> Result<(), AllocError> {
-    pen::text(out, ", action_span")?;
-    match answered {
-        Some(span) => pen::span(out, span),
-        None => pen::text(out, " none"),
-    }
 }
 
 fn write_tokens(out: &mut String, grammar: &YaccGrammar<u32>) -> Result<(), AllocError> {
@@ -87,79 +92,59 @@ fn write_token(
 ) -> Result<(), AllocError>
     requires { tidx.0 < length grammar.now.tokens }
 {
-    pen::token(out, "    token ", tidx)?;
-    write_epp(out, grammar.token_epp(tidx))?;
-    write_level(out, ", token_precedence ", grammar.token_precedence(tidx))?;
+    pen::pieces(
+        out,
+        &[
+            Piece::Number("    token ", usize::from(tidx)),
+            Piece::NameOr(": token_epp ", grammar.token_epp(tidx), ": token_epp none"),
+            Piece::Text(", token_precedence "),
+        ],
+    )?;
+    write_level(out, grammar.token_precedence(tidx))?;
     pen::flag(out, ", avoid_insert ", grammar.avoid_insert(tidx))?;
     pen::end_line(out)
 }
 
-fn write_epp(out: &mut String, answered: Option<&str>) -> Result<(), AllocError> {
-    match answered {
-        Some(printed) => pen::name(out, ": token_epp ", printed),
-        None => pen::text(out, ": token_epp none"),
-    }
-}
-
 /// Writes what is said of the grammar as a whole.
 fn write_whole(out: &mut String, grammar: &YaccGrammar<u32>) -> Result<(), AllocError> {
-    write_implicit_rule(out, grammar.implicit_rule())?;
-    write_number(out, ", expect ", grammar.expect())?;
-    write_number(out, ", expectrr ", grammar.expectrr())?;
+    let implicit = pen::rule_number(grammar.implicit_rule());
+    pen::pieces(
+        out,
+        &[
+            Piece::NumberOr("    implicit_rule ", implicit, "    implicit_rule none"),
+            Piece::NumberOr(", expect ", grammar.expect(), ", expect none"),
+            Piece::NumberOr(", expectrr ", grammar.expectrr(), ", expectrr none"),
+            Piece::Text(", parse_param"),
+        ],
+    )?;
     write_param(out, grammar.parse_param())?;
-    write_text(out, ", parse_generics ", grammar.parse_generics())?;
-    write_text(out, ", programs ", grammar.programs())?;
-    pen::end_line(out)
-}
-
-fn write_implicit_rule(out: &mut String, answered: Option<RIdx<u32>>) -> Result<(), AllocError> {
-    match answered {
-        Some(ridx) => pen::rule(out, "    implicit_rule ", ridx),
-        None => pen::text(out, "    implicit_rule none"),
-    }
+    pen::pieces(
+        out,
+        &[
+            Piece::Text(", parse_generics"),
+            Piece::TextOr(" ", grammar.parse_generics(), " none"),
+            Piece::TextOr(", programs ", grammar.programs(), ", programs none"),
+            Piece::Text("\n"),
+        ],
+    )
 }
 
 fn write_param(out: &mut String, param: &Option<(String, String)>) -> Result<(), AllocError> {
     match param {
         Some((name, param_type)) => write_named(out, name.as_str(), param_type.as_str()),
-        None => pen::text(out, ", parse_param none"),
+        None => pen::text(out, " none"),
     }
 }
 
 fn write_named(out: &mut String, name: &str, param_type: &str) -> Result<(), AllocError> {
-    pen::name(out, ", parse_param ", name)?;
+    pen::name(out, " ", name)?;
     pen::name(out, " ", param_type)
 }
 
 /// Writes a precedence that may be there.
-fn write_level(
-    out: &mut String,
-    before: &str,
-    answered: Option<Precedence>,
-) -> Result<(), AllocError> {
+fn write_level(out: &mut String, answered: Option<Precedence>) -> Result<(), AllocError> {
     match answered {
-        Some(precedence) => write_precedence(out, before, precedence),
-        None => write_none(out, before),
+        Some(Precedence { level, kind }) => write_precedence(out, "", level, &kind),
+        None => pen::text(out, "none"),
     }
-}
-
-/// Writes a number that may be there.
-fn write_number(out: &mut String, before: &str, answered: Option<usize>) -> Result<(), AllocError> {
-    match answered {
-        Some(answered) => pen::number(out, before, answered),
-        None => write_none(out, before),
-    }
-}
-
-/// Writes a text that may be there.
-fn write_text(out: &mut String, before: &str, answered: &Option<String>) -> Result<(), AllocError> {
-    match answered {
-        Some(answered) => pen::name(out, before, answered.as_str()),
-        None => write_none(out, before),
-    }
-}
-
-fn write_none(out: &mut String, before: &str) -> Result<(), AllocError> {
-    pen::text(out, before)?;
-    pen::text(out, "none")
 }
