@@ -236,3 +236,15 @@ module _ (x : CostTables) (n : ℕ) (queue : List (ℕ × ℕ)) (listed : OwnLis
           | inr later ↦ listed.costs d p later
         ];
       }
+
+pub own_begins : (x : CostTables) (queue : List (ℕ × ℕ)) → queue ≡ [] → OwnListed x 0 queue
+own_begins x queue none = record {
+  some = λ p lt own. absurd (omega (arith, lt));
+  costs = λ c p h. absurd (contains_none (c, p) (subst (λ l. Contains l (c, p)) none h));
+}
+
+pub own_ends : (x : CostTables) (n : ℕ) (queue : List (ℕ × ℕ)) → OwnListed x n queue → length x.grammar.productions ≤ n → AreOwn x queue
+own_ends x n queue listed all = record {
+  all = λ p own. listed.some p (let place = own.tight.place in omega (arith, place, all)) own;
+  costs = listed.costs;
+}

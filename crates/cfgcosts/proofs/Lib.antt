@@ -49,3 +49,4 @@ pub mod Climbed
 pub mod Compared
 pub mod AloneRules
 pub mod Added
+pub mod OwnCosts

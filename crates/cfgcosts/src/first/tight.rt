@@ -178,7 +178,8 @@ impl<'a, S: Storage, T: Tables<S>> TightTables<'a, S, T> {
         ensures { MatchOption result (HasNoHeir self.now.tables (S.number p.0) → ⊥)
             (λ cost. (own : HasNoHeir self.now.tables (S.number p.0)) × (own.tight.cost ≡ cost)) }
     {
-        match self.kinds[usize::from(p)] {
+        let kinds = self.kinds;
+        match kinds[usize::from(p)] {
             Kind::Own => self.settled.least[usize::from(self.rule_of(p))],
             _ => None,
         }
