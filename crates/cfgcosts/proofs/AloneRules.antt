@@ -23,7 +23,7 @@ module _ {S : Type 0} (kinds : List (Kind S)) (places : List ℕ) where
     pub found_slack : (IsCounted kinds p → ⊥) → Found (i + 1) found
     found_slack slack =
         let back = λ (q : ℕ) (h : Contains (take (i + 1) places) q) (k : IsCounted kinds q).
-            elim (cases q h) as (λ _. Contains (take i places) q) [ inl old ↦ old | inr same ↦ absurd (slack (subst (IsCounted kinds) (sym same) k)) ] in record {
+        elim (cases q h) as (λ _. Contains (take i places) q) [ inl old ↦ old | inr same ↦ absurd (slack (subst (IsCounted kinds) (sym same) k)) ] in record {
           none = λ e q h k. f.none e q (back q h k) k;
           one = λ q r h k i j. f.one q r (back q h i) (back r k j) i j;
         }
@@ -31,7 +31,7 @@ module _ {S : Type 0} (kinds : List (Kind S)) (places : List ℕ) where
     pub found_now : found ≡ false → Found (i + 1) true
     found_now e =
         let only = λ (q : ℕ) (h : Contains (take (i + 1) places) q) (k : IsCounted kinds q).
-            elim (cases q h) as (λ _. p ≡ q) [ inl old ↦ absurd (f.none e q old k) | inr same ↦ same ] in record {
+        elim (cases q h) as (λ _. p ≡ q) [ inl old ↦ absurd (f.none e q old k) | inr same ↦ same ] in record {
           none = λ t q h k. absurd (true≢false t);
           one = λ q r h k i j. sym (only q h i) ∙ only r k j;
         }

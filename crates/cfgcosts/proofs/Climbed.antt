@@ -152,7 +152,7 @@ module _ (k : Known) (n : ℕ) (is : IsKnown k n) where
           let (q, h) = heir in
           let small = (answered_some (rule_cost x.least q) h.tight.cost h.same).1 in
           let has = all_chosen x n is.generator is.grammar f'.choices f'.number going.level.choosing 65536 (λ q own low. (own_done q own).chosen) hand_chosen
-              q h.tight.cost h.same h.tight.positive (omega (arith, small)) in
+          q h.tight.cost h.same h.tight.positive (omega (arith, small)) in
           (all_handed f' going none p q h has).first
     ]
 
@@ -175,8 +175,8 @@ pub climbing_begins : (k : Known) (f : Offers) (queue : List (ℕ × ℕ)) → A
     → f.ready ≡ [] → f.level ≡ [] → Climbing k f queue
 climbing_begins k f queue own choices number cost ready level =
     let none = λ (r : ℕ) (h : HasChoice f.choices r).
-        let unset : rule_choice f.choices r ≡ None = ap (λ l. rule_choice l r) choices ∙ get_or-replicate_default k.tables.grammar.rules r None in
-        let no : None ≡ Some h.0 = sym unset ∙ h.1 in let never : ⊥ = cc in never in
+    let unset : rule_choice f.choices r ≡ None = ap (λ l. rule_choice l r) choices ∙ get_or-replicate_default k.tables.grammar.rules r None in
+    let no : None ≡ Some h.0 = sym unset ∙ h.1 in let never : ⊥ = cc in never in
     let still = λ (q : ℕ) (h : Waits f q). let never : ⊥ = elim h [
       | inl i ↦ contains_none q (subst (λ l. Contains l q) ready i)
       | inr i ↦ contains_none q (subst (λ l. Contains l q) level i)

@@ -42,11 +42,7 @@ impl<S: Storage> Firsts<S> {
     /// # Errors
     ///
     /// Want of memory.
-    fn rise<T: Tables<S>>(
-        &mut self,
-        tight: &TightTables<S, T>,
-        cost: u32,
-    ) -> Result<(), AllocError>
+    fn rise<T: Tables<S>>(&mut self, tight: &TightTables<S, T>, cost: u32) -> Result<(), AllocError>
         requires { (p : ℕ) × (rest : List (ℕ × ℕ)) × All (λ entry. cost ≤ entry.0) rest
             × Climbing tight.now (offers_of S.number self.old) ((cost, p) ∷ rest) }
         ensures climbing { OnOk result ((p : ℕ) (rest : List (ℕ × ℕ)) → All (λ entry. cost ≤ entry.0) rest

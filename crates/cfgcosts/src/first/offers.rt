@@ -54,7 +54,10 @@ impl<S: Storage> Firsts<S> {
         let mut high = self.level.len();
         while low < high {
             let middle = low + (high - low) / 2;
-            if tight.compare(self.alloc, &self.choices, self.level[middle], p)?.is_lt() {
+            if tight
+                .compare(self.alloc, &self.choices, self.level[middle], p)?
+                .is_lt()
+            {
                 high = middle;
             } else {
                 low = middle + 1;

@@ -102,11 +102,19 @@ impl<'a, S: Storage, T: Tables<S>> Model for TightTables<'a, S, T> {
 
     ghost Value = { Known };
 
-    ghost view = { λ x. record { tables = tables_of S.number (T.grammar x.tables.now) x.costs.now
-        x.settled.now.least.items x.settled.now.choices.items; alone = x.alone.items; handing = x.handing } };
+    ghost view = { λ x. record {
+      tables = tables_of S.number (T.grammar x.tables.now) x.costs.now
+          x.settled.now.least.items x.settled.now.choices.items;
+      alone = x.alone.items;
+      handing = x.handing;
+    } };
 
-    ghost invariant = { λ x. IsKnown (record { tables = tables_of S.number (T.grammar x.tables.now) x.costs.now
-        x.settled.now.least.items x.settled.now.choices.items; alone = x.alone.items; handing = x.handing })
+    ghost invariant = { λ x. IsKnown (record {
+      tables = tables_of S.number (T.grammar x.tables.now) x.costs.now
+          x.settled.now.least.items x.settled.now.choices.items;
+      alone = x.alone.items;
+      handing = x.handing;
+    })
         x.settled.now.number
         × AreKinds S.number (tables_of S.number (T.grammar x.tables.now) x.costs.now x.settled.now.least.items
         x.settled.now.choices.items) x.kinds.now };

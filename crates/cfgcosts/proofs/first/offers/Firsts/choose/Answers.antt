@@ -76,7 +76,7 @@ offer_all-requires-clause-offered g c =
     let unset = unset_shown number items c.from.result (owner x p) (c.from.ensures ∙ value) within c.index.result.now c.index.ensures (sym c.is_some.ensures ∙ c.if-is_some.false) in
     let same = chosen_shown number items c.from-2.result (owner x p) (c.from-2.ensures ∙ value) within c.args.p c.args.self.now.number in
     λ q h. subst (λ l. IsOffered x l (f.number + 1) f.cost q) (sym same)
-        (heir_offered k m known f p c.requires.level c.requires.next unset inside q (subst (IsHeir x q) value ((c.handing_to.ensures.all q).0 h)))
+    (heir_offered k m known f p c.requires.level c.requires.next unset inside q (subst (IsHeir x q) value ((c.handing_to.ensures.all q).0 h)))
 
 pub offer_all-requires-clause-floor : goal.offer_all-requires-clause-floor
 offer_all-requires-clause-floor g c =
@@ -93,7 +93,7 @@ offer_all-requires-clause-floor g c =
     let unset = unset_shown number items c.from.result (owner x p) (c.from.ensures ∙ value) within c.index.result.now c.index.ensures (sym c.is_some.ensures ∙ c.if-is_some.false) in
     let same = chosen_shown number items c.from-2.result (owner x p) (c.from-2.ensures ∙ value) within c.args.p c.args.self.now.number in
     λ q h. subst (λ l. IsFloor k l f.cost q) (sym same)
-        (heir_floor k m known f p c.requires.level c.requires.next unset inside q (subst (IsHeir x q) value ((c.handing_to.ensures.all q).0 h)))
+    (heir_floor k m known f p c.requires.level c.requires.next unset inside q (subst (IsHeir x q) value ((c.handing_to.ensures.all q).0 h)))
 
 pub returns-then-is_some-clause-going : goal.returns-then-is_some-clause-going
 returns-then-is_some-clause-going g c =

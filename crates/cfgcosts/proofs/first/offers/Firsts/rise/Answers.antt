@@ -13,6 +13,6 @@ returns-clause-climbing g c =
     let f = offers_of number c.args.self.now in
     let (m, known) = c.rules_len-rules.ensures.known in
     λ p rest cheap climbing.
-        let low = All-head (λ (entry : ℕ × ℕ). f.cost ≤ entry.0) (c.args.cost, p) rest climbing.dear in
-        climbing_risen c.args.tight.now m known f (offers_of number c.choose_all.new.self) c.args.cost p rest climbing cheap (omega (arith, low)) c.in_ok-choose_all.ensures.going
-        c.in_ok-choose_all.ensures.none c.in_ok-choose_all.ensures.handles c.in_ok-choose_all.ensures.cost
+    let low = All-head (λ (entry : ℕ × ℕ). f.cost ≤ entry.0) (c.args.cost, p) rest climbing.dear in
+    climbing_risen c.args.tight.now m known f (offers_of number c.choose_all.new.self) c.args.cost p rest climbing cheap (omega (arith, low)) c.in_ok-choose_all.ensures.going
+    c.in_ok-choose_all.ensures.none c.in_ok-choose_all.ensures.handles c.in_ok-choose_all.ensures.cost

@@ -37,4 +37,4 @@ returns g c =
     let p = number c.args.p.0 in
     let (m, known) = c.rules_len-rules.ensures.known in
     λ rest cheap climbing. climbing_offered c.args.tight.now m known (offers_of number c.rise.new.self) (offers_of number c.offer.new.self) p c.in_ok-offer.ensures.adds c.args.cost rest
-        (c.in_ok-rise.ensures.climbing p rest cheap climbing) c.in_ok-offer.ensures.level
+    (c.in_ok-rise.ensures.climbing p rest cheap climbing) c.in_ok-offer.ensures.level

@@ -49,10 +49,10 @@ loop-others-preserved g c =
     let One' = Pends x l (map (sym_of number) c.next_token.new.pending.items) in
     let Other' = Pends x l (map (sym_of number) c.next_token-in-Some.new.pending.items) in
     λ u v h k.
-        let r = c.loop-others.invariant u v h k in
-        goes_on (λ t. number t.0) _ (λ a b. g.met.S.Storage.ordered a.0 b.0) (Pends x l (map (sym_of number) c.loop-others.ones.items)) (Pends x l (map (sym_of number) c.loop-others.others.items))
-        One' Other' c.in-Some.token c.in_ok-next_token.field-0 u v r (subst (Begins (λ t. number t.0) One' r.one) c.in-Some.is (c.in_ok-token.ensures.next r.one r.first))
-        (c.in_ok-next_token.ensures.next r.other r.second) (sym (ap is_ne c.cmp-ordering.ensures) ∙ sym c.is_ne.ensures ∙ c.if-is_ne.false)
+    let r = c.loop-others.invariant u v h k in
+    goes_on (λ t. number t.0) _ (λ a b. g.met.S.Storage.ordered a.0 b.0) (Pends x l (map (sym_of number) c.loop-others.ones.items)) (Pends x l (map (sym_of number) c.loop-others.others.items))
+    One' Other' c.in-Some.token c.in_ok-next_token.field-0 u v r (subst (Begins (λ t. number t.0) One' r.one) c.in-Some.is (c.in_ok-token.ensures.next r.one r.first))
+    (c.in_ok-next_token.ensures.next r.other r.second) (sym (ap is_ne c.cmp-ordering.ensures) ∙ sym c.is_ne.ensures ∙ c.if-is_ne.false)
 
 pub loop-others-smaller : goal.loop-others-smaller
 loop-others-smaller g c =
@@ -70,11 +70,11 @@ returns-then-is_ne g c =
     let One' = Pends x l (map (sym_of number) c.next_token.new.pending.items) in
     let Other' = Pends x l (map (sym_of number) c.next_token-in-Some.new.pending.items) in
     λ u v h k.
-        let r = c.loop-others.invariant u v h k in
-        c.cmp-ordering.ensures
-        ∙ differs (λ t. number t.0) _ (λ a b. g.met.S.Storage.ordered a.0 b.0) (Pends x l (map (sym_of number) c.loop-others.ones.items)) (Pends x l (map (sym_of number) c.loop-others.others.items))
-        One' Other' c.in-Some.token c.in_ok-next_token.field-0 u v r (subst (Begins (λ t. number t.0) One' r.one) c.in-Some.is (c.in_ok-token.ensures.next r.one r.first))
-        (c.in_ok-next_token.ensures.next r.other r.second) (sym (ap is_ne c.cmp-ordering.ensures) ∙ sym c.is_ne.ensures ∙ c.if-is_ne.true)
+    let r = c.loop-others.invariant u v h k in
+    c.cmp-ordering.ensures
+    ∙ differs (λ t. number t.0) _ (λ a b. g.met.S.Storage.ordered a.0 b.0) (Pends x l (map (sym_of number) c.loop-others.ones.items)) (Pends x l (map (sym_of number) c.loop-others.others.items))
+    One' Other' c.in-Some.token c.in_ok-next_token.field-0 u v r (subst (Begins (λ t. number t.0) One' r.one) c.in-Some.is (c.in_ok-token.ensures.next r.one r.first))
+    (c.in_ok-next_token.ensures.next r.other r.second) (sym (ap is_ne c.cmp-ordering.ensures) ∙ sym c.is_ne.ensures ∙ c.if-is_ne.true)
 
 pub returns : goal.returns
 returns g c =
@@ -84,8 +84,8 @@ returns g c =
     let One' = Pends x l (map (sym_of number) c.next_token.new.pending.items) in
     let Other' = Pends x l (map (sym_of number) c.next_token-2.new.pending.items) in
     λ u v h k.
-        let r = c.loop-others.invariant u v h k in
-        c.cmp.ensures
-        ∙ ended (λ t. number t.0) _ (λ a b. g.met.S.Storage.ordered a.0 b.0) (Pends x l (map (sym_of number) c.loop-others.ones.items)) (Pends x l (map (sym_of number) c.loop-others.others.items))
-        One' Other' c.in_ok-next_token-2.field-0 u v r (subst (Begins (λ (t : TIdx _). number t.0) One' r.one) c.in_default.is (c.in_ok-token.ensures.next r.one r.first))
-        (c.in_ok-next_token-2.ensures.next r.other r.second)
+    let r = c.loop-others.invariant u v h k in
+    c.cmp.ensures
+    ∙ ended (λ t. number t.0) _ (λ a b. g.met.S.Storage.ordered a.0 b.0) (Pends x l (map (sym_of number) c.loop-others.ones.items)) (Pends x l (map (sym_of number) c.loop-others.others.items))
+    One' Other' c.in_ok-next_token-2.field-0 u v r (subst (Begins (λ (t : TIdx _). number t.0) One' r.one) c.in_default.is (c.in_ok-token.ensures.next r.one r.first))
+    (c.in_ok-next_token-2.ensures.next r.other r.second)
