@@ -12,6 +12,7 @@ pub mod Settles
 pub mod Answered
 pub mod Generated
 pub mod Greatest
+pub mod HandingRules
 pub mod Refused
 pub mod TokenCosts
 pub mod Steps

@@ -52,7 +52,7 @@ fn alone_rules<S: Storage, T: Tables<S>>(
         → (nth_production (T.grammar tables.now) p).rule ≡ r → (nth_production (T.grammar tables.now) q).rule ≡ r
         → p ≡ q) }
 {
-    let rules_len = usize::from(tables.rules_len());
+    let rules_len = tables.rules_len().0.to_usize();
     let mut alone = Vec::new(alloc);
     for number in 0..rules_len {
         let rule = RIdx(to_storage(number));
