@@ -47,3 +47,4 @@ pub mod Compared
 pub mod AloneRules
 pub mod Added
 pub mod OwnCosts
+pub mod Known
