@@ -51,3 +51,4 @@ pub mod Compared
 pub mod AloneRules
 pub mod Added
 pub mod OwnCosts
+pub mod Known

@@ -140,6 +140,7 @@ impl<'a, S: Storage, T: Tables<S>> TightTables<'a, S, T> {
         ensures { IfOk result (λ x. x.tables ≡ tables_of S.number (T.grammar tables.now) costs.now
             settled.now.least.items settled.now.choices.items) }
     {
+        let _prods = tables.prods_len().0.to_usize();
         let rules_len = usize::from(tables.rules_len());
         let alone = alone_rules(alloc, tables, kinds)?;
         let handing = handing(alloc, rules_len, kinds)?;
