@@ -77,19 +77,19 @@ pub alone_more : {S : Type 0} (kinds : List (Kind S)) (x : Grammar) (n : ℕ) (a
 alone_more {S} kinds x n alone alone' b places all before e are only = record {
   len = ap length e ∙ length_push alone b ∙ ap (λ m. m + 1) before.len;
   each = λ r t p q i j hp hq.
-  let t' : get_or (alone ++ b ∷ []) r false ≡ true = subst (λ l. get_or l r false ≡ true) e t in
-  elim (cases_lt r (length alone)) [
-    | inl lt ↦ before.each r (sym (get_or_append_left alone (b ∷ []) false r lt) ∙ t') p q i j hp hq
-    | inr ge ↦ elim (cases_lt (length alone) r) [
-        | inl gt ↦ let long = length_push alone b in let past : length (alone ++ b ∷ []) ≤ r = omega (arith, long, gt) in
-            absurd (true≢false (sym t' ∙ get_or_past (alone ++ b ∷ []) r false past))
-        | inr le ↦
-            let len = before.len in
-            let here : length alone ≡ r = omega (arith, ge, le) in
-            let rule : r ≡ n = omega (arith, here, len) in
-            let in_p : p < length x.productions = subst (λ m. p < m) all i.0 in
-            let in_q : q < length x.productions = subst (λ m. q < m) all j.0 in
-            only (sym (get_or_push alone b false r here) ∙ t') p q ((are.listed p in_p).1 (hp ∙ rule)) ((are.listed q in_q).1 (hq ∙ rule)) i j
-      ]
-  ];
+      let t' : get_or (alone ++ b ∷ []) r false ≡ true = subst (λ l. get_or l r false ≡ true) e t in
+      elim (cases_lt r (length alone)) [
+        | inl lt ↦ before.each r (sym (get_or_append_left alone (b ∷ []) false r lt) ∙ t') p q i j hp hq
+        | inr ge ↦ elim (cases_lt (length alone) r) [
+          | inl gt ↦ let long = length_push alone b in let past : length (alone ++ b ∷ []) ≤ r = omega (arith, long, gt) in
+              absurd (true≢false (sym t' ∙ get_or_past (alone ++ b ∷ []) r false past))
+          | inr le ↦
+              let len = before.len in
+              let here : length alone ≡ r = omega (arith, ge, le) in
+              let rule : r ≡ n = omega (arith, here, len) in
+              let in_p : p < length x.productions = subst (λ m. p < m) all i.0 in
+              let in_q : q < length x.productions = subst (λ m. q < m) all j.0 in
+              only (sym (get_or_push alone b false r here) ∙ t') p q ((are.listed p in_p).1 (hp ∙ rule)) ((are.listed q in_q).1 (hq ∙ rule)) i j
+        ]
+      ];
 }

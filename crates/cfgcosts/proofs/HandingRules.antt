@@ -44,9 +44,9 @@ module _ {S : Type 0} (number : S → ℕ) (kinds : List (Kind S)) (rules : ℕ)
       all = λ p q. (
         (λ h. let old = (before.all p q).0 h in let lt : p < n = old.0 in ((omega (arith, lt)), old.1)),
         (λ h. let lt : p < n + 1 = h.0 in elim (cases_lt p n) [
-            | inl less ↦ (before.all p q).1 (less, h.1)
-            | inr more ↦ let is : p ≡ n = omega (arith, lt, more) in absurd (not q (subst (λ m. HandsOn number kinds m q) is h.1))
-          ]),
+          | inl less ↦ (before.all p q).1 (less, h.1)
+          | inr more ↦ let is : p ≡ n = omega (arith, lt, more) in absurd (not q (subst (λ m. HandsOn number kinds m q) is h.1))
+        ]),
       );
       short = λ q. let s = before.short q in omega (arith, s);
     }
@@ -105,8 +105,10 @@ module _ {S : Type 0} (number : S → ℕ) (kinds : List (Kind S)) (rules : ℕ)
 
       all_more : (p q : ℕ) → (Contains (get_or more q []) p → (p < n + 1) × HandsOn number kinds p q) × ((p < n + 1) × HandsOn number kinds p q → Contains (get_or more q []) p)
       all_more p q = elim (same_or q) [
-        | inl e ↦ ((λ h. subst (λ m. (p < n + 1) × HandsOn number kinds p m) (sym e) (step_is p (subst (λ m. Contains (get_or more m []) p) e h))),
-          (λ h. subst (λ m. Contains (get_or more m []) p) (sym e) (step_has p (subst (λ m. (p < n + 1) × HandsOn number kinds p m) e h))))
+        | inl e ↦ (
+          (λ h. subst (λ m. (p < n + 1) × HandsOn number kinds p m) (sym e) (step_is p (subst (λ m. Contains (get_or more m []) p) e h))),
+          (λ h. subst (λ m. Contains (get_or more m []) p) (sym e) (step_has p (subst (λ m. (p < n + 1) × HandsOn number kinds p m) e h))),
+        )
         | inr not ↦ ((other_is q not p), (other_has q not p))
       ]
 

@@ -31,9 +31,9 @@ loop-p-preserved g c =
       | then-not-matches+else-found w ↦ subst After (sym w.found-is)
           (counted_at number c.args.kinds.now c.args.productions.now c.loop-p.p-index c.loop-p.found c.loop-p.invariant c.p-item.result c.loop-p-test.true c.p-item.is c.from.result c.from.ensures Slack w.if-found.false)
       | else-not-matches w ↦ subst After (sym w.found-is) (elim c.match-matches.branch [
-          | in-Slack v ↦ slack_at number c.args.kinds.now c.args.productions.now c.loop-p.p-index c.loop-p.found c.loop-p.invariant c.p-item.result c.loop-p-test.true c.p-item.is c.from.result c.from.ensures _ v.in-Slack.is
-          | in_default v ↦ absurd (true≢false (sym w.if-not-matches.false ∙ v.matches-is))
-        ])
+        | in-Slack v ↦ slack_at number c.args.kinds.now c.args.productions.now c.loop-p.p-index c.loop-p.found c.loop-p.invariant c.p-item.result c.loop-p-test.true c.p-item.is c.from.result c.from.ensures _ v.in-Slack.is
+        | in_default v ↦ absurd (true≢false (sym w.if-not-matches.false ∙ v.matches-is))
+      ])
     ]
 
 pub returns-then-found : goal.returns-then-found
