@@ -1,9 +1,9 @@
 -- Productions that are offered one by one.
-use Rattle.std.proofs.Common.{◌≡◌, ◌↔◌, ℕ, ◌+◌, ◌<◌, ◌≤◌, ◌⊎◌, inl, inr, List, [], ◌∷◌, ◌++◌, take, get_or, length, Contains, arith, refl, sym, ap, subst, ◌∙◌}
+use Rattle.std.proofs.Common.{◌≡◌, ℕ, ◌+◌, ◌<◌, ◌≤◌, inl, inr, List, [], ◌∷◌, ◌++◌, take, get_or, length, Contains, arith, refl, sym, ap, subst, ◌∙◌}
 use Rattle.std.proofs.lemmas.List.{take_all, take_more}
 use Rattle.std.proofs.lemmas.List.Elements.{Contains-append_left, Contains-get_or, Contains-push, Contains-push_cases}
 use Rattle.cfgcosts.specs.Generator.{CostTables}
-use Rattle.cfgcosts.specs.Offers.{Adds, IsFloor, IsOffered, Known, Offers, Waits, waiting}
+use Rattle.cfgcosts.specs.Offers.{Adds, IsFloor, IsOffered, Known, Offers}
 use Rattle.cfgcosts.proofs.Contained.{contains_none}
 
 pub adds_none : (f : Offers) (places : List ℕ) → Adds (Contains (take 0 places)) 0 f f

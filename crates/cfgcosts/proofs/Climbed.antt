@@ -7,15 +7,13 @@ use Rattle.std.proofs.lemmas.List.{length-replicate}
 use Rattle.std.proofs.lemmas.List.Elements.{All-contains, All-contains_itself, All-cons, All-tail, All-weaker}
 use Rattle.std.proofs.lemmas.List.Sorted.{Contains-permutation, IsPermutation-sym}
 use Rattle.lemmas.proofs.Elements.{get_or-replicate_default}
-use Rattle.derivation.specs.Grammar.{Rule}
 use Rattle.cfgsums.specs.Lists.{rule_cost}
 use Rattle.cfgcosts.specs.Certificate.{rule_choice}
 use Rattle.cfgcosts.specs.FirstChoices.{AreFirst, Walks}
 use Rattle.cfgcosts.specs.Generator.{CostTables, cost_answer}
 use Rattle.cfgcosts.specs.Levels.{here}
 use Rattle.cfgcosts.specs.Minimal.{HasNoHeir, IsHeir, IsTight}
-use Rattle.cfgcosts.specs.Offers.{Adds, AreOwn, Choices, Choosing, Climbing, Going, HasChoice, IsDone, IsFloor, IsHandled, IsKnown, IsOffered, Known, Level, Offers, Waits, by, owner, row, waiting}
-use Rattle.cfgcosts.proofs.Choices.{choices_once}
+use Rattle.cfgcosts.specs.Offers.{Adds, AreOwn, Climbing, Going, HasChoice, IsDone, IsFloor, IsHandled, IsKnown, IsOffered, Known, Level, Offers, Waits, by, owner, waiting}
 use Rattle.cfgcosts.proofs.Contained.{contains_cases, contains_first, contains_later, contains_none}
 use Rattle.cfgcosts.proofs.FirstsMade.{all_chosen, walks}
 use Rattle.cfgcosts.proofs.Generated.{answered_some}

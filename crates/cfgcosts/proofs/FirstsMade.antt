@@ -1,18 +1,16 @@
 -- When all own productions were gone through, each rule that costs something has a choice, and a walk by the choices ends.
-use Rattle.std.proofs.Common.{◌≡◌, ℕ, ◌<◌, ◌≤◌, inl, inr, List, [], Option, Some, None, All, Contains, arith, refl, sym, ap, subst, ◌∙◌}
-use Rattle.std.specs.Prelude.{IfSome, IsSomeAnd}
-use Rattle.std.proofs.lemmas.List.Elements.{All-contains_itself, All-weaker}
-use Rattle.derivation.specs.Grammar.{Sym, Rule, Token, IsGrammar}
+use Rattle.std.proofs.Common.{◌≡◌, ℕ, ◌<◌, ◌≤◌, [], Option, Some, None, arith, refl, sym, ap, subst, ◌∙◌}
+use Rattle.derivation.specs.Grammar.{IsGrammar}
 use Rattle.derivation.specs.Sentence.{cost_of}
 use Rattle.cfganalysis.specs.Openings.{nth_production}
 use Rattle.cfganalysis.proofs.Placed.{at_place}
 use Rattle.cfgsums.specs.Lists.{rule_cost}
 use Rattle.cfgcosts.specs.Certificate.{rule_choice}
-use Rattle.cfgcosts.specs.FirstChoices.{IsNotAbove, Opens, Walks}
+use Rattle.cfgcosts.specs.FirstChoices.{Opens, Walks}
 use Rattle.cfgcosts.specs.Generator.{CostTables, IsGenerator, cost_answer, token_cost}
 use Rattle.cfgcosts.specs.Levels.{Along, here, next}
 use Rattle.cfgcosts.specs.Minimal.{HasHeir, HasNoHeir, IsHeir}
-use Rattle.cfgcosts.specs.Offers.{Choices, Choosing, HasChoice, IsChoice, by}
+use Rattle.cfgcosts.specs.Offers.{Choices, Choosing, HasChoice, by}
 use Rattle.cfgcosts.proofs.ChoosingFirsts.{few, paid_chosen, row_not_above}
 use Rattle.cfgcosts.proofs.Generated.{some_answered}
 use Rattle.cfgcosts.proofs.Tight.{least_of, minimal_made, one_cost}

@@ -1,21 +1,20 @@
 -- Productions that are offered: what the choices make of them, and what one choice more changes.
-use Rattle.std.proofs.Common.{◌≡◌, ℕ, ◌+◌, ◌<◌, ◌≤◌, ◌⊎◌, inl, inr, Bool, true, false, List, [], ◌∷◌, ◌++◌, get_or, length, Option, Some, None, All, Contains, append-nil, arith, refl, sym, ap, subst, ◌∙◌, true≢false}
+use Rattle.std.proofs.Common.{◌≡◌, ℕ, ◌+◌, ◌<◌, ◌≤◌, ◌⊎◌, inl, inr, Bool, true, false, List, [], ◌∷◌, get_or, length, Option, Some, None, All, Contains, append-nil, arith, refl, sym, ap, subst, ◌∙◌, true≢false}
 use Rattle.std.specs.Prelude.{IsSomeAnd}
 use Rattle.std.specs.declared.cmp.Ordering.{Ordering}
-use Rattle.std.specs.declared.cmp.Ordering.TheVariants.{Less, Equal, Greater}
+use Rattle.std.specs.declared.cmp.Ordering.TheVariants.{Equal, Greater}
 use Rattle.std.specs.Ordering.{nat_cmp, ordering_then}
 use Rattle.std.specs.Cmp.{nat_cmp_is}
 use Rattle.std.proofs.lemmas.List.Elements.{Contains-get_or}
 use Rattle.lemmas.proofs.Elements.{get_or-set}
-use Rattle.derivation.specs.Grammar.{Sym, Rule, Token}
-use Rattle.cfganalysis.specs.Openings.{nth_production}
+use Rattle.derivation.specs.Grammar.{Sym, Rule}
 use Rattle.cfganalysis.proofs.Placed.{at_place}
 use Rattle.cfgcosts.specs.Certificate.{rule_choice}
 use Rattle.cfgcosts.specs.Choices.{ChoicesGive}
 use Rattle.cfgcosts.specs.Choices as gives
 use Rattle.cfgcosts.specs.Generator.{CostTables, cost_answer, token_cost}
 use Rattle.cfgcosts.specs.Minimal.{IsHeir, IsTight, dictionary}
-use Rattle.cfgcosts.specs.Offers.{Adds, Choices, Choosing, Going, Handles, HasChoice, IsAlone, IsDone, IsFloor, IsHandled, IsKnown, IsNext, IsOffered, IsReady, Known, Level, NotAfter, Offers, Waits, by, is_alone, owner, row}
+use Rattle.cfgcosts.specs.Offers.{Adds, Choices, Choosing, Handles, HasChoice, IsDone, IsFloor, IsHandled, IsKnown, IsNext, IsOffered, IsReady, Known, Level, NotAfter, Offers, Waits, by, is_alone, owner, row}
 use Rattle.cfgcosts.proofs.Choices.{choices_once}
 use Rattle.cfgcosts.proofs.ChoosingFirsts.{answer_chosen, choosing_more, chosen_now, gives_ready, handed_gives, heir_ready, later, paid_chosen, ready_kept}
 use Rattle.cfgcosts.proofs.Contained.{contains_one}

@@ -15,10 +15,10 @@ use Rattle.cfganalysis.specs.Openings.{nth_production}
 use Rattle.cfgcosts.specs.Certificate.{choice_of, rule_choice}
 use Rattle.cfgcosts.specs.Choices.{ChoicesGive, empty, token, free, chosen}
 use Rattle.cfgcosts.specs.Generator.{CostTables, IsGenerator, choice_answer, cost_answer, where_some}
-use Rattle.cfgcosts.specs.Offers.{AreMade, Choices, Choosing, IsKnown, IsReady, Known, Pends, by, left_to_open, row, steps}
+use Rattle.cfgcosts.specs.Offers.{AreMade, Choices, Choosing, IsKnown, Known, Pends, by, left_to_open, row, steps}
 use Rattle.cfgcosts.proofs.Choices.{choices_join}
 use Rattle.cfgcosts.proofs.ChoosingFirsts.{answer_chosen, few, paid_chosen, row_not_above}
-use Rattle.cfgcosts.proofs.RowSteps.{steps_opened, steps_positive, steps_token}
+use Rattle.cfgcosts.proofs.RowSteps.{steps_opened, steps_positive}
 use Rattle.cfgcosts.proofs.Steps.{sum_by-cons}
 
 last_first : {A : Type 0} (rest : List A) (s : A) → reverse (rest ++ s ∷ []) ≡ s ∷ reverse rest

@@ -1,20 +1,19 @@
 -- The place of a production among others that are in order, the greatest first, and what waits when it was put there.
-use Rattle.std.proofs.Common.{◌≡◌, ◌↔◌, ℕ, ◌+◌, ◌-◌, ◌<◌, ◌≤◌, ◌⊎◌, inl, inr, true, false, List, [], ◌∷◌, ◌++◌, get_or, length, map, take, drop, Contains, arith, refl, sym, ap, subst, ◌∙◌, true≢false}
+use Rattle.std.proofs.Common.{◌≡◌, ◌↔◌, ℕ, ◌+◌, ◌<◌, ◌≤◌, ◌⊎◌, inl, inr, true, false, List, [], ◌∷◌, ◌++◌, get_or, length, map, take, drop, Contains, arith, refl, sym, ap, subst, ◌∙◌, true≢false}
 use Rattle.std.specs.List.{insert}
 use Rattle.std.specs.Ordering.{is_lt, ordering_reverse}
 use Rattle.std.specs.declared.cmp.Ordering.{Ordering}
-use Rattle.std.specs.declared.cmp.Ordering.TheVariants.{Less, Equal, Greater}
 use Rattle.std.proofs.lemmas.Bool.{cases_lt}
 use Rattle.std.proofs.lemmas.Cmp.{nat_list_cmp_total}
 use Rattle.cfgindex.specs.declared.idxnewtype.PIdx.{PIdx}
-use Rattle.std.proofs.lemmas.List.{get_or-map, take-append-drop, take-map, drop-map, map-append, length_push, length-map}
+use Rattle.std.proofs.lemmas.List.{get_or-map, take-append-drop, take-map, drop-map, map-append, length_push}
 use Rattle.std.proofs.lemmas.List.Edits.{length-insert}
 use Rattle.std.proofs.lemmas.List.Elements.{Contains-append_left, Contains-append_right, Contains-append_cases, Contains-get_or, Contains-push, Contains-push_cases}
 use Rattle.derivation.specs.Grammar.{Sym}
 use Rattle.cfgcosts.specs.Choices.{ChoicesGive}
 use Rattle.cfgcosts.specs.Generator.{CostTables}
 use Rattle.cfgcosts.specs.Minimal.{dictionary, places_of}
-use Rattle.cfgcosts.specs.Offers.{Adds, Choices, Choosing, IsFloor, IsInOrder, IsNext, IsOffered, IsReady, Known, Level, NotAfter, Offers, Takes, Waits, by, is_alone, owner, row, waiting}
+use Rattle.cfgcosts.specs.Offers.{Adds, Choices, IsFloor, IsOffered, Known, Level, NotAfter, Offers, Waits, by, is_alone, owner, row}
 use Rattle.cfgcosts.proofs.Contained.{contains_cases, contains_first, contains_later}
 use Rattle.cfgcosts.proofs.Offered.{IsGiven, not_after_both, offered_given}
 use Rattle.cfgcosts.proofs.RowsInOrder.{insert_in_order}

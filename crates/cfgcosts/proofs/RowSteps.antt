@@ -1,5 +1,5 @@
 -- What the choices make of symbols, in numbers, where rules that cost nothing have no choice.
-use Rattle.std.proofs.Common.{◌≡◌, ℕ, zero, suc, ◌+◌, ◌<◌, List, [], ◌∷◌, ◌++◌, reverse, Option, Some, None, All, arith, refl, ap, ◌∙◌}
+use Rattle.std.proofs.Common.{◌≡◌, ℕ, zero, suc, ◌+◌, ◌<◌, List, [], ◌∷◌, Option, Some, None, All, arith, refl, ap, ◌∙◌}
 use Rattle.std.specs.Prelude.{IfSome, sum_by}
 use Rattle.std.proofs.lemmas.List.Elements.{All-head, All-tail}
 use Rattle.derivation.specs.Grammar.{Sym, Rule, Token, Grammar}

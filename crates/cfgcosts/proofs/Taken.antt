@@ -4,10 +4,9 @@ use Rattle.std.proofs.Math.Seq.{get_or-append_seam}
 use Rattle.std.proofs.lemmas.List.{get_or_append_left, get_or_default, length_push, map-append, map-set}
 use Rattle.std.proofs.lemmas.List.Elements.{Contains-append_left, Contains-push, Contains-push_cases}
 use Rattle.cfgcosts.specs.Certificate.{choice_of, rule_choice}
-use Rattle.cfgcosts.specs.Generator.{CostTables}
 use Rattle.cfgcosts.specs.Minimal.{IsHeir, places_of}
 use Rattle.cfgindex.specs.declared.idxnewtype.PIdx.{PIdx}
-use Rattle.cfgcosts.specs.Offers.{Adds, Going, Handles, HasChoice, IsDone, IsFloor, IsHandled, IsKnown, IsNext, IsOffered, Known, Level, NotAfter, Offers, Takes, Waits, left_to_choose, owner, row, waiting}
+use Rattle.cfgcosts.specs.Offers.{Adds, Going, HasChoice, IsDone, IsHandled, IsKnown, IsNext, Known, Level, NotAfter, Offers, Takes, Waits, left_to_choose, owner, row, waiting}
 use Rattle.cfgcosts.proofs.ChoosingFirsts.{few}
 use Rattle.cfgcosts.proofs.Contained.{contains_none}
 use Rattle.cfgcosts.proofs.Pending.{choice_shown}

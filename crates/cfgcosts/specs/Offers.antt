@@ -1,14 +1,13 @@
 -- Productions that are offered to their rules, and the choices that are made among them.
-use Rattle.std.specs.Prelude.{◌≡◌, ◌↔◌, ℕ, zero, suc, ◌+◌, ◌-◌, ◌*◌, ◌<◌, ◌≤◌, ◌⊎◌, Bool, true, false, List, [], ◌∷◌, ◌++◌, Option, Some, None, All, Contains, IsSomeAnd, Vec, count_by, is_some, length, map, reverse, slice_index_or, sum_by}
+use Rattle.std.specs.Prelude.{◌≡◌, ◌↔◌, ℕ, zero, suc, ◌+◌, ◌-◌, ◌*◌, ◌<◌, ◌≤◌, ◌⊎◌, Bool, true, false, List, [], ◌∷◌, Option, Some, None, All, Contains, IsSomeAnd, Vec, count_by, is_some, length, map, reverse, slice_index_or, sum_by}
 use Rattle.std.specs.declared.alloc.Global.{Global}
 use Rattle.std.specs.declared.cmp.Ordering.TheVariants.{Greater}
 use Rattle.cfgindex.specs.declared.idxnewtype.PIdx.{PIdx}
 use Rattle.derivation.specs.Grammar.{Sym, Rule, Token, Grammar, IsGrammar}
 use Rattle.cfganalysis.specs.Openings.{nth_production}
-use Rattle.cfgsums.specs.Lists.{rule_cost}
 use Rattle.cfgcosts.specs.Certificate.{choice_of, rule_choice}
 use Rattle.cfgcosts.specs.Choices.{ChoicesGive}
-use Rattle.cfgcosts.specs.Generator.{CostTables, IsGenerator, cost_answer, token_cost}
+use Rattle.cfgcosts.specs.Generator.{CostTables, IsGenerator, cost_answer}
 use Rattle.cfgcosts.specs.Minimal.{HasNoHeir, IsHeir, IsTight, dictionary, places_of}
 use Rattle.cfgindex.specs.declared.idxnewtype.RIdx.{RIdx}
 use Rattle.cfgcosts.specs.declared.kinds.Kind.{Kind}

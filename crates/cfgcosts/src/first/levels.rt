@@ -15,6 +15,7 @@ use crate::settle::{Settled, no_choices};
 use cfganalysis::Tables;
 use cfgindex::{PIdx, Storage, to_storage};
 use std::alloc::{AllocError, Global};
+use std::collections::VecDeque;
 
 /// The own productions, each with what it costs.
 ///
@@ -135,7 +136,7 @@ pub(crate) fn first_choices<S: Storage, T: Tables<S>>(
         number: 0,
         cost: 0,
         ready: Vec::new(alloc),
-        level: Vec::new(alloc),
+        level: VecDeque::new(alloc),
     };
     let mut own = own_by_cost(alloc, &tight)?;
     firsts.choose_by_cost(&tight, &mut own)?;

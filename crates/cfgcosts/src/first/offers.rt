@@ -11,6 +11,7 @@ use crate::first::tight::TightTables;
 use cfganalysis::Tables;
 use cfgindex::{PIdx, Storage};
 use std::alloc::{AllocError, Global};
+use std::collections::VecDeque;
 
 /// Choices of productions, and productions that are offered.
 #[derive(Drop)]
@@ -24,7 +25,7 @@ pub(crate) struct Firsts<S: Storage> {
     /// Those that are alone in their rules.
     pub(crate) ready: Vec<PIdx<S>>,
     /// The others, by what they make: the first word of a dictionary is last.
-    pub(crate) level: Vec<PIdx<S>>,
+    pub(crate) level: VecDeque<PIdx<S>>,
 }
 
 impl<S: Storage> Firsts<S> {
@@ -181,7 +182,7 @@ impl<S: Storage> Firsts<S> {
         if let Some(p) = self.ready.pop() {
             return Some(p);
         }
-        let p = self.level.pop()?;
+        let p = self.level.pop_back()?;
         Some(p)
     }
 

@@ -1,4 +1,4 @@
-use Rattle.std.proofs.Common.{◌≡◌, ◌<◌, ◌≤◌, ◌+◌, ◌∷◌, [], ℕ, refl, sym, ap, subst, ◌∙◌, arith}
+use Rattle.std.proofs.Common.{◌≡◌, ◌+◌, sym, subst, arith}
 use Rattle.cfgcosts.specs.Minimal.{HasNoHeir}
 use Rattle.cfgcosts.proofs.Climbed.{OwnListed, own_begins, own_ends, own_more, own_not}
 use Rattle.cfgcosts.proofs.first.levels.own_by_cost.Goals as goal

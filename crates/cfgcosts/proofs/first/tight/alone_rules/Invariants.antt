@@ -1,4 +1,3 @@
-use Rattle.std.proofs.Common.{◌≡◌, length}
 use Rattle.cfgcosts.proofs.AloneRules.{AloneSoFar}
 use Rattle.cfgcosts.proofs.first.tight.alone_rules.Given as goal
 

@@ -1,4 +1,4 @@
-use Rattle.std.proofs.Common.{◌≡◌, ◌<◌, ◌≤◌, ◌+◌, length, sym, ap, subst, ◌∙◌, arith}
+use Rattle.std.proofs.Common.{◌≡◌, ◌<◌, ◌+◌, length, sym, subst, ◌∙◌, arith}
 use Rattle.cfgcosts.specs.Offers.{AreHanding}
 use Rattle.cfgcosts.proofs.HandingRules.{handing_adds, handing_begins, handing_not, kind_hands, kind_not}
 use Rattle.cfgcosts.proofs.first.tight.handing.Goals as goal

@@ -1,4 +1,4 @@
-use Rattle.std.proofs.Common.{◌<◌, ◌≤◌, ◌+◌, length, sym, subst, arith, true≢false, ◌∙◌}
+use Rattle.std.proofs.Common.{◌<◌, ◌+◌, length, sym, subst, arith, true≢false, ◌∙◌}
 use Rattle.cfgcosts.proofs.AloneRules.{Found, counted_at, found_begins, found_ends, slack_at}
 use Rattle.cfgcosts.specs.Minimal.{places_of}
 use Rattle.cfgcosts.specs.declared.kinds.Kind.TheVariants.{Slack}

@@ -1,4 +1,4 @@
-use Rattle.std.proofs.Common.{◌≡◌, ◌<◌, ◌≤◌, refl, sym, ap, subst, ◌∙◌, arith}
+use Rattle.std.proofs.Common.{refl, sym, ap, subst, ◌∙◌}
 use Rattle.cfgcosts.specs.Offers.{Going, IsHandled, Offers, offers_of, waiting}
 use Rattle.cfgcosts.proofs.Taken.{lt_from, taken_handled, taken_hands, taken_less}
 use Rattle.cfgcosts.proofs.first.offers.Firsts.choose_all.Goals as goal

@@ -1,4 +1,4 @@
-use Rattle.std.proofs.Common.{◌≡◌, ◌<◌, ◌≤◌, ◌∷◌, [], ℕ, length, refl, sym, ap, subst, ◌∙◌, arith}
+use Rattle.std.proofs.Common.{◌∷◌, sym, subst, arith}
 use Rattle.std.proofs.lemmas.List.Sorted.{length_permutation}
 use Rattle.cfgcosts.specs.Offers.{Climbing, offers_of}
 use Rattle.cfgcosts.proofs.Climbed.{climbed_first, climbed_walks, climbing_permuted}

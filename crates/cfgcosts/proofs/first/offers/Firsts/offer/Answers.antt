@@ -1,4 +1,4 @@
-use Rattle.std.proofs.Common.{◌≡◌, sym, ap, ◌∙◌}
+use Rattle.std.proofs.Common.{sym, ap, ◌∙◌}
 use Rattle.cfgcosts.specs.Minimal.{places_of}
 use Rattle.cfgcosts.specs.Offers.{is_alone, offers_of}
 use Rattle.cfgcosts.proofs.Placed.{ready_adds, ready_level}

@@ -1,9 +1,8 @@
-use Rattle.std.proofs.Common.{◌≡◌, ◌<◌, ◌≤◌, length, sym, ap, subst, ◌∙◌, arith}
+use Rattle.std.proofs.Common.{◌<◌, length, arith}
 use Rattle.std.proofs.lemmas.List.{length-map}
 use Rattle.cfganalysis.proofs.Slices.{mapped_within, mapped_at}
-use Rattle.std.proofs.lemmas.List.Elements.{Contains-get_or}
 use Rattle.cfgcosts.specs.Minimal.{places_of}
-use Rattle.cfgcosts.specs.Offers.{IsFloor, IsOffered, offers_of}
+use Rattle.cfgcosts.specs.Offers.{offers_of}
 use Rattle.cfgcosts.proofs.Added.{adds_all, adds_more, adds_none, among_at, floor_still, offered_still}
 use Rattle.cfgcosts.proofs.first.offers.Firsts.offer_all.Goals as goal
 

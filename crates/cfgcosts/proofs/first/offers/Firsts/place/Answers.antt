@@ -1,10 +1,10 @@
-use Rattle.std.proofs.Common.{◌≡◌, ◌<◌, ◌≤◌, ◌+◌, ◌-◌, ◌/◌, ℕ, List, length, map, get_or, sym, ap, subst, ◌∙◌, arith}
+use Rattle.std.proofs.Common.{◌≡◌, ◌+◌, ◌-◌, ◌/◌, ℕ, List, map, sym, subst, ◌∙◌, arith}
 use Rattle.std.proofs.lemmas.List.{length-map}
 use Rattle.cfgcosts.specs.Certificate.{choice_of}
-use Rattle.cfgcosts.specs.Minimal.{dictionary, places_of}
-use Rattle.cfgcosts.specs.Offers.{Choosing, Gives, NotAfter, offers_of, row}
+use Rattle.cfgcosts.specs.Minimal.{dictionary}
+use Rattle.cfgcosts.specs.Offers.{Choosing, Gives, offers_of, row}
 use Rattle.cfgcosts.proofs.Offered.{IsGiven, offered_given}
-use Rattle.cfgcosts.proofs.Placed.{Between, middle_given, middle_offered, nth_shown, to_back, to_front}
+use Rattle.cfgcosts.proofs.Placed.{middle_given, middle_offered, nth_shown, to_back, to_front}
 use Rattle.cfgcosts.proofs.first.offers.Firsts.place.Goals as goal
 
 pub loop-low-init : goal.loop-low-init

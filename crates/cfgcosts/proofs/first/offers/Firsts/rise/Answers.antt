@@ -1,6 +1,6 @@
-use Rattle.std.proofs.Common.{◌≡◌, ◌<◌, ◌≤◌, ℕ, refl, sym, ap, subst, ◌∙◌, arith}
+use Rattle.std.proofs.Common.{◌≤◌, ℕ, arith}
 use Rattle.std.proofs.lemmas.List.Elements.{All-head}
-use Rattle.cfgcosts.specs.Offers.{Climbing, offers_of}
+use Rattle.cfgcosts.specs.Offers.{offers_of}
 use Rattle.cfgcosts.proofs.Climbed.{climbing_risen}
 use Rattle.cfgcosts.proofs.first.offers.Firsts.rise.Goals as goal
 

@@ -1,5 +1,5 @@
-use Rattle.std.proofs.Common.{◌≡◌, ◌<◌, ◌≤◌, ℕ, refl, sym, ap, subst, ◌∙◌, arith}
-use Rattle.cfgcosts.specs.Offers.{Climbing, offers_of}
+use Rattle.std.proofs.Common.{sym, ◌∙◌}
+use Rattle.cfgcosts.specs.Offers.{offers_of}
 use Rattle.cfgcosts.proofs.Climbed.{climbing_offered, no_floor, own_offered}
 use Rattle.cfgcosts.proofs.Contained.{contains_first}
 use Rattle.cfgcosts.proofs.first.offers.Firsts.take_up.Goals as goal

@@ -1,6 +1,5 @@
-use Rattle.std.proofs.Common.{◌<◌, ◌≤◌, ◌≡◌, [], length, get_or, Contains, sym, ap, subst, ◌∙◌}
+use Rattle.std.proofs.Common.{◌<◌, ◌≤◌, [], length, get_or, Contains, sym, ap, subst, ◌∙◌}
 use Rattle.std.proofs.lemmas.List.{length-map}
-use Rattle.cfgcosts.specs.Minimal.{IsHeir, places_of}
 use Rattle.cfgcosts.specs.Offers.{IsKnown, Known}
 use Rattle.cfgcosts.proofs.first.tight.TightTables.handing_to.Goals as goal
 

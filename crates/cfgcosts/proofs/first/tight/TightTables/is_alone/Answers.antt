@@ -1,6 +1,6 @@
-use Rattle.std.proofs.Common.{◌<◌, ◌≡◌, false, length, get_or, sym, ap, subst, ◌∙◌, arith}
+use Rattle.std.proofs.Common.{◌<◌, false, length, get_or, sym, ap, subst, ◌∙◌, arith}
 use Rattle.std.proofs.lemmas.List.{get_or_default}
-use Rattle.cfgcosts.specs.Offers.{IsKnown, Known, is_alone}
+use Rattle.cfgcosts.specs.Offers.{Known, is_alone}
 use Rattle.cfgcosts.proofs.first.tight.TightTables.is_alone.Goals as goal
 
 pub index-requires : goal.index-requires

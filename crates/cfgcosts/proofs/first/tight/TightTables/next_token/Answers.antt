@@ -1,10 +1,9 @@
-use Rattle.std.proofs.Common.{◌≡◌, ◌≤◌, ◌<◌, ◌-◌, ◌++◌, [], ◌∷◌, List, map, reverse, take, Some, None, length, get_or, sym, ap, subst, ◌∙◌, arith}
-use Rattle.std.proofs.lemmas.List.{length-map}
-use Rattle.derivation.specs.Grammar.{Sym, Rule, Token}
+use Rattle.std.proofs.Common.{◌≡◌, ◌<◌, ◌-◌, ◌++◌, [], ◌∷◌, map, reverse, take, None, length, sym, ap, subst, ◌∙◌, arith}
+use Rattle.derivation.specs.Grammar.{Rule}
 use Rattle.cfganalysis.specs.Symbols.{sym_of}
 use Rattle.cfgcosts.specs.Certificate.{choice_of}
 use Rattle.cfgcosts.specs.Offers.{Pends, left_to_open, row}
-use Rattle.cfgcosts.proofs.Pending.{choice_shown, index_within, last_shown, turned_shown, none_pending, token_pending, free_pending, rule_pending, rule_within, symbol_less, rule_less}
+use Rattle.cfgcosts.proofs.Pending.{choice_shown, index_within, last_shown, turned_shown, none_pending, token_pending, free_pending, rule_pending, symbol_less, rule_less}
 use Rattle.cfgcosts.proofs.first.tight.TightTables.next_token.Goals as goal
 
 pub loop-symbol-init : goal.loop-symbol-init

@@ -1,5 +1,5 @@
-use Rattle.std.proofs.Common.{◌≡◌, ◌<◌, ◌≤◌, get_or, length, sym, ap, subst, ◌∙◌, arith}
-use Rattle.cfgcosts.specs.Minimal.{AreKinds, IsKind}
+use Rattle.std.proofs.Common.{◌<◌, get_or, sym, ap, subst, ◌∙◌, arith}
+use Rattle.cfgcosts.specs.Minimal.{AreKinds}
 use Rattle.cfgcosts.specs.Offers.{IsKnown, Known, owner}
 use Rattle.cfgcosts.proofs.OwnCosts.{not_own_at, own_at, own_cost_told}
 use Rattle.cfgcosts.proofs.first.tight.TightTables.own_cost.Goals as goal

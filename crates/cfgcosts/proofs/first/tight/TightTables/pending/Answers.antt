@@ -1,5 +1,4 @@
-use Rattle.std.proofs.Common.{◌≡◌, ◌++◌, [], map, reverse, ap, ◌∙◌}
-use Rattle.std.proofs.lemmas.List.{reverse-reverse}
+use Rattle.std.proofs.Common.{◌++◌, map, reverse, ap, ◌∙◌}
 use Rattle.cfganalysis.specs.Symbols.{sym_of}
 use Rattle.cfgcosts.proofs.Pending.{reverse_map}
 use Rattle.cfgcosts.proofs.first.tight.TightTables.pending.Goals as goal

@@ -1,4 +1,4 @@
-use Rattle.std.proofs.Common.{◌≡◌, ◌<◌, ◌≤◌, ◌^◌, ◌⊎◌, ℕ, inl, inr, length, refl, sym, ap, subst, ◌∙◌, arith}
+use Rattle.std.proofs.Common.{◌<◌, ◌⊎◌, ℕ, inl, inr, length, sym, ap, subst, ◌∙◌}
 use Rattle.cfgcosts.specs.Minimal.{AreKinds, HasNoHeir, IsHeir, IsKind, IsTight}
 use Rattle.cfgcosts.specs.Offers.{Known}
 use Rattle.cfgcosts.specs.declared.kinds.Kind.{Kind}

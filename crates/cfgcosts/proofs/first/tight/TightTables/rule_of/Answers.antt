@@ -1,4 +1,4 @@
-use Rattle.std.proofs.Common.{◌<◌, ◌^◌, [], length, get_or, All, sym, ap, subst, ◌∙◌, arith}
+use Rattle.std.proofs.Common.{◌<◌, ◌^◌, [], length, sym, ap, subst, ◌∙◌, arith}
 use Rattle.std.proofs.lemmas.List.Elements.{All-get_or}
 use Rattle.derivation.specs.Grammar.{Production}
 use Rattle.cfgcosts.specs.Offers.{IsKnown, Known, owner}
