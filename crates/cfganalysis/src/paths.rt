@@ -5,9 +5,9 @@ ghost use Rattle.std.specs.Prelude.{false, length, map, replicate, slice_index_o
 ghost use Rattle.derivation.specs.Grammar.{Grammar, HasProduction, IsSymbolOf, Rule};
 ghost use Rattle.derivation.specs.Path.{Holds, Path};
 ghost use Rattle.cfganalysis.specs.Paths.{IsHeldBy, Reaches};
-ghost use Rattle.cfganalysis.specs.Symbols.{sym_of};
+ghost use Rattle.cfgtables.specs.Symbols.{sym_of};
 
-use crate::counted::Tables;
+use cfgtables::Tables;
 use cfgindex::{PIdx, RIdx, Storage, Symbol, Vob};
 use std::alloc::{AllocError, Global};
 use std::marker::Model;

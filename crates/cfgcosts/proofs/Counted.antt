@@ -11,20 +11,22 @@ use Rattle.derivation.specs.Grammar.{Sym, Rule, Token, Grammar, IsGrammar, HasPr
 use Rattle.derivation.specs.Derivation.{Step}
 use Rattle.derivation.specs.Costs.{Least}
 use Rattle.derivation.proofs.Costs.{least_is_one}
-use Rattle.cfganalysis.specs.Openings.{nth_production, OpensOne}
-use Rattle.cfganalysis.proofs.Placed.{same_production}
+use Rattle.cfgtables.specs.Openings.{nth_production, OpensOne}
+use Rattle.cfgtables.proofs.Placed.{same_production}
 use Rattle.cfgsums.specs.Lists.{rule_cost}
-use Rattle.cfgcosts.specs.Certificate.{rule_choice}
-use Rattle.cfgcosts.specs.FirstChoices.{AreFirst, Opens, Walks}
-use Rattle.cfgcosts.specs.Generator.{CostTables, cost_answer, token_cost}
-use Rattle.cfgcosts.specs.Splits.{Split, done, itself, part}
-use Rattle.cfgcosts.specs.Sentences.{Takes, token, unchosen, chosen, symbols_at}
-use Rattle.cfgcosts.specs.DerivedBy.{IsProductionAt, DerivesBy, none, next, times, IsFree, IsDerivedBy, OpensNoneFree, OpensAt, nothing, one, HasStopped, HasWalked}
-use Rattle.cfgcosts.proofs.FirstChosen.{known}
-use Rattle.cfgcosts.proofs.Generated.{answered_some, some_answered}
-use Rattle.cfgcosts.proofs.Steps.{steps_token, sum_by-cons}
+use Rattle.cfgleast.specs.Certificate.{rule_choice}
+use Rattle.cfgchoices.specs.Inner.FirstChoices.{AreFirst, Opens, Walks}
+use Rattle.cfgleast.specs.Generator.{CostTables, cost_answer, token_cost}
+use Rattle.cfgchoices.specs.Splits.{Split, done, itself, part}
+use Rattle.cfgcosts.specs.Inner.Walk.{Takes, symbols_at}
+use Rattle.cfgcosts.specs.Sentences.{token, unchosen, chosen}
+use Rattle.cfgcosts.specs.DerivedBy.{IsProductionAt, DerivesBy, none, next, times, IsFree, IsDerivedBy, OpensNoneFree, nothing, one}
+use Rattle.cfgcosts.specs.Inner.Walk.{OpensAt, HasStopped, HasWalked}
+use Rattle.cfgchoices.proofs.FirstChosen.{known}
+use Rattle.cfgleast.proofs.Generated.{answered_some, some_answered}
+use Rattle.cfgchoices.proofs.Steps.{steps_token, sum_by-cons}
 use Rattle.cfgcosts.proofs.Sentences.{IsOnTheWay, last, read_last, free_last, none_opened, one_opened, finished, map-reverse}
-use Rattle.cfgcosts.proofs.Tight.{least_of}
+use Rattle.cfgchoices.proofs.Tight.{least_of}
 use Rattle.cfgcosts.proofs.Tokens.{tokens_of, spend, rule_tokens, spend_opened, spend_most}
 
 times-append : (q : ℕ) (xs : List ℕ) (p : ℕ) → times q (xs ++ p ∷ []) ≡ times q xs + cond (nat_eq q p) 1 0

@@ -9,17 +9,19 @@ use Rattle.std.proofs.lemmas.List.Elements.{All-get_or, All-set, Contains-append
 use Rattle.lemmas.proofs.Elements.{get_or-set}
 use Rattle.cfgindex.specs.declared.idxnewtype.RIdx.{RIdx}
 use Rattle.derivation.specs.Grammar.{Grammar, IsGrammar}
-use Rattle.cfganalysis.specs.Openings.{nth_production}
-use Rattle.cfganalysis.specs.Paths.{ArePlacesOf}
-use Rattle.cfgcosts.specs.Generator.{CostTables, IsGenerator, cost_answer}
+use Rattle.cfgtables.specs.Openings.{nth_production}
+use Rattle.cfgtables.specs.Openings.{ArePlacesOf}
+use Rattle.cfgleast.specs.Generator.{CostTables, IsGenerator, cost_answer}
 use Rattle.cfgsums.proofs.Rows.{item_shown}
-use Rattle.cfgcosts.specs.Heirs.{AreHeirs, HasRulesAsHeirs, IsOnlyHeir, rules_of}
-use Rattle.cfgcosts.specs.Levels.{Along, here, next}
-use Rattle.cfgcosts.specs.Minimal.{AreKinds, HasHeir, IsHeir, IsKind, IsMinimal, IsOwnBelow, IsTight}
-use Rattle.cfgcosts.specs.declared.kinds.Kind.{Kind}
-use Rattle.cfgcosts.specs.declared.kinds.Kind.TheVariants.{Slack, HandsOn}
-use Rattle.cfgcosts.proofs.Contained.{contains_none}
-use Rattle.cfgcosts.proofs.Tight.{answered_within, minimal_made, one_heir, own_makes}
+use Rattle.cfgcosts.specs.Inner.Heirs.{AreHeirs, IsOnlyHeir, rules_of}
+use Rattle.cfgchoices.specs.Inner.Kinds.{HasRulesAsHeirs}
+use Rattle.cfgchoices.specs.Levels.{Along, here, next}
+use Rattle.cfgchoices.specs.Inner.Kinds.{AreKinds, HasHeir, IsHeir, IsKind, IsTight}
+use Rattle.cfgcosts.specs.Inner.Minimal.{IsMinimal, IsOwnBelow}
+use Rattle.cfgchoices.specs.declared.kinds.Kind.{Kind}
+use Rattle.cfgchoices.specs.declared.kinds.Kind.TheVariants.{Slack, HandsOn}
+use Rattle.lemmas.proofs.Contained.{contains_none}
+use Rattle.cfgchoices.proofs.Tight.{answered_within, minimal_made, one_heir, own_makes}
 
 pub none_is : {X : Type 0} (o : Option X) → is_some o ≡ false → o ≡ None
 none_is None e = refl

@@ -7,23 +7,23 @@ use Rattle.std.proofs.lemmas.List.Sums.{sum_by-append}
 use Rattle.std.proofs.lemmas.List.Elements.{All-nil, All-cons, All-append, All-pop}
 use Rattle.derivation.specs.Grammar.{Sym, Rule, Token, IsGrammar, IsSymbolOf}
 use Rattle.cfgindex.specs.declared.idxnewtype.PIdx.{PIdx}
-use Rattle.cfganalysis.specs.Openings.{nth_production}
+use Rattle.cfgtables.specs.Openings.{nth_production}
 use Rattle.cfgsums.specs.Sums.{sum_of, symbol_cost}
 use Rattle.cfgsums.specs.Lists.{rule_cost}
 use Rattle.cfgsums.proofs.Sums.{plus_parts, plus_both, plus_zero, sum_of-append}
-use Rattle.cfgcosts.specs.Certificate.{rule_choice}
-use Rattle.cfgcosts.specs.Choices.{ChoicesGive}
-use Rattle.cfgcosts.specs.Choices as gives
-use Rattle.cfgcosts.specs.FirstChoices.{AreFirst, Opens, Walks}
-use Rattle.cfgcosts.specs.Generator.{CostTables, cost_answer, token_cost}
-use Rattle.cfgcosts.specs.Sentences.{IsFirstSentence, Takes, number_of, symbols_at}
+use Rattle.cfgleast.specs.Certificate.{rule_choice}
+use Rattle.cfgchoices.specs.Inner.Choices.{ChoicesGive}
+use Rattle.cfgchoices.specs.Inner.Choices as gives
+use Rattle.cfgchoices.specs.Inner.FirstChoices.{AreFirst, Opens, Walks}
+use Rattle.cfgleast.specs.Generator.{CostTables, cost_answer, token_cost}
+use Rattle.cfgcosts.specs.Inner.Walk.{IsFirstSentence, Takes, number_of, symbols_at}
 use Rattle.cfgcosts.specs.Sentences as taken
-use Rattle.cfgcosts.proofs.Choices.{choices_split, choices_join}
-use Rattle.cfgcosts.proofs.FirstChosen.{answer_is, costly, first_given}
-use Rattle.cfgcosts.proofs.Generated.{answered_some, some_answered}
-use Rattle.cfgcosts.proofs.Lengths.{sentence_length}
-use Rattle.cfgcosts.proofs.SentenceTokens.{sentence_tokens}
-use Rattle.cfgcosts.proofs.Steps.{steps, steps_positive, steps_opened, sum_by-cons}
+use Rattle.cfgchoices.proofs.Choices.{choices_split, choices_join}
+use Rattle.cfgchoices.proofs.FirstChosen.{answer_is, costly, first_given}
+use Rattle.cfgleast.proofs.Generated.{answered_some, some_answered}
+use Rattle.cfgchoices.proofs.Lengths.{sentence_length}
+use Rattle.cfgchoices.proofs.SentenceTokens.{sentence_tokens}
+use Rattle.cfgchoices.proofs.Steps.{steps, steps_positive, steps_opened, sum_by-cons}
 
 abbrev pub cost_by : CostTables → Sym → Option ℕ
 cost_by x = symbol_cost (token_cost x) (rule_cost x.least)

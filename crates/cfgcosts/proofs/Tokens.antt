@@ -7,14 +7,14 @@ use Rattle.std.proofs.lemmas.Nat.{mul-le}
 use Rattle.std.proofs.lemmas.Bool.{cases_lt}
 use Rattle.std.proofs.lemmas.List.Elements.{All-get_or, All-head, All-tail}
 use Rattle.derivation.specs.Grammar.{Sym, Rule, Token, IsGrammar, IsSymbolOf}
-use Rattle.cfganalysis.specs.Openings.{nth_production}
+use Rattle.cfgtables.specs.Openings.{nth_production}
 use Rattle.cfgsums.specs.Sums.{sum_of}
 use Rattle.cfgsums.specs.Lists.{rule_cost}
-use Rattle.cfgcosts.specs.Certificate.{rule_choice}
-use Rattle.cfgcosts.specs.FirstChoices.{IsNotAbove, Opens, Walks}
-use Rattle.cfgcosts.specs.Generator.{CostTables, token_cost}
+use Rattle.cfgleast.specs.Certificate.{rule_choice}
+use Rattle.cfgchoices.specs.Inner.FirstChoices.{IsNotAbove, Opens, Walks}
+use Rattle.cfgleast.specs.Generator.{CostTables, token_cost}
 use Rattle.cfgsums.proofs.Sums.{plus_parts}
-use Rattle.cfgcosts.proofs.Steps.{steps, steps_token, steps_unchosen, steps_opened, sum_by-cons}
+use Rattle.cfgchoices.proofs.Steps.{steps, steps_token, steps_unchosen, steps_opened, sum_by-cons}
 use Rattle.cfgcosts.proofs.Sentences.{cost_by}
 
 -- how many tokens the chosen productions make of a symbol

@@ -5,16 +5,17 @@ ghost use Rattle.std.specs.Prelude.{◌++◌, ◌⊎◌, All, Err, IfOk, IfSome,
 ghost use Rattle.derivation.specs.Grammar.{HasProduction};
 ghost use Rattle.derivation.specs.Sentence.{cost_of};
 ghost use Rattle.derivation.specs.Costs.{Least};
-ghost use Rattle.cfganalysis.specs.Symbols.{sym_of};
-ghost use Rattle.cfgcosts.specs.DerivedBy.{HasStopped, HasWalked, IsDerivedBy, OpensAt, OpensNoneFree};
-ghost use Rattle.cfgcosts.specs.Generator.{HasNone, IsTooDear, cost_answer, token_cost};
-ghost use Rattle.cfgcosts.specs.Minimal.{FirstMinimal};
-ghost use Rattle.cfgcosts.specs.Sentences.{number_of, symbols_at};
+ghost use Rattle.cfgtables.specs.Symbols.{sym_of};
+ghost use Rattle.cfgcosts.specs.Inner.Walk.{HasStopped, HasWalked, OpensAt};
+ghost use Rattle.cfgcosts.specs.DerivedBy.{IsDerivedBy, OpensNoneFree};
+ghost use Rattle.cfgleast.specs.Generator.{HasNone, IsTooDear, cost_answer, token_cost};
+ghost use Rattle.cfgchoices.specs.First.{FirstMinimal};
+ghost use Rattle.cfgcosts.specs.Inner.Walk.{number_of, symbols_at};
 
 use crate::errors::SentenceError;
 use crate::generator::SentenceGenerator;
 use crate::sentence::{push_symbols, take};
-use cfganalysis::{Productions, Tables};
+use cfgtables::{Productions, Tables};
 use cfgindex::{PIdx, RIdx, Storage, Symbol, TIdx};
 use std::alloc::{AllocError, Global};
 

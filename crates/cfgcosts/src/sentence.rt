@@ -4,15 +4,15 @@ ghost use Rattle.std.specs.Prelude.{◌≡◌, ◌↔◌, ℕ, ◌+◌, ◌<◌,
 ghost use Rattle.std.specs.Prelude.{OnOk, Some, length, map};
 ghost use Rattle.derivation.specs.Grammar.{Grammar, HasProduction, IsSymbolOf};
 ghost use Rattle.derivation.specs.Sentence.{cost_of};
-ghost use Rattle.cfganalysis.specs.Symbols.{sym_of};
-ghost use Rattle.cfgcosts.specs.Certificate.{choice_of};
-ghost use Rattle.cfgcosts.specs.Generator.{HasNone, IsTooDear, cost_answer, token_cost};
-ghost use Rattle.cfgcosts.specs.Minimal.{FirstMinimal};
-ghost use Rattle.cfgcosts.specs.Sentences.{IsFirstSentence, Takes, number_of, symbols_at};
+ghost use Rattle.cfgtables.specs.Symbols.{sym_of};
+ghost use Rattle.cfgleast.specs.Certificate.{choice_of};
+ghost use Rattle.cfgleast.specs.Generator.{HasNone, IsTooDear, cost_answer, token_cost};
+ghost use Rattle.cfgchoices.specs.First.{FirstMinimal};
+ghost use Rattle.cfgcosts.specs.Inner.Walk.{IsFirstSentence, Takes, number_of, symbols_at};
 
 use crate::errors::SentenceError;
 use crate::generator::SentenceGenerator;
-use cfganalysis::Tables;
+use cfgtables::Tables;
 use cfgindex::{PIdx, RIdx, Storage, Symbol, TIdx};
 use std::alloc::{AllocError, Global};
 

@@ -5,7 +5,7 @@ use Rattle.derivation.specs.Sentence.{cost_of}
 use Rattle.cfgindex.specs.declared.idxnewtype.TIdx.{TIdx}
 use Rattle.cfgsums.specs.declared.errors.CostError.TheVariants as costs
 use Rattle.cfgcosts.specs.declared.errors.SentenceError.TheVariants.{OutOfMemory}
-use Rattle.cfgcosts.specs.Generator.{HasNone, IsTooDear, token_cost}
+use Rattle.cfgleast.specs.Generator.{HasNone, IsTooDear, token_cost}
 use Rattle.cfgcosts.specs.Sentences.{sentence_error}
 use Rattle.cfgcosts.proofs.Refused.{memory_alone, memory_none, refusal, refused_dear, refused_memory, refused_none, sentence_none, unanswered}
 use Rattle.cfgcosts.proofs.over.min_sentence_over.Goals as goal

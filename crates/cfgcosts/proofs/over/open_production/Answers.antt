@@ -2,8 +2,8 @@ use Rattle.std.proofs.Common.{◌≡◌, ◌++◌, List, map, refl, sym, ap, ◌
 use Rattle.std.proofs.lemmas.List.{map-append}
 use Rattle.std.proofs.lemmas.Result.{on_ok_weaker}
 use Rattle.derivation.specs.Grammar.{Sym}
-use Rattle.cfganalysis.specs.Symbols.{sym_of}
-use Rattle.cfgcosts.specs.Sentences.{number_of, symbols_at}
+use Rattle.cfgtables.specs.Symbols.{sym_of}
+use Rattle.cfgcosts.specs.Inner.Walk.{number_of, symbols_at}
 use Rattle.cfgcosts.specs.DerivedBy.{nothing, one}
 use Rattle.cfgcosts.proofs.over.open_production.Goals as goal
 

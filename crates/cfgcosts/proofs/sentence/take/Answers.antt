@@ -1,8 +1,8 @@
 use Rattle.std.proofs.Common.{◌≡◌, ℕ, ◌<◌, List, length, get_or, None, arith, map, refl, subst, ap, ◌∙◌}
 use Rattle.std.proofs.lemmas.List.{get_or-map, map-append}
 use Rattle.derivation.specs.Grammar.{IsSymbolOf}
-use Rattle.cfganalysis.specs.Symbols.{sym_of}
-use Rattle.cfgcosts.specs.Certificate.{choice_of}
+use Rattle.cfgtables.specs.Symbols.{sym_of}
+use Rattle.cfgleast.specs.Certificate.{choice_of}
 use Rattle.cfgcosts.specs.Sentences.{token, unchosen, chosen}
 use Rattle.cfgcosts.proofs.sentence.take.Goals as goal
 

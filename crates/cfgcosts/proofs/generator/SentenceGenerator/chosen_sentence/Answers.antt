@@ -3,10 +3,10 @@ use Rattle.std.proofs.lemmas.List.{length-map, map-append}
 use Rattle.derivation.specs.Grammar.{Sym}
 use Rattle.cfgindex.specs.declared.idxnewtype.PIdx.{PIdx}
 use Rattle.cfgindex.specs.declared.idxnewtype.Symbol.TheVariants as symbols
-use Rattle.cfganalysis.specs.Symbols.{sym_of}
-use Rattle.cfgcosts.specs.Certificate.{choice_of}
-use Rattle.cfgcosts.specs.Generator.{CostTables, cost_answer, tables_of, token_cost}
-use Rattle.cfgcosts.specs.Sentences.{IsFirstSentence, Takes, number_of}
+use Rattle.cfgtables.specs.Symbols.{sym_of}
+use Rattle.cfgleast.specs.Certificate.{choice_of}
+use Rattle.cfgleast.specs.Generator.{CostTables, cost_answer, tables_of, token_cost}
+use Rattle.cfgcosts.specs.Inner.Walk.{IsFirstSentence, Takes, number_of}
 use Rattle.cfgcosts.proofs.Sentences.{IsOnTheWay, left_to_take, begins, last_is_symbol, place_taken, place_is, goes_on, takes_less, finished}
 use Rattle.cfgcosts.proofs.generator.SentenceGenerator.chosen_sentence.Goals as goal
 

@@ -1,6 +1,6 @@
 use Rattle.std.proofs.Common.{map}
-use Rattle.cfganalysis.specs.Symbols.{sym_of}
-use Rattle.cfgcosts.specs.Generator.{tables_of}
+use Rattle.cfgtables.specs.Symbols.{sym_of}
+use Rattle.cfgleast.specs.Generator.{tables_of}
 use Rattle.cfgcosts.proofs.Sentences.{IsOnTheWay, left_to_take}
 use Rattle.cfgcosts.proofs.generator.SentenceGenerator.chosen_sentence.Given as goal
 

@@ -6,7 +6,7 @@ use Rattle.derivation.specs.Sentence.{cost_of}
 use Rattle.cfgindex.specs.declared.idxnewtype.TIdx.{TIdx}
 use Rattle.cfgsums.specs.declared.errors.CostError.TheVariants as costs
 use Rattle.cfgcosts.specs.declared.errors.SentenceError.TheVariants.{OutOfMemory}
-use Rattle.cfgcosts.specs.Generator.{HasNone, IsTooDear, token_cost}
+use Rattle.cfgleast.specs.Generator.{HasNone, IsTooDear, token_cost}
 use Rattle.cfgcosts.specs.Sentences.{sentence_error}
 use Rattle.cfgcosts.proofs.Refused.{memory_none, refusal, refused_dear, refused_none, sentence_none}
 use Rattle.cfgcosts.proofs.generator.SentenceGenerator.min_sentence.Goals as goal

@@ -4,11 +4,11 @@ use Rattle.std.proofs.lemmas.List.{length-map, map-append}
 use Rattle.derivation.specs.Grammar.{Sym, Grammar}
 use Rattle.cfgindex.specs.declared.idxnewtype.PIdx.{PIdx}
 use Rattle.cfgindex.specs.declared.idxnewtype.Symbol.TheVariants as symbols
-use Rattle.cfganalysis.specs.Symbols.{sym_of}
-use Rattle.cfgcosts.specs.Certificate.{choice_of}
-use Rattle.cfgcosts.specs.DerivedBy.{HasStopped, HasWalked}
-use Rattle.cfgcosts.specs.Generator.{CostTables, cost_answer, tables_of, token_cost}
-use Rattle.cfgcosts.specs.Sentences.{Takes, number_of, symbols_at}
+use Rattle.cfgtables.specs.Symbols.{sym_of}
+use Rattle.cfgleast.specs.Certificate.{choice_of}
+use Rattle.cfgcosts.specs.Inner.Walk.{HasStopped, HasWalked}
+use Rattle.cfgleast.specs.Generator.{CostTables, cost_answer, tables_of, token_cost}
+use Rattle.cfgcosts.specs.Inner.Walk.{Takes, number_of, symbols_at}
 use Rattle.cfgcosts.proofs.Sentences.{IsOnTheWay, left_to_take, begins, last_is_symbol, place_taken, place_is, goes_on, takes_less}
 use Rattle.cfgcosts.proofs.Counted.{IsCounted, counted_begins, counted_on, countable, stopped, stopped_at_once, walked, opens_content, if_some, on_err}
 use Rattle.cfgcosts.proofs.generator.SentenceGenerator.walk_over.Goals as goal
