@@ -4,6 +4,7 @@ use Rattle.std.proofs.lemmas.Bool.{cases_eq, or_cases, or_left, or_right, or_par
 use Rattle.std.proofs.lemmas.List.{get_or_default, set-get_or, get_or_append_left, get_or-append_right, set-append_left, set-append_right}
 use Rattle.std.proofs.lemmas.List.Sums.{sum_by-cons, sum_by-set}
 use Rattle.std.proofs.lemmas.List.Elements.{All-get_or, All-set}
+use Rattle.lemmas.proofs.Passes.{grown}
 use Rattle.cfgindex.proofs.Bits.{length-union, get_or-union}
 use Rattle.cfganalysis.specs.Table.{Table, IsTable, HasBit, Joins, row_of, bit, bits_on, count_of, with_bit}
 use Rattle.cfganalysis.specs.Inner.Joined.{GrewTo, joined}

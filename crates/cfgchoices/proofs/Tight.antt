@@ -2,7 +2,7 @@
 use Rattle.std.proofs.Common.{◌≡◌, ℕ, ◌<◌, ◌≤◌, inl, inr, List, [], ◌∷◌, ◌++◌, length, get_or, Option, Some, None, Result, Ok, Err, All, Contains, arith, refl, sym, ap, subst, ◌∙◌}
 use Rattle.std.proofs.lemmas.Bool.{cases_lt}
 use Rattle.std.proofs.Math.Seq.{get_or-append_seam}
-use Rattle.std.proofs.lemmas.List.{get_or_append_left, get_or_default, length_push}
+use Rattle.std.proofs.lemmas.List.{get_or_append_left, get_or_default, get_or_past, length_push}
 use Rattle.lemmas.proofs.Elements.{within_from_get_or}
 use Rattle.std.proofs.lemmas.List.Elements.{All-get_or}
 use Rattle.std.proofs.lemmas.List.Sums.{sum_by-append}
@@ -20,8 +20,8 @@ use Rattle.cfgsums.proofs.Sums.{plus_parts, plus_both}
 use Rattle.cfgsums.proofs.Made.{cost_of-token}
 use Rattle.cfgleast.specs.Generator.{CostTables, IsGenerator, cost_answer, token_cost}
 use Rattle.cfgchoices.specs.Levels.{Along, here, next, CostsAsItsRule, HandsOn, IsOwn}
-use Rattle.cfgchoices.specs.Inner.Kinds.{AreKinds, HasHeir, HasNoHeir, IsHeir, IsKind, IsRowKind, IsTight}
-use Rattle.cfgcosts.specs.Inner.Minimal.{IsMinimal, IsOwnBelow}
+use Rattle.cfgchoices.specs.Inner.Kinds.{AreKinds, HasHeir, HasNoHeir, HasRulesAsHeirs, IsHeir, IsKind, IsRowKind, IsTight}
+use Rattle.cfgchoices.specs.Inner.Kinds.{IsMinimal, IsOwnBelow}
 use Rattle.cfgleast.specs.Inner.Open.{StopsAt}
 use Rattle.cfgchoices.specs.Splits.{Split, done, itself, part}
 use Rattle.cfgchoices.specs.declared.kinds.Kind.{Kind}
@@ -398,3 +398,11 @@ module _ (x : CostTables) (n : ℕ) (is : IsGenerator x n) (grammar : IsGrammar 
       let (w, s, costs) = least.0 in
       let none = rule_nothing P cost paid r w s (omega (arith, costs)) in
       subst (IsMinimal x r) none (s, λ v t. subst (λ k. k ≤ cost_of cost v) (sym costs) (least.1 v t))
+
+-- what is handed on to is a rule of the grammar
+pub heirs_are_rules : {S : Type 0} (number : S → ℕ) (x : CostTables) (list : List (Kind S)) (n : ℕ) → IsGenerator x n
+    → ((p : ℕ) → p < length list → IsKind number x p (get_or list p kinds.Slack)) → HasRulesAsHeirs number x.grammar list
+heirs_are_rules number x list n is each p heir e = elim (cases_lt p (length list)) [
+  | inl lt ↦ let h = subst (IsKind number x p) e (each p lt) in answered_within x n is (number heir.0) h.tight.cost h.same
+  | inr past ↦ let no : kinds.Slack ≡ kinds.HandsOn heir = sym (get_or_past list p kinds.Slack past) ∙ e in absurd (cc)
+]

@@ -9,7 +9,8 @@ use Rattle.cfganalysis.specs.Paths.{SearchState, IsHeldBy, IsReachedIn, Reaches}
 use Rattle.cfganalysis.proofs.Searching.{reaches_as}
 use Rattle.cfgleast.specs.Generator.{CostTables, IsGenerator, cost_answer}
 use Rattle.cfgchoices.specs.Levels.{Along, here, next}
-use Rattle.cfgcosts.specs.Inner.Minimal.{AreAsked, IsOwnBelow}
+use Rattle.cfgcosts.specs.Inner.Minimal.{AreAsked}
+use Rattle.cfgchoices.specs.Inner.Kinds.{IsOwnBelow}
 use Rattle.lemmas.proofs.Contained.{contains_cases, contains_first, contains_later, contains_none}
 use Rattle.cfgcosts.proofs.Searches.{Searching, search_begins, search_ends, search_goes_on, still_reached}
 use Rattle.cfgchoices.proofs.Tight.{own_costs}

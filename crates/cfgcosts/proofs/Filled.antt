@@ -7,7 +7,8 @@ use Rattle.std.proofs.lemmas.List.Sorted.{Contains-permutation, IsPermutation-sy
 use Rattle.derivation.specs.Grammar.{Grammar, Sym, Rule, IsGrammar}
 use Rattle.cfgtables.specs.Openings.{nth_production}
 use Rattle.cfgleast.specs.Generator.{CostTables, IsGenerator, cost_answer}
-use Rattle.cfgcosts.specs.Inner.Minimal.{AreAsked, HasMinimal, HasSentence, IsMadeBy, IsMinimal, IsOwnBelow, IsReadyFor, Puts}
+use Rattle.cfgcosts.specs.Inner.Minimal.{AreAsked, HasMinimal, HasSentence, IsMadeBy, IsReadyFor, Puts}
+use Rattle.cfgchoices.specs.Inner.Kinds.{IsMinimal, IsOwnBelow}
 use Rattle.cfgchoices.specs.Splits.{Split, done, itself, part}
 use Rattle.lemmas.proofs.Contained.{contains_cases, contains_first, contains_later, contains_none, contains_one}
 use Rattle.cfgchoices.proofs.Tight.{free_minimal, minimal_free, minimal_made, own_less, own_makes}

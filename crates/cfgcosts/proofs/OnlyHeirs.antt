@@ -17,7 +17,7 @@ use Rattle.cfgcosts.specs.Inner.Heirs.{AreHeirs, IsOnlyHeir, rules_of}
 use Rattle.cfgchoices.specs.Inner.Kinds.{HasRulesAsHeirs}
 use Rattle.cfgchoices.specs.Levels.{Along, here, next}
 use Rattle.cfgchoices.specs.Inner.Kinds.{AreKinds, HasHeir, IsHeir, IsKind, IsTight}
-use Rattle.cfgcosts.specs.Inner.Minimal.{IsMinimal, IsOwnBelow}
+use Rattle.cfgchoices.specs.Inner.Kinds.{IsMinimal, IsOwnBelow}
 use Rattle.cfgchoices.specs.declared.kinds.Kind.{Kind}
 use Rattle.cfgchoices.specs.declared.kinds.Kind.TheVariants.{Slack, HandsOn}
 use Rattle.lemmas.proofs.Contained.{contains_none}
@@ -158,13 +158,6 @@ module _ {S : Type 0} (number : S → ℕ) (heirs : List (RIdx S)) (r i : ℕ) (
 
     pub gone_on : (g : Grammar) (kinds : List (Kind S)) → AreHeirs number g kinds (rules_of number heirs) → AreHeirs number g kinds (rules_of number (slice_set heirs r after))
     gone_on g kinds are = subst (AreHeirs number g kinds) put (heirs_gone_on number g kinds (rules_of number heirs) r (number heir.0) (number after.0) placed (sym first) (sym second) are)
-
-pub heirs_are_rules : {S : Type 0} (number : S → ℕ) (x : CostTables) (kinds : List (Kind S)) (n : ℕ) → IsGenerator x n
-    → ((p : ℕ) → p < length kinds → IsKind number x p (get_or kinds p Slack)) → HasRulesAsHeirs number x.grammar kinds
-heirs_are_rules number x kinds n is each p heir e = elim (cases_lt p (length kinds)) [
-  | inl lt ↦ let h = subst (IsKind number x p) e (each p lt) in answered_within x n is (number heir.0) h.tight.cost h.same
-  | inr past ↦ let no : Slack ≡ HandsOn heir = sym (get_or_past kinds p Slack past) ∙ e in absurd (cc)
-]
 
 module _ {S : Type 0} (number : S → ℕ) (x : CostTables) (kinds : List (Kind S)) (are : AreKinds number x kinds) where
   kind_is : (p : ℕ) (kind : Kind S) → p < length x.grammar.productions → get_or kinds p Slack ≡ kind → IsKind number x p kind

@@ -9,7 +9,8 @@ use Rattle.cfganalysis.proofs.Searching.{reaches_as, reaches_none, reaches_then}
 use Rattle.cfgleast.specs.Generator.{CostTables}
 use Rattle.cfgchoices.specs.Levels.{Along, here}
 use Rattle.cfgchoices.specs.Inner.Kinds.{HasHeir, HasNoHeir, IsHeir, IsTight}
-use Rattle.cfgcosts.specs.Inner.Minimal.{IsLinked, IsOwnBelow, Lists}
+use Rattle.cfgcosts.specs.Inner.Minimal.{IsLinked, Lists}
+use Rattle.cfgchoices.specs.Inner.Kinds.{IsOwnBelow}
 use Rattle.lemmas.proofs.Contained.{contains_none}
 use Rattle.cfgcosts.proofs.Searches.{Searching, along_more, popped_is, search_begins, search_ends, search_goes_on, still_reached}
 use Rattle.cfgchoices.proofs.Tight.{one_heir}

@@ -1,11 +1,13 @@
 -- Productions that cost just what their rules do: they hand on to a rule of the same cost, or are their rules' own.
 use Rattle.std.specs.Prelude.{◌≡◌, ℕ, ◌<◌, List, Option, Some, Contains, length, map, slice_index_or}
 use Rattle.cfgindex.specs.declared.idxnewtype.PIdx.{PIdx}
-use Rattle.derivation.specs.Grammar.{Grammar, Sym, Rule}
+use Rattle.derivation.specs.Grammar.{Grammar, Sym, Rule, HasProduction}
+use Rattle.derivation.specs.Costs.{Minimal}
 use Rattle.cfgtables.specs.Openings.{nth_production}
 use Rattle.cfgsums.specs.Sums.{sum_of, symbol_cost}
 use Rattle.cfgsums.specs.Lists.{rule_cost}
 use Rattle.cfgleast.specs.Generator.{CostTables, cost_answer, token_cost}
+use Rattle.cfgchoices.specs.Levels.{Along}
 use Rattle.cfgchoices.specs.declared.kinds.Kind.{Kind}
 use Rattle.cfgchoices.specs.declared.kinds.Kind.TheVariants.{Slack, Own, HandsOn}
 use Rattle.cfgindex.specs.declared.idxnewtype.RIdx.{RIdx}
@@ -53,6 +55,15 @@ pub record HasHeir (x : CostTables) (r q : ℕ) : Type 0 where
   pub place : ℕ
   pub owner : (nth_production x.grammar place).rule ≡ r
   pub heir : IsHeir x place q
+
+-- a minimal sentence of a rule
+abbrev pub IsMinimal : CostTables → ℕ → List ℕ → Type 0
+IsMinimal x = Minimal (HasProduction x.grammar) (token_cost x)
+
+-- a production without an heir, of the rule, or of a rule to which heirs lead from it
+pub record IsOwnBelow (x : CostTables) (r p : ℕ) : Type 0 where
+  pub leads : Along (HasHeir x) r (nth_production x.grammar p).rule
+  pub own : HasNoHeir x p
 
 -- the numbers of productions
 abbrev pub places_of : {S : Type 0} → (S → ℕ) → List (PIdx S) → List ℕ

@@ -13,17 +13,8 @@ use Rattle.cfgtables.specs.Openings.{nth_production}
 use Rattle.cfgleast.specs.Generator.{CostTables, cost_answer, token_cost}
 use Rattle.cfgchoices.specs.Levels.{Along}
 use Rattle.cfgchoices.specs.Splits.{Split}
-use Rattle.cfgchoices.specs.Inner.Kinds.{HasNoHeir, HasHeir}
+use Rattle.cfgchoices.specs.Inner.Kinds.{HasNoHeir, HasHeir, IsMinimal, IsOwnBelow}
 use Rattle.cfgcosts.specs.Sentences.{numbers_of}
-
--- a minimal sentence of a rule
-abbrev pub IsMinimal : CostTables → ℕ → List ℕ → Type 0
-IsMinimal x = Minimal (HasProduction x.grammar) (token_cost x)
-
--- a production without an heir, of the rule, or of a rule to which heirs lead from it
-pub record IsOwnBelow (x : CostTables) (r p : ℕ) : Type 0 where
-  pub leads : Along (HasHeir x) r (nth_production x.grammar p).rule
-  pub own : HasNoHeir x p
 
 -- one of these productions has the link
 pub record IsLinked (Link : ℕ → ℕ → Type 0) (places : List ℕ) (q : ℕ) : Type 0 where

@@ -4,7 +4,8 @@ ghost use Rattle.std.specs.Prelude.{◌≡◌, ◌↔◌, ℕ, ◌<◌, Contains
 ghost use Rattle.cfgtables.specs.Openings.{nth_production};
 ghost use Rattle.cfganalysis.specs.Paths.{Reaches};
 ghost use Rattle.cfgchoices.specs.Inner.Kinds.{HasHeir, HasNoHeir, IsHeir, places_of};
-ghost use Rattle.cfgcosts.specs.Inner.Minimal.{IsOwnBelow, Lists};
+ghost use Rattle.cfgcosts.specs.Inner.Minimal.{Lists};
+ghost use Rattle.cfgchoices.specs.Inner.Kinds.{IsOwnBelow};
 
 use crate::generator::SentenceGenerator;
 use cfgchoices::kinds::Kind;

@@ -2,8 +2,7 @@ use Rattle.std.proofs.Common.{◌+◌, length, subst, ap, ◌∙◌, arith}
 use Rattle.std.proofs.lemmas.List.{length_push}
 use Rattle.cfgleast.specs.Generator.{tables_of}
 use Rattle.cfgchoices.specs.Inner.Kinds.{IsKind}
-use Rattle.cfgcosts.proofs.OnlyHeirs.{heirs_are_rules}
-use Rattle.cfgchoices.proofs.Tight.{kinds_more}
+use Rattle.cfgchoices.proofs.Tight.{heirs_are_rules, kinds_more}
 use Rattle.cfgchoices.proofs.kinds.kinds.Goals as goal
 
 pub kind_of-requires-clause-place : goal.kind_of-requires-clause-place

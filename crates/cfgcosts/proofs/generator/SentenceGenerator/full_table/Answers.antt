@@ -2,7 +2,8 @@ use Rattle.std.proofs.Common.{◌≡◌, ◌↔◌, ◌<◌, ℕ, List, ◌∷�
 use Rattle.std.proofs.lemmas.List.Sorted.{length_permutation}
 use Rattle.derivation.specs.Grammar.{IsGrammar}
 use Rattle.cfgleast.specs.Generator.{CostTables, IsGenerator, cost_answer}
-use Rattle.cfgcosts.specs.Inner.Minimal.{IsMinimal, IsReadyFor, set_of}
+use Rattle.cfgcosts.specs.Inner.Minimal.{IsReadyFor, set_of}
+use Rattle.cfgchoices.specs.Inner.Kinds.{IsMinimal}
 use Rattle.cfgcosts.proofs.Filled.{Filling, filling_begins, filling_goes_on, filling_ends, popped_answer, popped_ready}
 use Rattle.cfgchoices.proofs.Tight.{answered_within}
 use Rattle.cfgcosts.proofs.generator.SentenceGenerator.full_table.Goals as goal

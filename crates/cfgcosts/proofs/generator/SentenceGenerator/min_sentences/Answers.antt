@@ -5,7 +5,8 @@ use Rattle.cfgsums.specs.declared.errors.CostError.TheVariants as costs
 use Rattle.cfgcosts.specs.declared.errors.SentenceError.TheVariants.{OutOfMemory}
 use Rattle.cfgcosts.specs.Sentences.{sentence_error}
 use Rattle.cfgleast.specs.Generator.{HasNone, IsTooDear, token_cost}
-use Rattle.cfgcosts.specs.Inner.Minimal.{IsMinimal, sentences_of}
+use Rattle.cfgcosts.specs.Inner.Minimal.{sentences_of}
+use Rattle.cfgchoices.specs.Inner.Kinds.{IsMinimal}
 use Rattle.cfgcosts.proofs.Refused.{memory_none, refusal, refused_dear, refused_none, sentence_none}
 use Rattle.cfgcosts.proofs.generator.SentenceGenerator.min_sentences.Goals as goal
 
