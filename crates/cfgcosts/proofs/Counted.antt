@@ -19,8 +19,9 @@ use Rattle.cfgchoices.specs.Inner.FirstChoices.{AreFirst, Opens, Walks}
 use Rattle.cfgleast.specs.Generator.{CostTables, cost_answer, token_cost}
 use Rattle.cfgchoices.specs.Splits.{Split, done, itself, part}
 use Rattle.cfgcosts.specs.Inner.Walk.{Takes, symbols_at}
-use Rattle.cfgcosts.specs.Sentences.{token, unchosen, chosen}
-use Rattle.cfgcosts.specs.DerivedBy.{IsProductionAt, DerivesBy, none, next, times, IsFree, IsDerivedBy, OpensNoneFree, nothing, one}
+use Rattle.cfgcosts.specs.Inner.Walk.{token, unchosen, chosen}
+use Rattle.cfgcosts.specs.DerivedBy.{IsProductionAt, DerivesBy, none, next, times, IsFree, IsDerivedBy, OpensNoneFree}
+use Rattle.cfgcosts.specs.Inner.Walk.{nothing, one}
 use Rattle.cfgcosts.specs.Inner.Walk.{OpensAt, HasStopped, HasWalked}
 use Rattle.cfgchoices.proofs.FirstChosen.{known}
 use Rattle.cfgleast.proofs.Generated.{answered_some, some_answered}

@@ -17,7 +17,7 @@ use Rattle.cfgchoices.specs.Inner.Choices as gives
 use Rattle.cfgchoices.specs.Inner.FirstChoices.{AreFirst, Opens, Walks}
 use Rattle.cfgleast.specs.Generator.{CostTables, cost_answer, token_cost}
 use Rattle.cfgcosts.specs.Inner.Walk.{IsFirstSentence, Takes, number_of, symbols_at}
-use Rattle.cfgcosts.specs.Sentences as taken
+use Rattle.cfgcosts.specs.Inner.Walk as taken
 use Rattle.cfgchoices.proofs.Choices.{choices_split, choices_join}
 use Rattle.cfgchoices.proofs.FirstChosen.{answer_is, costly, first_given}
 use Rattle.cfgleast.proofs.Generated.{answered_some, some_answered}

@@ -4,7 +4,7 @@ use Rattle.std.proofs.lemmas.Result.{on_ok_weaker}
 use Rattle.derivation.specs.Grammar.{Sym}
 use Rattle.cfgtables.specs.Symbols.{sym_of}
 use Rattle.cfgcosts.specs.Inner.Walk.{number_of, symbols_at}
-use Rattle.cfgcosts.specs.DerivedBy.{nothing, one}
+use Rattle.cfgcosts.specs.Inner.Walk.{nothing, one}
 use Rattle.cfgcosts.proofs.over.open_production.Goals as goal
 
 pub returns-in-Some-clause-pending : goal.returns-in-Some-clause-pending

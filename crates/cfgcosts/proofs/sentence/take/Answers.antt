@@ -3,7 +3,7 @@ use Rattle.std.proofs.lemmas.List.{get_or-map, map-append}
 use Rattle.derivation.specs.Grammar.{IsSymbolOf}
 use Rattle.cfgtables.specs.Symbols.{sym_of}
 use Rattle.cfgleast.specs.Certificate.{choice_of}
-use Rattle.cfgcosts.specs.Sentences.{token, unchosen, chosen}
+use Rattle.cfgcosts.specs.Inner.Walk.{token, unchosen, chosen}
 use Rattle.cfgcosts.proofs.sentence.take.Goals as goal
 
 shown_at : {A B : Type 0} (f : A → B) (xs : List A) (i r : ℕ) (x item : A) (d : B) → i < length xs → i ≡ r → get_or xs i x ≡ item → get_or (map f xs) r d ≡ f item
