@@ -6,12 +6,12 @@ pub mod bits;
 pub mod counted;
 pub mod firsts;
 pub mod follows;
-mod growth;
+pub mod growth;
 pub mod paths;
 pub mod productions;
-mod visits;
-mod waiting;
-mod work;
+pub mod visits;
+pub mod waiting;
+pub mod work;
 
 pub use bits::BitTable;
 pub use counted::{CountedTables, Tables};
