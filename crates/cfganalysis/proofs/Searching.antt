@@ -7,10 +7,9 @@ use Rattle.std.proofs.lemmas.Option.{get_or_from_slice_get}
 use Rattle.lemmas.proofs.Elements.{get_or-set, get_or-replicate_default, set-slice_get, within_from_get_or}
 use Rattle.derivation.specs.Grammar.{Sym, Rule, Token, Grammar, Production, IsGrammar, IsSymbolOf, HasProduction}
 use Rattle.derivation.specs.Path.{Holds, Path, one, more}
-use Rattle.cfgtables.specs.Openings.{nth_production}
+use Rattle.cfgtables.specs.Openings.{nth_production, ArePlacesOf}
 use Rattle.cfganalysis.specs.Table.{bits_on}
 use Rattle.cfganalysis.specs.Paths.{SearchState, IsHeldBy, IsReachedIn, Reaches}
-use Rattle.cfgtables.specs.Openings.{ArePlacesOf}
 use Rattle.cfganalysis.proofs.OneBit.{bits_on-set}
 
 pub reaches_none : (found : ℕ → Type 0) (x : SearchState) → ((r : ℕ) → found r → ⊥) → Reaches found x x

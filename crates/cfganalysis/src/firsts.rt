@@ -1,6 +1,6 @@
 //! FIRST: the tokens that rules begin with, and the rules that are empty (Aho, Lam, Sethi and Ullman, 4.4.2).
 
-ghost use Rattle.std.specs.Prelude.{◌≡◌, ◌<◌, ◌≤◌, ◌↔◌, ℕ, [], ◌∷◌, Contains, false};
+ghost use Rattle.std.specs.Prelude.{◌≡◌, ◌<◌, ◌≤◌, ◌↔◌, ℕ, [], ◌∷◌, All, Contains, false};
 ghost use Rattle.std.specs.Prelude.{true, length, map, IfOk, IsTrue, MatchBool};
 ghost use Rattle.derivation.specs.Grammar.{Grammar, IsGrammar, IsSymbolOf, Rule};
 ghost use Rattle.cfganalysis.specs.Firsts.{AreFirsts, FitsGrammar, IsAmongFirsts, IsEpsilon, epsilon_bit, with_first};
@@ -172,6 +172,27 @@ fn note_symbol<S: Storage>(
     }
 }
 
+/// Notes a production with the rules among its symbols.
+///
+/// # Errors
+///
+/// Want of memory.
+pub fn note_rules<S: Storage>(
+    production: usize,
+    symbols: &[Symbol<S>],
+    users: &mut Users,
+) -> Result<(), AllocError>
+    requires { (g : Grammar) × (length users.old ≡ g.rules)
+        × All (IsSymbolOf g) (map (sym_of S.number) symbols.now) }
+    ensures { IfOk result (λ _. Notes production
+        (λ r. Contains (map (sym_of S.number) symbols.now) (Rule r)) users.old users.new) }
+{
+    for held in symbols {
+        note_symbol(production, *held, users)?;
+    }
+    Ok(())
+}
+
 impl<S: Storage> Analysis<S> for YaccFirsts<S> {
     ghost holds = { SayFirsts };
 
@@ -199,10 +220,7 @@ impl<S: Storage> Analysis<S> for YaccFirsts<S> {
             (HoldsRule (record { rule = S.number _rule.0; symbols = map (sym_of S.number) symbols.now }))
             users.old users.new) }
     {
-        for held in symbols {
-            note_symbol(production, *held, users)?;
-        }
-        Ok(())
+        note_rules(production, symbols, users)
     }
 
     fn visit(&mut self, rule: RIdx<S>, symbols: &[Symbol<S>], gained: &mut Waiting)

@@ -5,11 +5,11 @@
 pub mod bits;
 pub mod firsts;
 pub mod follows;
-mod growth;
+pub mod growth;
 pub mod paths;
-mod visits;
-mod waiting;
-mod work;
+pub mod visits;
+pub mod waiting;
+pub mod work;
 
 pub use bits::BitTable;
 pub use cfgtables::{CountedTables, Productions, Tables};

@@ -1,12 +1,466 @@
--- A walk through rules ends: what is entered is entered once.
-use Rattle.std.proofs.Common.{◌≡◌, ℕ, zero, suc, ◌+◌, ◌<◌, Bool, true, false, List, [], ◌∷◌, Vec, Global, length, get_or, slice_set, arith}
-use Rattle.cfggreatest.specs.Inner.Walk.{unentered}
+-- Steps of a walk: what they make of what is known.
+use Rattle.std.proofs.Common.{◌≡◌, ℕ, ◌+◌, ◌-◌, ◌<◌, ◌≤◌, ◌⊎◌, inl, inr, ltb, Bool, true, false, List, [], ◌∷◌, ◌++◌, All, Contains, Option, Some, None, Result, Ok, Err, get_or, length, slice_set, sum_by, take, length-set, get_or-set_same, get_or-set_other, ltb-true, leb-true, refl, sym, ap, subst, ◌∙◌, arith, true≢false}
+use Rattle.std.proofs.lemmas.Bool.{cases_Bool, cases_eq, cases_lt, le-ltb}
+use Rattle.std.proofs.lemmas.List.{get_or-take, get_or_append_left, get_or_default, get_or_past, get_or_push, length-take-le, length_push}
+use Rattle.std.proofs.lemmas.List.Elements.{All-nil}
+use Rattle.std.proofs.lemmas.List.Sums.{sum_by-set}
+use Rattle.lemmas.proofs.Elements.{get_or-set}
+use Rattle.derivation.specs.Grammar.{Sym, Rule, Token, Grammar, IsGrammar, IsSymbolOf, HasProduction}
+use Rattle.derivation.proofs.Trees.{trees_from_derivation}
+use Rattle.cfgtables.proofs.Placed.{all_symbols}
+use Rattle.cfgsums.specs.declared.errors.CostError.{CostError}
+use Rattle.cfgsums.specs.declared.errors.CostError.TheVariants.{NoSentence, CostTooLarge}
+use Rattle.cfggreatest.specs.Words.{Means}
+use Rattle.cfggreatest.specs.Inner.AtLeast.{HasWord, IsAbove, IsDead}
+use Rattle.cfggreatest.specs.Inner.Groups.{AreGroups, IsLast}
+use Rattle.cfggreatest.specs.Inner.Known.{AreTrue, IsLiveSymbol, count_new, is_dead, is_inside, is_outside, known_of}
+use Rattle.cfggreatest.specs.Inner.Live.{HaveSentences, is_live}
+use Rattle.cfggreatest.specs.Inner.Sums.{IsGroup}
+use Rattle.cfggreatest.specs.Inner.Walk.{CanTell, GoesOn, IsEdge, IsEdgeTo, IsLedOut, IsWalk, IsWayOut, Steps, TellsNoMore, first_known, left_to_do}
+use Rattle.cfggreatest.specs.declared.sums.Known.{Known}
+use Rattle.cfggreatest.specs.declared.sums.Known.TheVariants.{New, Open, Told}
+use Rattle.cfggreatest.specs.declared.walk.Walk.{Walk}
+use Rattle.cfggreatest.proofs.AtLeast.{at_least_rule, row_above}
+use Rattle.cfggreatest.proofs.Pathing.{above_all, below_last, groups_fewer, groups_joined, groups_more, no_groups}
 
-pub entered_once : {X : Type 0} (entered : List Bool) (users : List (Vec X Global)) (r : ℕ) (d : Bool) (list : Vec X Global) → r < length entered → r < length users
-    → get_or entered r d ≡ false → unentered (slice_set entered r true) users + (length (get_or users r list).items + 1) ≡ unentered entered users
-entered_once [] users r d list h k e = absurd (omega (arith, h))
-entered_once (b ∷ entered) [] r d list h k e = absurd (omega (arith, k))
-entered_once (true ∷ entered) (x ∷ users) zero d list h k e = absurd (cc)
-entered_once (false ∷ entered) (x ∷ users) zero d list h k e = omega arith
-entered_once (b ∷ entered) (x ∷ users) (suc r) d list h k e =
-    let rest = entered_once entered users r d list (omega (arith, h)) (omega (arith, k)) e in omega (arith, rest)
+module _ (g : Grammar) where
+  above_same : (r : ℕ) → IsAbove (HasProduction g) r r
+  above_same r cost n h = h
+
+  above_then : (a b c : ℕ) → IsAbove (HasProduction g) a b → IsAbove (HasProduction g) b c → IsAbove (HasProduction g) a c
+  above_then a b c h k cost n i = h cost n (k cost n i)
+
+  -- edges lead from a rule to those of a production, if these all may have sentences
+  pub edges_from : (is : IsGrammar g) (known : List Known) → ((r : ℕ) → r < g.rules → is_dead (known_of known r) ≡ false → HasWord (HasProduction g) (Rule r ∷ []))
+      → (rule : ℕ) → rule < g.rules → (a : List Sym) → HasProduction g rule a → All (IsLiveSymbol known) a → All (IsEdgeTo g rule) a
+  edges_from is known lives rule within a has live k d lt = by (get_or a k d) (all_symbols g _ is has k d lt) (λ r e. (k, lt, get_or_default a k (Rule r) d lt ∙ e))
+    where
+      rule_of : (r : ℕ) → Contains a (Rule r) → r < g.rules
+      rule_of r among = subst (IsSymbolOf g) among.2 (all_symbols g _ is has among.0 (Rule r) among.1)
+
+      by : (s : Sym) → IsSymbolOf g s → ((r : ℕ) → s ≡ Rule r → Contains a (Rule r)) → IsEdgeTo g rule s
+      by (Token t) within' at = tt
+      by (Rule x) within' at = record {
+        from = within;
+        to = within';
+        above = λ cost n h. at_least_rule (HasProduction g) cost rule a n has (row_above (HasProduction g) a x (at x refl)
+            (λ r among. lives r (rule_of r among) (subst (IsLiveSymbol known) among.2 (live among.0 (Rule r) among.1))) cost n h);
+      }
+
+-- groups of the path are joined, till none begins behind the place
+pub record JoinsGroups (place : ℕ) (old new : Walk) : Type 0 where
+  pub known : new.known ≡ old.known
+  pub path : new.path ≡ old.path
+  pub edges : new.edges ≡ old.edges
+  pub fewer : (new.starts ≡ old.starts) ⊎ (length new.starts.items < length old.starts.items)
+  pub groups : (g : Grammar) (rule : ℕ) → IsWalk g old → IsWayOut g old rule → known_of old.known.items rule ≡ Open place
+      → AreGroups (IsAbove (HasProduction g)) new.path.items new.starts.items
+
+pub joins_more : (place : ℕ) (old mid new : Walk) → JoinsGroups place old mid → (start : ℕ) → IsLast mid.starts.items start → place < start
+    → new.known ≡ mid.known → new.path ≡ mid.path → new.edges ≡ mid.edges → new.starts.items ≡ take (length mid.starts.items - 1) mid.starts.items
+    → JoinsGroups place old new
+joins_more place old mid new j start last before known path edges starts = record {
+  known = known ∙ j.known;
+  path = path ∙ j.path;
+  edges = edges ∙ j.edges;
+  fewer = inr (let some = last.some in let less = ap length starts in let len = length-take-le (length mid.starts.items - 1) mid.starts.items (omega arith) in elim j.fewer [
+    | inl same ↦ omega (arith, some, less, len, ap (λ v. length v.items) same)
+    | inr fewer ↦ omega (arith, some, less, len, fewer)
+  ]);
+  groups = λ g rule walk out e.
+      let at = walk.places rule place e in
+      let are = j.groups g rule walk out e in
+      let same = ap (λ v. v.items) j.path in
+      subst (AreGroups (IsAbove (HasProduction g)) new.path.items) (sym starts) (subst (λ v. AreGroups (IsAbove (HasProduction g)) v.items (take (length mid.starts.items - 1) mid.starts.items)) (sym path)
+      (groups_joined (IsAbove (HasProduction g)) mid.path.items mid.starts.items are start last place before (subst (λ l. place < length l) (sym same) at.0) (above_then g)
+      (subst (λ l. (i : ℕ) → i < length l → IsAbove (HasProduction g) (get_or l i 0) (get_or l place 0)) (sym same)
+      (λ i lt. subst (IsAbove (HasProduction g) (get_or old.path.items i 0)) (sym at.1) (out.above i lt)))));
+}
+
+-- all groups behind the place were joined
+pub joined : (g : Grammar) (place rule : ℕ) (old new : Walk) → IsWalk g old → IsWayOut g old rule → known_of old.known.items rule ≡ Open place → JoinsGroups place old new
+    → ((start : ℕ) → IsLast new.starts.items start → start ≤ place) → GoesOn g old new
+joined g place rule old new walk out e j no_more = record {
+  walk = record {
+    grammar = walk.grammar;
+    rules = subst (λ v. length v.items ≡ g.rules) (sym j.known) walk.rules;
+    lives = subst (λ v. (r : ℕ) → r < g.rules → is_dead (known_of v.items r) ≡ false → HasWord (HasProduction g) (Rule r ∷ [])) (sym j.known) walk.lives;
+    dead = subst (λ v. (r : ℕ) → is_dead (known_of v.items r) ≡ true → IsDead (HasProduction g) (Rule r ∷ [])) (sym j.known) walk.dead;
+    places = subst (λ v. (r p : ℕ) → known_of v.items r ≡ Open p → (p < length new.path.items) × (get_or new.path.items p 0 ≡ r)) (sym j.known)
+        (subst (λ v. (r p : ℕ) → known_of old.known.items r ≡ Open p → (p < length v.items) × (get_or v.items p 0 ≡ r)) (sym j.path) walk.places);
+    path = subst (λ v. (i : ℕ) → i < length new.path.items → (get_or new.path.items i 0 < g.rules) × (known_of v.items (get_or new.path.items i 0) ≡ Open i)) (sym j.known)
+        (subst (λ v. (i : ℕ) → i < length v.items → (get_or v.items i 0 < g.rules) × (known_of old.known.items (get_or v.items i 0) ≡ Open i)) (sym j.path) walk.path);
+    groups = j.groups g rule walk out e;
+    edges = subst (λ v. All (IsEdge g) v.items) (sym j.edges) walk.edges;
+  };
+  told = λ r answer told. ap (λ v. known_of v.items r) (sym j.known) ∙ told;
+  less = elim j.fewer [
+    | inr fewer ↦ omega (arith, fewer, ap (λ v. sum_by count_new v.items) j.known)
+    | inl same ↦
+        let among = (walk.places rule place e).0 in
+        let last : IsLast old.starts.items (get_or old.starts.items (length old.starts.items - 1) 0) = record { some = walk.groups.some (omega (arith, among)); at = refl } in
+        let before = out.before place _ e last in
+        let le = no_more _ (subst (λ v. IsLast v.items (get_or old.starts.items (length old.starts.items - 1) 0)) (sym same) last) in
+        absurd (omega (arith, before, le))
+  ];
+}
+
+-- before the first step
+pub first_walk : (g : Grammar) (bits : List Bool) (rules : ℕ) (x : Walk) → IsGrammar g → rules ≡ g.rules → HaveSentences g bits → length x.known.items ≡ rules
+    → ((r : ℕ) → r < rules → known_of x.known.items r ≡ first_known (is_live bits r)) → x.path.items ≡ [] → x.starts.items ≡ [] → x.edges.items ≡ []
+    → IsWalk g x × ((cost : ℕ → ℕ) → AreTrue g cost x.known.items)
+first_walk g bits rules x is e have len each path starts edges = (
+  record {
+    grammar = is;
+    rules = len ∙ e;
+    lives = λ r lt alive. elim (at r) [
+      | inl h ↦ have.say.lives r h.0
+      | inr h ↦ elim h [
+        | inl k ↦ absurd (true≢false (sym (ap is_dead k.1) ∙ alive))
+        | inr past ↦ absurd (omega (arith, lt, past, e))
+      ]
+    ];
+    dead = λ r gone. elim (at r) [
+      | inl h ↦ absurd (true≢false (sym gone ∙ ap is_dead h.1))
+      | inr h ↦ elim h [
+        | inl k ↦ have.none r k.0
+        | inr past ↦ absurd (true≢false (sym gone ∙ ap is_dead (beyond r past)))
+      ]
+    ];
+    places = λ r place e. absurd (closed r place e);
+    path = λ i lt. absurd (omega (arith, lt, ap length path));
+    groups = subst (λ l. AreGroups (IsAbove (HasProduction g)) l x.starts.items) (sym path) (subst (AreGroups (IsAbove (HasProduction g)) []) (sym starts) (no_groups (IsAbove (HasProduction g))));
+    edges = subst (All (IsEdge g)) (sym edges) (All-nil (IsEdge g));
+  },
+  λ cost r answer told. elim (at r) [
+    | inl h ↦ let no : New ≡ Told answer = sym h.1 ∙ told in absurd (cc)
+    | inr h ↦ elim h [
+      | inl k ↦ let both : Told (Err NoSentence) ≡ Told answer = sym k.1 ∙ told in let same : Err NoSentence ≡ answer = cc in
+          subst (Means (HasProduction g) cost r) same (λ w s. have.none r k.0 w (trees_from_derivation (HasProduction g) (Rule r ∷ []) w s))
+      | inr past ↦ let no : New ≡ Told answer = sym (beyond r past) ∙ told in absurd (cc)
+    ]
+  ],
+)
+  where
+    beyond : (r : ℕ) → rules ≤ r → known_of x.known.items r ≡ New
+    beyond r past = get_or_past x.known.items r New (omega (arith, past, len))
+
+    at : (r : ℕ) → ((is_live bits r ≡ true) × (known_of x.known.items r ≡ New)) ⊎ (((is_live bits r ≡ false) × (known_of x.known.items r ≡ Told (Err NoSentence))) ⊎ (rules ≤ r))
+    at r = elim (cases_lt r rules) [
+      | inl lt ↦ elim (cases_Bool (is_live bits r)) [
+        | inl on ↦ inl (on, each r lt ∙ ap first_known on)
+        | inr off ↦ inr (inl (off, each r lt ∙ ap first_known off))
+      ]
+      | inr past ↦ inr (inr past)
+    ]
+
+    closed : (r place : ℕ) → known_of x.known.items r ≡ Open place → ⊥
+    closed r place here = elim (at r) [
+      | inl h ↦ let no : New ≡ Open place = sym h.1 ∙ here in absurd (cc)
+      | inr h ↦ elim h [
+        | inl k ↦ let no : Told (Err NoSentence) ≡ Open place = sym k.1 ∙ here in absurd (cc)
+        | inr past ↦ let no : New ≡ Open place = sym (beyond r past) ∙ here in absurd (cc)
+      ]
+    ]
+
+-- this is told of rules behind the start, up to a place
+pub record TellsSome (start place : ℕ) (answer : Result (Option ℕ) CostError) (old new : Walk) : Type 0 where
+  pub path : new.path ≡ old.path
+  pub starts : new.starts ≡ old.starts
+  pub edges : new.edges ≡ old.edges
+  pub len : length new.known.items ≡ length old.known.items
+  pub each : (r : ℕ) → (known_of new.known.items r ≡ known_of old.known.items r)
+      ⊎ ((known_of new.known.items r ≡ Told answer) × (i : ℕ) × (start ≤ i) × (i < place) × (get_or old.path.items i 0 ≡ r))
+  pub told : (i : ℕ) → start ≤ i → i < place → known_of new.known.items (get_or old.path.items i 0) ≡ Told answer
+  pub fewer : sum_by count_new new.known.items ≤ sum_by count_new old.known.items
+
+-- a rule that was not entered begins a group at the end of the path
+pub entered : (g : Grammar) (rule : ℕ) (old new : Walk) → IsWalk g old → IsWayOut g old rule → known_of old.known.items rule ≡ New
+    → new.known.items ≡ slice_set old.known.items rule (Open (length old.path.items)) → new.path.items ≡ old.path.items ++ rule ∷ []
+    → new.starts.items ≡ old.starts.items ++ length old.path.items ∷ [] → All (IsEdge g) new.edges.items
+    → GoesOn g old new
+entered g rule old new walk out fresh known path starts edges = record {
+  walk = record {
+    grammar = walk.grammar;
+    rules = ap length known ∙ length-set old.known.items rule (Open place) ∙ walk.rules;
+    lives = λ r lt alive. elim (at r) [
+      | inl e ↦ walk.lives r lt (ap is_dead (sym e) ∙ alive)
+      | inr h ↦ subst (λ q. HasWord (HasProduction g) (Rule q ∷ [])) (sym h.0) out.word
+    ];
+    dead = λ r gone. elim (at r) [
+      | inl e ↦ walk.dead r (ap is_dead (sym e) ∙ gone)
+      | inr h ↦ absurd (true≢false (sym gone ∙ ap is_dead h.1))
+    ];
+    places = λ r p here. subst (λ l. (p < length l) × (get_or l p 0 ≡ r)) (sym path) (elim (at r) [
+      | inl e ↦ let h = walk.places r p (sym e ∙ here) in
+          (let lt = h.0 in omega (arith, lt, length_push old.path.items rule), get_or_append_left old.path.items (rule ∷ []) 0 p h.0 ∙ h.1)
+      | inr h ↦
+          let both : Open place ≡ Open p = sym h.1 ∙ here in
+          let same : place ≡ p = cc in
+          (omega (arith, same, length_push old.path.items rule), get_or_push old.path.items rule 0 p same ∙ sym h.0)
+    ]);
+    path = λ i lt. elim (cases_lt i place) [
+      | inl before ↦
+          let h = walk.path i before in
+          let here = ap (λ l. get_or l i 0) path ∙ get_or_append_left old.path.items (rule ∷ []) 0 i before in
+          subst (λ r. (r < g.rules) × (known_of new.known.items r ≡ Open i)) (sym here) (
+            h.0,
+            elim (at (get_or old.path.items i 0)) [
+              | inl e ↦ e ∙ h.1
+              | inr k ↦ let no : New ≡ Open i = sym fresh ∙ ap (known_of old.known.items) (sym k.0) ∙ h.1 in absurd (cc)
+            ],
+          )
+      | inr past ↦
+          let last : i ≡ place = omega (arith, past, lt, ap length path, length_push old.path.items rule) in
+          let here = ap (λ l. get_or l i 0) path ∙ get_or_push old.path.items rule 0 i (sym last) in
+          subst (λ r. (r < g.rules) × (known_of new.known.items r ≡ Open i)) (sym here) (out.rule, put ∙ ap Open (sym last))
+    ];
+    groups = subst (λ l. AreGroups (IsAbove (HasProduction g)) l new.starts.items) (sym path) (subst (AreGroups (IsAbove (HasProduction g)) (old.path.items ++ rule ∷ [])) (sym starts)
+        (groups_more (IsAbove (HasProduction g)) old.path.items old.starts.items walk.groups rule (above_same g rule) out.above));
+    edges = edges;
+  };
+  told = λ r answer told. elim (at r) [
+    | inl e ↦ sym e ∙ told
+    | inr h ↦ let no : Open place ≡ Told answer = sym h.1 ∙ told in absurd (cc)
+  ];
+  less =
+      let sum = sum_by-set count_new old.known.items rule (Open place) New within in
+      let was : count_new (known_of old.known.items rule) ≡ 1 = ap count_new fresh in
+      omega (arith, sum, was, ap (sum_by count_new) known, ap length starts, length_push old.starts.items place);
+}
+  where
+    place : ℕ
+    place = length old.path.items
+
+    within : rule < length old.known.items
+    within = let lt = out.rule in let rules = walk.rules in omega (arith, lt, rules)
+
+    put : known_of new.known.items rule ≡ Open (length old.path.items)
+    put = ap (λ l. known_of l rule) known ∙ get_or-set_same old.known.items rule (Open (length old.path.items)) New within
+
+    at : (r : ℕ) → (known_of new.known.items r ≡ known_of old.known.items r) ⊎ ((r ≡ rule) × (known_of new.known.items r ≡ Open (length old.path.items)))
+    at r = elim (get_or-set old.known.items rule r (Open (length old.path.items)) New) [
+      | inl e ↦ inl (ap (λ l. known_of l r) known ∙ e)
+      | inr h ↦ inr (h.0, ap (λ l. known_of l r) known ∙ h.1)
+    ]
+
+-- a rule outside the last group, to which a rule of that group leads
+outside_untold : (start : ℕ) (k : Known) → is_outside start k ≡ true → (is_dead k ≡ false) × ((place : ℕ) → k ≡ Open place → place < start)
+    × ((answer : Result (Option ℕ) CostError) → k ≡ Told answer → ⊥)
+outside_untold start New e = (refl, (λ place h. absurd (cc)), (λ answer h. cc))
+outside_untold start (Open p) e = (refl, (λ place h. let same : p ≡ place = cc in subst (λ n. n < start) same (ltb-true p start e)), (λ answer h. cc))
+outside_untold start (Told a) e = absurd (true≢false (sym e))
+
+pub way_out : (g : Grammar) (x : Walk) (start place r : ℕ) → IsWalk g x → IsLast x.starts.items start → start ≤ place → place < length x.path.items
+    → r < g.rules → is_outside start (known_of x.known.items r) ≡ true → IsAbove (HasProduction g) (get_or x.path.items place 0) r → IsWayOut g x r
+way_out g x start place r walk last le lt within outside above =
+    let h = outside_untold start (known_of x.known.items r) outside in record {
+      rule = within;
+      word = walk.lives r within h.0;
+      above = above_all (IsAbove (HasProduction g)) x.path.items x.starts.items walk.groups (above_then g) start last place r le lt above;
+      before = λ p s e last'. let at = last.at in let at' = last'.at in let below = h.1 p e in omega (arith, at, at', below);
+      untold = h.2;
+    }
+
+inside_place : (start : ℕ) (k : Known) → is_inside start k ≡ true → (place : ℕ) × (k ≡ Open place) × (start ≤ place)
+inside_place start New e = absurd (true≢false (sym e))
+inside_place start (Open p) e = (p, refl, leb-true start p e)
+inside_place start (Told a) e = absurd (true≢false (sym e))
+
+pub led_out : (g : Grammar) (x : Walk) (start r : ℕ) → IsWalk g x → IsLast x.starts.items start → IsLedOut g start x.known.items r → IsWayOut g x r
+led_out g x start r walk last led =
+    let h = inside_place start (known_of x.known.items led.from) led.inside in
+    let at = walk.places led.from h.0 h.1 in
+    way_out g x start h.0 r walk last h.2 at.0 led.rule led.outside (subst (λ q. IsAbove (HasProduction g) q r) (sym at.1) led.above)
+
+-- where the path is empty, any rule of which nothing is told
+pub root_out : (g : Grammar) (x : Walk) (r : ℕ) → IsWalk g x → length x.starts.items ≡ 0 → r < g.rules
+    → ((answer : Result (Option ℕ) CostError) → known_of x.known.items r ≡ Told answer → ⊥) → IsWayOut g x r
+root_out g x r walk none within untold = record {
+  rule = within;
+  word = walk.lives r within (alive (known_of x.known.items r) refl);
+  above = λ i lt. let some = walk.groups.some (omega (arith, lt)) in absurd (omega (arith, some, none));
+  before = λ p s e last. let some = last.some in absurd (omega (arith, some, none));
+  untold = untold;
+}
+  where
+    alive : (k : Known) → known_of x.known.items r ≡ k → is_dead k ≡ false
+    alive New e = refl
+    alive (Open p) e = refl
+    alive (Told a) e = absurd (untold a e)
+
+-- the last group is a group
+pub last_group : (g : Grammar) (cost : ℕ → ℕ) (x : Walk) (start : ℕ) → IsWalk g x → AreTrue g cost x.known.items → IsLast x.starts.items start
+    → IsGroup g cost x.known.items x.path.items start
+last_group g cost x start walk so last = record {
+  so = so;
+  lives = walk.lives;
+  dead = walk.dead;
+  places = walk.places;
+  members = λ i le lt. let h = walk.path i lt in (h.1, walk.lives _ h.0 (ap is_dead h.1));
+  above = λ i j le lt le' lt'. walk.groups.chain i j lt lt' (λ k among _. let below = below_last (IsAbove (HasProduction g)) x.path.items x.starts.items walk.groups start last k among in omega (arith, below, le'));
+}
+
+pub start_within : (g : Grammar) (x : Walk) (start : ℕ) → IsWalk g x → IsLast x.starts.items start → start < length x.path.items
+start_within g x start walk last = let some = last.some in let at = last.at in let h = walk.groups.within (length x.starts.items - 1) (omega (arith, some)) in omega (arith, h, at)
+
+pub true_still : (g : Grammar) (cost : ℕ → ℕ) (old new : Walk) → TellsNoMore old new → AreTrue g cost old.known.items → AreTrue g cost new.known.items
+true_still g cost old new no_more so r answer told = so r answer (no_more r answer told)
+
+-- one rule more of which this is told
+pub tells_none : (start : ℕ) (answer : Result (Option ℕ) CostError) (x : Walk) → TellsSome start start answer x x
+tells_none start answer x = record {
+  path = refl;
+  starts = refl;
+  edges = refl;
+  len = refl;
+  each = λ r. inl refl;
+  told = λ i le lt. absurd (omega (arith, le, lt));
+  fewer = omega arith;
+}
+
+pub tells_more : (start place : ℕ) (answer : Result (Option ℕ) CostError) (old mid new : Walk) → start ≤ place → TellsSome start place answer old mid
+    → (rule : ℕ) → rule ≡ get_or old.path.items place 0 → rule < length mid.known.items → new.path ≡ mid.path → new.starts ≡ mid.starts → new.edges ≡ mid.edges
+    → new.known.items ≡ slice_set mid.known.items rule (Told answer) → TellsSome start (place + 1) answer old new
+tells_more start place answer old mid new le t rule at within path starts edges known = record {
+  path = path ∙ t.path;
+  starts = starts ∙ t.starts;
+  edges = edges ∙ t.edges;
+  len = ap length known ∙ length-set mid.known.items rule (Told answer) ∙ t.len;
+  each = λ r. elim (now r) [
+    | inl e ↦ elim (t.each r) [
+      | inl h ↦ inl (e ∙ h)
+      | inr h ↦ inr (e ∙ h.0, h.1, h.2, let lt = h.3 in omega (arith, lt), h.4)
+    ]
+    | inr h ↦ inr (h.1, place, le, omega arith, sym at ∙ sym h.0)
+  ];
+  told = λ i le' lt. elim (now (get_or old.path.items i 0)) [
+    | inr h ↦ h.1
+    | inl e ↦ elim (cases_lt i place) [
+      | inl before ↦ e ∙ t.told i le' before
+      | inr past ↦
+          let same : i ≡ place = omega (arith, past, lt) in
+          let here : get_or old.path.items i 0 ≡ rule = ap (λ n. get_or old.path.items n 0) same ∙ sym at in
+          ap (known_of new.known.items) here ∙ ap (λ l. known_of l rule) known ∙ get_or-set_same mid.known.items rule (Told answer) New within
+    ]
+  ];
+  fewer =
+      let sum = sum_by-set count_new mid.known.items rule (Told answer) New within in
+      let fewer = t.fewer in
+      omega (arith, sum, fewer, ap (sum_by count_new) known);
+}
+  where
+    now : (r : ℕ) → (known_of new.known.items r ≡ known_of mid.known.items r) ⊎ ((r ≡ rule) × (known_of new.known.items r ≡ Told answer))
+    now r = elim (get_or-set mid.known.items rule r (Told answer) New) [
+      | inl e ↦ inl (ap (λ l. known_of l r) known ∙ e)
+      | inr h ↦ inr (h.0, ap (λ l. known_of l r) known ∙ h.1)
+    ]
+
+-- this is told of the whole last group, which left the path
+pub told_walk : (g : Grammar) (cost : ℕ → ℕ) (start place : ℕ) (answer : Result (Option ℕ) CostError) (old mid new : Walk) → IsWalk g old → IsLast old.starts.items start
+    → CanTell g cost old start answer → TellsSome start place answer old mid → place ≡ length old.path.items → new.known ≡ mid.known → new.edges ≡ mid.edges
+    → new.path.items ≡ take start mid.path.items → new.starts.items ≡ take (length mid.starts.items - 1) mid.starts.items
+    → Steps g cost old new
+told_walk g cost start place answer old mid new walk last can t past known edges path starts = record {
+  walk = record {
+    grammar = walk.grammar;
+    rules = ap length all ∙ t.len ∙ walk.rules;
+    lives = λ r lt alive. elim (now r) [
+      | inl e ↦ walk.lives r lt (ap is_dead (sym e) ∙ alive)
+      | inr h ↦ let m = walk.path h.1 (h.3) in subst (λ q. HasWord (HasProduction g) (Rule q ∷ [])) h.4 (walk.lives _ m.0 (ap is_dead m.1))
+    ];
+    dead = λ r gone. elim (now r) [
+      | inl e ↦ walk.dead r (ap is_dead (sym e) ∙ gone)
+      | inr h ↦ absurd (true≢false (sym gone ∙ ap is_dead h.0 ∙ can.live))
+    ];
+    places = λ r p here. elim (now r) [
+      | inl e ↦
+          let h = walk.places r p (sym e ∙ here) in
+          elim (cases_lt p start) [
+            | inl before ↦ subst (λ l. (p < length l) × (get_or l p 0 ≡ r)) (sym front)
+                (omega (arith, before, len), get_or-take start old.path.items p 0 before ∙ h.1)
+            | inr behind ↦
+                let told : Open p ≡ Told answer = sym here ∙ ap (known_of new.known.items) (sym h.1) ∙ ap (λ l. known_of l (get_or old.path.items p 0)) all
+                ∙ t.told p behind (let lt = h.0 in omega (arith, lt, past)) in absurd (cc)
+          ]
+      | inr h ↦ let no : Told answer ≡ Open p = sym h.0 ∙ here in absurd (cc)
+    ];
+    path = λ i lt.
+        let before : i < start = omega (arith, lt, ap length front, len) in
+        let h = walk.path i (omega (arith, before, within)) in
+        let here = ap (λ l. get_or l i 0) front ∙ get_or-take start old.path.items i 0 before in
+        subst (λ r. (r < g.rules) × (known_of new.known.items r ≡ Open i)) (sym here) (
+          h.0,
+          elim (now (get_or old.path.items i 0)) [
+            | inl e ↦ e ∙ h.1
+            | inr k ↦
+                let both : Open i ≡ Open k.1 = sym h.1 ∙ ap (known_of old.known.items) (sym k.4) ∙ (walk.path k.1 k.3).1 in
+                let same : i ≡ k.1 = cc in
+                let le = k.2 in absurd (omega (arith, before, same, le))
+          ],
+        );
+    groups = subst (λ l. AreGroups (IsAbove (HasProduction g)) l new.starts.items) (sym front) (subst (AreGroups (IsAbove (HasProduction g)) (take start old.path.items)) (sym fewer)
+        (groups_fewer (IsAbove (HasProduction g)) old.path.items old.starts.items walk.groups start last));
+    edges = subst (λ v. All (IsEdge g) v.items) (sym (edges ∙ t.edges)) walk.edges;
+  };
+  so = λ r a told. elim (now r) [
+    | inl e ↦ can.so r a (sym e ∙ told)
+    | inr h ↦
+        let both : Told answer ≡ Told a = sym h.0 ∙ told in
+        let same : answer ≡ a = cc in
+        subst (Means (HasProduction g) cost r) same (subst (λ q. Means (HasProduction g) cost q answer) h.4 (can.means h.1 h.2 h.3))
+  ];
+  less =
+      let few = t.fewer in
+      let some = last.some in
+      omega (arith, few, some, ap (sum_by count_new) all, ap length fewer, length-take-le (length old.starts.items - 1) old.starts.items (omega arith));
+}
+  where
+    all : new.known.items ≡ mid.known.items
+    all = ap (λ v. v.items) known
+
+    front : new.path.items ≡ take start old.path.items
+    front = path ∙ ap (λ v. take start v.items) t.path
+
+    fewer : new.starts.items ≡ take (length old.starts.items - 1) old.starts.items
+    fewer = starts ∙ ap (λ v. take (length v.items - 1) v.items) t.starts
+
+    within : start < length old.path.items
+    within = start_within g old start walk last
+
+    len : length (take start old.path.items) ≡ start
+    len = length-take-le start old.path.items (omega (arith, within))
+
+    now : (r : ℕ) → (known_of new.known.items r ≡ known_of old.known.items r)
+        ⊎ ((known_of new.known.items r ≡ Told answer) × (i : ℕ) × (start ≤ i) × (i < length old.path.items) × (get_or old.path.items i 0 ≡ r))
+    now r = elim (t.each r) [
+      | inl e ↦ inl (ap (λ l. known_of l r) all ∙ e)
+      | inr h ↦ inr (ap (λ l. known_of l r) all ∙ h.0, h.1, h.2, (let lt = h.3 in omega (arith, lt, past)), h.4)
+    ]
+
+-- where edges alone changed, the walk goes on as before
+pub edges_less : (g : Grammar) (old new : Walk) → IsWalk g old → new.known ≡ old.known → new.path ≡ old.path → new.starts ≡ old.starts
+    → All (IsEdge g) new.edges.items → IsWalk g new
+edges_less g old new walk known path starts edges = subst (IsWalk g) same (record {
+  grammar = walk.grammar;
+  rules = walk.rules;
+  lives = walk.lives;
+  dead = walk.dead;
+  places = walk.places;
+  path = walk.path;
+  groups = walk.groups;
+  edges = edges;
+})
+  where
+    same : record old { edges = new.edges } ≡ new
+    same = ap (λ k. record old { edges = new.edges; known = k }) (sym known) ∙ ap (λ p. record old { edges = new.edges; known = new.known; path = p }) (sym path)
+        ∙ ap (λ s. record old { edges = new.edges; known = new.known; path = new.path; starts = s }) (sym starts)
+
+-- a step from there
+pub steps_on : (g : Grammar) (cost : ℕ → ℕ) (old mid new : Walk) → AreTrue g cost old.known.items → mid.known ≡ old.known → mid.starts ≡ old.starts
+    → GoesOn g mid new → Steps g cost old new
+steps_on g cost old mid new so known starts goes = record {
+  walk = goes.walk;
+  so = true_still g cost mid new goes.told (subst (λ v. AreTrue g cost v.items) (sym known) so);
+  less = let less = goes.less in omega (arith, less, ap (λ v. sum_by count_new v.items) known, ap (λ v. length v.items) starts);
+}

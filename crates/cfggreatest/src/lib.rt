@@ -2,15 +2,9 @@
 #![tactic(auto)]
 
 pub mod greatest;
-mod keep;
 pub mod laws;
-mod order;
-mod peel;
-mod removal;
-mod rounds;
-mod spread;
-mod stages;
-mod tables;
-mod uses;
+mod live;
+mod sums;
+mod walk;
 
 pub use greatest::greatest_costs;

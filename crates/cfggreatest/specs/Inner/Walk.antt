@@ -1,16 +1,81 @@
--- A walk through rules, from each to those that use it: rules wait to be entered, or to be left.
-use Rattle.std.specs.Prelude.{◌≡◌, ℕ, ◌+◌, ◌<◌, Bool, cond, List, [], ◌∷◌, All, Vec, length}
-use Rattle.std.specs.declared.alloc.Global.{Global}
-use Rattle.derivation.specs.Grammar.{Grammar, IsGrammar}
+-- A walk through rules, by a path of groups, and edges that lead from rules to others that they hold.
+use Rattle.std.specs.Prelude.{◌≡◌, ℕ, ◌+◌, ◌<◌, ◌≤◌, Bool, true, false, List, [], ◌∷◌, All, Option, Result, Err, length, sum_by, slice_index}
+use Rattle.derivation.specs.Grammar.{Sym, Rule, Token, Grammar, HasProduction, IsGrammar}
+use Rattle.cfgsums.specs.declared.errors.CostError.{CostError}
+use Rattle.cfgsums.specs.declared.errors.CostError.TheVariants.{NoSentence}
+use Rattle.cfggreatest.specs.Words.{Means}
+use Rattle.cfggreatest.specs.Inner.AtLeast.{HasWord, IsAbove, IsDead}
+use Rattle.cfggreatest.specs.Inner.Groups.{AreGroups, IsLast}
+use Rattle.cfggreatest.specs.Inner.Known.{AreTrue, count_new, is_dead, is_inside, is_outside, known_of}
+use Rattle.cfggreatest.specs.declared.sums.Known.{Known}
+use Rattle.cfggreatest.specs.declared.sums.Known.TheVariants.{New, Open, Told}
+use Rattle.cfggreatest.specs.declared.walk.Walk.{Walk}
 
--- rules of the grammar wait
-pub record IsWalking (g : Grammar) (entered : List Bool) (waiting : List (ℕ × Bool)) : Type 0 where
+-- an edge leads from a rule to one that it is above
+pub record IsEdge (g : Grammar) (e : ℕ × ℕ) : Type 0 where
+  pub from : e.0 < g.rules
+  pub to : e.1 < g.rules
+  pub above : IsAbove (HasProduction g) e.0 e.1
+
+-- an edge leads from the rule to the symbol, if that is a rule
+abbrev pub IsEdgeTo : Grammar → ℕ → Sym → Type 0
+IsEdgeTo g from (Rule r) = IsEdge g (from, r)
+IsEdgeTo g from (Token t) = Unit {0}
+
+-- rules that are not told to have no sentence have one; rules stand at their places
+pub record IsWalk (g : Grammar) (x : Walk) : Type 0 where
   pub grammar : IsGrammar g
-  pub rules : length entered ≡ g.rules
-  pub waits : All (λ (x : ℕ × Bool). x.0 < g.rules) waiting
+  pub rules : length x.known.items ≡ g.rules
+  pub lives : (r : ℕ) → r < g.rules → is_dead (known_of x.known.items r) ≡ false → HasWord (HasProduction g) (Rule r ∷ [])
+  pub dead : (r : ℕ) → is_dead (known_of x.known.items r) ≡ true → IsDead (HasProduction g) (Rule r ∷ [])
+  pub places : (r place : ℕ) → known_of x.known.items r ≡ Open place → (place < length x.path.items) × (slice_index x.path.items place ≡ r)
+  pub path : (i : ℕ) → i < length x.path.items → (slice_index x.path.items i < g.rules) × (known_of x.known.items (slice_index x.path.items i) ≡ Open i)
+  pub groups : AreGroups (IsAbove (HasProduction g)) x.path.items x.starts.items
+  pub edges : All (IsEdge g) x.edges.items
 
--- the rules that were not entered yet, and how often they are used
-abbrev pub unentered : {X : Type 0} → List Bool → List (Vec X Global) → ℕ
-unentered [] users = 0
-unentered (b ∷ entered) [] = 0
-unentered (b ∷ entered) (list ∷ users) = cond b 0 (length list.items + 1) + unentered entered users
+-- the rule was not entered, or stands before the last group; and all of the path are above it
+pub record IsWayOut (g : Grammar) (x : Walk) (r : ℕ) : Type 0 where
+  pub rule : r < g.rules
+  pub word : HasWord (HasProduction g) (Rule r ∷ [])
+  pub above : (i : ℕ) → i < length x.path.items → IsAbove (HasProduction g) (slice_index x.path.items i) r
+  pub before : (place start : ℕ) → known_of x.known.items r ≡ Open place → IsLast x.starts.items start → place < start
+  pub untold : (answer : Result (Option ℕ) CostError) → known_of x.known.items r ≡ Told answer → ⊥
+
+-- nothing more is told
+abbrev pub TellsNoMore : Walk → Walk → Type 0
+TellsNoMore old new = (r : ℕ) (answer : Result (Option ℕ) CostError) → known_of new.known.items r ≡ Told answer → known_of old.known.items r ≡ Told answer
+
+-- how many rules were not entered, twice, and how many groups are on the path
+abbrev pub left_to_do : Walk → ℕ
+left_to_do x = sum_by count_new x.known.items + sum_by count_new x.known.items + length x.starts.items
+
+-- what is known of a rule at first
+abbrev pub first_known : Bool → Known
+first_known true = New
+first_known false = Told (Err NoSentence)
+
+-- a rule of the last group is above the rule, which stands outside it
+pub record IsLedOut (g : Grammar) (start : ℕ) (known : List Known) (r : ℕ) : Type 0 where
+  pub from : ℕ
+  pub inside : is_inside start (known_of known from) ≡ true
+  pub outside : is_outside start (known_of known r) ≡ true
+  pub rule : r < g.rules
+  pub above : IsAbove (HasProduction g) from r
+
+-- the answer is true of each rule of the last group, which has a sentence
+pub record CanTell (g : Grammar) (cost : ℕ → ℕ) (x : Walk) (start : ℕ) (answer : Result (Option ℕ) CostError) : Type 0 where
+  pub so : AreTrue g cost x.known.items
+  pub live : is_dead (Told answer) ≡ false
+  pub means : (i : ℕ) → start ≤ i → i < length x.path.items → Means (HasProduction g) cost (slice_index x.path.items i) answer
+
+-- a step that follows an edge: nothing more is told, and less is left to do
+pub record GoesOn (g : Grammar) (old new : Walk) : Type 0 where
+  pub walk : IsWalk g new
+  pub told : TellsNoMore old new
+  pub less : left_to_do new < left_to_do old
+
+-- a step after which what is told is true
+pub record Steps (g : Grammar) (cost : ℕ → ℕ) (old new : Walk) : Type 0 where
+  pub walk : IsWalk g new
+  pub so : AreTrue g cost new.known.items
+  pub less : left_to_do new < left_to_do old

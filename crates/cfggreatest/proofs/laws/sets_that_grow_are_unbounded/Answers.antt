@@ -1,5 +1,5 @@
 use Rattle.derivation.specs.Grammar.{HasProduction}
-use Rattle.cfggreatest.proofs.Rising.{unbounded_set}
+use Rattle.cfggreatest.proofs.AtLeast.{unbounded_set}
 use Rattle.cfggreatest.proofs.laws.sets_that_grow_are_unbounded.Goals as goal
 
 pub returns : goal.returns

@@ -1,7 +1,0 @@
-use Rattle.std.proofs.Common.{map}
-use Rattle.cfgtables.specs.Symbols.{sym_of}
-use Rattle.cfganalysis.proofs.RuleNotes.{NotesFront}
-use Rattle.cfganalysis.proofs.firsts.YaccFirstsAnalysis.note.Given as goal
-
-abbrev pub invariant-loop-held : goal.invariant-loop-held
-invariant-loop-held g l = NotesFront l.production (map (sym_of g.S.Storage.number) l.symbols) l.held-index l.fn.users l.users

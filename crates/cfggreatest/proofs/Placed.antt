@@ -1,0 +1,27 @@
+-- Productions of a rule, by the list of their places.
+use Rattle.std.proofs.Common.{◌≡◌, ℕ, ◌+◌, ◌<◌, ◌≤◌, List, [], length, get_or, arith, sym, ap, subst, ◌∙◌, below_more}
+use Rattle.std.proofs.lemmas.List.{get_or_default}
+use Rattle.derivation.specs.Grammar.{Sym, Grammar, Production, HasProduction}
+use Rattle.cfgtables.specs.Openings.{nth_production, ArePlacesOf}
+use Rattle.cfgtables.proofs.Placed.{at_place}
+
+module _ (g : Grammar) (rule : ℕ) (places : List ℕ) (of : ArePlacesOf g rule places) where
+  pub placed : (i n : ℕ) (a : List Sym) → i < length places → n ≡ get_or places i n → a ≡ (nth_production g n).symbols → HasProduction g rule a
+  placed i n a lt at e =
+      let within : n < length g.productions = subst (λ m. m < length g.productions) (sym at) (of.within i n lt) in
+      at_place g n (record { rule = rule; symbols = a }) within (sym ((of.listed n within).0 (i, lt, sym at))) e
+
+  -- what holds of the productions at the places holds of those of the rule
+  pub placed_all : (F : List Sym → Type 0) (i : ℕ) → length places ≤ i → ((k : ℕ) → k < i → F (nth_production g (get_or places k 0)).symbols)
+      → (symbols : List Sym) → HasProduction g rule symbols → F symbols
+  placed_all F i past all symbols has =
+      let same = get_or_default g.productions has.0 (record { rule = 0; symbols = [] }) (record { rule = rule; symbols = symbols }) has.1 ∙ has.2 in
+      let there = (of.listed has.0 has.1).1 (ap (λ (p : Production). p.rule) same) in
+      let here = get_or_default places there.0 0 has.0 there.1 ∙ there.2 in
+      subst F (ap (λ (n : ℕ). (nth_production g n).symbols) here ∙ ap (λ (p : Production). p.symbols) same) (all there.0 (let lt = there.1 in omega (arith, lt, past)))
+
+  -- one production more
+  pub placed_more : (F : List Sym → Type 0) (i n : ℕ) (a : List Sym) → i < length places → n ≡ get_or places i n → a ≡ (nth_production g n).symbols
+      → ((k : ℕ) → k < i → F (nth_production g (get_or places k 0)).symbols) → F a → (k : ℕ) → k < i + 1 → F (nth_production g (get_or places k 0)).symbols
+  placed_more F i n a lt at e all here = below_more (λ k. F (nth_production g (get_or places k 0)).symbols) i all
+      (subst F (e ∙ ap (λ (m : ℕ). (nth_production g m).symbols) (at ∙ get_or_default places i n 0 lt)) here)

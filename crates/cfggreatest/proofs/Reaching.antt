@@ -1,0 +1,219 @@
+-- What rules of a group cost at least, by the sums of their productions.
+use Rattle.std.proofs.Common.{◌≡◌, ℕ, zero, suc, ◌+◌, ◌*◌, ◌<◌, ◌≤◌, ◌⊎◌, inl, inr, ltb, min, max, ◌||◌, Bool, true, false, cond, List, [], ◌∷◌, All, Contains, Option, Some, None, Result, Ok, Err, get_or, length, append-nil, ltb-true, sum_by, refl, sym, ap, subst, ◌∙◌, arith, true≢false}
+use Rattle.std.proofs.Math.Nat.{mul-le-mul_left}
+use Rattle.std.proofs.lemmas.Bool.{cases_Bool, cases_eq, cases_lt, lt-ltb}
+use Rattle.std.proofs.lemmas.List.Elements.{All-cons, All-nil}
+use Rattle.derivation.specs.Grammar.{Sym, Rule, Token, Grammar, IsGrammar, IsSymbolOf, HasProduction}
+use Rattle.derivation.specs.Tree.{Yields, empty, token, opened}
+use Rattle.cfgtables.proofs.Placed.{all_symbols}
+use Rattle.cfgsums.specs.declared.errors.CostError.{CostError}
+use Rattle.cfgsums.specs.declared.errors.CostError.TheVariants.{NoSentence, CostTooLarge}
+use Rattle.cfggreatest.specs.Words.{Means}
+use Rattle.cfggreatest.specs.Inner.AtLeast.{AtLeast, HasWord, IsDead, IsRowAbove}
+use Rattle.cfggreatest.specs.Inner.Known.{IsLiveSymbol, is_dead, is_outside, known_cost, known_of, read_known, read_symbol}
+use Rattle.cfggreatest.specs.Inner.Sums.{AddsRow, AreNoLess, AreReached, AreUnder, CostAtLeast, CostsBeside, GrowsBeside, IsGroup, IsStopped, IsSum, IsUnder, StopsAt, StopsRow, TakesRow, row_cost}
+use Rattle.cfggreatest.specs.declared.sums.Known.{Known}
+use Rattle.cfggreatest.specs.declared.sums.Known.TheVariants.{New, Open, Told}
+use Rattle.cfggreatest.specs.declared.sums.Stop.{Stop}
+use Rattle.cfggreatest.specs.declared.sums.Stop.TheVariants.{Leads, Grows}
+use Rattle.cfggreatest.specs.declared.sums.Sums.{Sums}
+use Rattle.cfggreatest.proofs.AtLeast.{at_least_fewer, at_least_none, at_least_rule, greatest_at_least, row_above, row_at_least, unbounded_at_least}
+
+-- the greatest cost of a rule, if it is told that it is too large to be told
+unfoldable pub large_of : (P : ℕ → List Sym → Type 0) (cost : ℕ → ℕ) (r : ℕ) (k : Known) → ((answer : Result (Option ℕ) CostError) → k ≡ Told answer → Means P cost r answer) → ℕ
+large_of P cost r (Told (Err CostTooLarge)) so = (so (Err CostTooLarge) refl).0
+large_of P cost r (Told (Err NoSentence)) so = 65536
+large_of P cost r (Told (Ok c)) so = 65536
+large_of P cost r (Open place) so = 65536
+large_of P cost r New so = 65536
+
+pub large_many : (P : ℕ → List Sym → Type 0) (cost : ℕ → ℕ) (r : ℕ) (k : Known) (so : (answer : Result (Option ℕ) CostError) → k ≡ Told answer → Means P cost r answer)
+    → 65535 < large_of P cost r k so
+unfolding large_of
+large_many P cost r (Told (Err CostTooLarge)) so = (so (Err CostTooLarge) refl).2
+large_many P cost r (Told (Err NoSentence)) so = omega arith
+large_many P cost r (Told (Ok c)) so = omega arith
+large_many P cost r (Open place) so = omega arith
+large_many P cost r New so = omega arith
+
+-- a rule costs at least what is known of it
+known_reached : (P : ℕ → List Sym → Type 0) (cost : ℕ → ℕ) (start n r : ℕ) (k : Known) (so : (answer : Result (Option ℕ) CostError) → k ≡ Told answer → Means P cost r answer)
+    → is_dead k ≡ false → HasWord P (Rule r ∷ []) → ((place : ℕ) → k ≡ Open place → start ≤ place → AtLeast P cost (Rule r ∷ []) n)
+    → AtLeast P cost (Rule r ∷ []) (known_cost start n (large_of P cost r k so) k)
+unfolding large_of
+known_reached P cost start n r New so live word inside = at_least_none P cost (Rule r ∷ []) word
+known_reached P cost start n r (Open place) so live word inside = by (ltb place start) refl
+  where
+    by : (b : Bool) → ltb place start ≡ b → AtLeast P cost (Rule r ∷ []) (cond b 0 n)
+    by true e = at_least_none P cost (Rule r ∷ []) word
+    by false e = elim (cases_lt place start) [
+      | inl lt ↦ absurd (true≢false (sym (lt-ltb place start lt) ∙ e))
+      | inr le ↦ inside place refl le
+    ]
+known_reached P cost start n r (Told (Ok None)) so live word inside = at_least_none P cost (Rule r ∷ []) word
+known_reached P cost start n r (Told (Ok (Some c))) so live word inside = greatest_at_least P cost r c (so (Ok (Some c)) refl).0
+known_reached P cost start n r (Told (Err NoSentence)) so live word inside = absurd (true≢false live)
+known_reached P cost start n r (Told (Err CostTooLarge)) so live word inside = let h = so (Err CostTooLarge) refl in greatest_at_least P cost r h.0 h.1
+
+-- why a rule stops a sum
+stops_by : (start r : ℕ) (k : Known) (stop : Stop) → read_known start r k ≡ Err stop
+    → ((stop ≡ Leads r) × (is_outside start k ≡ true)) ⊎ ((stop ≡ Grows) × (k ≡ Told (Ok None)))
+stops_by start r New stop e = inl ((cc), refl)
+stops_by start r (Open place) stop e = by (ltb place start) e
+  where
+    by : (b : Bool) → (let read : Result (Option ℕ) Stop = cond b (Err (Leads r)) (Ok None) in read) ≡ Err stop
+        → ((stop ≡ Leads r) × (b ≡ true)) ⊎ ((stop ≡ Grows) × (Open place ≡ Told (Ok None)))
+    by true e = inl ((cc), refl)
+    by false e = absurd (cc)
+stops_by start r (Told (Ok None)) stop e = inr ((cc), refl)
+stops_by start r (Told (Ok (Some c))) stop e = absurd (cc)
+stops_by start r (Told (Err f)) stop e = absurd (cc)
+
+-- a row that was taken in is under the sum
+pub row_under : (cost : ℕ → ℕ) (known : List Known) (start : ℕ) (a : List Sym) (old new : Sums) → AddsRow cost known start a old new → IsUnder cost known start a new
+row_under cost known start a old new h = record {
+  outer = h.outer;
+  inner = h.inner;
+  live = h.live;
+  is = h.is;
+  little = let top = h.top in omega (arith, top);
+  few = elim h.alone [
+    | inl none ↦ inl none
+    | inr free ↦ elim (cases_lt 1 h.inner) [
+      | inl two ↦ inr (free, inr (h.twice ∙ or_last old.twice (ltb 1 h.inner) (lt-ltb 1 h.inner two)))
+      | inr le ↦ elim (cases_eq h.inner 0) [ inl none ↦ inl none | inr some ↦ inr (free, inl (omega (arith, le, some))) ]
+    ]
+  ];
+}
+  where
+    or_last : (a b : Bool) → b ≡ true → (a || b) ≡ true
+    or_last true b e = refl
+    or_last false b e = e
+
+pub under_more : (cost : ℕ → ℕ) (known : List Known) (start : ℕ) (a : List Sym) (old new : Sums) → AreNoLess old new → IsUnder cost known start a old → IsUnder cost known start a new
+under_more cost known start a old new more h = record {
+  outer = h.outer;
+  inner = h.inner;
+  live = h.live;
+  is = h.is;
+  little = let le = h.little in let top = more.top in omega (arith, le, top);
+  few = elim h.few [
+    | inl none ↦ inl none
+    | inr k ↦ inr (k.0, elim k.1 [ inl one ↦ inl one | inr twice ↦ inr (more.twice twice) ])
+  ];
+}
+
+pub under_more_all : (P : ℕ → List Sym → Type 0) (cost : ℕ → ℕ) (known : List Known) (start : ℕ) (a : List Sym) (old new : Sums) → AreNoLess old new
+    → IsDead P a ⊎ IsUnder cost known start a old → IsDead P a ⊎ IsUnder cost known start a new
+under_more_all P cost known start a old new more h = elim h [ inl dead ↦ inl dead | inr under ↦ inr (under_more cost known start a old new more under) ]
+
+pub no_less_then : (old mid new : Sums) → AreNoLess old mid → AreNoLess mid new → AreNoLess old new
+no_less_then old mid new h k = record { top = let e = h.top in let f = k.top in omega (arith, e, f); twice = λ e. k.twice (h.twice e) }
+
+-- before the first production
+pub none_reached : (g : Grammar) (cost : ℕ → ℕ) (known : List Known) (path : List ℕ) (start : ℕ) → IsGroup g cost known path start
+    → AreReached (HasProduction g) cost path start (record { top = 0; twice = false })
+none_reached g cost known path start group = record {
+  small = omega arith;
+  costs = λ i le lt. at_least_none (HasProduction g) cost (Rule (get_or path i 0) ∷ []) (group.members i le lt).1;
+  doubles = λ e. absurd (true≢false (sym e));
+}
+
+module _ (g : Grammar) (is : IsGrammar g) (cost : ℕ → ℕ) (known : List Known) (path : List ℕ) (start : ℕ) (group : IsGroup g cost known path start) where
+  abbrev pub large : ℕ → ℕ
+  large r = large_of (HasProduction g) cost r (known_of known r) (group.so r)
+
+  pub many : (r : ℕ) → 65535 < large r
+  many r = large_many (HasProduction g) cost r (known_of known r) (group.so r)
+
+  -- what yields a word has no rules that have none
+  pub yields_live : {a : List Sym} {w : List ℕ} → Yields (HasProduction g) a w → All (IsLiveSymbol known) a
+  yields_live empty = All-nil (IsLiveSymbol known)
+  yields_live (token {t = t} {a = a} h) = All-cons (IsLiveSymbol known) (Token t) a tt (yields_live h)
+  yields_live (opened {r = r} {a = a} {u = u} has h k e) = All-cons (IsLiveSymbol known) (Rule r) a
+      (elim (cases_Bool (is_dead (known_of known r))) [
+        | inl dead ↦ absurd (group.dead r dead u (opened has h empty (sym (append-nil u))))
+        | inr live ↦ live
+      ]) (yields_live k)
+
+  -- a production of a rule of the group, whose rules have sentences
+  module _ (i : ℕ) (le : start ≤ i) (lt : i < length path) (a : List Sym) (has : HasProduction g (get_or path i 0) a) (live : All (IsLiveSymbol known) a) where
+    words : (r : ℕ) → Contains a (Rule r) → HasWord (HasProduction g) (Rule r ∷ [])
+    words r among = group.lives r
+        (subst (IsSymbolOf g) among.2 (all_symbols g _ is has among.0 (Rule r) among.1)) (subst (IsLiveSymbol known) among.2 (live among.0 (Rule r) among.1))
+
+    costs_all : (n : ℕ) → AtLeast (HasProduction g) cost a n → CostAtLeast (HasProduction g) cost path start n
+    costs_all n h j le' lt' = group.above j i le' lt' le lt cost n (at_least_rule (HasProduction g) cost (get_or path i 0) a n has h)
+
+    -- if the group's rules cost n, they cost what the row does then
+    pub costs_more : (n : ℕ) → CostAtLeast (HasProduction g) cost path start n → CostAtLeast (HasProduction g) cost path start (row_cost cost known start large n a)
+    costs_more n all = costs_all _ (row_at_least (HasProduction g) cost _ a (λ r among. known_reached (HasProduction g) cost start n r (known_of known r) (group.so r)
+        (subst (IsLiveSymbol known) among.2 (live among.0 (Rule r) among.1)) (words r among)
+        (λ place e le'. let at = group.places r place e in subst (λ q. AtLeast (HasProduction g) cost (Rule q ∷ []) n) at.1 (all place le' at.0))))
+
+    module _ (outer inner : ℕ) (sum : IsSum cost known start a outer inner) where
+      pub beside : CostsBeside cost known start large a outer inner
+      beside = sum.sum large many
+
+      pub costs_beside : (n : ℕ) → CostAtLeast (HasProduction g) cost path start n → CostAtLeast (HasProduction g) cost path start (beside.rest + n * inner)
+      costs_beside n all = subst (CostAtLeast (HasProduction g) cost path start) (beside.whole n) (costs_more n all)
+
+      costs_outer : CostAtLeast (HasProduction g) cost path start outer
+      costs_outer j le' lt' = at_least_fewer (HasProduction g) cost _ (beside.rest + 0 * inner) outer (let cut = beside.cut in omega (arith, cut))
+          (costs_beside 0 (none_reached g cost known path start group).costs j le' lt')
+
+      costs_double : 1 < inner → (n : ℕ) → CostAtLeast (HasProduction g) cost path start n → CostAtLeast (HasProduction g) cost path start (n + n)
+      costs_double two n all j le' lt' = at_least_fewer (HasProduction g) cost _ (beside.rest + n * inner) (n + n)
+          (let twice : n * 2 ≤ n * inner = mul-le-mul_left n (omega (arith, two)) in omega (arith, twice)) (costs_beside n all j le' lt')
+
+      pub costs_grow : 0 < outer → 0 < inner → (n : ℕ) → CostAtLeast (HasProduction g) cost path start n
+      costs_grow some one zero j le' lt' = (none_reached g cost known path start group).costs j le' lt'
+      costs_grow some one (suc n) j le' lt' = at_least_fewer (HasProduction g) cost _ (beside.rest + n * inner) (suc n)
+          (let once : n * 1 ≤ n * inner = mul-le-mul_left n (omega (arith, one)) in let cut = beside.cut in omega (arith, once, cut, some))
+          (costs_beside n (costs_grow some one n) j le' lt')
+
+    -- the row was taken in
+    pub reached_more : (old new : Sums) → AreReached (HasProduction g) cost path start old → AddsRow cost known start a old new → AreReached (HasProduction g) cost path start new
+    reached_more old new reached h = record {
+      small = let small = reached.small in let top = h.top in let cut = (h.is.sum large many).cut in omega (arith, small, top, cut);
+      costs = λ j le' lt'. elim (cases_lt old.top h.outer) [
+        | inl less ↦ let top = h.top in at_least_fewer (HasProduction g) cost _ h.outer new.top (omega (arith, less, top)) (costs_outer h.outer h.inner h.is j le' lt')
+        | inr no_less ↦ let top = h.top in at_least_fewer (HasProduction g) cost _ old.top new.top (omega (arith, no_less, top)) (reached.costs j le' lt')
+      ];
+      doubles = λ e. elim (cases_Bool old.twice) [
+        | inl was ↦ reached.doubles was
+        | inr none ↦ costs_double h.outer h.inner h.is (ltb-true 1 h.inner (sym (ap (λ b. b || ltb 1 h.inner) none) ∙ sym h.twice ∙ e))
+      ];
+    }
+
+    -- the row stopped the sum
+    pub row_stopped : (stop : Stop) → StopsAt cost known start a stop ⊎ GrowsBeside cost known start a stop → IsStopped (HasProduction g) cost path start g.rules known stop
+    row_stopped stop (inr h) = subst (IsStopped (HasProduction g) cost path start g.rules known) (sym h.grows) (costs_grow h.outer h.inner h.is h.some h.one)
+    row_stopped stop (inl h) = by h.symbol h.among h.stops
+      where
+        by : (s : Sym) → Contains a s → read_symbol cost known start s ≡ Err stop → IsStopped (HasProduction g) cost path start g.rules known stop
+        by (Token t) among e = absurd (cc)
+        by (Rule x) among e = elim (stops_by start x (known_of known x) stop e) [
+          | inl k ↦ subst (IsStopped (HasProduction g) cost path start g.rules known) (sym k.0) (
+            subst (IsSymbolOf g) among.2 (all_symbols g _ is has among.0 (Rule x) among.1),
+            k.1,
+            λ j le' lt' cost' n h'. group.above j i le' lt' le lt cost' n (at_least_rule (HasProduction g) cost' (get_or path i 0) a n has (row_above (HasProduction g) a x among words cost' n h')),
+          )
+          | inr k ↦ subst (IsStopped (HasProduction g) cost path start g.rules known) (sym k.0)
+              (λ n. costs_all n (row_above (HasProduction g) a x among words cost n (unbounded_at_least (HasProduction g) cost x n (group.so x (Ok None) k.1))))
+        ]
+
+  -- a production of a rule of the group was taken in
+  pub row_taken : (i : ℕ) → start ≤ i → i < length path → (a : List Sym) → HasProduction g (get_or path i 0) a → (old new : Sums)
+      → AreReached (HasProduction g) cost path start old → TakesRow cost known start a old new
+      → AreReached (HasProduction g) cost path start new × (IsDead (HasProduction g) a ⊎ IsUnder cost known start a new) × AreNoLess old new
+  row_taken i le lt a has old new reached (inl h) = (
+    subst (AreReached (HasProduction g) cost path start) (sym h.1) reached,
+    inl (λ w tree. h.0 (yields_live tree)),
+    subst (AreNoLess old) (sym h.1) (record { top = omega arith; twice = λ e. e }),
+  )
+  row_taken i le lt a has old new reached (inr h) = (
+    reached_more i le lt a has h.live old new reached h,
+    inr (row_under cost known start a old new h),
+    record { top = let top = h.top in omega (arith, top); twice = λ e. h.twice ∙ ap (λ b. b || ltb 1 h.inner) e },
+  )

@@ -1,0 +1,25 @@
+use Rattle.std.proofs.Common.{length}
+use Rattle.cfgtables.specs.Symbols.{sym_of}
+use Rattle.cfgsums.specs.Lists.{IsListed}
+use Rattle.cfgsums.proofs.Rows.{shown_all, shown_holds, shown_more}
+use Rattle.cfggreatest.specs.Inner.Known.{IsLiveSymbol}
+use Rattle.cfggreatest.proofs.sums.are_live.Goals as goal
+
+pub is_live-requires : goal.is_live-requires
+is_live-requires g c = (
+  c.requires.0,
+  shown_holds (sym_of g.S.Storage.number) _ _ _ c.loop-symbol-test.true c.symbol-item.is
+      (IsListed (length c.args.known.now) c.requires.0) c.requires.1,
+)
+
+pub returns-then-not-is_live : goal.returns-then-not-is_live
+returns-then-not-is_live g c = λ all. c.if-not-is_live.ensures
+    (shown_holds (sym_of g.S.Storage.number) _ _ _ c.loop-symbol-test.true c.symbol-item.is (IsLiveSymbol c.args.known.now) all)
+
+pub loop-symbol-preserved : goal.loop-symbol-preserved
+loop-symbol-preserved g c = shown_more (sym_of g.S.Storage.number) _ _ _ c.loop-symbol-test.true c.symbol-item.is
+    (IsLiveSymbol c.args.known.now) c.loop-symbol.invariant c.if-not-is_live.ensures
+
+pub returns : goal.returns
+returns g c = shown_all (sym_of g.S.Storage.number) c.args.symbols.now (IsLiveSymbol c.args.known.now) c.loop-symbol.symbol-index
+    c.loop-symbol-test.false c.loop-symbol.invariant

@@ -1,0 +1,17 @@
+-- Groups of rules, one behind the other on a path: places of the path at which they begin.
+use Rattle.std.specs.Prelude.{◌≡◌, ℕ, ◌-◌, ◌<◌, ◌≤◌, List, length, slice_index}
+
+-- Each rule is above those behind it, and above those of its own group: above each that no group begins at or before
+-- the one place and behind the other.
+pub record AreGroups (above : ℕ → ℕ → Type 0) (path starts : List ℕ) : Type 0 where
+  pub first : slice_index starts 0 ≡ 0
+  pub some : 0 < length path → 0 < length starts
+  pub rising : (i j : ℕ) → i < j → j < length starts → slice_index starts i < slice_index starts j
+  pub within : (k : ℕ) → k < length starts → slice_index starts k < length path
+  pub chain : (i j : ℕ) → i < length path → j < length path
+      → ((k : ℕ) → k < length starts → slice_index starts k ≤ i → slice_index starts k ≤ j) → above (slice_index path i) (slice_index path j)
+
+-- the last of the starts
+pub record IsLast (starts : List ℕ) (start : ℕ) : Type 0 where
+  pub some : 0 < length starts
+  pub at : slice_index starts (length starts - 1) ≡ start

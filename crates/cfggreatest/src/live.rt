@@ -1,0 +1,137 @@
+//! Which rules have sentences.
+
+ghost use Rattle.std.specs.Prelude.{◌≡◌, Contains, IfOk, MatchBool, length, map};
+ghost use Rattle.derivation.specs.Grammar.{Grammar, IsGrammar};
+ghost use Rattle.cfganalysis.specs.Inner.Growth.{TakesIn};
+ghost use Rattle.cfganalysis.specs.Inner.GrowingFirsts.{HoldsRule};
+ghost use Rattle.cfganalysis.specs.Inner.Waiting.{NoneWaits, Waits};
+ghost use Rattle.cfganalysis.specs.Inner.Work.{Notes};
+ghost use Rattle.cfgtables.specs.Symbols.{sym_of};
+ghost use Rattle.cfganalysis.specs.Table.{bits_on};
+ghost use Rattle.cfggreatest.specs.Inner.Live.{AreLive, HaveLive, HaveSentences, IsNoMoreLive, SayLive};
+ghost use Rattle.cfggreatest.specs.Inner.Live.{is_live, is_live_symbol, live_bounded};
+
+use cfganalysis::firsts::note_rules;
+use cfganalysis::growth::Analysis;
+use cfganalysis::visits::visit_all;
+use cfganalysis::waiting::Waiting;
+use cfganalysis::work::Users;
+use cfgtables::{CountedTables, Productions, Tables};
+use cfgindex::{RIdx, Storage, Symbol, Vob};
+use std::alloc::{AllocError, Global};
+use std::marker::Model;
+
+/// The rules that have sentences, a bit for each.
+#[derive(Drop)]
+pub(crate) struct Live {
+    bits: Vob,
+}
+
+impl Model for Live {
+    ghost use Rattle.std.specs.Prelude.{List, Bool};
+
+    ghost Value = { List Bool };
+
+    ghost view = { λ x. x.bits };
+}
+
+impl Live {
+    /// The rules of a grammar that have sentences.
+    ///
+    /// # Errors
+    ///
+    /// Want of memory.
+    pub(crate) fn new<S: Storage, T: Tables<S>>(
+        alloc: Global,
+        tables: &T,
+    ) -> Result<Self, AllocError>
+        ensures { IfOk result (HaveSentences (T.grammar tables.now)) }
+    {
+        let mut productions = CountedTables::new(alloc, tables)?;
+        let rules = productions.rules_len().0.to_usize();
+        let _tokens = productions.tokens_len().0.to_usize();
+        let mut live = Live {
+            bits: Vob::from_elem(alloc, false, rules)?,
+        };
+        visit_all(alloc, &mut productions, &mut live)?;
+        Ok(live)
+    }
+
+    /// Whether the rule has a sentence.
+    pub(crate) fn has(&self, rule: usize) -> bool
+        ensures { result ≡ is_live self.now rule }
+    {
+        self.bits.get(rule).unwrap_or(false)
+    }
+
+    /// Whether the symbol is a token, or a rule that has a sentence.
+    fn has_symbol<S: Storage>(&self, symbol: Symbol<S>) -> bool
+        ensures { result ≡ is_live_symbol self.now (sym_of S.number symbol) }
+    {
+        match symbol {
+            Symbol::Rule(rule) => self.has(usize::from(rule)),
+            Symbol::Token(_) => true,
+        }
+    }
+
+    /// Whether all symbols are tokens, or rules that have sentences.
+    fn has_all<S: Storage>(&self, symbols: &[Symbol<S>]) -> bool
+        ensures { MatchBool result (AreLive self.now (map (sym_of S.number) symbols.now))
+            (AreLive self.now (map (sym_of S.number) symbols.now) → ⊥) }
+    {
+        for symbol in symbols {
+            if !self.has_symbol(*symbol) {
+                return false;
+            }
+        }
+        true
+    }
+}
+
+impl<S: Storage> Analysis<S> for Live {
+    ghost holds = { SayLive };
+
+    ghost covers = { HaveLive };
+
+    ghost bits = { bits_on };
+
+    ghost rests_on = { HoldsRule };
+
+    ghost no_more = { IsNoMoreLive };
+
+    ghost bounded = { live_bounded };
+
+    fn note(
+        &self,
+        production: usize,
+        _rule: RIdx<S>,
+        symbols: &[Symbol<S>],
+        users: &mut Users,
+    ) -> Result<(), AllocError>
+        requires { (g : Grammar) × IsGrammar g × (length users.old ≡ g.rules)
+            × Contains g.productions
+            (record { rule = S.number _rule.0; symbols = map (sym_of S.number) symbols.now }) }
+        ensures { IfOk result (λ _. Notes production
+            (HoldsRule (record { rule = S.number _rule.0; symbols = map (sym_of S.number) symbols.now }))
+            users.old users.new) }
+    {
+        note_rules(production, symbols, users)
+    }
+
+    fn visit(&mut self, rule: RIdx<S>, symbols: &[Symbol<S>], gained: &mut Waiting)
+        requires { (g : Grammar) × IsGrammar g × SayLive g self.old × NoneWaits gained.old
+            × (length gained.old ≡ g.rules)
+            × Contains g.productions (record { rule = S.number rule.0; symbols = map (sym_of S.number) symbols.now }) }
+        ensures takes { TakesIn SayLive HaveLive bits_on HoldsRule IsNoMoreLive
+            (record { rule = S.number rule.0; symbols = map (sym_of S.number) symbols.now })
+            self.old self.new (Waits gained.new) }
+        ensures rules { length gained.new ≡ length gained.old }
+    {
+        if !self.has_all(symbols) {
+            return;
+        }
+        if self.bits.set(usize::from(rule), true) {
+            gained.put(usize::from(rule));
+        }
+    }
+}

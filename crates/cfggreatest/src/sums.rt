@@ -1,0 +1,268 @@
+//! What the productions of a group of rules cost, beside the rules of the group. In a group each rule costs as much as
+//! any other. So its greatest cost is the greatest of these sums, unless a rule of the group stands beside what costs
+//! something, and the costs grow.
+
+ghost use Rattle.std.specs.Prelude.{◌≡◌, ℕ, ◌+◌, ◌<◌, ◌≤◌, All, IfErr, MatchBool, MatchResult, OnOk, false, length, map, min};
+ghost use Rattle.std.specs.Prelude.{slice_index};
+ghost use Rattle.derivation.specs.Grammar.{HasProduction};
+ghost use Rattle.cfgtables.specs.Symbols.{sym_of};
+ghost use Rattle.cfgsums.specs.Lists.{IsListed};
+ghost use Rattle.cfggreatest.specs.Inner.Known.{IsLiveSymbol, group_answer, is_dead, known_of, read_answer};
+ghost use Rattle.cfggreatest.specs.Inner.Known.{read_known, read_symbol};
+ghost use Rattle.cfggreatest.specs.Inner.Sums.{AreNoLess, AreReached, AreUnder, IsGroup, IsStopped, IsSum, StopsAt};
+ghost use Rattle.cfggreatest.specs.Inner.Sums.{StopsRow, TakesRow};
+
+use cfgtables::Tables;
+use cfgindex::{RIdx, Storage, Symbol, to_storage};
+use cfgsums::CostError;
+
+/// What no answer of a greatest cost is above.
+const TOO_LARGE: u32 = 65536;
+
+/// What is known of a rule.
+#[derive(Clone, Copy)]
+pub(crate) enum Known {
+    /// It was not entered.
+    New,
+    /// It stands at this place of the path.
+    Open(usize),
+    /// This is told of it.
+    Told(Result<Option<u16>, CostError>),
+}
+
+/// Why the sum of a group was stopped.
+#[derive(Drop)]
+pub(crate) enum Stop {
+    /// A rule leads to this one, of which nothing is told, and which is not of the group.
+    Leads(usize),
+    /// The costs of the group grow past any number.
+    Grows,
+}
+
+/// What a row of symbols costs.
+#[derive(Drop)]
+struct RowSum {
+    /// What stands outside the group costs so much, cut down.
+    outer: u32,
+    /// So many symbols are rules of the group.
+    inner: usize,
+}
+
+/// What the productions of a group cost.
+#[derive(Drop)]
+pub(crate) struct Sums {
+    /// The greatest sum outside the group, cut down.
+    top: u32,
+    /// Whether a production holds two rules of the group.
+    twice: bool,
+}
+
+impl Sums {
+    /// The sums of no production.
+    fn new() -> Self
+        ensures { result ≡ record { top = 0; twice = false } }
+    {
+        Sums {
+            top: 0,
+            twice: false,
+        }
+    }
+
+    /// What the sums tell of each rule of the group.
+    pub(crate) fn answer(&self) -> Result<Option<u16>, CostError>
+        ensures { result ≡ group_answer self.now.top self.now.twice }
+    {
+        if self.twice && self.top > 0 {
+            return Ok(None);
+        }
+        match u16::try_from(self.top) {
+            Ok(cost) => Ok(Some(cost)),
+            Err(_) => Err(CostError::CostTooLarge),
+        }
+    }
+}
+
+/// Whether it is told of a rule that it has no sentence.
+fn is_dead(known: Known) -> bool
+    ensures { result ≡ is_dead known }
+{
+    matches!(known, Known::Told(Err(CostError::NoSentence)))
+}
+
+/// Whether a symbol is a token, or a rule that may have sentences.
+fn is_live<S: Storage>(known: &[Known], symbol: Symbol<S>) -> bool
+    requires { (tokens : ℕ) × IsListed (length known.now) tokens (sym_of S.number symbol) }
+    ensures { MatchBool result (IsLiveSymbol known.now (sym_of S.number symbol))
+        (IsLiveSymbol known.now (sym_of S.number symbol) → ⊥) }
+{
+    match symbol {
+        Symbol::Rule(rule) => !is_dead(known[usize::from(rule)]),
+        Symbol::Token(_) => true,
+    }
+}
+
+/// Whether each rule among the symbols may have sentences.
+pub(crate) fn are_live<S: Storage>(known: &[Known], symbols: &[Symbol<S>]) -> bool
+    requires { (tokens : ℕ) × All (IsListed (length known.now) tokens) (map (sym_of S.number) symbols.now) }
+    ensures { MatchBool result (All (IsLiveSymbol known.now) (map (sym_of S.number) symbols.now))
+        (All (IsLiveSymbol known.now) (map (sym_of S.number) symbols.now) → ⊥) }
+{
+    for symbol in symbols {
+        if !is_live(known, *symbol) {
+            return false;
+        }
+    }
+    true
+}
+
+/// What a rule of which this is told adds to a sum, cut down.
+fn told_cost(answer: Result<Option<u16>, CostError>) -> Result<Option<u32>, Stop>
+    ensures { result ≡ read_answer answer }
+{
+    match answer {
+        Ok(None) => Err(Stop::Grows),
+        Ok(Some(cost)) => Ok(Some(u32::from(cost))),
+        Err(_) => Ok(Some(TOO_LARGE)),
+    }
+}
+
+/// What a rule adds to a sum, if it is not of the group that begins at this place.
+fn rule_cost(known: &[Known], start: usize, rule: usize) -> Result<Option<u32>, Stop>
+    requires { rule < length known.now }
+    ensures { result ≡ read_known start rule (known_of known.now rule) }
+{
+    match known[rule] {
+        Known::New => Err(Stop::Leads(rule)),
+        Known::Open(place) if place < start => Err(Stop::Leads(rule)),
+        Known::Open(_) => Ok(None),
+        Known::Told(answer) => told_cost(answer),
+    }
+}
+
+/// What a symbol adds to a sum, if it is no rule of the group that begins at this place.
+fn symbol_cost<S: Storage>(
+    known: &[Known],
+    costs: &[u8],
+    start: usize,
+    symbol: Symbol<S>,
+) -> Result<Option<u32>, Stop>
+    requires { IsListed (length known.now) (length costs.now) (sym_of S.number symbol) }
+    ensures { result ≡ read_symbol (slice_index costs.now) known.now start (sym_of S.number symbol) }
+{
+    match symbol {
+        Symbol::Rule(rule) => rule_cost(known, start, usize::from(rule)),
+        Symbol::Token(token) => Ok(Some(u32::from(costs[usize::from(token)]))),
+    }
+}
+
+/// The sum of two costs, cut down.
+fn cut_sum(first: u32, second: u32) -> u32
+    ensures { result ≡ min 65536 (first + second) }
+{
+    TOO_LARGE.min(first.saturating_add(second))
+}
+
+/// What the symbols cost together, beside the rules of the group that begins at this place.
+fn row_sum<S: Storage>(
+    known: &[Known],
+    costs: &[u8],
+    start: usize,
+    symbols: &[Symbol<S>],
+) -> Result<RowSum, Stop>
+    requires { All (IsListed (length known.now) (length costs.now)) (map (sym_of S.number) symbols.now) }
+    ensures { MatchResult result
+        (λ sum. IsSum (slice_index costs.now) known.now start (map (sym_of S.number) symbols.now) sum.outer sum.inner)
+        (StopsAt (slice_index costs.now) known.now start (map (sym_of S.number) symbols.now)) }
+{
+    let mut outer: u32 = 0;
+    let mut inner: usize = 0;
+    for symbol in symbols {
+        match symbol_cost(known, costs, start, *symbol)? {
+            Some(cost) => outer = cut_sum(outer, cost),
+            None => inner += 1,
+        }
+    }
+    Ok(RowSum { outer, inner })
+}
+
+/// Takes in the sum of a production, if it has words.
+fn take_row<S: Storage>(
+    known: &[Known],
+    costs: &[u8],
+    start: usize,
+    symbols: &[Symbol<S>],
+    sums: &mut Sums,
+) -> Result<(), Stop>
+    requires { All (IsListed (length known.now) (length costs.now)) (map (sym_of S.number) symbols.now) }
+    ensures { MatchResult result
+        (λ _. TakesRow (slice_index costs.now) known.now start (map (sym_of S.number) symbols.now) sums.old sums.new)
+        (StopsRow (slice_index costs.now) known.now start (map (sym_of S.number) symbols.now)) }
+{
+    if !are_live(known, symbols) {
+        return Ok(());
+    }
+    let row = row_sum(known, costs, start, symbols)?;
+    if row.inner > 0 && row.outer > 0 {
+        return Err(Stop::Grows);
+    }
+    sums.top = sums.top.max(row.outer);
+    sums.twice = sums.twice || row.inner > 1;
+    Ok(())
+}
+
+/// Takes in the sums of the productions of the rule that stands at this place of the path.
+fn take_rule<S: Storage, T: Tables<S>>(
+    grm: &T,
+    known: &[Known],
+    costs: &[u8],
+    path: &[usize],
+    start: usize,
+    place: usize,
+    sums: &mut Sums,
+) -> Result<(), Stop>
+    requires known { length known.now ≡ (T.grammar grm.now).rules }
+    requires costs { length costs.now ≡ (T.grammar grm.now).tokens }
+    requires group { IsGroup (T.grammar grm.now) (slice_index costs.now) known.now path.now start }
+    requires behind { start ≤ place }
+    requires within { place < length path.now }
+    requires reached { AreReached (HasProduction (T.grammar grm.now)) (slice_index costs.now) path.now start sums.old }
+    ensures reached { OnOk result
+        (AreReached (HasProduction (T.grammar grm.now)) (slice_index costs.now) path.now start sums.new) }
+    ensures under { OnOk result (AreUnder (HasProduction (T.grammar grm.now)) (slice_index costs.now) path.now start
+        known.now (slice_index path.now place) sums.new) }
+    ensures more { OnOk result (AreNoLess sums.old sums.new) }
+    ensures stopped { IfErr result (IsStopped (HasProduction (T.grammar grm.now)) (slice_index costs.now) path.now start
+        (T.grammar grm.now).rules known.now) }
+{
+    let _rules_len = grm.rules_len().0.to_usize();
+    let places = grm.rule_to_prods(RIdx(to_storage(path[place])));
+    for p in places {
+        take_row(known, costs, start, grm.prod(*p), sums)?;
+    }
+    Ok(())
+}
+
+/// The sums of the productions of the group that begins at this place of the path.
+pub(crate) fn group_sums<S: Storage, T: Tables<S>>(
+    grm: &T,
+    known: &[Known],
+    costs: &[u8],
+    path: &[usize],
+    start: usize,
+) -> Result<Sums, Stop>
+    requires known { length known.now ≡ (T.grammar grm.now).rules }
+    requires costs { length costs.now ≡ (T.grammar grm.now).tokens }
+    requires group { IsGroup (T.grammar grm.now) (slice_index costs.now) known.now path.now start }
+    ensures { MatchResult result
+        (λ sums. AreReached (HasProduction (T.grammar grm.now)) (slice_index costs.now) path.now start sums
+        × ((i : ℕ) → start ≤ i → i < length path.now → AreUnder (HasProduction (T.grammar grm.now))
+        (slice_index costs.now) path.now start known.now (slice_index path.now i) sums))
+        (IsStopped (HasProduction (T.grammar grm.now)) (slice_index costs.now) path.now start
+        (T.grammar grm.now).rules known.now) }
+{
+    let mut sums = Sums::new();
+    for place in start..path.len() {
+        take_rule(grm, known, costs, path, start, place, &mut sums)?;
+    }
+    Ok(sums)
+}

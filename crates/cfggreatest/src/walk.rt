@@ -1,0 +1,325 @@
+//! A walk through rules, which finds groups of rules that refer to one another: a path of groups, of which the last one
+//! is left by an edge, joined to one before it, or told (Gabow, Path-based depth-first search for strong and
+//! biconnected components, 2000).
+
+ghost use Rattle.std.specs.Prelude.{◌≡◌, ℕ, ◌<◌, ◌≤◌, [], ◌∷◌, All, IfOk, IfSome, MatchOption, OnOk, Option, Result, false, true};
+ghost use Rattle.std.specs.Prelude.{length, map, slice_index};
+ghost use Rattle.derivation.specs.Grammar.{Grammar, HasProduction, IsGrammar, Rule};
+ghost use Rattle.cfgtables.specs.Symbols.{sym_of};
+ghost use Rattle.cfggreatest.specs.Words.{Means};
+ghost use Rattle.cfggreatest.specs.Inner.Groups.{IsLast};
+ghost use Rattle.cfggreatest.specs.Inner.Known.{AreTrue, is_dead, is_inside, is_outside, known_of};
+ghost use Rattle.cfggreatest.specs.Inner.AtLeast.{HasWord};
+ghost use Rattle.cfggreatest.specs.Inner.Live.{HaveSentences, is_live};
+ghost use Rattle.cfggreatest.specs.Inner.Walk.{CanTell, GoesOn, IsEdge, IsEdgeTo, IsLedOut, IsWalk};
+ghost use Rattle.cfggreatest.specs.Inner.Walk.{IsWayOut, Steps, first_known};
+
+use crate::live::Live;
+use crate::sums::{Known, Stop, are_live, group_sums};
+use cfgtables::Tables;
+use cfgindex::{RIdx, Storage, Symbol, to_storage};
+use cfgsums::CostError;
+use std::alloc::{AllocError, Global};
+
+/// A walk through rules.
+#[derive(Drop)]
+pub(crate) struct Walk {
+    /// What is known of each rule.
+    known: Vec<Known>,
+    /// The rules that were entered, and of which nothing is told yet.
+    path: Vec<usize>,
+    /// The places of the path at which groups begin.
+    starts: Vec<usize>,
+    /// References that are still to be followed, each from a rule to one that it holds.
+    edges: Vec<(usize, usize)>,
+}
+
+/// What is known of a rule before the walk.
+fn first_known(live: bool) -> Known
+    ensures { result ≡ first_known live }
+{
+    if live {
+        Known::New
+    } else {
+        Known::Told(Err(CostError::NoSentence))
+    }
+}
+
+/// Lets edges wait from a rule to those among the symbols.
+///
+/// # Errors
+///
+/// Want of memory.
+fn push_symbols<S: Storage>(
+    edges: &mut Vec<(usize, usize)>,
+    from: usize,
+    symbols: &[Symbol<S>],
+) -> Result<(), AllocError>
+    ensures { OnOk result ((g : Grammar) → All (IsEdge g) edges.old.items
+        → All (IsEdgeTo g from) (map (sym_of S.number) symbols.now) → All (IsEdge g) edges.new.items) }
+{
+    for symbol in symbols {
+        if let Symbol::Rule(rule) = symbol {
+            edges.push((from, usize::from(*rule)))?;
+        }
+    }
+    Ok(())
+}
+
+/// Lets edges wait from a rule to those in its productions that have words.
+///
+/// # Errors
+///
+/// Want of memory.
+fn push_edges<S: Storage, T: Tables<S>>(
+    grm: &T,
+    known: &[Known],
+    rule: usize,
+    edges: &mut Vec<(usize, usize)>,
+) -> Result<(), AllocError>
+    requires known { length known.now ≡ (T.grammar grm.now).rules }
+    requires lives { (r : ℕ) → r < (T.grammar grm.now).rules → is_dead (known_of known.now r) ≡ false
+        → HasWord (HasProduction (T.grammar grm.now)) (Rule r ∷ []) }
+    requires rule { rule < (T.grammar grm.now).rules }
+    requires edges { All (IsEdge (T.grammar grm.now)) edges.old.items }
+    ensures { OnOk result (All (IsEdge (T.grammar grm.now)) edges.new.items) }
+{
+    let _rules_len = grm.rules_len().0.to_usize();
+    let places = grm.rule_to_prods(RIdx(to_storage(rule)));
+    for p in places {
+        let symbols = grm.prod(*p);
+        if are_live(known, symbols) {
+            push_symbols(edges, rule, symbols)?;
+        }
+    }
+    Ok(())
+}
+
+impl Walk {
+    /// A walk that entered no rule. Of rules that have no sentence that is told.
+    ///
+    /// # Errors
+    ///
+    /// Want of memory.
+    pub(crate) fn new(alloc: Global, live: &Live, rules: usize) -> Result<Self, AllocError>
+        ensures { IfOk result (λ x. (g : Grammar) → IsGrammar g → rules ≡ g.rules → HaveSentences g live.now
+            → IsWalk g x × ((cost : ℕ → ℕ) → AreTrue g cost x.known.items)) }
+    {
+        let mut known = Vec::new(alloc);
+        for rule in 0..rules {
+            known.push(first_known(live.has(rule)))?;
+        }
+        Ok(Walk {
+            known,
+            path: Vec::new(alloc),
+            starts: Vec::new(alloc),
+            edges: Vec::new(alloc),
+        })
+    }
+
+    /// Where the last group begins on the path.
+    fn last_start(&self) -> Option<usize>
+        ensures { MatchOption result (length self.now.starts.items ≡ 0) (IsLast self.now.starts.items) }
+    {
+        self.starts.last().copied()
+    }
+
+    /// Enters a rule, which is a group of its own, and lets the edges wait that lead from it.
+    ///
+    /// # Errors
+    ///
+    /// Want of memory.
+    fn enter<S: Storage, T: Tables<S>>(&mut self, grm: &T, rule: usize) -> Result<(), AllocError>
+        requires walk { IsWalk (T.grammar grm.now) self.old }
+        requires out { IsWayOut (T.grammar grm.now) self.old rule }
+        requires fresh { known_of self.old.known.items rule ≡ Known.New }
+        ensures { OnOk result (GoesOn (T.grammar grm.now) self.old self.new) }
+    {
+        let place = self.path.len();
+        self.known[rule] = Known::Open(place);
+        self.path.push(rule)?;
+        self.starts.push(place)?;
+        push_edges(grm, &self.known, rule, &mut self.edges)
+    }
+
+    /// Whether a group begins behind this place.
+    fn begins_behind(&self, place: usize) -> bool
+        ensures behind { result ≡ true → (start : ℕ) × IsLast self.now.starts.items start × (place < start) }
+        ensures no_more { result ≡ false → (start : ℕ) → IsLast self.now.starts.items start → start ≤ place }
+    {
+        match self.last_start() {
+            Some(start) => place < start,
+            None => false,
+        }
+    }
+
+    /// Joins the groups behind this place to the one that it is in.
+    fn join(&mut self, place: usize)
+        ensures { (g : Grammar) (rule : ℕ) → IsWalk g self.old → IsWayOut g self.old rule
+            → known_of self.old.known.items rule ≡ Known.Open place → GoesOn g self.old self.new }
+    {
+        while self.begins_behind(place) {
+            self.starts.truncate(self.starts.len() - 1);
+        }
+    }
+
+    /// Follows an edge from the last group to a rule outside it.
+    ///
+    /// # Errors
+    ///
+    /// Want of memory.
+    fn follow<S: Storage, T: Tables<S>>(&mut self, grm: &T, rule: usize) -> Result<(), AllocError>
+        requires walk { IsWalk (T.grammar grm.now) self.old }
+        requires out { IsWayOut (T.grammar grm.now) self.old rule }
+        ensures { OnOk result (GoesOn (T.grammar grm.now) self.old self.new) }
+    {
+        match self.known[rule] {
+            Known::New => self.enter(grm, rule),
+            Known::Open(place) => {
+                self.join(place);
+                Ok(())
+            }
+            Known::Told(_) => Ok(()),
+        }
+    }
+
+    /// Whether the rule stands in the group that begins at this place.
+    fn is_in(&self, start: usize, rule: usize) -> bool
+        requires { rule < length self.now.known.items }
+        ensures { result ≡ is_inside start (known_of self.now.known.items rule) }
+    {
+        match self.known[rule] {
+            Known::Open(place) => place >= start,
+            _ => false,
+        }
+    }
+
+    /// Whether nothing is told of the rule, and it doesn't stand in the group that begins at this place.
+    fn is_out(&self, start: usize, rule: usize) -> bool
+        requires { rule < length self.now.known.items }
+        ensures { result ≡ is_outside start (known_of self.now.known.items rule) }
+    {
+        match self.known[rule] {
+            Known::New => true,
+            Known::Open(place) => place < start,
+            Known::Told(_) => false,
+        }
+    }
+
+    /// A rule outside the group that begins at this place, to which an edge of the group leads. Edges that lead
+    /// elsewhere wait no longer.
+    fn next_out(&mut self, start: usize) -> Option<usize>
+        requires { (g : Grammar) × IsWalk g self.old }
+        ensures known { self.new.known ≡ self.old.known }
+        ensures path { self.new.path ≡ self.old.path }
+        ensures starts { self.new.starts ≡ self.old.starts }
+        ensures edges { (g : Grammar) → All (IsEdge g) self.old.edges.items → All (IsEdge g) self.new.edges.items }
+        ensures out { IfSome result (λ r. (g : Grammar) → All (IsEdge g) self.old.edges.items
+            → IsLedOut g start self.old.known.items r) }
+    {
+        while let Some((from, to)) = self.edges.last().copied() {
+            if !self.is_in(start, from) {
+                return None;
+            }
+            let _edge = self.edges.pop();
+            if self.is_out(start, to) {
+                return Some(to);
+            }
+        }
+        None
+    }
+
+    /// Tells this of each rule of the last group, which leaves the path.
+    fn tell(&mut self, start: usize, answer: Result<Option<u16>, CostError>)
+        requires walk { (g : Grammar) × IsWalk g self.old }
+        requires last { IsLast self.old.starts.items start }
+        ensures { (g : Grammar) (cost : ℕ → ℕ) → IsWalk g self.old → CanTell g cost self.old start answer
+            → Steps g cost self.old self.new }
+    {
+        for place in start..self.path.len() {
+            let rule = self.path[place];
+            self.known[rule] = Known::Told(answer);
+        }
+        self.path.truncate(start);
+        self.starts.truncate(self.starts.len() - 1);
+    }
+
+    /// Tells of the last group, where no edge leads out of it that waits.
+    ///
+    /// # Errors
+    ///
+    /// Want of memory.
+    fn close<S: Storage, T: Tables<S>>(
+        &mut self,
+        grm: &T,
+        costs: &[u8],
+        start: usize,
+    ) -> Result<(), AllocError>
+        requires costs { length costs.now ≡ (T.grammar grm.now).tokens }
+        requires walk { IsWalk (T.grammar grm.now) self.old }
+        requires so { AreTrue (T.grammar grm.now) (slice_index costs.now) self.old.known.items }
+        requires start { IsLast self.old.starts.items start }
+        ensures { OnOk result (Steps (T.grammar grm.now) (slice_index costs.now) self.old self.new) }
+    {
+        match group_sums(grm, &self.known, costs, &self.path, start) {
+            Ok(sums) => self.tell(start, sums.answer()),
+            Err(Stop::Grows) => self.tell(start, Ok(None)),
+            Err(Stop::Leads(rule)) => self.follow(grm, rule)?,
+        }
+        Ok(())
+    }
+
+    /// Goes on: from the last group along an edge, or back from it, or if there is none to this rule.
+    ///
+    /// # Errors
+    ///
+    /// Want of memory.
+    fn step<S: Storage, T: Tables<S>>(
+        &mut self,
+        grm: &T,
+        costs: &[u8],
+        rule: usize,
+    ) -> Result<(), AllocError>
+        requires costs { length costs.now ≡ (T.grammar grm.now).tokens }
+        requires walk { IsWalk (T.grammar grm.now) self.old }
+        requires so { AreTrue (T.grammar grm.now) (slice_index costs.now) self.old.known.items }
+        requires rule { rule < (T.grammar grm.now).rules }
+        requires untold { (answer : Result (Option ℕ) CostError) → known_of self.old.known.items rule ≡ Known.Told answer → ⊥ }
+        ensures { OnOk result (Steps (T.grammar grm.now) (slice_index costs.now) self.old self.new) }
+    {
+        let Some(start) = self.last_start() else {
+            return self.follow(grm, rule);
+        };
+        match self.next_out(start) {
+            Some(to) => self.follow(grm, to),
+            None => self.close(grm, costs, start),
+        }
+    }
+
+    /// What is told of the rule.
+    ///
+    /// # Errors
+    ///
+    /// Want of memory.
+    pub(crate) fn answer<S: Storage, T: Tables<S>>(
+        &mut self,
+        grm: &T,
+        costs: &[u8],
+        rule: usize,
+    ) -> Result<Result<Option<u16>, CostError>, AllocError>
+        requires costs { length costs.now ≡ (T.grammar grm.now).tokens }
+        requires walk { IsWalk (T.grammar grm.now) self.old }
+        requires so { AreTrue (T.grammar grm.now) (slice_index costs.now) self.old.known.items }
+        requires rule { rule < (T.grammar grm.now).rules }
+        ensures walk { OnOk result (IsWalk (T.grammar grm.now) self.new) }
+        ensures so { OnOk result (AreTrue (T.grammar grm.now) (slice_index costs.now) self.new.known.items) }
+        ensures means { IfOk result (Means (HasProduction (T.grammar grm.now)) (slice_index costs.now) rule) }
+    {
+        loop {
+            if let Known::Told(answer) = self.known[rule] {
+                return Ok(answer);
+            }
+            self.step(grm, costs, rule)?;
+        }
+    }
+}
