@@ -12,7 +12,6 @@ pub mod FirstChosen
 pub mod ChoosingFirsts
 pub mod FirstsMade
 pub mod RowsInOrder
-pub mod RowSteps
 pub mod Offered
 pub mod Pending
 pub mod Placed

@@ -18,8 +18,7 @@ use Rattle.cfgleast.specs.Generator.{CostTables, IsGenerator, choice_answer, cos
 use Rattle.cfgchoices.specs.Inner.Offers.{AreMade, Choices, Choosing, IsKnown, Known, Pends, by, left_to_open, row, steps}
 use Rattle.cfgchoices.proofs.Choices.{choices_join}
 use Rattle.cfgchoices.proofs.ChoosingFirsts.{answer_chosen, few, paid_chosen, row_not_above}
-use Rattle.cfgchoices.proofs.RowSteps.{steps_opened, steps_positive}
-use Rattle.cfgchoices.proofs.Steps.{sum_by-cons}
+use Rattle.cfgchoices.proofs.Steps.{steps_opened, steps_positive, sum_by-cons}
 
 last_first : {A : Type 0} (rest : List A) (s : A) → reverse (rest ++ s ∷ []) ≡ s ∷ reverse rest
 last_first rest s = reverse-append rest (s ∷ [])
