@@ -19,7 +19,6 @@ pub mod Taken
 pub mod Climbed
 pub mod Compared
 pub mod AloneRules
-pub mod Added
-pub mod OwnCosts
 pub mod Known
-pub mod HandingRules
+pub mod Listed
+pub mod Gone

@@ -8,8 +8,8 @@ ghost use Rattle.cfgchoices.specs.First.{dictionary};
 ghost use Rattle.cfgchoices.specs.Inner.Offers.{AreMade, Gives, Pends, left_to_open, row};
 
 use crate::first::tight::TightTables;
-use cfgtables::Tables;
 use cfgindex::{PIdx, Storage, Symbol, TIdx};
+use cfgtables::Tables;
 use std::alloc::{AllocError, Global};
 use std::cmp::Ordering;
 
