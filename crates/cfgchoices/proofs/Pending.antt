@@ -48,7 +48,7 @@ where_none None = refl
 where_none (Some c) = refl
 
 module _ (x : CostTables) where
-  token_front : (t : ℕ) (a : List Sym) (w : List ℕ) → ChoicesGive x (Token t ∷ a) w → (v : List ℕ) × (w ≡ t ∷ v) × ChoicesGive x a v
+  pub token_front : (t : ℕ) (a : List Sym) (w : List ℕ) → ChoicesGive x (Token t ∷ a) w → (v : List ℕ) × (w ≡ t ∷ v) × ChoicesGive x a v
   token_front t a _ (token {w = v} h) = (v, refl, h)
 
   free_front : (r : ℕ) (a : List Sym) (w : List ℕ) → rule_choice x.choices r ≡ None → ChoicesGive x (Rule r ∷ a) w → ChoicesGive x a w

@@ -1,5 +1,7 @@
 -- Productions that are offered to their rules, and the choices that are made among them.
 use Rattle.std.specs.Prelude.{◌≡◌, ℕ, zero, suc, ◌+◌, ◌-◌, ◌*◌, ◌<◌, ◌≤◌, ◌⊎◌, Bool, true, false, List, [], ◌∷◌, Option, Some, None, Contains, IsSomeAnd, count_by, is_some, length, map, reverse, slice_index_or, sum_by}
+use Rattle.std.specs.Ordering.{nat_cmp}
+use Rattle.std.specs.declared.cmp.Ordering.{Ordering}
 use Rattle.std.specs.declared.cmp.Ordering.TheVariants.{Greater}
 use Rattle.cfgindex.specs.declared.idxnewtype.PIdx.{PIdx}
 use Rattle.derivation.specs.Grammar.{Sym, Rule, Token, Grammar, IsGrammar}
@@ -70,6 +72,16 @@ AreMade x l = (n : ℕ) × Choosing x l n
 -- what the choices make of the pending symbols, the last of which comes first
 abbrev pub Pends : CostTables → Choices → List Sym → List ℕ → Type 0
 Pends x l pending w = ChoicesGive (by x l) (reverse pending) w
+
+-- rows of symbols begin with tokens that stand so
+pub record FirstTokensAre (a b : List Sym) (ordering : Ordering) : Type 0 where
+  pub one : ℕ
+  pub other : ℕ
+  pub ones : List Sym
+  pub others : List Sym
+  pub first : a ≡ Token one ∷ ones
+  pub second : b ≡ Token other ∷ others
+  pub is : ordering ≡ nat_cmp one other
 
 -- how many steps are left till none pends
 abbrev pub left_to_open : CostTables → Choices → List Sym → ℕ
