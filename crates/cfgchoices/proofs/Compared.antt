@@ -1,11 +1,16 @@
 -- Two words that are compared token by token, from their first on.
-use Rattle.std.proofs.Common.{◌≡◌, ℕ, true, false, List, [], ◌∷◌, Option, Some, None, refl, sym, ap, ◌∙◌, true≢false}
+use Rattle.std.proofs.Common.{◌≡◌, ℕ, true, false, List, [], ◌∷◌, Option, Some, None, refl, sym, ap, subst, ◌∙◌, true≢false}
 use Rattle.std.specs.Prelude.{MatchOption}
 use Rattle.std.specs.Option.{option_cmp}
 use Rattle.std.specs.Ordering.{is_ne, nat_cmp, ordering_then}
 use Rattle.std.specs.declared.cmp.Ordering.{Ordering}
 use Rattle.std.specs.declared.cmp.Ordering.TheVariants.{Less, Equal, Greater}
+use Rattle.derivation.specs.Grammar.{Sym}
+use Rattle.cfgleast.specs.Generator.{CostTables}
 use Rattle.cfgchoices.specs.First.{dictionary}
+use Rattle.cfgchoices.specs.Inner.Choices.{ChoicesGive}
+use Rattle.cfgchoices.specs.Inner.Offers.{FirstTokensAre}
+use Rattle.cfgchoices.proofs.Pending.{token_front}
 
 -- the word ends, or goes on behind its first token
 abbrev pub Begins : {X : Type 0} → (X → ℕ) → (List ℕ → Type 0) → List ℕ → Option X → Type 0
@@ -59,3 +64,12 @@ module _ {X : Type 0} (number : X → ℕ) (cmp : X → X → Ordering) (shown :
   pub ended : (other : Option X) (u v : List ℕ) (r : Rests One Other u v) → r.one ≡ [] → Begins number Other' r.other other → option_cmp cmp None other ≡ dictionary u v
   ended None u v r h k = let whole : dictionary r.one r.other ≡ dictionary [] [] = ap (λ w. dictionary w r.other) h ∙ ap (dictionary []) k in sym (r.same ∙ whole)
   ended (Some s) u v r h k = let whole : dictionary r.one r.other ≡ dictionary [] (number s ∷ k.0) = ap (λ w. dictionary w r.other) h ∙ ap (dictionary []) k.1 in sym (r.same ∙ whole)
+
+-- rows that begin with different tokens
+pub first_differ : (x : CostTables) (a b : List Sym) (ordering : Ordering) (f : FirstTokensAre a b ordering) → is_ne ordering ≡ true → (u v : List ℕ) → ChoicesGive x a u → ChoicesGive x b v
+    → ordering ≡ dictionary u v
+first_differ x a b ordering f ne u v h k =
+    let (u', begins, _) = token_front x f.one f.ones u (subst (λ l. ChoicesGive x l u) f.first h) in
+    let (v', also, _) = token_front x f.other f.others v (subst (λ l. ChoicesGive x l v) f.second k) in
+    let whole : dictionary u v ≡ ordering_then (nat_cmp f.one f.other) (dictionary u' v') = ap (λ w. dictionary w v) begins ∙ ap (dictionary (f.one ∷ u')) also in
+    sym (whole ∙ ap (λ o. ordering_then o (dictionary u' v')) (sym f.is) ∙ then_other ordering (dictionary u' v') ne)

@@ -63,15 +63,16 @@ module _ (x : CostTables) (n : ℕ) (is : IsGenerator x n) (grammar : IsGrammar 
         go None none = none
         go (Some (p, m)) some = absurd (paid_chosen x l k state q p m (state.each q p m some).0 (some_answered (rule_cost x.least q) 0 e (omega arith)))
 
-    pub walks : 65535 < bound → Walks (by x l)
-    walks high = record {
+    pub walks : ((r c : ℕ) → cost_answer x r ≡ Some c → c < bound) → Walks (by x l)
+    walks low = record {
       settled = x.choices;
       number = n;
       generator = is;
       listed = state.listed;
       free = free_unchosen;
       chosen = λ q d e some small.
-          let ((p, m), choice) = all_chosen q d (some_answered (rule_cost x.least q) d e small) some (omega (arith, small, high)) in
+          let answer = some_answered (rule_cost x.least q) d e small in
+          let ((p, m), choice) = all_chosen q d answer some (low q d answer) in
           (p, m, opens q d p m e small choice);
       below = λ q p m e. row_not_above x l k state m (nth_production x.grammar p).symbols (state.each q p m e).0.ready;
     }

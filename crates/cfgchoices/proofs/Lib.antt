@@ -12,7 +12,6 @@ pub mod FirstChosen
 pub mod ChoosingFirsts
 pub mod FirstsMade
 pub mod RowsInOrder
-pub mod RowSteps
 pub mod Offered
 pub mod Pending
 pub mod Placed
@@ -20,7 +19,6 @@ pub mod Taken
 pub mod Climbed
 pub mod Compared
 pub mod AloneRules
-pub mod Added
-pub mod OwnCosts
 pub mod Known
-pub mod HandingRules
+pub mod Listed
+pub mod Gone

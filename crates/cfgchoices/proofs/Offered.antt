@@ -1,5 +1,5 @@
 -- Productions that are offered: what the choices make of them, and what one choice more changes.
-use Rattle.std.proofs.Common.{◌≡◌, ℕ, ◌+◌, ◌<◌, ◌≤◌, ◌⊎◌, inl, inr, Bool, true, false, List, [], ◌∷◌, get_or, length, Option, Some, None, All, Contains, append-nil, arith, refl, sym, ap, subst, ◌∙◌, true≢false}
+use Rattle.std.proofs.Common.{◌≡◌, ℕ, ◌+◌, ◌<◌, ◌⊎◌, inl, inr, Bool, true, false, List, [], ◌∷◌, get_or, length, Option, Some, None, All, append-nil, arith, refl, sym, ap, subst, ◌∙◌, true≢false}
 use Rattle.std.specs.Prelude.{IsSomeAnd}
 use Rattle.std.specs.declared.cmp.Ordering.{Ordering}
 use Rattle.std.specs.declared.cmp.Ordering.TheVariants.{Equal, Greater}
@@ -15,7 +15,7 @@ use Rattle.cfgchoices.specs.Inner.Choices as gives
 use Rattle.cfgleast.specs.Generator.{CostTables, cost_answer, token_cost}
 use Rattle.cfgchoices.specs.Inner.Kinds.{IsHeir, IsTight}
 use Rattle.cfgchoices.specs.First.{dictionary}
-use Rattle.cfgchoices.specs.Inner.Offers.{Adds, Choices, Choosing, Handles, HasChoice, IsDone, IsFloor, IsHandled, IsKnown, IsNext, IsOffered, IsReady, Known, Level, NotAfter, Offers, Waits, by, is_alone, owner, row}
+use Rattle.cfgchoices.specs.Inner.Offers.{Choices, Choosing, Handles, HasChoice, IsDone, IsFloor, IsHandled, IsKnown, IsNext, IsOffered, IsReady, Known, Level, NotAfter, Offering, Offers, StandsFor, Waits, by, is_alone, owner, row}
 use Rattle.cfgchoices.proofs.Choices.{choices_once}
 use Rattle.cfgchoices.proofs.ChoosingFirsts.{answer_chosen, choosing_more, chosen_now, gives_ready, handed_gives, heir_ready, later, paid_chosen, ready_kept}
 use Rattle.lemmas.proofs.Contained.{contains_one}
@@ -47,10 +47,29 @@ module _ (x : CostTables) where
   pub not_after_both : (l : Choices) (a b c : List Sym) → IsGiven l b → NotAfter x l a b → NotAfter x l b c → NotAfter x l a c
   not_after_both l a b c (v, g) h k u w f i = not_after u v w (h u v f g) (k v w g i)
 
-  module _ (l : Choices) (n : ℕ) (state : Choosing x l n) where
-    pub offered_given : (c p : ℕ) → IsOffered x l n c p → IsGiven l (row x p)
-    offered_given c p o = gives_ready x l n state n (row x p) o.ready
+  pub stands_itself : (l : Choices) (p : ℕ) → IsGiven l (row x p) → StandsFor x l p p
+  stands_itself l p given = record { same = refl; given = given; before = λ u v h k. not_greater u v (choices_once (by x l) h k) }
 
+  pub stands_kept : (l l' : Choices) → Keeps l l' → (p q : ℕ) → IsGiven l (row x p) → StandsFor x l p q → StandsFor x l' p q
+  stands_kept l l' keeps p q given s = record {
+    same = s.same;
+    given = (s.given.0, gives_kept x l l' keeps s.given.1);
+    before = not_after_kept l l' keeps (row x p) (row x q) given s.given s.before;
+  }
+
+  pub stands_done : (l : Choices) (p q : ℕ) → IsDone x l p → StandsFor x l p q → IsDone x l q
+  stands_done l p q d s = record {
+    chosen = subst (HasChoice l) s.same d.chosen;
+    given = s.given;
+    first = subst (λ r. NotAfter x l (Rule r ∷ []) (row x q)) s.same (not_after_both l (Rule (owner x p) ∷ []) (row x p) (row x q) d.given d.first s.before);
+  }
+
+  -- what waits goes on to wait
+  pub handled_wider : (f f' : Offers) → f'.choices ≡ f.choices → ((q : ℕ) → Waits f q → Waits f' q) → (q : ℕ) → IsHandled x f q → IsHandled x f' q
+  handled_wider f f' same wider q (inl done) = inl (subst (λ l. IsDone x l q) (sym same) done)
+  handled_wider f f' same wider q (inr (p, waits, stands)) = inr (p, wider p waits, subst (λ l. StandsFor x l p q) (sym same) stands)
+
+  module _ (l : Choices) (n : ℕ) (state : Choosing x l n) where
     pub chosen_ready : (r : ℕ) → HasChoice l r → IsReady x l n r
     chosen_ready r ((p, m), e) = inr (subst (λ (o : Option (ℕ × ℕ)). IsSomeAnd o (λ choice. choice.1 < n)) (sym e) (state.each r p m e).1)
 
@@ -83,48 +102,45 @@ module _ (x : CostTables) where
       first = not_after_kept l l' keeps (Rule (owner x p) ∷ []) (row x p) (choice_given (owner x p) d.chosen) d.given d.first;
     }
 
-  pub offered_later : (l l' : Choices) → Keeps l l' → (n n' c p : ℕ) → n ≤ n' → IsOffered x l n c p → IsOffered x l' n' c p
-  offered_later l l' keeps n n' c p le o = record { tight = o.tight; cost = o.cost; ready = λ q h. ready_kept x l l' keeps q n n' le (o.ready q h) }
+pub offered_given : (k : Known) (l : Choices) (n : ℕ) → Choosing k.tables l n → (c p : ℕ) → IsOffered k l n c p → IsGiven k.tables l (row k.tables p)
+offered_given k l n state c p o = gives_ready k.tables l n state n (row k.tables p) o.ready
 
--- a choice is made
-module _ (k : Known) (n : ℕ) (is : IsKnown k n) (f : Offers) (p : ℕ) (level : Level k f) (next : IsNext k f p) where
+module _ (k : Known) (n : ℕ) (is : IsKnown k n) where
   abbrev x : CostTables
   x = k.tables
 
-  abbrev l : Choices
-  l = f.choices
-
-  paid_row : (q : ℕ) → IsTight x q → All (IsPaid (token_cost x)) (row x q)
-  paid_row q tight = paid x n is.generator is.grammar (owner x q) (row x q) (at_place x.grammar q _ tight.place refl refl)
-
-  costs_now : cost_answer x (owner x p) ≡ Some f.cost
-  costs_now = next.offered.tight.rule ∙ ap Some next.offered.cost
-
-  heir_costs : (q : ℕ) (heir : IsHeir x q (owner x p)) → heir.tight.cost ≡ f.cost
-  heir_costs q heir = one_cost x (owner x p) heir.tight.cost f.cost heir.same costs_now
-
-  -- where the rule has a choice, the production is done
-  pub was_chosen : HasChoice l (owner x p) → IsDone x l p
-  was_chosen has = go (is_alone k (owner x p)) refl
+  -- where the rule has a choice, a production that is offered is done
+  pub was_chosen : (f : Offers) (p : ℕ) → Level k f → IsOffered k f.choices f.number f.cost p → HasChoice f.choices (owner x p) → IsDone x f.choices p
+  was_chosen f p level offered has = go (is_alone k (owner x p)) refl
     where
-      go : (b : Bool) → is_alone k (owner x p) ≡ b → IsDone x l p
+      go : (b : Bool) → is_alone k (owner x p) ≡ b → IsDone x f.choices p
       go true e =
           let ((q, m), chosen) = has in
           let c = (level.choosing.each (owner x p) q m chosen).0 in
-          let same = is.alone (owner x p) e q p c.tight next.offered.tight c.owner refl in
-          choice_is_done x l f.number level.choosing p m (chosen ∙ ap (λ (r : ℕ). Some (r, m)) same)
+          let same = is.alone (owner x p) e q p c.tight offered.tight c.owner refl in
+          choice_is_done x f.choices f.number level.choosing p m (chosen ∙ ap (λ (r : ℕ). Some (r, m)) same)
       go false e = record {
         chosen = has;
-        given = offered_given x l f.number level.choosing f.cost p next.offered;
-        first = next.floor (owner x p) has costs_now e;
+        given = offered_given k f.choices f.number level.choosing f.cost p offered;
+        first = offered.floor (owner x p) has (offered.tight.rule ∙ ap Some offered.cost) e;
       }
 
-  module _ (unset : rule_choice l (owner x p) ≡ None) (within : owner x p < x.grammar.rules) where
+  -- a choice is made
+  module _ (f : Offers) (p : ℕ) (level : Level k f) (next : IsNext k f p) (unset : rule_choice f.choices (owner x p) ≡ None) (within : owner x p < x.grammar.rules) where
+    abbrev l : Choices
+    l = f.choices
+
     abbrev pub chosen : Choices
     chosen = later x l f.number (owner x p) p level.choosing unset within next.offered.tight refl next.offered.ready
 
     abbrev pub choosing : Choosing x chosen (f.number + 1)
     choosing = choosing_more x l f.number (owner x p) p level.choosing unset within next.offered.tight refl next.offered.ready
+
+    paid_row : (q : ℕ) → IsTight x q → All (IsPaid (token_cost x)) (row x q)
+    paid_row q tight = paid x n is.generator is.grammar (owner x q) (row x q) (at_place x.grammar q _ tight.place refl refl)
+
+    costs_now : cost_answer x (owner x p) ≡ Some f.cost
+    costs_now = next.offered.tight.rule ∙ ap Some next.offered.cost
 
     now : rule_choice chosen (owner x p) ≡ Some (p, f.number)
     now = chosen_now x l f.number (owner x p) p level.choosing unset within next.offered.tight refl next.offered.ready
@@ -137,31 +153,41 @@ module _ (k : Known) (n : ℕ) (is : IsKnown k n) (f : Offers) (p : ℕ) (level 
     cases r (choice, e) = elim (get_or-set l (owner x p) r (Some (p, f.number)) None) [ inl same ↦ inl (choice, sym same ∙ e) | inr is ↦ inr is.0 ]
 
     abbrev pub with_choice : Offers
-    with_choice = record { choices = chosen; number = f.number + 1; cost = f.cost; ready = f.ready; level = f.level }
+    with_choice = record { choices = chosen; number = f.number + 1; cost = f.cost; ready = f.ready; level = f.level; foremost = f.foremost }
+
+    mine : IsGiven x l (row x p)
+    mine = offered_given k l f.number level.choosing f.cost p next.offered
 
     given : (q : ℕ) → Waits f q → IsGiven x l (row x q)
-    given q h = offered_given x l f.number level.choosing f.cost q (level.offered q h)
+    given q h = offered_given k l f.number level.choosing f.cost q (level.offered q h)
 
-    -- the rule makes now what the production makes
-    rule_before : (q : ℕ) → NotAfter x chosen (row x p) (row x q) → NotAfter x chosen (Rule (owner x p) ∷ []) (row x q)
-    rule_before q h u v g = h u v (row_gives x chosen (f.number + 1) choosing (owner x p) p f.number now u g)
+    done : IsDone x chosen p
+    done = choice_is_done x chosen (f.number + 1) choosing p f.number now
 
-    pub level_chosen : Level k with_choice
+    floor_kept : (q : ℕ) → Waits f q → IsFloor k chosen f.cost q
+    floor_kept q h r has costs several = elim (cases r has) [
+      | inl old ↦ not_after_kept x l chosen keeps (Rule r ∷ []) (row x q) (choice_given x l f.number level.choosing r old) (given q h) ((level.offered q h).floor r old costs several)
+      | inr is ↦ elim next.least [
+        | inl alone ↦ absurd (true≢false (sym alone ∙ ap (is_alone k) (sym is) ∙ several))
+        | inr least ↦ subst (λ s. NotAfter x chosen (Rule s ∷ []) (row x q)) (sym is)
+            (not_after_both x chosen (Rule (owner x p) ∷ []) (row x p) (row x q) done.given done.first (not_after_kept x l chosen keeps (row x p) (row x q) mine (given q h) (least q h)))
+      ]
+    ]
+
+    level_chosen : Level k with_choice
     level_chosen = record {
       choosing = choosing;
       costs = λ r h. elim (cases r h) [
         | inl old ↦ level.costs r old
         | inr is ↦ (f.cost, ap (cost_answer x) is ∙ costs_now, omega arith)
       ];
-      offered = λ q h. offered_later x l chosen keeps f.number (f.number + 1) f.cost q (omega arith) (level.offered q h);
-      floor = λ q h r has costs several. elim (cases r has) [
-        | inl old ↦ not_after_kept x l chosen keeps (Rule r ∷ []) (row x q) (choice_given x l f.number level.choosing r old) (given q h) (level.floor q h r old costs several)
-        | inr is ↦ elim next.least [
-          | inl alone ↦ absurd (true≢false (sym alone ∙ ap (is_alone k) (sym is) ∙ several))
-          | inr least ↦ subst (λ s. NotAfter x chosen (Rule s ∷ []) (row x q)) (sym is) (rule_before q
-              (not_after_kept x l chosen keeps (row x p) (row x q) (offered_given x l f.number level.choosing f.cost p next.offered) (given q h) (least q h)))
-        ]
-      ];
+      offered = λ q h.
+          let o = level.offered q h in record {
+            tight = o.tight;
+            cost = o.cost;
+            ready = λ r i. ready_kept x l chosen keeps r f.number (f.number + 1) (omega arith) (o.ready r i);
+            floor = floor_kept q h;
+          };
       alone = level.alone;
       several = level.several;
       order = λ i j lt short.
@@ -169,39 +195,47 @@ module _ (k : Known) (n : ℕ) (is : IsKnown k n) (f : Offers) (p : ℕ) (level 
           not_after_kept x l chosen keeps _ _ (at j short) (at i (omega (arith, lt, short))) (level.order i j lt short);
     }
 
-    -- what hands on to the rule can be offered
-    pub heir_offered : (q : ℕ) → IsHeir x q (owner x p) → IsOffered x chosen (f.number + 1) f.cost q
-    heir_offered q heir = record {
-      tight = heir.tight;
-      cost = heir_costs q heir;
-      ready = heir_ready x chosen q (owner x p) (f.number + 1) heir (subst (λ (o : Option (ℕ × ℕ)). IsSomeAnd o (λ choice. choice.1 < f.number + 1)) (sym now) (omega arith));
+    pub offering_chosen : length f.foremost ≡ x.grammar.rules
+        → ((r q : ℕ) → get_or f.foremost r None ≡ Some q → (owner x q ≡ r) × (Waits f q ⊎ HasChoice l r ⊎ (q ≡ p))) → Offering k with_choice
+    offering_chosen listed foremost = record {
+      level = level_chosen;
+      listed = listed;
+      foremost = λ r q e.
+          let (at, where_is) = foremost r q e in (
+            at,
+            elim where_is [
+              | inl waits ↦ inl waits
+              | inr other ↦ inr (elim other [
+                | inl has ↦ (has.0, keeps r has.0 has.1)
+                | inr same ↦ subst (HasChoice chosen) (ap (owner x) (sym same) ∙ at) ((p, f.number), now)
+              ])
+            ],
+          );
     }
 
-    pub heir_floor : (q : ℕ) → IsHeir x q (owner x p) → IsFloor k chosen f.cost q
-    heir_floor q heir r has costs several u v g h =
-        let back = handed_gives x chosen q (owner x p) v heir (paid_row q heir.tight) h in
-        elim (cases r has) [
-          | inl old ↦ not_after_kept x l chosen keeps (Rule r ∷ []) (row x p) (choice_given x l f.number level.choosing r old)
-              (offered_given x l f.number level.choosing f.cost p next.offered) (next.floor r old costs several)
-              u v g (row_gives x chosen (f.number + 1) choosing (owner x p) p f.number now v back)
-          | inr is ↦ not_greater u v (choices_once (by x chosen) (subst (λ s. ChoicesGive (by x chosen) (Rule s ∷ []) u) is g) back)
-        ]
+    -- what hands on to the rule can be offered
+    pub heir_offered : (q : ℕ) → IsHeir x q (owner x p) → IsOffered k chosen (f.number + 1) f.cost q
+    heir_offered q heir = record {
+      tight = heir.tight;
+      cost = one_cost x (owner x p) heir.tight.cost f.cost heir.same costs_now;
+      ready = heir_ready x chosen q (owner x p) (f.number + 1) heir (subst (λ (o : Option (ℕ × ℕ)). IsSomeAnd o (λ choice. choice.1 < f.number + 1)) (sym now) (omega arith));
+      floor = λ r has costs several u v g h.
+          let back = handed_gives x chosen q (owner x p) v heir (paid_row q heir.tight) h in
+          elim (cases r has) [
+            | inl old ↦ not_after_kept x l chosen keeps (Rule r ∷ []) (row x p) (choice_given x l f.number level.choosing r old) mine (next.offered.floor r old costs several)
+                u v g (row_gives x chosen (f.number + 1) choosing (owner x p) p f.number now v back)
+            | inr is ↦ not_greater u v (choices_once (by x chosen) (subst (λ s. ChoicesGive (by x chosen) (Rule s ∷ []) u) is g) back)
+          ];
+    }
 
-    module _ (f' : Offers) (heirs : List ℕ) (all : (q : ℕ) → IsHeir x q (owner x p) → Contains heirs q) (adds : Adds (Contains heirs) (length heirs) with_choice f') where
-      handled : (q : ℕ) → IsHandled x f q ⊎ (q ≡ p) → IsHandled x f' q
-      handled q h = elim h [
-        | inl old ↦ elim old [
-          | inl done ↦ inl (subst (λ m. IsDone x m q) (sym adds.choices) (done_kept x l f.number level.choosing chosen keeps q done))
-          | inr waits ↦ inr ((adds.waits q).1 (inl waits))
-        ]
-        | inr is ↦ inl (subst (λ m. IsDone x m q) (sym adds.choices) (subst (IsDone x chosen) (sym is) (choice_is_done x chosen (f.number + 1) choosing p f.number now)))
-      ]
+    pub handled_chosen : (q : ℕ) → IsHandled x f q ⊎ StandsFor x l p q → IsHandled x with_choice q
+    handled_chosen q (inl (inl old)) = inl (done_kept x l f.number level.choosing chosen keeps q old)
+    handled_chosen q (inl (inr (r, waits, stands))) = inr (r, waits, stands_kept x l chosen keeps r q (given r waits) stands)
+    handled_chosen q (inr stands) = inl (stands_done x chosen p q done (stands_kept x l chosen keeps p q mine stands))
 
-      pub choose_handles : Handles x (λ q. q ≡ p) f f'
-      choose_handles = handled
-
-      pub choose_hands : ((q r : ℕ) → IsHeir x q r → HasChoice l r → IsHandled x f q ⊎ (q ≡ p)) → (q r : ℕ) → IsHeir x q r → HasChoice f'.choices r → IsHandled x f' q
-      choose_hands hands q r heir has = elim (cases r (subst (λ m. HasChoice m r) adds.choices has)) [
-        | inl old ↦ handled q (hands q r heir old)
-        | inr is ↦ inr ((adds.waits q).1 (inr (all q (subst (IsHeir x q) is heir))))
-      ]
+    pub hands_chosen : (f' : Offers) → f'.choices ≡ chosen → Handles x (λ q. IsHeir x q (owner x p)) with_choice f'
+        → ((q r : ℕ) → IsHeir x q r → HasChoice l r → IsHandled x f q ⊎ StandsFor x l p q) → (q r : ℕ) → IsHeir x q r → HasChoice f'.choices r → IsHandled x f' q
+    hands_chosen f' same handles hands q r heir has = elim (cases r (subst (λ m. HasChoice m r) same has)) [
+      | inl old ↦ handles q (inl (handled_chosen q (hands q r heir old)))
+      | inr is ↦ handles q (inr (subst (IsHeir x q) is heir))
+    ]

@@ -18,8 +18,7 @@ use Rattle.cfgleast.specs.Generator.{CostTables, IsGenerator, choice_answer, cos
 use Rattle.cfgchoices.specs.Inner.Offers.{AreMade, Choices, Choosing, IsKnown, Known, Pends, by, left_to_open, row, steps}
 use Rattle.cfgchoices.proofs.Choices.{choices_join}
 use Rattle.cfgchoices.proofs.ChoosingFirsts.{answer_chosen, few, paid_chosen, row_not_above}
-use Rattle.cfgchoices.proofs.RowSteps.{steps_opened, steps_positive}
-use Rattle.cfgchoices.proofs.Steps.{sum_by-cons}
+use Rattle.cfgchoices.proofs.Steps.{steps_opened, steps_positive, sum_by-cons}
 
 last_first : {A : Type 0} (rest : List A) (s : A) → reverse (rest ++ s ∷ []) ≡ s ∷ reverse rest
 last_first rest s = reverse-append rest (s ∷ [])
@@ -49,7 +48,7 @@ where_none None = refl
 where_none (Some c) = refl
 
 module _ (x : CostTables) where
-  token_front : (t : ℕ) (a : List Sym) (w : List ℕ) → ChoicesGive x (Token t ∷ a) w → (v : List ℕ) × (w ≡ t ∷ v) × ChoicesGive x a v
+  pub token_front : (t : ℕ) (a : List Sym) (w : List ℕ) → ChoicesGive x (Token t ∷ a) w → (v : List ℕ) × (w ≡ t ∷ v) × ChoicesGive x a v
   token_front t a _ (token {w = v} h) = (v, refl, h)
 
   free_front : (r : ℕ) (a : List Sym) (w : List ℕ) → rule_choice x.choices r ≡ None → ChoicesGive x (Rule r ∷ a) w → ChoicesGive x a w
@@ -78,10 +77,13 @@ pub turned_shown : {S : Type 0} (number : S → ℕ) (pending rest symbols : Lis
 turned_shown number pending rest symbols a e is = ap (map (sym_of number)) e ∙ map-append (sym_of number) rest (reverse symbols)
     ∙ ap (λ l. map (sym_of number) rest ++ l) (map_reverse (sym_of number) symbols ∙ ap reverse is)
 
--- a choice of the code, in numbers
+-- an entry of a list of the code, in numbers
+pub entry_shown : {A B : Type 0} (f : A → B) (xs : List A) (i r : ℕ) (d o : A) (e : B) → i ≡ r → r < length xs → get_or xs i d ≡ o → get_or (map f xs) r e ≡ f o
+entry_shown f xs i r d o e at within is = get_or-map f xs r d e within ∙ ap f (ap (λ n. get_or xs n d) (sym at) ∙ is)
+
 pub choice_shown : {S : Type 0} (number : S → ℕ) (xs : List (Option (PIdx S × ℕ))) (i r : ℕ) (d o : Option (PIdx S × ℕ)) → i ≡ r → r < length xs → get_or xs i d ≡ o
     → rule_choice (map (choice_of number) xs) r ≡ choice_of number o
-choice_shown number xs i r d o e within is = get_or-map (choice_of number) xs r d None within ∙ ap (choice_of number) (ap (λ n. get_or xs n d) (sym e) ∙ is)
+choice_shown number xs i r d o = entry_shown (choice_of number) xs i r d o None
 
 module _ (x : CostTables) (l : Choices) (n : ℕ) (state : Choosing x l n) (rest : List Sym) where
   first_pending : (s : Sym) (w : List ℕ) → Pends x l (rest ++ s ∷ []) w → ChoicesGive (by x l) (s ∷ reverse rest) w

@@ -1,12 +1,13 @@
 -- The place of a production among others that are in order, the greatest first, and what waits when it was put there.
-use Rattle.std.proofs.Common.{◌≡◌, ◌↔◌, ℕ, ◌+◌, ◌<◌, ◌≤◌, ◌⊎◌, inl, inr, true, false, List, [], ◌∷◌, ◌++◌, get_or, length, map, take, drop, Contains, arith, refl, sym, ap, subst, ◌∙◌, true≢false}
+use Rattle.std.proofs.Common.{◌≡◌, ◌↔◌, ℕ, ◌+◌, ◌<◌, ◌≤◌, ◌⊎◌, inl, inr, true, false, List, [], ◌∷◌, ◌++◌, get_or, length, map, take, drop, slice_set, Option, Some, None, Contains, arith, refl, sym, ap, subst, ◌∙◌, true≢false}
 use Rattle.std.specs.List.{insert}
-use Rattle.std.specs.Ordering.{is_lt, ordering_reverse}
+use Rattle.std.specs.Ordering.{is_le, is_lt, ordering_reverse}
 use Rattle.std.specs.declared.cmp.Ordering.{Ordering}
 use Rattle.std.proofs.lemmas.Bool.{cases_lt}
 use Rattle.std.proofs.lemmas.Cmp.{nat_list_cmp_total}
 use Rattle.cfgindex.specs.declared.idxnewtype.PIdx.{PIdx}
-use Rattle.std.proofs.lemmas.List.{get_or-map, take-append-drop, take-map, drop-map, map-append, length_push}
+use Rattle.std.proofs.lemmas.List.{get_or-map, take-append-drop, take-map, drop-map, map-append, map-set, length_push, length-set}
+use Rattle.lemmas.proofs.Elements.{get_or-set}
 use Rattle.std.proofs.lemmas.List.Edits.{length-insert}
 use Rattle.std.proofs.lemmas.List.Elements.{Contains-append_left, Contains-append_right, Contains-append_cases, Contains-get_or, Contains-push, Contains-push_cases}
 use Rattle.derivation.specs.Grammar.{Sym}
@@ -14,9 +15,9 @@ use Rattle.cfgchoices.specs.Inner.Choices.{ChoicesGive}
 use Rattle.cfgleast.specs.Generator.{CostTables}
 use Rattle.cfgchoices.specs.First.{dictionary}
 use Rattle.cfgchoices.specs.Inner.Kinds.{places_of}
-use Rattle.cfgchoices.specs.Inner.Offers.{Adds, Choices, IsFloor, IsOffered, Known, Level, NotAfter, Offers, Waits, by, is_alone, owner, row}
+use Rattle.cfgchoices.specs.Inner.Offers.{Adds, Choices, Handles, HasChoice, IsHandled, IsOffered, Known, Level, NotAfter, Offering, Offers, StandsFor, Waits, by, is_alone, owner, place_of, row}
 use Rattle.lemmas.proofs.Contained.{contains_cases, contains_first, contains_later}
-use Rattle.cfgchoices.proofs.Offered.{IsGiven, not_after_both, offered_given}
+use Rattle.cfgchoices.proofs.Offered.{IsGiven, handled_wider, not_after_both, offered_given, stands_itself}
 use Rattle.cfgchoices.proofs.RowsInOrder.{insert_in_order}
 
 module _ {X : Type 0} (xs : List X) (at : ℕ) (y : X) where
@@ -48,6 +49,9 @@ module _ (x : CostTables) (l : Choices) (a b : List Sym) (o : Ordering)
   pub not_after_less : is_lt o ≡ true → NotAfter x l a b
   not_after_less less u v h k greater = true≢false (sym less ∙ ap is_lt (told u v h k ∙ greater))
 
+  pub not_after_le : is_le o ≡ true → NotAfter x l a b
+  not_after_le le u v h k greater = true≢false (sym le ∙ ap is_le (told u v h k ∙ greater))
+
   pub not_after_other : is_lt o ≡ false → NotAfter x l b a
   not_after_other other v u k h greater =
       true≢false (sym (ap is_lt (told u v h k ∙ nat_list_cmp_total.antisymm u v ∙ ap ordering_reverse greater)) ∙ other)
@@ -67,7 +71,7 @@ module _ (k : Known) (f : Offers) (level : Level k f) (p : ℕ) (given : IsGiven
   nth i = get_or f.level i 0
 
   nth_given : (i : ℕ) → i < length f.level → IsGiven x f.choices (row x (nth i))
-  nth_given i h = offered_given x f.choices f.number level.choosing f.cost (nth i) (level.offered (nth i) (inr (Contains-get_or f.level i 0 h)))
+  nth_given i h = offered_given k f.choices f.number level.choosing f.cost (nth i) (level.offered (nth i) (inr (Contains-get_or f.level i 0 h)))
 
   module _ (low high middle : ℕ) (b : Between k f p low high) (from : low ≤ middle) (to : middle < high) where
     inside : middle < length f.level
@@ -100,18 +104,18 @@ pub nth_shown : {S : Type 0} (number : S → ℕ) (items : List (PIdx S)) (i : �
 nth_shown number items i p lt is = get_or-map (λ (p : PIdx _). number p.0) items i p 0 lt ∙ ap (λ (q : PIdx _). number q.0) (sym is)
 
 -- a production in the middle is compared
-module _ (k : Known) (f : Offers) (level : Level k f) (p : ℕ) (offered : IsOffered k.tables f.choices f.number f.cost p) (low high middle q : ℕ) (b : Between k f p low high)
+module _ (k : Known) (f : Offers) (level : Level k f) (p : ℕ) (offered : IsOffered k f.choices f.number f.cost p) (low high middle q : ℕ) (b : Between k f p low high)
     (from : low ≤ middle) (to : middle < high) (at : get_or f.level middle 0 ≡ q) where
-  pub middle_offered : IsOffered k.tables f.choices f.number f.cost q
-  middle_offered = subst (IsOffered k.tables f.choices f.number f.cost) at
+  pub middle_offered : IsOffered k f.choices f.number f.cost q
+  middle_offered = subst (IsOffered k f.choices f.number f.cost) at
       (level.offered (get_or f.level middle 0) (inr (Contains-get_or f.level middle 0 (let le = b.within in omega (arith, to, le)))))
 
   pub middle_given : IsGiven k.tables f.choices (row k.tables q)
-  middle_given = offered_given k.tables f.choices f.number level.choosing f.cost q middle_offered
+  middle_given = offered_given k f.choices f.number level.choosing f.cost q middle_offered
 
   module _ (o : Ordering) (told : (u v : List ℕ) → ChoicesGive (by k.tables f.choices) (row k.tables q) u → ChoicesGive (by k.tables f.choices) (row k.tables p) v → o ≡ dictionary u v) where
     mine : IsGiven k.tables f.choices (row k.tables p)
-    mine = offered_given k.tables f.choices f.number level.choosing f.cost p offered
+    mine = offered_given k f.choices f.number level.choosing f.cost p offered
 
     pub to_front : is_lt o ≡ true → Between k f p low middle
     to_front e = front_half k f level p mine low high middle b from to
@@ -121,82 +125,139 @@ module _ (k : Known) (f : Offers) (level : Level k f) (p : ℕ) (offered : IsOff
     to_back e = back_half k f level p mine low high middle b from to
         (subst (λ i. NotAfter k.tables f.choices (row k.tables p) (row k.tables i)) (sym at) (not_after_other k.tables f.choices (row k.tables q) (row k.tables p) o told e))
 
--- one more waits
-module _ (k : Known) (f : Offers) (level : Level k f) (p : ℕ) (offered : IsOffered k.tables f.choices f.number f.cost p) (floor : IsFloor k f.choices f.cost p) where
-  abbrev with_ready : List ℕ → Offers
-  with_ready ready = record { choices = f.choices; number = f.number; cost = f.cost; ready = ready; level = f.level }
+-- one more waits, or one that stands for it
+module _ (k : Known) (f : Offers) (o : Offering k f) (p : ℕ) (offered : IsOffered k f.choices f.number f.cost p) where
+  abbrev level : Level k f
+  level = o.level
 
-  abbrev with_level : List ℕ → Offers
-  with_level list = record { choices = f.choices; number = f.number; cost = f.cost; ready = f.ready; level = list }
+  itself : StandsFor k.tables f.choices p p
+  itself = stands_itself k.tables f.choices p (offered_given k f.choices f.number level.choosing f.cost p offered)
 
-  more_ready : (q : ℕ) → Waits (with_ready (f.ready ++ p ∷ [])) q → Waits f q ⊎ (q ≡ p)
-  more_ready q h = elim h [
-    | inl ready ↦ elim (Contains-push_cases f.ready p q ready) [ inl old ↦ inl (inl old) | inr is ↦ inr (sym is) ]
-    | inr other ↦ inl (inr other)
-  ]
+  one_more : (f' : Offers) → f'.choices ≡ f.choices → ((q : ℕ) → Waits f q → Waits f' q) → Waits f' p → Handles k.tables (λ q. q ≡ p) f f'
+  one_more f' same wider now q (inl old) = handled_wider k.tables f f' same wider q old
+  one_more f' same wider now q (inr is) = subst (IsHandled k.tables f') (sym is) (inr (p, now, subst (λ l. StandsFor k.tables l p p) (sym same) itself))
 
-  pub ready_level : (ready : List ℕ) → ready ≡ f.ready ++ p ∷ [] → is_alone k (owner k.tables p) ≡ true → Level k (with_ready ready)
-  ready_level ready e alone = subst (λ r. Level k (with_ready r)) (sym e) (record {
-    choosing = level.choosing;
-    costs = level.costs;
-    offered = λ q h. elim (more_ready q h) [ inl old ↦ level.offered q old | inr is ↦ subst (IsOffered k.tables f.choices f.number f.cost) (sym is) offered ];
-    floor = λ q h. elim (more_ready q h) [ inl old ↦ level.floor q old | inr is ↦ subst (IsFloor k f.choices f.cost) (sym is) floor ];
-    alone = λ q h. elim (Contains-push_cases f.ready p q h) [ inl old ↦ level.alone q old | inr is ↦ subst (λ i. is_alone k (owner k.tables i) ≡ true) is alone ];
-    several = level.several;
-    order = level.order;
-  })
-
-  pub ready_adds : (ready : List ℕ) → ready ≡ f.ready ++ p ∷ [] → Adds (λ q. q ≡ p) 1 f (with_ready ready)
-  ready_adds ready e = subst (λ r. Adds (λ q. q ≡ p) 1 f (with_ready r)) (sym e) (record {
+  pub covered_adds : IsHandled k.tables f p → Adds k.tables (λ q. q ≡ p) 1 f f
+  covered_adds handled = record {
     choices = refl;
     number = refl;
     cost = refl;
-    waits = λ q. (
-      more_ready q,
-      (λ h. elim h [
-        | inl old ↦ elim old [ inl ready ↦ inl (Contains-append_left f.ready (p ∷ []) q ready) | inr other ↦ inr other ]
-        | inr is ↦ inl (subst (Contains (f.ready ++ p ∷ [])) (sym is) (Contains-push f.ready p))
-      ]),
-    );
-    together = let long = length_push f.ready p in omega (arith, long);
-  })
+    handles = λ q h. elim h [ inl old ↦ old | inr is ↦ subst (IsHandled k.tables f) (sym is) handled ];
+    together = omega arith;
+  }
 
-  module _ (at : ℕ) (within : at ≤ length f.level)
-      (before : (i : ℕ) → i < at → NotAfter k.tables f.choices (row k.tables p) (row k.tables (get_or f.level i 0)))
-      (behind : (i : ℕ) → at ≤ i → i < length f.level → NotAfter k.tables f.choices (row k.tables (get_or f.level i 0)) (row k.tables p))
-      (list : List ℕ) (e : list ≡ insert f.level at p) where
-    abbrev put : List ℕ
-    put = insert f.level at p
+  module _ (q : ℕ) (e : get_or f.foremost (owner k.tables p) None ≡ Some q) (not : HasChoice f.choices (owner k.tables p) → ⊥) where
+    it_waits : Waits f q
+    it_waits = elim (o.foremost (owner k.tables p) q e).1 [ inl waits ↦ waits | inr has ↦ absurd (not has) ]
 
-    put_waits : (q : ℕ) → Waits (with_level put) q → Waits f q ⊎ (q ≡ p)
-    put_waits q h = elim h [
-      | inl ready ↦ inl (inl ready)
-      | inr other ↦ elim ((insert_has f.level at p q).0 other) [ inl old ↦ inl (inr old) | inr is ↦ inr is ]
-    ]
+    pub foremost_offered : IsOffered k f.choices f.number f.cost q
+    foremost_offered = level.offered q it_waits
 
-    pub put_level : is_alone k (owner k.tables p) ≡ false → Level k (with_level list)
-    put_level several = subst (λ r. Level k (with_level r)) (sym e) (record {
-      choosing = level.choosing;
-      costs = level.costs;
-      offered = λ q h. elim (put_waits q h) [ inl old ↦ level.offered q old | inr is ↦ subst (IsOffered k.tables f.choices f.number f.cost) (sym is) offered ];
-      floor = λ q h. elim (put_waits q h) [ inl old ↦ level.floor q old | inr is ↦ subst (IsFloor k f.choices f.cost) (sym is) floor ];
-      alone = level.alone;
-      several = λ q h. elim ((insert_has f.level at p q).0 h) [ inl old ↦ level.several q old | inr is ↦ subst (λ i. is_alone k (owner k.tables i) ≡ false) (sym is) several ];
-      order = λ i j lt short. insert_in_order (λ a b. NotAfter k.tables f.choices (row k.tables b) (row k.tables a)) 0 f.level at p within level.order before behind i j lt
-          (subst (λ m. j < m) (length-insert f.level at p within) short);
-    })
+    pub foremost_handled : NotAfter k.tables f.choices (row k.tables q) (row k.tables p) → IsHandled k.tables f p
+    foremost_handled before = inr (q, it_waits, record { same = (o.foremost (owner k.tables p) q e).0; given = itself.given; before = before })
 
-    pub put_adds : Adds (λ q. q ≡ p) 1 f (with_level list)
-    put_adds = subst (λ r. Adds (λ q. q ≡ p) 1 f (with_level r)) (sym e) (record {
+  abbrev with_ready : List ℕ → Offers
+  with_ready ready = record { choices = f.choices; number = f.number; cost = f.cost; ready = ready; level = f.level; foremost = f.foremost }
+
+  module _ (ready : List ℕ) (e : ready ≡ f.ready ++ p ∷ []) where
+    ready_more : (q : ℕ) → Contains ready q → Contains f.ready q ⊎ (p ≡ q)
+    ready_more q h = Contains-push_cases f.ready p q (subst (λ l. Contains l q) e h)
+
+    ready_wider : (q : ℕ) → Waits f q → Waits (with_ready ready) q
+    ready_wider q (inl old) = inl (subst (λ l. Contains l q) (sym e) (Contains-append_left f.ready (p ∷ []) q old))
+    ready_wider q (inr other) = inr other
+
+    pub ready_offering : is_alone k (owner k.tables p) ≡ true → Offering k (with_ready ready)
+    ready_offering alone = record {
+      level = record {
+        choosing = level.choosing;
+        costs = level.costs;
+        offered = λ q h. elim h [
+          | inl now ↦ elim (ready_more q now) [ inl old ↦ level.offered q (inl old) | inr is ↦ subst (IsOffered k f.choices f.number f.cost) is offered ]
+          | inr other ↦ level.offered q (inr other)
+        ];
+        alone = λ q h. elim (ready_more q h) [ inl old ↦ level.alone q old | inr is ↦ subst (λ i. is_alone k (owner k.tables i) ≡ true) is alone ];
+        several = level.several;
+        order = level.order;
+      };
+      listed = o.listed;
+      foremost = λ r q at. let (owned, where_is) = o.foremost r q at in (owned, elim where_is [ inl waits ↦ inl (ready_wider q waits) | inr has ↦ inr has ]);
+    }
+
+    pub ready_adds : Adds k.tables (λ q. q ≡ p) 1 f (with_ready ready)
+    ready_adds = record {
       choices = refl;
       number = refl;
       cost = refl;
-      waits = λ q. (
-        put_waits q,
-        (λ h. elim h [
-          | inl old ↦ elim old [ inl ready ↦ inl ready | inr other ↦ inr ((insert_has f.level at p q).1 (inl other)) ]
-          | inr is ↦ inr ((insert_has f.level at p q).1 (inr is))
-        ]),
-      );
+      handles = one_more (with_ready ready) refl ready_wider (inl (subst (λ l. Contains l p) (sym e) (Contains-push f.ready p)));
+      together = let long = length_push f.ready p in let len = ap length e in omega (arith, long, len);
+    }
+
+  abbrev with_level : List ℕ → Offers
+  with_level list = record {
+    choices = f.choices;
+    number = f.number;
+    cost = f.cost;
+    ready = f.ready;
+    level = list;
+    foremost = slice_set f.foremost (owner k.tables p) (Some p);
+  }
+
+  module _ (at : ℕ) (within : at ≤ length f.level)
+      (before : (i : ℕ) → i < at → NotAfter k.tables f.choices (row k.tables p) (row k.tables (get_or f.level i 0)))
+      (behind : (i : ℕ) → at ≤ i → i < length f.level → NotAfter k.tables f.choices (row k.tables (get_or f.level i 0)) (row k.tables p)) where
+    abbrev put : List ℕ
+    put = insert f.level at p
+
+    put_wider : (q : ℕ) → Waits f q → Waits (with_level put) q
+    put_wider q (inl ready) = inl ready
+    put_wider q (inr other) = inr ((insert_has f.level at p q).1 (inl other))
+
+    put_now : Waits (with_level put) p
+    put_now = inr ((insert_has f.level at p p).1 (inr refl))
+
+    pub put_offering : is_alone k (owner k.tables p) ≡ false → Offering k (with_level put)
+    put_offering several = record {
+      level = record {
+        choosing = level.choosing;
+        costs = level.costs;
+        offered = λ q h. elim h [
+          | inl ready ↦ level.offered q (inl ready)
+          | inr other ↦ elim ((insert_has f.level at p q).0 other) [ inl old ↦ level.offered q (inr old) | inr is ↦ subst (IsOffered k f.choices f.number f.cost) (sym is) offered ]
+        ];
+        alone = level.alone;
+        several = λ q h. elim ((insert_has f.level at p q).0 h) [ inl old ↦ level.several q old | inr is ↦ subst (λ i. is_alone k (owner k.tables i) ≡ false) (sym is) several ];
+        order = λ i j lt short. insert_in_order (λ a b. NotAfter k.tables f.choices (row k.tables b) (row k.tables a)) 0 f.level at p within level.order before behind i j lt
+            (subst (λ m. j < m) (length-insert f.level at p within) short);
+      };
+      listed = length-set f.foremost (owner k.tables p) (Some p) ∙ o.listed;
+      foremost = λ r q e. elim (get_or-set f.foremost (owner k.tables p) r (Some p) None) [
+        | inl same ↦
+            let (owned, where_is) = o.foremost r q (sym same ∙ e) in
+            (owned, elim where_is [ inl waits ↦ inl (put_wider q waits) | inr has ↦ inr has ])
+        | inr new ↦
+            let both : ◌≡◌ {A = Option ℕ} (Some p) (Some q) = sym new.1 ∙ e in
+            let is : p ≡ q = cc in
+            (ap (owner k.tables) (sym is) ∙ sym new.0, inl (subst (Waits (with_level put)) is put_now))
+      ];
+    }
+
+    pub put_adds : Adds k.tables (λ q. q ≡ p) 1 f (with_level put)
+    put_adds = record {
+      choices = refl;
+      number = refl;
+      cost = refl;
+      handles = one_more (with_level put) refl put_wider put_now;
       together = let long = length-insert f.level at p within in omega (arith, long);
-    })
+    }
+
+-- the code's lists, when a production was put in, in numbers
+pub put_shown : {S : Type 0} (number : S → ℕ) (level : List (PIdx S)) (foremost : List (Option (PIdx S))) (f : Offers) (at i r : ℕ) (p : PIdx S) → i ≡ r
+    → (level' : List (PIdx S)) → level' ≡ insert level at p
+    → ◌≡◌ {A = Offers} (record { choices = f.choices; number = f.number; cost = f.cost; ready = f.ready; level = insert (places_of number level) at (number p.0); foremost = slice_set (map (place_of number) foremost) r (Some (number p.0)) })
+    (record { choices = f.choices; number = f.number; cost = f.cost; ready = f.ready; level = places_of number level'; foremost = map (place_of number) (slice_set foremost i (Some p)) })
+put_shown number level foremost f at i r p same level' e =
+    let levels = sym (ap (places_of number) e ∙ insert_shown (λ p. number p.0) level at p) in
+    let entries = sym (map-set (place_of number) foremost i (Some p) ∙ ap (λ j. slice_set (map (place_of number) foremost) j (Some (number p.0))) same) in
+    ap (λ (l : List ℕ). record { choices = f.choices; number = f.number; cost = f.cost; ready = f.ready; level = l; foremost = slice_set (map (place_of number) foremost) r (Some (number p.0)) }) levels
+    ∙ ap (λ (l : List (Option ℕ)). record { choices = f.choices; number = f.number; cost = f.cost; ready = f.ready; level = places_of number level'; foremost = l }) entries

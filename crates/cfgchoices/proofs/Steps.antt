@@ -7,6 +7,7 @@ use Rattle.derivation.specs.Grammar.{Sym, Rule, Token, Grammar}
 use Rattle.cfgtables.specs.Openings.{nth_production}
 use Rattle.cfgleast.specs.Certificate.{rule_choice}
 use Rattle.cfgchoices.specs.Inner.FirstChoices.{IsNotAbove}
+pub use Rattle.cfgchoices.specs.Inner.Offers.{steps, steps_of}
 
 pub sum_by-cons : {X : Type 0} (f : X → ℕ) (x : X) (xs : List X) → sum_by f (x ∷ xs) ≡ f x + sum_by f xs
 sum_by-cons f x xs = sum_by-append f (x ∷ []) xs ∙ ap (λ n. n + sum_by f xs) (omega arith)
@@ -22,34 +23,29 @@ sum_by-same Q f g same (x ∷ xs) all =
     omega (arith, here, rest, whole, other)
 
 module _ (g : Grammar) (choices : List (Option (ℕ × ℕ))) (each : ℕ) where
-  abbrev steps_of : (Sym → ℕ) → Option (ℕ × ℕ) → ℕ
-  steps_of f None = each
-  steps_of f (Some choice) = sum_by f (nth_production g choice.0).symbols + each
+  abbrev size : ℕ → Sym → ℕ
+  size = steps g choices each
 
-  -- one for a token, and for a rule `each` and those of the symbols that replace it, by choices that go n deep
-  pub steps : ℕ → Sym → ℕ
-  steps zero (Token t) = 1
-  steps zero (Rule r) = each
-  steps (suc n) (Token t) = 1
-  steps (suc n) (Rule r) = steps_of (steps n) (rule_choice choices r)
+  abbrev size_of : (Sym → ℕ) → Option (ℕ × ℕ) → ℕ
+  size_of = steps_of g each
 
-  pub steps_token : (n t : ℕ) → steps n (Token t) ≡ 1
+  pub steps_token : (n t : ℕ) → size n (Token t) ≡ 1
   unfolding steps
   steps_token zero t = refl
   steps_token (suc n) t = refl
 
-  pub steps_unchosen : (n r : ℕ) → rule_choice choices r ≡ None → steps n (Rule r) ≡ each
+  pub steps_unchosen : (n r : ℕ) → rule_choice choices r ≡ None → size n (Rule r) ≡ each
   unfolding steps
   steps_unchosen zero r none = refl
-  steps_unchosen (suc n) r none = ap (steps_of (steps n)) none
+  steps_unchosen (suc n) r none = ap (size_of (size n)) none
 
-  pub steps_positive : 0 < each → (n : ℕ) (s : Sym) → 0 < steps n s
+  pub steps_positive : 0 < each → (n : ℕ) (s : Sym) → 0 < size n s
   unfolding steps
   steps_positive some n (Token t) = let one = steps_token n t in omega (arith, one)
   steps_positive some zero (Rule r) = some
   steps_positive some (suc n) (Rule r) = go (rule_choice choices r)
     where
-      go : (o : Option (ℕ × ℕ)) → 0 < steps_of (steps n) o
+      go : (o : Option (ℕ × ℕ)) → 0 < size_of (size n) o
       go None = some
       go (Some choice) = omega (arith, some)
 
@@ -63,7 +59,7 @@ module _ (g : Grammar) (choices : List (Option (ℕ × ℕ))) (each : ℕ) where
         go (Some choice) h = omega (arith, h, lt)
 
     -- it is enough to go as deep as the numbers of the choices
-    steps_same : (n m : ℕ) (s : Sym) → IsNotAbove choices n s → IsNotAbove choices m s → steps n s ≡ steps m s
+    steps_same : (n m : ℕ) (s : Sym) → IsNotAbove choices n s → IsNotAbove choices m s → size n s ≡ size m s
     unfolding steps
     steps_same zero zero (Token t) h k = refl
     steps_same zero zero (Rule r) h k = refl
@@ -72,28 +68,28 @@ module _ (g : Grammar) (choices : List (Option (ℕ × ℕ))) (each : ℕ) where
     steps_same (suc n) (suc m) (Token t) h k = refl
     steps_same zero (suc m) (Rule r) h k = go (rule_choice choices r) h
       where
-        go : (o : Option (ℕ × ℕ)) → IfSome o (λ choice. choice.1 < 0) → each ≡ steps_of (steps m) o
+        go : (o : Option (ℕ × ℕ)) → IfSome o (λ choice. choice.1 < 0) → each ≡ size_of (size m) o
         go None h = refl
         go (Some choice) h = absurd (omega (arith, h))
     steps_same (suc n) zero (Rule r) h k = go (rule_choice choices r) k
       where
-        go : (o : Option (ℕ × ℕ)) → IfSome o (λ choice. choice.1 < 0) → steps_of (steps n) o ≡ each
+        go : (o : Option (ℕ × ℕ)) → IfSome o (λ choice. choice.1 < 0) → size_of (size n) o ≡ each
         go None h = refl
         go (Some choice) h = absurd (omega (arith, h))
     steps_same (suc n) (suc m) (Rule r) h k = go (λ s. steps_same n m s) (rule_choice choices r) refl h k
       where
-        go : ((s : Sym) → IsNotAbove choices n s → IsNotAbove choices m s → steps n s ≡ steps m s) → (o : Option (ℕ × ℕ)) → rule_choice choices r ≡ o
-            → IfSome o (λ choice. choice.1 < suc n) → IfSome o (λ choice. choice.1 < suc m) → steps_of (steps n) o ≡ steps_of (steps m) o
+        go : ((s : Sym) → IsNotAbove choices n s → IsNotAbove choices m s → size n s ≡ size m s) → (o : Option (ℕ × ℕ)) → rule_choice choices r ≡ o
+            → IfSome o (λ choice. choice.1 < suc n) → IfSome o (λ choice. choice.1 < suc m) → size_of (size n) o ≡ size_of (size m) o
         go same None e h k = refl
-        go same (Some choice) e h k = ap (λ c. c + each) (sum_by-same (IsNotAbove choices choice.1) (steps n) (steps m)
+        go same (Some choice) e h k = ap (λ c. c + each) (sum_by-same (IsNotAbove choices choice.1) (size n) (size m)
             (λ s lt. same s (lower n choice.1 s (omega (arith, h)) lt) (lower m choice.1 s (omega (arith, k)) lt))
             (nth_production g choice.0).symbols (below r choice.0 choice.1 e))
 
     -- a rule takes what its symbols take, and `each`
     pub steps_opened : (n r p m : ℕ) → rule_choice choices r ≡ Some (p, m) → m < n
-        → steps n (Rule r) ≡ sum_by (steps n) (nth_production g p).symbols + each
+        → size n (Rule r) ≡ sum_by (size n) (nth_production g p).symbols + each
     unfolding steps
     steps_opened zero r p m e lt = absurd (omega (arith, lt))
-    steps_opened (suc n) r p m e lt = ap (steps_of (steps n)) e ∙ ap (λ c. c + each) (sum_by-same (IsNotAbove choices m) (steps n) (steps (suc n))
+    steps_opened (suc n) r p m e lt = ap (size_of (size n)) e ∙ ap (λ c. c + each) (sum_by-same (IsNotAbove choices m) (size n) (size (suc n))
         (λ s h. steps_same n (suc n) s (lower n m s (omega (arith, lt)) h) (lower (suc n) m s (omega (arith, lt)) h))
         (nth_production g p).symbols (below r p m e))

@@ -1,40 +1,37 @@
 -- A production that was offered is taken out, and what is left till nothing is offered.
-use Rattle.std.proofs.Common.{◌≡◌, ℕ, ◌+◌, ◌-◌, ◌*◌, ◌<◌, ◌≤◌, ◌⊎◌, inl, inr, true, false, true≢false, Option, Some, slice_set, List, [], ◌∷◌, ◌++◌, append-nil, get_or, length, map, None, Contains, arith, refl, sym, ap, subst, ◌∙◌}
+use Rattle.std.proofs.Common.{◌≡◌, ℕ, ◌+◌, ◌-◌, ◌*◌, ◌<◌, ◌≤◌, ◌⊎◌, inl, inr, true, false, true≢false, Option, Some, slice_set, List, [], ◌∷◌, ◌++◌, get_or, length, map, None, Contains, arith, refl, sym, ap, subst, ◌∙◌}
 use Rattle.std.proofs.Math.Seq.{get_or-append_seam}
-use Rattle.std.proofs.lemmas.List.{get_or_append_left, get_or_default, length_push, map-append, map-set}
+use Rattle.std.proofs.lemmas.List.{get_or_append_left, get_or_default, length-map, length_push, map-append, map-set}
 use Rattle.std.proofs.lemmas.List.Elements.{Contains-append_left, Contains-push, Contains-push_cases}
 use Rattle.cfgleast.specs.Certificate.{choice_of, rule_choice}
 use Rattle.cfgchoices.specs.Inner.Kinds.{IsHeir, places_of}
 use Rattle.cfgindex.specs.declared.idxnewtype.PIdx.{PIdx}
-use Rattle.cfgchoices.specs.Inner.Offers.{Adds, Going, HasChoice, IsDone, IsHandled, IsKnown, IsNext, Known, Level, NotAfter, Offers, Takes, Waits, left_to_choose, owner, row, waiting}
+use Rattle.cfgchoices.specs.Inner.Offers.{Adds, Going, HasChoice, IsDone, IsHandled, IsKnown, Known, Level, NotAfter, Offering, Offers, StandsFor, Takes, Waits, left_to_choose, owner, row, waiting}
 use Rattle.cfgchoices.proofs.ChoosingFirsts.{few}
 use Rattle.lemmas.proofs.Contained.{contains_none}
 use Rattle.cfgchoices.proofs.Pending.{choice_shown}
 use Rattle.std.specs.Prelude.{is_some}
-use Rattle.cfgchoices.proofs.Offered.{choosing, with_choice}
+use Rattle.cfgchoices.proofs.Offered.{choosing, handled_chosen, hands_chosen, offering_chosen, stands_done, was_chosen, with_choice}
 
 module _ (k : Known) (f : Offers) (level : Level k f) (p : ℕ) (rest : List ℕ) where
   abbrev left_ready : Offers
-  left_ready = record { choices = f.choices; number = f.number; cost = f.cost; ready = rest; level = f.level }
+  left_ready = record { choices = f.choices; number = f.number; cost = f.cost; ready = rest; level = f.level; foremost = f.foremost }
 
   pub take_ready : f.ready ≡ rest ++ p ∷ [] → Takes k p f left_ready
   take_ready e =
       let had = subst (λ l. Contains l p) (sym e) (Contains-push rest p) in
       let old = λ (q : ℕ) (h : Contains rest q). subst (λ l. Contains l q) (sym e) (Contains-append_left rest (p ∷ []) q h) in
       let still = λ (q : ℕ) (h : Waits left_ready q). elim h as (λ _. Waits f q) [ inl ready ↦ inl (old q ready) | inr other ↦ inr other ] in record {
-        choices = refl;
-        cost = refl;
-        number = refl;
+        others = refl;
         level = record {
           choosing = level.choosing;
           costs = level.costs;
           offered = λ q h. level.offered q (still q h);
-          floor = λ q h. level.floor q (still q h);
           alone = λ q h. level.alone q (old q h);
           several = level.several;
           order = level.order;
         };
-        next = record { offered = level.offered p (inl had); floor = level.floor p (inl had); least = inl (level.alone p had) };
+        next = record { offered = level.offered p (inl had); least = inl (level.alone p had) };
         waits = λ q h. elim h [
           | inl ready ↦ elim (Contains-push_cases rest p q (subst (λ l. Contains l q) e ready)) [ inl i ↦ inl (inl i) | inr is ↦ inr (sym is) ]
           | inr other ↦ inl (inr other)
@@ -43,7 +40,7 @@ module _ (k : Known) (f : Offers) (level : Level k f) (p : ℕ) (rest : List ℕ
       }
 
   abbrev left_level : Offers
-  left_level = record { choices = f.choices; number = f.number; cost = f.cost; ready = f.ready; level = rest }
+  left_level = record { choices = f.choices; number = f.number; cost = f.cost; ready = f.ready; level = rest; foremost = f.foremost }
 
   module _ (none : f.ready ≡ []) (e : f.level ≡ rest ++ p ∷ []) where
     abbrev NotBefore : ℕ → ℕ → Type 0
@@ -65,14 +62,11 @@ module _ (k : Known) (f : Offers) (level : Level k f) (p : ℕ) (rest : List ℕ
         let had = subst (λ l. Contains l p) (sym e) (Contains-push rest p) in
         let old = λ (q : ℕ) (h : Contains rest q). subst (λ l. Contains l q) (sym e) (Contains-append_left rest (p ∷ []) q h) in
         let still = λ (q : ℕ) (h : Waits left_level q). elim h as (λ _. Waits f q) [ inl ready ↦ inl ready | inr other ↦ inr (old q other) ] in record {
-          choices = refl;
-          cost = refl;
-          number = refl;
+          others = refl;
           level = record {
             choosing = level.choosing;
             costs = level.costs;
             offered = λ q h. level.offered q (still q h);
-            floor = λ q h. level.floor q (still q h);
             alone = level.alone;
             several = λ q h. level.several q (old q h);
             order = λ i j lt short. subst (λ a. NotBefore a (get_or rest j 0)) (front i (omega (arith, lt, short)))
@@ -80,7 +74,6 @@ module _ (k : Known) (f : Offers) (level : Level k f) (p : ℕ) (rest : List ℕ
           };
           next = record {
             offered = level.offered p (inr had);
-            floor = level.floor p (inr had);
             least = inr (λ q h. elim h [
               | inl ready ↦ absurd (contains_none q (subst (λ l. Contains l q) none ready))
               | inr other ↦ let (i, within, at) = other in
@@ -95,54 +88,116 @@ module _ (k : Known) (f : Offers) (level : Level k f) (p : ℕ) (rest : List ℕ
         }
 
 module _ (k : Known) (p : ℕ) (f f' : Offers) (t : Takes k p f f') where
-  pub taken_handled : (q : ℕ) → IsHandled k.tables f q → IsHandled k.tables f' q ⊎ (q ≡ p)
-  taken_handled q h = elim h [
-    | inl done ↦ inl (inl (subst (λ l. IsDone k.tables l q) (sym t.choices) done))
-    | inr waits ↦ elim (t.waits q waits) [ inl i ↦ inl (inr i) | inr is ↦ inr is ]
-  ]
+  same : f'.choices ≡ f.choices
+  same = ap (λ (f : Offers). f.choices) t.others
 
-  pub taken_hands : Going k f → (q r : ℕ) → IsHeir k.tables q r → HasChoice f'.choices r → IsHandled k.tables f' q ⊎ (q ≡ p)
-  taken_hands g q r heir has = taken_handled q (g.hands q r heir (subst (λ l. HasChoice l r) t.choices has))
+  taken_handled : (q : ℕ) → IsHandled k.tables f q → IsHandled k.tables f' q ⊎ StandsFor k.tables f'.choices p q
+  taken_handled q (inl done) = inl (inl (subst (λ l. IsDone k.tables l q) (sym same) done))
+  taken_handled q (inr (r, waits, stands)) =
+      let now = subst (λ l. StandsFor k.tables l r q) (sym same) stands in
+      elim (t.waits r waits) [ inl still ↦ inl (inr (r, still, now)) | inr is ↦ inr (subst (λ i. StandsFor k.tables f'.choices i q) is now) ]
+
+  pub taken_cost : f'.cost ≡ f.cost
+  taken_cost = ap (λ (f : Offers). f.cost) t.others
+
+  taken_number : f'.number ≡ f.number
+  taken_number = ap (λ (f : Offers). f.number) t.others
 
   pub taken_less : left_to_choose k f' < left_to_choose k f
   taken_less =
       let one = t.together in
-      let same = ap (λ n. (k.tables.grammar.rules - n) * (length k.tables.grammar.productions + 1)) t.number in
+      let same = ap (λ n. (k.tables.grammar.rules - n) * (length k.tables.grammar.productions + 1)) taken_number in
       omega (arith, one, same)
 
-module _ (k : Known) (n : ℕ) (is : IsKnown k n) (f : Offers) (p : ℕ) (level : Level k f) (next : IsNext k f p) (unset : rule_choice f.choices (owner k.tables p) ≡ None)
-    (within : owner k.tables p < k.tables.grammar.rules) where
-  -- a choice more, and what hands on to its rule
-  pub chosen_left : (m : ℕ) → m ≤ length k.tables.grammar.productions → (f' : Offers) (Is : ℕ → Type 0) → Adds Is m (with_choice k n is f p level next unset within) f'
-      → left_to_choose k f' ≤ left_to_choose k f
-  chosen_left m short f' Is adds =
-      let most = few k.tables _ (f.number + 1) (choosing k n is f p level next unset within) in
-      let all = adds.together in
-      product k.tables.grammar.rules f.number f'.number (length k.tables.grammar.productions) m (waiting f) (waiting f') most adds.number all short
-    where
-      product : (r a b c m w v : ℕ) → a + 1 ≤ r → b ≡ a + 1 → v ≡ w + m → m ≤ c → (r - b) * (c + 1) + v ≤ (r - a) * (c + 1) + w
-      product r a b c m w v most is all short =
-          let one : r - a ≡ (r - b) + 1 = omega (arith, most, is) in
-          let whole : (r - a) * (c + 1) ≡ ((r - b) + 1) * (c + 1) = ap (λ d. d * (c + 1)) one in
-          spread (r - b) c m w v ((r - a) * (c + 1)) whole all short
-        where
-          spread : (d c m w v whole : ℕ) → whole ≡ (d + 1) * (c + 1) → v ≡ w + m → m ≤ c → d * (c + 1) + v ≤ whole + w
-          spread d c m w v whole is all short = omega (arith, is, all, short)
+  module _ (g : Going k f) where
+    hands : (q r : ℕ) → IsHeir k.tables q r → HasChoice f'.choices r → IsHandled k.tables f' q ⊎ StandsFor k.tables f'.choices p q
+    hands q r heir has = taken_handled q (g.hands q r heir (subst (λ l. HasChoice l r) same has))
 
-pub lt_from : {a b c : ℕ} → a < b → c ≤ a → c < b
-lt_from less le = omega (arith, less, le)
+    foremost : (r q : ℕ) → get_or f'.foremost r None ≡ Some q → (owner k.tables q ≡ r) × (Waits f' q ⊎ HasChoice f'.choices r ⊎ (q ≡ p))
+    foremost r q e =
+        let (owned, where_is) = g.offering.foremost r q (ap (λ (f : Offers). get_or f.foremost r None) (sym t.others) ∙ e) in (
+          owned,
+          elim where_is [
+            | inl waits ↦ elim (t.waits q waits) [ inl still ↦ inl still | inr is ↦ inr (inr is) ]
+            | inr has ↦ inr (inl (subst (λ l. HasChoice l r) (sym same) has))
+          ],
+        )
+
+    listed : length f'.foremost ≡ k.tables.grammar.rules
+    listed = ap (λ (f : Offers). length f.foremost) t.others ∙ g.offering.listed
+
+    module _ (n : ℕ) (is : IsKnown k n) where
+      -- the rule has a choice
+      module _ (has : HasChoice f'.choices (owner k.tables p)) where
+        passed : (q : ℕ) → IsHandled k.tables f' q ⊎ StandsFor k.tables f'.choices p q → IsHandled k.tables f' q
+        passed q (inl h) = h
+        passed q (inr stands) = inl (stands_done k.tables f'.choices p q (was_chosen k n is f' p t.level t.next.offered has) stands)
+
+        pub passed_handles : (q : ℕ) → IsHandled k.tables f q → IsHandled k.tables f' q
+        passed_handles q h = passed q (taken_handled q h)
+
+        pub passed_going : Going k f'
+        passed_going = record {
+          offering = record {
+            level = t.level;
+            listed = listed;
+            foremost = λ r q e.
+                let (owned, where_is) = foremost r q e in (
+                  owned,
+                  elim where_is [
+                    | inl waits ↦ inl waits
+                    | inr other ↦ inr (elim other [ inl old ↦ old | inr same ↦ subst (HasChoice f'.choices) (ap (owner k.tables) (sym same) ∙ owned) has ])
+                  ],
+                );
+          };
+          hands = λ q r heir i. passed q (hands q r heir i);
+        }
+
+      -- it gets one
+      module _ (unset : rule_choice f'.choices (owner k.tables p) ≡ None) (within : owner k.tables p < k.tables.grammar.rules) where
+        abbrev pub now : Offers
+        now = with_choice k n is f' p t.level t.next unset within
+
+        pub now_offering : Offering k now
+        now_offering = offering_chosen k n is f' p t.level t.next unset within listed foremost
+
+        pub number_fits : f'.number + 1 ≤ k.tables.grammar.rules
+        number_fits = few k.tables _ (f'.number + 1) (choosing k n is f' p t.level t.next unset within)
+
+        -- and what hands on to the rule is offered
+        module _ (f'' : Offers) (adds : Adds k.tables (λ q. IsHeir k.tables q (owner k.tables p)) (length k.tables.grammar.productions) now f'') where
+          pub chosen_handles : (q : ℕ) → IsHandled k.tables f q → IsHandled k.tables f'' q
+          chosen_handles q h = adds.handles q (inl (handled_chosen k n is f' p t.level t.next unset within q (taken_handled q h)))
+
+          pub chosen_going : Offering k f'' → Going k f''
+          chosen_going offering = record {
+            offering = offering;
+            hands = hands_chosen k n is f' p t.level t.next unset within f'' adds.choices adds.handles hands;
+          }
+
+          pub chosen_left : left_to_choose k f'' < left_to_choose k f
+          chosen_left =
+              let all = adds.together in
+              let one = t.together in
+              product k.tables.grammar.rules f.number f''.number (length k.tables.grammar.productions) (waiting f) (waiting f'')
+              (let most = number_fits in let number = taken_number in omega (arith, most, number)) (adds.number ∙ ap (λ n. n + 1) taken_number) (omega (arith, all, one))
+            where
+              spread : (d c w v whole : ℕ) → whole ≡ (d + 1) * (c + 1) → v + 1 ≤ w + c → d * (c + 1) + v < whole + w
+              spread d c w v whole is all = omega (arith, is, all)
+
+              product : (r a b c w v : ℕ) → a + 1 ≤ r → b ≡ a + 1 → v + 1 ≤ w + c → (r - b) * (c + 1) + v < (r - a) * (c + 1) + w
+              product r a b c w v most is all =
+                  let one : r - a ≡ (r - b) + 1 = omega (arith, most, is) in
+                  let whole : (r - a) * (c + 1) ≡ ((r - b) + 1) * (c + 1) = ap (λ d. d * (c + 1)) one in
+                  spread (r - b) c w v ((r - a) * (c + 1)) whole all
 
 -- lists of the code, in numbers, one taken from the end
 pub last_taken : {S : Type 0} (number : S → ℕ) (items rest : List (PIdx S)) (p : PIdx S) → items ≡ rest ++ p ∷ [] → places_of number items ≡ places_of number rest ++ number p.0 ∷ []
 last_taken number items rest p e = ap (places_of number) e ∙ map-append (λ (q : PIdx _). number q.0) rest (p ∷ [])
 
-pub none_taken : {S : Type 0} (number : S → ℕ) (items rest : List (PIdx S)) → items ≡ rest ++ [] → places_of number rest ≡ places_of number items
-none_taken number items rest e = ap (places_of number) (sym (append-nil rest) ∙ sym e)
-
-pub same_lists : (f : Offers) (ready level : List ℕ) → ready ≡ f.ready → level ≡ f.level
-    → ◌≡◌ {A = Offers} (record { choices = f.choices; number = f.number; cost = f.cost; ready = ready; level = level }) f
-same_lists f ready level e h = ap (λ (r : List ℕ). record { choices = f.choices; number = f.number; cost = f.cost; ready = r; level = level }) e
-    ∙ ap (λ (l : List ℕ). record { choices = f.choices; number = f.number; cost = f.cost; ready = f.ready; level = l }) h
+-- a rule has an entry in a list of the code
+pub entry_within : {A B : Type 0} (f : A → B) (items : List A) (rules i r : ℕ) → length (map f items) ≡ rules → i ≡ r → i < rules → r < length items
+entry_within f items rules i r listed at lt = let len = length-map items f in omega (arith, len, listed, at, lt)
 
 -- whether a rule has a choice, as the code tells it
 module _ {S : Type 0} (number : S → ℕ) (items : List (Option (PIdx S × ℕ))) (i r : ℕ) (at : i ≡ r) (within : r < length items) where
@@ -156,3 +211,6 @@ module _ {S : Type 0} (number : S → ℕ) (items : List (Option (PIdx S × ℕ)
 
   pub chosen_shown : (p : PIdx S) (n : ℕ) → map (choice_of number) (slice_set items i (Some (p, n))) ≡ slice_set (map (choice_of number) items) r (Some (number p.0, n))
   chosen_shown p n = map-set (choice_of number) items i (Some (p, n)) ∙ ap (λ j. slice_set (map (choice_of number) items) j (Some (number p.0, n))) at
+
+  pub none_shown : (o : Option (PIdx S × ℕ)) → o ≡ get_or items i o → is_some o ≡ false → HasChoice (map (choice_of number) items) r → ⊥
+  none_shown o is e has = let no : None ≡ Some has.0 = sym (unset_shown o is e) ∙ has.1 in cc

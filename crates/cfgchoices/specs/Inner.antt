@@ -2,4 +2,5 @@
 pub mod Kinds
 pub mod Choices
 pub mod FirstChoices
+pub mod Lists
 pub mod Offers

@@ -1,8 +1,8 @@
 //! The production by which each rule's first minimal sentence is made, found level by level, by rising cost.
 
 mod compare;
-mod handing;
 mod levels;
+mod lists;
 mod offers;
 mod tight;
 

@@ -9,11 +9,11 @@ ghost use Rattle.cfgleast.specs.Generator.{IsGenerator, tables_of};
 ghost use Rattle.cfgchoices.specs.Inner.Kinds.{HasRulesAsHeirs};
 ghost use Rattle.cfgchoices.specs.Inner.Kinds.{AreKinds, IsKind, IsRowKind};
 
+use cfgindex::{PIdx, RIdx, Storage, Symbol, to_storage};
 use cfgleast::partial::Partial;
 use cfgleast::settle::Settled;
 use cfgleast::walk::{TOO_LARGE, walk};
 use cfgtables::Tables;
-use cfgindex::{PIdx, RIdx, Storage, Symbol, to_storage};
 use std::alloc::{AllocError, Global};
 
 /// What a production is to its rule.

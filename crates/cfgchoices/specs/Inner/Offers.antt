@@ -1,6 +1,7 @@
 -- Productions that are offered to their rules, and the choices that are made among them.
-use Rattle.std.specs.Prelude.{◌≡◌, ◌↔◌, ℕ, zero, suc, ◌+◌, ◌-◌, ◌*◌, ◌<◌, ◌≤◌, ◌⊎◌, Bool, true, false, List, [], ◌∷◌, Option, Some, None, All, Contains, IsSomeAnd, Vec, count_by, is_some, length, map, reverse, slice_index_or, sum_by}
-use Rattle.std.specs.declared.alloc.Global.{Global}
+use Rattle.std.specs.Prelude.{◌≡◌, ℕ, zero, suc, ◌+◌, ◌-◌, ◌*◌, ◌<◌, ◌≤◌, ◌⊎◌, Bool, true, false, List, [], ◌∷◌, Option, Some, None, Contains, IsSomeAnd, count_by, is_some, length, map, reverse, slice_index_or, sum_by}
+use Rattle.std.specs.Ordering.{nat_cmp}
+use Rattle.std.specs.declared.cmp.Ordering.{Ordering}
 use Rattle.std.specs.declared.cmp.Ordering.TheVariants.{Greater}
 use Rattle.cfgindex.specs.declared.idxnewtype.PIdx.{PIdx}
 use Rattle.derivation.specs.Grammar.{Sym, Rule, Token, Grammar, IsGrammar}
@@ -10,10 +11,10 @@ use Rattle.cfgchoices.specs.Inner.Choices.{ChoicesGive}
 use Rattle.cfgleast.specs.Generator.{CostTables, IsGenerator, cost_answer}
 use Rattle.cfgchoices.specs.Inner.Kinds.{HasNoHeir, IsHeir, IsTight, places_of}
 use Rattle.cfgchoices.specs.First.{dictionary}
-use Rattle.cfgindex.specs.declared.idxnewtype.RIdx.{RIdx}
 use Rattle.cfgchoices.specs.declared.kinds.Kind.{Kind}
-use Rattle.cfgchoices.specs.declared.kinds.Kind.TheVariants as variants
 use Rattle.cfgchoices.specs.declared.kinds.Kind.TheVariants.{Slack}
+use Rattle.cfgchoices.specs.declared.first.lists.Listed.{Listed}
+use Rattle.cfgchoices.specs.declared.first.lists.Listed.TheVariants.{Own, HandingTo}
 use Rattle.cfgchoices.specs.declared.first.offers.Firsts.{Firsts}
 
 abbrev pub Choices : Type 0
@@ -54,10 +55,6 @@ steps g choices each (suc n) (Rule r) = steps_of g each (steps g choices each n)
 abbrev pub IsInOrder : {X : Type 0} → (X → X → Type 0) → X → List X → Type 0
 IsInOrder R d xs = (i j : ℕ) → i < j → j < length xs → R (slice_index_or xs i d) (slice_index_or xs j d)
 
--- the productions of a list, by their numbers
-abbrev pub productions_of : {S : Type 0} → (S → ℕ) → Vec (PIdx S) Global → List ℕ
-productions_of number list = places_of number list.items
-
 abbrev pub row : CostTables → ℕ → List Sym
 row x p = (nth_production x.grammar p).symbols
 
@@ -76,6 +73,16 @@ AreMade x l = (n : ℕ) × Choosing x l n
 abbrev pub Pends : CostTables → Choices → List Sym → List ℕ → Type 0
 Pends x l pending w = ChoicesGive (by x l) (reverse pending) w
 
+-- rows of symbols begin with tokens that stand so
+pub record FirstTokensAre (a b : List Sym) (ordering : Ordering) : Type 0 where
+  pub one : ℕ
+  pub other : ℕ
+  pub ones : List Sym
+  pub others : List Sym
+  pub first : a ≡ Token one ∷ ones
+  pub second : b ≡ Token other ∷ others
+  pub is : ordering ≡ nat_cmp one other
+
 -- how many steps are left till none pends
 abbrev pub left_to_open : CostTables → Choices → List Sym → ℕ
 left_to_open x l pending = sum_by (steps x.grammar l 1 x.grammar.rules) pending
@@ -93,11 +100,22 @@ pub record IsDone (x : CostTables) (l : Choices) (p : ℕ) : Type 0 where
   pub given : (w : List ℕ) × ChoicesGive (by x l) (row x p) w
   pub first : NotAfter x l (Rule (owner x p) ∷ []) (row x p)
 
--- what is known of productions that cost just what their rules do: whether a rule has more than one, and which hand on to it
+-- of two productions of one rule the first makes nothing greater than the second
+pub record StandsFor (x : CostTables) (l : Choices) (p q : ℕ) : Type 0 where
+  pub same : owner x p ≡ owner x q
+  pub given : (w : List ℕ) × ChoicesGive (by x l) (row x q) w
+  pub before : NotAfter x l (row x p) (row x q)
+
+-- what is known of productions that cost just what their rules do: whether a rule has more than one; and a number above all costs
 pub record Known : Type 0 where
   pub tables : CostTables
   pub alone : List Bool
-  pub handing : List (List ℕ)
+  pub limit : ℕ
+
+-- there is such a list
+abbrev pub HasList : {S : Type 0} → (S → ℕ) → Known → Listed S → Type 0
+HasList number k (Own c) = c < k.limit
+HasList number k (HandingTo r) = number r.0 < k.tables.grammar.rules
 
 abbrev pub is_alone : Known → ℕ → Bool
 is_alone k r = slice_index_or k.alone r false
@@ -110,32 +128,27 @@ pub record IsKnown (k : Known) (n : ℕ) : Type 0 where
   pub grammar : IsGrammar k.tables.grammar
   pub flags : length k.alone ≡ k.tables.grammar.rules
   pub alone : (r : ℕ) → is_alone k r ≡ true → IsAlone k.tables r
-  pub lists : length k.handing ≡ k.tables.grammar.rules
-  pub handing : (p q : ℕ) → (Contains (slice_index_or k.handing q []) p ↔ IsHeir k.tables p q)
-  pub short : (q : ℕ) → length (slice_index_or k.handing q []) ≤ length k.tables.grammar.productions
+  pub kinds : (p : ℕ) → IsTight k.tables p → HasNoHeir k.tables p ⊎ ((q : ℕ) × IsHeir k.tables p q)
+  pub costs : (r c : ℕ) → cost_answer k.tables r ≡ Some c → c < k.limit
 
--- a production that costs just what its rule does, as its kind tells; one that hands on to a rule
+-- a production that costs just what its rule does, as its kind tells
 abbrev pub IsCounted : {S : Type 0} → List (Kind S) → ℕ → Type 0
 IsCounted kinds p = (p < length kinds) × (slice_index_or kinds p Slack ≡ Slack → ⊥)
 
-pub record HandsOn {S : Type 0} (number : S → ℕ) (kinds : List (Kind S)) (p q : ℕ) : Type 0 where
-  pub heir : RIdx S
-  pub kind : slice_index_or kinds p Slack ≡ variants.HandsOn heir
-  pub is : number heir.0 ≡ q
+-- the production's number
+abbrev pub place_of : {S : Type 0} → (S → ℕ) → Option (PIdx S) → Option ℕ
+place_of number None = None
+place_of number (Some p) = Some (number p.0)
 
--- for each rule the productions that hand on to it, of the first n
-pub record AreHanding {S : Type 0} (number : S → ℕ) (kinds : List (Kind S)) (n rules : ℕ) (handing : List (List ℕ)) : Type 0 where
-  pub lists : length handing ≡ rules
-  pub all : (p q : ℕ) → (Contains (slice_index_or handing q []) p ↔ ((p < n) × HandsOn number kinds p q))
-  pub short : (q : ℕ) → length (slice_index_or handing q []) ≤ n
-
--- the choices that were made, what productions cost that are offered now, those that are alone in their rules, and the others
+-- the choices that were made, what productions cost that are offered now, those that are alone in their rules, and the others;
+-- and for each rule the one that makes the first word of those that were offered to it
 pub record Offers : Type 0 where
   pub choices : Choices
   pub number : ℕ
   pub cost : ℕ
   pub ready : List ℕ
   pub level : List ℕ
+  pub foremost : List (Option ℕ)
 
 abbrev pub offers_of : {S : Type 0} → (S → ℕ) → Firsts S → Offers
 offers_of number f = record {
@@ -144,6 +157,7 @@ offers_of number f = record {
   cost = f.cost;
   ready = places_of number f.ready.items;
   level = places_of number f.level.items;
+  foremost = map (place_of number) f.foremost.items;
 }
 
 -- the tables with these choices
@@ -156,44 +170,48 @@ Waits f p = Contains f.ready p ⊎ Contains f.level p
 abbrev pub waiting : Offers → ℕ
 waiting f = length f.ready + length f.level
 
+-- a production is done, or one that stands for it waits
 abbrev pub IsHandled : CostTables → Offers → ℕ → Type 0
-IsHandled x f p = IsDone x f.choices p ⊎ Waits f p
-
--- a production of this cost, whose rules have choices, or cost nothing
-pub record IsOffered (x : CostTables) (l : Choices) (n c p : ℕ) : Type 0 where
-  pub tight : IsTight x p
-  pub cost : tight.cost ≡ c
-  pub ready : (q : ℕ) → Contains (row x p) (Rule q) → IsReady x l n q
+IsHandled x f q = IsDone x f.choices q ⊎ ((p : ℕ) × Waits f p × StandsFor x f.choices p q)
 
 -- no choice of this cost makes anything greater, where rules had more than one to choose from
 abbrev pub IsFloor : Known → Choices → ℕ → ℕ → Type 0
 IsFloor k l c p = (r : ℕ) → HasChoice l r → cost_answer k.tables r ≡ Some c → is_alone k r ≡ false → NotAfter k.tables l (Rule r ∷ []) (row k.tables p)
 
+-- a production of this cost, whose rules have choices, or cost nothing
+pub record IsOffered (k : Known) (l : Choices) (n c p : ℕ) : Type 0 where
+  pub tight : IsTight k.tables p
+  pub cost : tight.cost ≡ c
+  pub ready : (q : ℕ) → Contains (row k.tables p) (Rule q) → IsReady k.tables l n q
+  pub floor : IsFloor k l c p
+
 pub record Level (k : Known) (f : Offers) : Type 0 where
   pub choosing : Choosing k.tables f.choices f.number
   pub costs : (r : ℕ) → HasChoice f.choices r → (d : ℕ) × (cost_answer k.tables r ≡ Some d) × (d ≤ f.cost)
-  pub offered : (p : ℕ) → Waits f p → IsOffered k.tables f.choices f.number f.cost p
-  pub floor : (p : ℕ) → Waits f p → IsFloor k f.choices f.cost p
+  pub offered : (p : ℕ) → Waits f p → IsOffered k f.choices f.number f.cost p
   pub alone : (p : ℕ) → Contains f.ready p → is_alone k (owner k.tables p) ≡ true
   pub several : (p : ℕ) → Contains f.level p → is_alone k (owner k.tables p) ≡ false
   pub order : IsInOrder (λ p q. NotAfter k.tables f.choices (row k.tables q) (row k.tables p)) 0 f.level
 
--- nothing is offered that hands on to a rule which has a choice, unless that is done
-pub record Going (k : Known) (f : Offers) : Type 0 where
+-- the foremost of what was offered to a rule waits, unless the rule has a choice
+pub record Offering (k : Known) (f : Offers) : Type 0 where
   pub level : Level k f
+  pub listed : length f.foremost ≡ k.tables.grammar.rules
+  pub foremost : (r p : ℕ) → slice_index_or f.foremost r None ≡ Some p → (owner k.tables p ≡ r) × (Waits f p ⊎ HasChoice f.choices r)
+
+-- what hands on to a rule that has a choice is handled
+pub record Going (k : Known) (f : Offers) : Type 0 where
+  pub offering : Offering k f
   pub hands : (p q : ℕ) → IsHeir k.tables p q → HasChoice f.choices q → IsHandled k.tables f p
 
 -- a production that can be chosen now
 pub record IsNext (k : Known) (f : Offers) (p : ℕ) : Type 0 where
-  pub offered : IsOffered k.tables f.choices f.number f.cost p
-  pub floor : IsFloor k f.choices f.cost p
+  pub offered : IsOffered k f.choices f.number f.cost p
   pub least : (is_alone k (owner k.tables p) ≡ true) ⊎ ((q : ℕ) → Waits f q → NotAfter k.tables f.choices (row k.tables p) (row k.tables q))
 
 -- it was taken out
 pub record Takes (k : Known) (p : ℕ) (f f' : Offers) : Type 0 where
-  pub choices : f'.choices ≡ f.choices
-  pub cost : f'.cost ≡ f.cost
-  pub number : f'.number ≡ f.number
+  pub others : f' ≡ record { choices = f.choices; number = f.number; cost = f.cost; ready = f'.ready; level = f'.level; foremost = f.foremost }
   pub level : Level k f'
   pub next : IsNext k f' p
   pub waits : (q : ℕ) → Waits f q → Waits f' q ⊎ (q ≡ p)
@@ -203,32 +221,25 @@ pub record Takes (k : Known) (p : ℕ) (f f' : Offers) : Type 0 where
 abbrev pub IsDrained : Offers → Offers → Type 0
 IsDrained f f' = (waiting f ≡ 0) × (f' ≡ f)
 
--- these and no others wait now too
-pub record Adds (Is : ℕ → Type 0) (n : ℕ) (f f' : Offers) : Type 0 where
+-- what was handled, and this, is handled
+abbrev pub Handles : CostTables → (ℕ → Type 0) → Offers → Offers → Type 0
+Handles x Is f f' = (q : ℕ) → IsHandled x f q ⊎ Is q → IsHandled x f' q
+
+-- these are handled now too, and at most so many more wait
+pub record Adds (x : CostTables) (Is : ℕ → Type 0) (n : ℕ) (f f' : Offers) : Type 0 where
   pub choices : f'.choices ≡ f.choices
   pub number : f'.number ≡ f.number
   pub cost : f'.cost ≡ f.cost
-  pub waits : (q : ℕ) → (Waits f' q ↔ (Waits f q ⊎ Is q))
-  pub together : waiting f' ≡ waiting f + n
+  pub handles : Handles x Is f f'
+  pub together : waiting f' ≤ waiting f + n
 
 -- how many steps are left till nothing is offered
 abbrev pub left_to_choose : Known → Offers → ℕ
 left_to_choose k f = (k.tables.grammar.rules - f.number) * (length k.tables.grammar.productions + 1) + waiting f
 
--- what was handled, and this, is handled
-abbrev pub Handles : CostTables → (ℕ → Type 0) → Offers → Offers → Type 0
-Handles x Is f f' = (q : ℕ) → IsHandled x f q ⊎ Is q → IsHandled x f' q
-
--- own productions, each with its cost
-pub record AreOwn (x : CostTables) (queue : List (ℕ × ℕ)) : Type 0 where
-  pub all : (p : ℕ) → HasNoHeir x p → (c : ℕ) × Contains queue (c, p)
-  pub costs : (c p : ℕ) → Contains queue (c, p) → (own : HasNoHeir x p) × (own.tight.cost ≡ c)
-
--- All rules of lesser cost have choices, and none of this cost or a greater one. Own productions are handled, or in the queue.
-pub record Climbing (k : Known) (f : Offers) (queue : List (ℕ × ℕ)) : Type 0 where
+-- All rules that cost less have choices that make their first words, and no others have choices.
+pub record Climbed (k : Known) (f : Offers) (c : ℕ) : Type 0 where
   pub going : Going k f
-  pub own : (p : ℕ) → HasNoHeir k.tables p → ((c : ℕ) × Contains queue (c, p)) ⊎ IsHandled k.tables f p
-  pub costs : (c p : ℕ) → Contains queue (c, p) → (own : HasNoHeir k.tables p) × (own.tight.cost ≡ c)
-  pub dear : All (λ entry. f.cost ≤ entry.0) queue
-  pub older : (r d : ℕ) → cost_answer k.tables r ≡ Some d → 0 < d → d < f.cost → HasChoice f.choices r
-  pub younger : (r d : ℕ) → HasChoice f.choices r → cost_answer k.tables r ≡ Some d → d < f.cost
+  pub none : waiting f ≡ 0
+  pub own : (p : ℕ) (own : HasNoHeir k.tables p) → own.tight.cost < c → IsDone k.tables f.choices p
+  pub younger : (r d : ℕ) → HasChoice f.choices r → cost_answer k.tables r ≡ Some d → d < c

@@ -1,15 +1,16 @@
 //! Productions in the order of what the choices make of them. Two are compared side by side, from their first tokens on.
 
 ghost use Rattle.std.specs.Prelude.{◌≡◌, ℕ, ◌<◌, ◌++◌, ◌∷◌, [], List, IfOk, IfSome, MatchOption, OnOk, length, map};
-ghost use Rattle.std.specs.Prelude.{reverse};
+ghost use Rattle.std.specs.Prelude.{reverse, true};
 ghost use Rattle.cfgtables.specs.Symbols.{sym_of};
 ghost use Rattle.cfgleast.specs.Certificate.{choice_of};
 ghost use Rattle.cfgchoices.specs.First.{dictionary};
-ghost use Rattle.cfgchoices.specs.Inner.Offers.{AreMade, Gives, Pends, left_to_open, row};
+ghost use Rattle.cfgchoices.specs.Inner.Offers.{AreMade, FirstTokensAre, Gives, Pends, left_to_open, row};
+ghost use Rattle.std.specs.Ordering.{is_ne};
 
 use crate::first::tight::TightTables;
-use cfgtables::Tables;
 use cfgindex::{PIdx, Storage, Symbol, TIdx};
+use cfgtables::Tables;
 use std::alloc::{AllocError, Global};
 use std::cmp::Ordering;
 
@@ -28,6 +29,19 @@ fn push_turned<S: Storage>(
         pending.push(symbols[symbols.len() - 1 - taken])?;
     }
     Ok(())
+}
+
+/// How what begins with these symbols stands in a dictionary, where both begin with tokens and these differ.
+fn first_tokens<S: Storage>(ones: &[Symbol<S>], others: &[Symbol<S>]) -> Ordering
+    ensures { is_ne result ≡ true → FirstTokensAre (map (sym_of S.number) ones.now)
+        (map (sym_of S.number) others.now) result }
+{
+    if let Some(Symbol::Token(one)) = ones.first() {
+        if let Some(Symbol::Token(other)) = others.first() {
+            return one.cmp(other);
+        }
+    }
+    Ordering::Equal
 }
 
 impl<'a, S: Storage, T: Tables<S>> TightTables<'a, S, T> {
@@ -108,6 +122,10 @@ impl<'a, S: Storage, T: Tables<S>> TightTables<'a, S, T> {
             → Gives self.now.tables (map (choice_of S.number) choices.now) (row self.now.tables (S.number other.0)) v
             → ordering ≡ dictionary u v) }
     {
+        let first = first_tokens(self.symbols(one), self.symbols(other));
+        if first.is_ne() {
+            return Ok(first);
+        }
         let mut ones = self.pending(alloc, one)?;
         let mut others = self.pending(alloc, other)?;
         while let Some(token) = self.next_token(choices, &mut ones)? {

@@ -1,85 +1,40 @@
 //! Levels of rules that cost the same, by rising cost.
 
-ghost use Rattle.std.specs.Prelude.{◌≡◌, ℕ, ◌∷◌, [], ◌≤◌, List, All, Contains, IfOk, OnOk, Some, length, map};
-ghost use Rattle.cfgleast.specs.Certificate.{choice_of, rule_choice};
-ghost use Rattle.cfgchoices.specs.Inner.FirstChoices.{AreFirst, Walks};
+ghost use Rattle.std.specs.Prelude.{◌+◌, ◌<◌, IfOk, OnOk};
 ghost use Rattle.cfgleast.specs.Generator.{IsGenerator, tables_of};
+ghost use Rattle.cfgchoices.specs.Inner.FirstChoices.{AreFirst, Walks};
 ghost use Rattle.cfgchoices.specs.Inner.Kinds.{AreKinds};
-ghost use Rattle.cfgchoices.specs.Inner.Offers.{AreOwn, Climbing, chosen_tables, offers_of};
+ghost use Rattle.cfgchoices.specs.Inner.Offers.{Climbed, chosen_tables, offers_of};
 
+use crate::first::lists::{Listed, no_productions};
 use crate::first::offers::Firsts;
 use crate::first::tight::TightTables;
 use crate::kinds::Kind;
-use cfgleast::queue::Queue;
+use cfgindex::{PIdx, Storage};
 use cfgleast::settle::{Settled, no_choices};
 use cfgtables::Tables;
-use cfgindex::{PIdx, Storage, to_storage};
 use std::alloc::{AllocError, Global};
 use std::collections::VecDeque;
 
-/// The own productions, each with what it costs.
-///
-/// # Errors
-///
-/// Want of memory.
-fn own_by_cost<S: Storage, T: Tables<S>>(
-    alloc: Global,
-    tight: &TightTables<S, T>,
-) -> Result<Queue, AllocError>
-    ensures { IfOk result (λ own. AreOwn tight.now.tables own) }
-{
-    let mut own = Queue::new(alloc);
-    for number in 0..tight.prods_len() {
-        if let Some(cost) = tight.own_cost(PIdx(to_storage(number))) {
-            own.push(cost, number as u32)?;
-        }
-    }
-    Ok(own)
-}
-
 impl<S: Storage> Firsts<S> {
-    /// Goes on to this cost, when all choices of lesser cost are made.
+    /// Chooses for all rules that cost this, when those that cost less have their choices.
     ///
     /// # Errors
     ///
     /// Want of memory.
-    fn rise<T: Tables<S>>(&mut self, tight: &TightTables<S, T>, cost: u32) -> Result<(), AllocError>
-        requires { (p : ℕ) × (rest : List (ℕ × ℕ)) × All (λ entry. cost ≤ entry.0) rest
-            × Climbing tight.now (offers_of S.number self.old) ((cost, p) ∷ rest) }
-        ensures climbing { OnOk result ((p : ℕ) (rest : List (ℕ × ℕ)) → All (λ entry. cost ≤ entry.0) rest
-            → Climbing tight.now (offers_of S.number self.old) ((cost, p) ∷ rest)
-            → Climbing tight.now (offers_of S.number self.new) ((cost, p) ∷ rest)) }
-        ensures cost { OnOk result (self.new.cost ≡ cost) }
-    {
-        let _rules = tight.rules_len();
-        if self.cost == cost {
-            return Ok(());
-        }
-        self.choose_all(tight)?;
-        self.cost = cost;
-        Ok(())
-    }
-
-    /// Offers an own production, when all choices of lesser cost are made.
-    ///
-    /// # Errors
-    ///
-    /// Want of memory.
-    fn take_up<T: Tables<S>>(
+    fn choose_level<T: Tables<S>>(
         &mut self,
         tight: &TightTables<S, T>,
-        cost: u32,
-        p: PIdx<S>,
+        cost: usize,
     ) -> Result<(), AllocError>
-        requires { (rest : List (ℕ × ℕ)) × All (λ entry. cost ≤ entry.0) rest
-            × Climbing tight.now (offers_of S.number self.old) ((cost, S.number p.0) ∷ rest) }
-        ensures { OnOk result ((rest : List (ℕ × ℕ)) → All (λ entry. cost ≤ entry.0) rest
-            → Climbing tight.now (offers_of S.number self.old) ((cost, S.number p.0) ∷ rest)
-            → Climbing tight.now (offers_of S.number self.new) rest) }
+        requires climbed { Climbed tight.now (offers_of S.number self.old) cost }
+        requires within { cost < tight.now.limit }
+        ensures { OnOk result (Climbed tight.now (offers_of S.number self.new) (cost + 1)) }
     {
         let _rules = tight.rules_len();
-        self.rise(tight, cost)?;
-        self.offer(tight, p)?;
+        self.cost = cost;
+        self.offer_listed(tight, Listed::Own(cost))?;
+        self.choose_all(tight)?;
         Ok(())
     }
 
@@ -88,21 +43,15 @@ impl<S: Storage> Firsts<S> {
     /// # Errors
     ///
     /// Want of memory.
-    fn choose_by_cost<T: Tables<S>>(
-        &mut self,
-        tight: &TightTables<S, T>,
-        own: &mut Queue,
-    ) -> Result<(), AllocError>
-        requires { Climbing tight.now (offers_of S.number self.old) own.old }
+    fn choose_by_cost<T: Tables<S>>(&mut self, tight: &TightTables<S, T>) -> Result<(), AllocError>
+        requires { Climbed tight.now (offers_of S.number self.old) 1 }
         ensures walks { OnOk result (Walks (chosen_tables tight.now.tables (offers_of S.number self.new))) }
         ensures first { OnOk result (AreFirst (chosen_tables tight.now.tables (offers_of S.number self.new))) }
     {
         let _rules = tight.rules_len();
-        let _prods = tight.prods_len();
-        while let Some((cost, production)) = own.pop() {
-            self.take_up(tight, cost, PIdx(to_storage(production as usize)))?;
+        for cost in 1..tight.costs_len() {
+            self.choose_level(tight, cost)?;
         }
-        self.choose_all(tight)?;
         Ok(())
     }
 }
@@ -137,8 +86,8 @@ pub fn first_choices<S: Storage, T: Tables<S>>(
         cost: 0,
         ready: Vec::new(alloc),
         level: VecDeque::new(alloc),
+        foremost: no_productions(alloc, tight.rules_len())?,
     };
-    let mut own = own_by_cost(alloc, &tight)?;
-    firsts.choose_by_cost(&tight, &mut own)?;
+    firsts.choose_by_cost(&tight)?;
     Ok(firsts.choices)
 }

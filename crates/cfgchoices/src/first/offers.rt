@@ -1,15 +1,15 @@
 //! Productions of one cost that are offered to their rules: each rule's choice is the one that makes the first word.
 
-ghost use Rattle.std.specs.Prelude.{◌≡◌, ◌↔◌, ℕ, ◌+◌, ◌<◌, ◌≤◌, ◌⊎◌, [], Contains, IfOk, MatchOption, OnOk, false, length};
-ghost use Rattle.std.specs.Prelude.{slice_index_or};
-ghost use Rattle.cfgchoices.specs.Inner.Kinds.{IsHeir, places_of};
-ghost use Rattle.cfgchoices.specs.Inner.Offers.{Adds, Going, Handles, IsFloor, IsHandled, IsKnown, IsDrained, IsNext, IsOffered, Known, Level};
-ghost use Rattle.cfgchoices.specs.Inner.Offers.{NotAfter, Takes, is_alone, left_to_choose, offers_of, owner, row, waiting};
-ghost use Rattle.cfgchoices.specs.Inner.Offers.{HasChoice};
+ghost use Rattle.std.specs.Prelude.{◌≡◌, ℕ, ◌<◌, ◌≤◌, IfOk, MatchBool, MatchOption, OnOk, false, length, slice_index_or, true};
+ghost use Rattle.cfgchoices.specs.Inner.Kinds.{IsHeir};
+ghost use Rattle.cfgchoices.specs.Inner.Lists.{IsIn};
+ghost use Rattle.cfgchoices.specs.Inner.Offers.{Adds, Going, HasList, IsDrained, IsHandled, IsKnown, IsOffered, Known, Level, NotAfter, Offering};
+ghost use Rattle.cfgchoices.specs.Inner.Offers.{Takes, is_alone, left_to_choose, offers_of, owner, row, waiting};
 
+use crate::first::lists::Listed;
 use crate::first::tight::TightTables;
-use cfgtables::Tables;
 use cfgindex::{PIdx, Storage};
+use cfgtables::Tables;
 use std::alloc::{AllocError, Global};
 use std::collections::VecDeque;
 
@@ -21,11 +21,29 @@ pub(crate) struct Firsts<S: Storage> {
     pub(crate) choices: Vec<Option<(PIdx<S>, u32)>>,
     pub(crate) number: u32,
     /// What the productions cost that are offered.
-    pub(crate) cost: u32,
+    pub(crate) cost: usize,
     /// Those that are alone in their rules.
     pub(crate) ready: Vec<PIdx<S>>,
-    /// The others, by what they make: the first word of a dictionary is last.
+    /// Of the others those that made less than what was offered to their rules before, by what they make: the first word of
+    /// a dictionary is last.
     pub(crate) level: VecDeque<PIdx<S>>,
+    /// For each rule the one of these that was offered last.
+    pub(crate) foremost: Vec<Option<PIdx<S>>>,
+}
+
+/// Where among these places to look next: at the end of the level, at its front, and then in the middle.
+fn probe(low: usize, high: usize, len: usize) -> usize
+    requires { low < high }
+    ensures from { low ≤ result }
+    ensures to { result < high }
+{
+    if high == len {
+        high - 1
+    } else if low == 0 {
+        0
+    } else {
+        low + (high - low) / 2
+    }
 }
 
 impl<S: Storage> Firsts<S> {
@@ -40,7 +58,7 @@ impl<S: Storage> Firsts<S> {
         p: PIdx<S>,
     ) -> Result<usize, AllocError>
         requires level { Level tight.now (offers_of S.number self.now) }
-        requires offered { IsOffered tight.now.tables (offers_of S.number self.now).choices self.now.number self.now.cost
+        requires offered { IsOffered tight.now (offers_of S.number self.now).choices self.now.number self.now.cost
             (S.number p.0) }
         ensures within { IfOk result (λ place. place ≤ length self.now.level.items) }
         ensures before { IfOk result (λ place. (i : ℕ) → i < place → NotAfter tight.now.tables
@@ -54,7 +72,7 @@ impl<S: Storage> Firsts<S> {
         let mut low = 0;
         let mut high = self.level.len();
         while low < high {
-            let middle = low + (high - low) / 2;
+            let middle = probe(low, high, self.level.len());
             if tight
                 .compare(self.alloc, &self.choices, self.level[middle], p)?
                 .is_lt()
@@ -67,6 +85,38 @@ impl<S: Storage> Firsts<S> {
         Ok(low)
     }
 
+    /// Whether a choice, or a production that waits for the same rule, makes nothing greater.
+    ///
+    /// # Errors
+    ///
+    /// Want of memory.
+    fn is_covered<T: Tables<S>>(
+        &self,
+        tight: &TightTables<S, T>,
+        p: PIdx<S>,
+    ) -> Result<bool, AllocError>
+        requires offering { Offering tight.now (offers_of S.number self.now) }
+        requires offered { IsOffered tight.now (offers_of S.number self.now).choices self.now.number self.now.cost
+            (S.number p.0) }
+        requires several { is_alone tight.now (owner tight.now.tables (S.number p.0)) ≡ false }
+        ensures { IfOk result (λ is. is ≡ true
+            → IsHandled tight.now.tables (offers_of S.number self.now) (S.number p.0)) }
+    {
+        let _rules = tight.rules_len();
+        let rule = usize::from(tight.rule_of(p));
+        if self.choices[rule].is_some() {
+            return Ok(true);
+        }
+        match self.foremost[rule] {
+            Some(foremost) => Ok(
+                tight
+                    .compare(self.alloc, &self.choices, foremost, p)?
+                    .is_le(),
+            ),
+            None => Ok(false),
+        }
+    }
+
     /// Puts a production to its place in the level.
     ///
     /// # Errors
@@ -77,17 +127,17 @@ impl<S: Storage> Firsts<S> {
         tight: &TightTables<S, T>,
         p: PIdx<S>,
     ) -> Result<(), AllocError>
-        requires level { Level tight.now (offers_of S.number self.old) }
-        requires offered { IsOffered tight.now.tables (offers_of S.number self.old).choices self.old.number self.old.cost
+        requires offering { Offering tight.now (offers_of S.number self.old) }
+        requires offered { IsOffered tight.now (offers_of S.number self.old).choices self.old.number self.old.cost
             (S.number p.0) }
-        requires floor { IsFloor tight.now (offers_of S.number self.old).choices self.old.cost (S.number p.0) }
         requires several { is_alone tight.now (owner tight.now.tables (S.number p.0)) ≡ false }
-        ensures level { OnOk result (Level tight.now (offers_of S.number self.new)) }
-        ensures adds { OnOk result (Adds (λ q. q ≡ S.number p.0) 1 (offers_of S.number self.old)
+        ensures offering { OnOk result (Offering tight.now (offers_of S.number self.new)) }
+        ensures adds { OnOk result (Adds tight.now.tables (λ q. q ≡ S.number p.0) 1 (offers_of S.number self.old)
             (offers_of S.number self.new)) }
     {
         let place = self.place(tight, p)?;
         self.level.insert(place, p)?;
+        self.foremost[usize::from(tight.rule_of(p))] = Some(p);
         Ok(())
     }
 
@@ -96,80 +146,51 @@ impl<S: Storage> Firsts<S> {
     /// # Errors
     ///
     /// Want of memory.
-    pub(crate) fn offer<T: Tables<S>>(
+    fn offer<T: Tables<S>>(
         &mut self,
         tight: &TightTables<S, T>,
         p: PIdx<S>,
     ) -> Result<(), AllocError>
-        requires level { Level tight.now (offers_of S.number self.old) }
-        requires offered { IsOffered tight.now.tables (offers_of S.number self.old).choices self.old.number self.old.cost
+        requires offering { Offering tight.now (offers_of S.number self.old) }
+        requires offered { IsOffered tight.now (offers_of S.number self.old).choices self.old.number self.old.cost
             (S.number p.0) }
-        requires floor { IsFloor tight.now (offers_of S.number self.old).choices self.old.cost (S.number p.0) }
-        ensures level { OnOk result (Level tight.now (offers_of S.number self.new)) }
-        ensures adds { OnOk result (Adds (λ q. q ≡ S.number p.0) 1 (offers_of S.number self.old)
+        ensures offering { OnOk result (Offering tight.now (offers_of S.number self.new)) }
+        ensures adds { OnOk result (Adds tight.now.tables (λ q. q ≡ S.number p.0) 1 (offers_of S.number self.old)
             (offers_of S.number self.new)) }
     {
         if tight.is_alone(tight.rule_of(p)) {
             self.ready.push(p)?;
             return Ok(());
         }
+        if self.is_covered(tight, p)? {
+            return Ok(());
+        }
         self.put_in(tight, p)
     }
 
-    /// Offers each production to its rule.
+    /// Offers each production of a list to its rule.
     ///
     /// # Errors
     ///
     /// Want of memory.
-    fn offer_all<T: Tables<S>>(
+    pub(crate) fn offer_listed<T: Tables<S>>(
         &mut self,
         tight: &TightTables<S, T>,
-        productions: &[PIdx<S>],
+        listed: Listed<S>,
     ) -> Result<(), AllocError>
-        requires level { Level tight.now (offers_of S.number self.old) }
-        requires offered { (p : ℕ) → Contains (places_of S.number productions.now) p → IsOffered tight.now.tables
+        requires list { HasList S.number tight.now listed }
+        requires offering { Offering tight.now (offers_of S.number self.old) }
+        requires offered { (p : ℕ) → IsIn S.number tight.now.tables listed p → IsOffered tight.now
             (offers_of S.number self.old).choices self.old.number self.old.cost p }
-        requires floor { (p : ℕ) → Contains (places_of S.number productions.now) p
-            → IsFloor tight.now (offers_of S.number self.old).choices self.old.cost p }
-        ensures level { OnOk result (Level tight.now (offers_of S.number self.new)) }
-        ensures adds { OnOk result (Adds (Contains (places_of S.number productions.now)) (length productions.now)
-            (offers_of S.number self.old) (offers_of S.number self.new)) }
+        ensures offering { OnOk result (Offering tight.now (offers_of S.number self.new)) }
+        ensures adds { OnOk result (Adds tight.now.tables (IsIn S.number tight.now.tables listed)
+            (length tight.now.tables.grammar.productions) (offers_of S.number self.old) (offers_of S.number self.new)) }
     {
-        for p in productions {
-            self.offer(tight, *p)?;
+        let mut next = tight.first(listed);
+        while let Some(p) = next {
+            self.offer(tight, p)?;
+            next = tight.next(p);
         }
-        Ok(())
-    }
-
-    /// Makes a production the choice of its rule, unless that has one, and then offers those that hand on to the rule.
-    ///
-    /// # Errors
-    ///
-    /// Want of memory.
-    fn choose<T: Tables<S>>(
-        &mut self,
-        tight: &TightTables<S, T>,
-        p: PIdx<S>,
-    ) -> Result<(), AllocError>
-        requires level { Level tight.now (offers_of S.number self.old) }
-        requires hands { (q r : ℕ) → IsHeir tight.now.tables q r → HasChoice (offers_of S.number self.old).choices r
-            → IsHandled tight.now.tables (offers_of S.number self.old) q ⊎ (q ≡ S.number p.0) }
-        requires next { IsNext tight.now (offers_of S.number self.old) (S.number p.0) }
-        ensures going { OnOk result (Going tight.now (offers_of S.number self.new)) }
-        ensures handles { OnOk result (Handles tight.now.tables (λ q. q ≡ S.number p.0)
-            (offers_of S.number self.old) (offers_of S.number self.new)) }
-        ensures cost { OnOk result (self.new.cost ≡ self.old.cost) }
-        ensures left { OnOk result (left_to_choose tight.now (offers_of S.number self.new)
-            ≤ left_to_choose tight.now (offers_of S.number self.old)) }
-    {
-        let _rules = tight.rules_len();
-        let rule = tight.rule_of(p);
-        if self.choices[usize::from(rule)].is_some() {
-            return Ok(());
-        }
-        self.choices[usize::from(rule)] = Some((p, self.number));
-        self.number += 1;
-        self.offer_all(tight, tight.handing_to(rule))?;
         Ok(())
     }
 
@@ -184,6 +205,36 @@ impl<S: Storage> Firsts<S> {
         }
         let p = self.level.pop_back()?;
         Some(p)
+    }
+
+    /// Makes the next production the choice of its rule, unless that has one, and then offers those that hand on to the
+    /// rule. Whether there was one.
+    ///
+    /// # Errors
+    ///
+    /// Want of memory.
+    fn choose<T: Tables<S>>(&mut self, tight: &TightTables<S, T>) -> Result<bool, AllocError>
+        requires { Going tight.now (offers_of S.number self.old) }
+        ensures going { OnOk result (Going tight.now (offers_of S.number self.new)) }
+        ensures handles { OnOk result ((q : ℕ) → IsHandled tight.now.tables (offers_of S.number self.old) q
+            → IsHandled tight.now.tables (offers_of S.number self.new) q) }
+        ensures cost { OnOk result (self.new.cost ≡ self.old.cost) }
+        ensures left { IfOk result (λ goes_on. MatchBool goes_on
+            (left_to_choose tight.now (offers_of S.number self.new) < left_to_choose tight.now (offers_of S.number self.old))
+            (waiting (offers_of S.number self.new) ≡ 0)) }
+    {
+        let _rules = tight.rules_len();
+        let Some(p) = self.next() else {
+            return Ok(false);
+        };
+        let rule = tight.rule_of(p);
+        if self.choices[usize::from(rule)].is_some() {
+            return Ok(true);
+        }
+        self.choices[usize::from(rule)] = Some((p, self.number));
+        self.number += 1;
+        self.offer_listed(tight, Listed::HandingTo(rule))?;
+        Ok(true)
     }
 
     /// Chooses among the productions that are offered, till none is left.
@@ -202,9 +253,7 @@ impl<S: Storage> Firsts<S> {
             → IsHandled tight.now.tables (offers_of S.number self.new) q) }
         ensures cost { OnOk result (self.new.cost ≡ self.old.cost) }
     {
-        while let Some(p) = self.next() {
-            self.choose(tight, p)?;
-        }
+        while self.choose(tight)? {}
         Ok(())
     }
 }

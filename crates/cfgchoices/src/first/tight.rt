@@ -1,19 +1,19 @@
 //! What is known of the productions that cost just what their rules do.
 
-ghost use Rattle.std.specs.Prelude.{◌≡◌, ◌↔◌, ℕ, ◌^◌, ◌<◌, ◌≤◌, ◌⊎◌, All, Contains, IfOk, MatchOption, false, length};
-ghost use Rattle.std.specs.Prelude.{map, slice_index_or, true};
+ghost use Rattle.std.specs.Prelude.{◌≡◌, ℕ, ◌+◌, ◌^◌, ◌<◌, All, Contains, IfOk, false, length, map, slice_index_or, true};
 ghost use Rattle.cfgtables.specs.Openings.{nth_production};
 ghost use Rattle.cfgtables.specs.Symbols.{sym_of};
 ghost use Rattle.cfgleast.specs.Generator.{IsGenerator, tables_of};
-ghost use Rattle.cfgchoices.specs.Inner.Kinds.{AreKinds, HasNoHeir, IsHeir, IsTight, places_of};
-ghost use Rattle.cfgchoices.specs.Inner.Offers.{AreHanding, HandsOn, IsCounted, IsKnown, is_alone, owner, row};
+ghost use Rattle.cfgchoices.specs.Inner.Kinds.{AreKinds, IsHeir, places_of};
+ghost use Rattle.cfgchoices.specs.Inner.Lists.{IsFirstFrom, IsIn, IsOwnAt};
+ghost use Rattle.cfgchoices.specs.Inner.Offers.{HasList, IsCounted, IsKnown, is_alone, owner, row};
 ghost use Rattle.cfgchoices.specs.declared.kinds.Kind.TheVariants.{Slack};
 
-use crate::first::handing::Handing;
+use crate::first::lists::{Listed, Lists};
 use crate::kinds::Kind;
+use cfgindex::{PIdx, RIdx, Storage, Symbol, to_storage};
 use cfgleast::settle::Settled;
 use cfgtables::Tables;
-use cfgindex::{PIdx, RIdx, Storage, Symbol, to_storage};
 use std::alloc::{AllocError, Global};
 use std::marker::Model;
 
@@ -61,43 +61,20 @@ fn alone_rules<S: Storage, T: Tables<S>>(
     Ok(alone)
 }
 
-/// For each rule the productions that hand on to it.
-///
-/// # Errors
-///
-/// Want of memory.
-fn handing<S: Storage>(
-    alloc: Global,
-    rules: usize,
-    kinds: &[Kind<S>],
-) -> Result<Handing<S>, AllocError>
-    requires fits { length kinds.now ≤ S.MAX }
-    requires rules { (p q : ℕ) → HandsOn S.number kinds.now p q → q < rules }
-    ensures { IfOk result (AreHanding S.number kinds.now (length kinds.now) rules) }
-{
-    let mut handing = Handing::new(alloc, rules)?;
-    for number in 0..kinds.len() {
-        if let Kind::HandsOn(rule) = kinds[number] {
-            handing.add(usize::from(rule), PIdx(to_storage(number)))?;
-        }
-    }
-    Ok(handing)
-}
-
 /// The productions that cost just what their rules do, with what is known of them.
 #[derive(Drop)]
 pub(crate) struct TightTables<'a, S: Storage, T: Tables<S>> {
     tables: &'a T,
     costs: &'a [u8],
     settled: &'a Settled<S>,
-    kinds: &'a [Kind<S>],
     alone: Vec<bool>,
-    handing: Handing<S>,
+    lists: Lists<S>,
 }
 
 impl<'a, S: Storage, T: Tables<S>> Model for TightTables<'a, S, T> {
+    ghost use Rattle.std.specs.Prelude.{length};
     ghost use Rattle.cfgleast.specs.Generator.{tables_of};
-    ghost use Rattle.cfgchoices.specs.Inner.Kinds.{AreKinds};
+    ghost use Rattle.cfgchoices.specs.Inner.Lists.{AreLists};
     ghost use Rattle.cfgchoices.specs.Inner.Offers.{IsKnown, Known};
 
     ghost Value = { Known };
@@ -106,18 +83,18 @@ impl<'a, S: Storage, T: Tables<S>> Model for TightTables<'a, S, T> {
       tables = tables_of S.number (T.grammar x.tables.now) x.costs.now
           x.settled.now.least.items x.settled.now.choices.items;
       alone = x.alone.items;
-      handing = x.handing;
+      limit = length x.lists.own.items;
     } };
 
     ghost invariant = { λ x. IsKnown (record {
       tables = tables_of S.number (T.grammar x.tables.now) x.costs.now
           x.settled.now.least.items x.settled.now.choices.items;
       alone = x.alone.items;
-      handing = x.handing;
+      limit = length x.lists.own.items;
     })
         x.settled.now.number
-        × AreKinds S.number (tables_of S.number (T.grammar x.tables.now) x.costs.now x.settled.now.least.items
-        x.settled.now.choices.items) x.kinds.now };
+        × AreLists S.number (tables_of S.number (T.grammar x.tables.now) x.costs.now x.settled.now.least.items
+        x.settled.now.choices.items) 0 x.lists };
 }
 
 impl<'a, S: Storage, T: Tables<S>> TightTables<'a, S, T> {
@@ -140,17 +117,15 @@ impl<'a, S: Storage, T: Tables<S>> TightTables<'a, S, T> {
         ensures { IfOk result (λ x. x.tables ≡ tables_of S.number (T.grammar tables.now) costs.now
             settled.now.least.items settled.now.choices.items) }
     {
-        let _prods = tables.prods_len().0.to_usize();
-        let rules_len = usize::from(tables.rules_len());
+        let _rules = tables.rules_len();
         let alone = alone_rules(alloc, tables, kinds)?;
-        let handing = handing(alloc, rules_len, kinds)?;
+        let lists = Lists::new(alloc, tables, costs, settled, kinds)?;
         Ok(TightTables {
             tables,
             costs,
             settled,
-            kinds,
             alone,
-            handing,
+            lists,
         })
     }
 
@@ -162,28 +137,11 @@ impl<'a, S: Storage, T: Tables<S>> TightTables<'a, S, T> {
         usize::from(self.tables.rules_len())
     }
 
-    /// How many productions there are.
-    pub(crate) fn prods_len(&self) -> usize
-        ensures value { result ≡ length self.now.tables.grammar.productions }
-        ensures fits { result ≤ S.MAX }
-        ensures limit { S.MAX < 2 ^ 32 }
-        ensures kinds { (p : ℕ) → IsTight self.now.tables p
-            → HasNoHeir self.now.tables p ⊎ ((q : ℕ) × IsHeir self.now.tables p q) }
+    /// One more than the greatest least cost of a rule.
+    pub(crate) fn costs_len(&self) -> usize
+        ensures { result ≡ self.now.limit }
     {
-        self.tables.prods_len().0.to_usize()
-    }
-
-    /// What the production costs, if it is its rule's own.
-    pub(crate) fn own_cost(&self, p: PIdx<S>) -> Option<u32>
-        requires { S.number p.0 < length self.now.tables.grammar.productions }
-        ensures { MatchOption result (HasNoHeir self.now.tables (S.number p.0) → ⊥)
-            (λ cost. (own : HasNoHeir self.now.tables (S.number p.0)) × (own.tight.cost ≡ cost)) }
-    {
-        let kinds = self.kinds;
-        match kinds[usize::from(p)] {
-            Kind::Own => self.settled.least[usize::from(self.rule_of(p))],
-            _ => None,
-        }
+        self.lists.own.len()
     }
 
     /// The rule of the production.
@@ -213,14 +171,25 @@ impl<'a, S: Storage, T: Tables<S>> TightTables<'a, S, T> {
         self.alone[usize::from(rule)]
     }
 
-    /// The productions that hand on to the rule.
-    pub(crate) fn handing_to(&self, rule: RIdx<S>) -> &[PIdx<S>]
-        requires { S.number rule.0 < self.now.tables.grammar.rules }
-        ensures all { (p : ℕ) → Contains (places_of S.number result.now) p
-            ↔ IsHeir self.now.tables p (S.number rule.0) }
-        ensures short { length result.now ≤ length self.now.tables.grammar.productions }
-        ensures known { (n : ℕ) × IsKnown self.now n }
+    /// The first production of a list.
+    pub(crate) fn first(&self, listed: Listed<S>) -> Option<PIdx<S>>
+        requires { HasList S.number self.now listed }
+        ensures { IsFirstFrom S.number (IsIn S.number self.now.tables listed) 0 result }
     {
-        self.handing.to(usize::from(rule))
+        match listed {
+            Listed::Own(cost) => self.lists.own[cost],
+            Listed::HandingTo(rule) => self.lists.handing[usize::from(rule)],
+        }
+    }
+
+    /// The production behind this one in its list.
+    pub(crate) fn next(&self, p: PIdx<S>) -> Option<PIdx<S>>
+        requires { S.number p.0 < length self.now.tables.grammar.productions }
+        ensures own { (c : ℕ) → IsOwnAt self.now.tables c (S.number p.0)
+            → IsFirstFrom S.number (IsOwnAt self.now.tables c) (S.number p.0 + 1) result }
+        ensures handing { (r : ℕ) → IsHeir self.now.tables (S.number p.0) r
+            → IsFirstFrom S.number (λ q. IsHeir self.now.tables q r) (S.number p.0 + 1) result }
+    {
+        self.lists.next[usize::from(p)]
     }
 }

@@ -1,196 +1,111 @@
-use Rattle.std.proofs.Common.{◌≡◌, ◌<◌, ◌≤◌, ◌+◌, ◌⊎◌, ℕ, inl, inr, Contains, Some, slice_set, length, map, sym, subst, ◌∙◌, arith}
-use Rattle.std.proofs.lemmas.List.{length-map}
-use Rattle.cfgleast.specs.Certificate.{choice_of}
-use Rattle.cfgchoices.specs.Inner.Kinds.{IsHeir, places_of}
-use Rattle.cfgchoices.specs.Inner.Offers.{Adds, IsDone, IsFloor, IsHandled, IsOffered, Level, offers_of, owner}
-use Rattle.cfgchoices.proofs.ChoosingFirsts.{few}
-use Rattle.cfgchoices.proofs.Offered.{choose_handles, choose_hands, choosing, heir_floor, heir_offered, level_chosen, was_chosen}
-use Rattle.cfgchoices.proofs.Taken.{chosen_left, chosen_shown, has_shown, unset_shown}
+use Rattle.std.proofs.Common.{◌≡◌, ◌<◌, ◌+◌, None, Some, length, map, slice_set, refl, sym, ap, subst, ◌∙◌, arith}
+use Rattle.cfgleast.specs.Certificate.{choice_of, rule_choice}
+use Rattle.cfgchoices.specs.Inner.Kinds.{IsHeir}
+use Rattle.cfgchoices.specs.Inner.Offers.{Adds, Going, IsHandled, IsOffered, Offering, Offers, Takes, offers_of, owner, waiting}
+use Rattle.cfgchoices.proofs.Offered.{heir_offered}
+use Rattle.cfgchoices.proofs.Taken.{chosen_going, chosen_handles, chosen_left, chosen_shown, entry_within, has_shown, now, now_offering, number_fits, passed_going, passed_handles, taken_cost, taken_less, unset_shown}
+use Rattle.cfgchoices.proofs.first.offers.Firsts.choose.Given.{Over}
+use Rattle.cfgchoices.proofs.first.offers.Firsts.choose.Goals.{After-index_mut}
 use Rattle.cfgchoices.proofs.first.offers.Firsts.choose.Goals as goal
 
+taken : (g : Over) (c : After-index_mut g) → Takes c.args.tight.now (g.S.Storage.number c.in-Some.p.0) (offers_of g.S.Storage.number c.args.self.now) (offers_of g.S.Storage.number c.next.new.self)
+taken g c = c.in-Some.ensures c.args.tight.now c.requires.offering.level
+
+inside : (g : Over) (c : After-index_mut g) → owner c.args.tight.now.tables (g.S.Storage.number c.in-Some.p.0) < c.args.tight.now.tables.grammar.rules
+inside g c = subst (λ i. i < c.args.tight.now.tables.grammar.rules) c.rule_of-rule.ensures.value c.rule_of-rule.ensures.within
+
+unset : (g : Over) (c : After-index_mut g) → rule_choice (offers_of g.S.Storage.number c.next.new.self).choices (owner c.args.tight.now.tables (g.S.Storage.number c.in-Some.p.0)) ≡ None
+unset g c =
+    let items = c.next.new.self.choices.items in
+    let within = entry_within (choice_of g.S.Storage.number) items _ _ _ (taken g c).level.choosing.listed refl (inside g c) in
+    unset_shown g.S.Storage.number items c.from.result _ (c.from.ensures ∙ c.rule_of-rule.ensures.value) within c.index.result.now c.index.ensures (sym c.is_some.ensures ∙ c.if-is_some.false)
+
+same : (g : Over) (c : After-index_mut g) → map (choice_of g.S.Storage.number) (slice_set c.next.new.self.choices.items c.from-2.result (Some (c.in-Some.p, c.next.new.self.number)))
+    ≡ slice_set (offers_of g.S.Storage.number c.next.new.self).choices (owner c.args.tight.now.tables (g.S.Storage.number c.in-Some.p.0)) (Some (g.S.Storage.number c.in-Some.p.0, c.next.new.self.number))
+same g c =
+    let items = c.next.new.self.choices.items in
+    let within = entry_within (choice_of g.S.Storage.number) items _ _ _ (taken g c).level.choosing.listed refl (inside g c) in
+    chosen_shown g.S.Storage.number items c.from-2.result _ (c.from-2.ensures ∙ c.rule_of-rule.ensures.value) within c.in-Some.p c.next.new.self.number
+
 pub rule_of-rule-requires : goal.rule_of-rule-requires
-rule_of-rule-requires g c = c.requires.next.offered.tight.place
-
-pub index-requires : goal.index-requires
-index-requires g c =
-    let len = length-map c.args.self.now.choices.items (choice_of g.S.Storage.number) in
-    let listed = c.requires.level.choosing.listed in
-    let within = c.rule_of-rule.ensures.within in
-    let is = c.from.ensures in
-    omega (arith, len, listed, within, is)
-
-pub index_mut-requires : goal.index_mut-requires
-index_mut-requires g c =
-    let len = length-map c.args.self.now.choices.items (choice_of g.S.Storage.number) in
-    let listed = c.requires.level.choosing.listed in
-    let within = c.rule_of-rule.ensures.within in
-    let is = c.from-2.ensures in
-    omega (arith, len, listed, within, is)
+rule_of-rule-requires g c = (c.in-Some.ensures c.args.tight.now c.requires.offering.level).next.offered.tight.place
 
 pub overflow_add-self : goal.overflow_add-self
 overflow_add-self g c =
     let number = g.S.Storage.number in
-    let k = c.args.tight.now in
-    let x = k.tables in
-    let items = c.args.self.now.choices.items in
-    let f = offers_of number c.args.self.now in
-    let p = number c.args.p.0 in
-    let value = c.rule_of-rule.ensures.value in
+    let at = (goal.at.overflow_add-self g c).After-index_mut in
     let (m, known) = c.rules_len-rules.ensures.known in
-    let inside : owner x p < x.grammar.rules = subst (λ i. i < x.grammar.rules) value c.rule_of-rule.ensures.within in
-    let within : owner x p < length items = subst (λ i. owner x p < i) (length-map items (choice_of number)) (subst (λ i. owner x p < i) (sym c.requires.level.choosing.listed) inside) in
-    let unset = unset_shown number items c.from.result (owner x p) (c.from.ensures ∙ value) within c.index.result.now c.index.ensures (sym c.is_some.ensures ∙ c.if-is_some.false) in
-    let most = few x _ (f.number + 1) (choosing k m known f p c.requires.level c.requires.next unset inside) in
+    let most = number_fits c.args.tight.now (number c.in-Some.p.0) (offers_of number c.args.self.now) (offers_of number c.next.new.self) (taken g at) c.requires m known (unset g at) (inside g at) in
     let limit = c.rule_of-rule.ensures.limit in
     omega (arith, most, limit)
 
-pub offer_all-requires-clause-level : goal.offer_all-requires-clause-level
-offer_all-requires-clause-level g c =
+pub offer_listed-requires-clause-offering : goal.offer_listed-requires-clause-offering
+offer_listed-requires-clause-offering g c =
     let number = g.S.Storage.number in
     let k = c.args.tight.now in
-    let x = k.tables in
-    let items = c.args.self.now.choices.items in
-    let f = offers_of number c.args.self.now in
-    let p = number c.args.p.0 in
-    let value = c.rule_of-rule.ensures.value in
+    let f = offers_of number c.next.new.self in
+    let at = (goal.at.offer_listed-requires-clause-offering g c).After-index_mut in
     let (m, known) = c.rules_len-rules.ensures.known in
-    let inside : owner x p < x.grammar.rules = subst (λ i. i < x.grammar.rules) value c.rule_of-rule.ensures.within in
-    let within : owner x p < length items = subst (λ i. owner x p < i) (length-map items (choice_of number)) (subst (λ i. owner x p < i) (sym c.requires.level.choosing.listed) inside) in
-    let unset = unset_shown number items c.from.result (owner x p) (c.from.ensures ∙ value) within c.index.result.now c.index.ensures (sym c.is_some.ensures ∙ c.if-is_some.false) in
-    let same = chosen_shown number items c.from-2.result (owner x p) (c.from-2.ensures ∙ value) within c.args.p c.args.self.now.number in
-    subst (λ l. Level k (record { choices = l; number = f.number + 1; cost = f.cost; ready = f.ready; level = f.level })) (sym same)
-    (level_chosen k m known f p c.requires.level c.requires.next unset inside)
+    subst (λ l. Offering k (record { choices = l; number = f.number + 1; cost = f.cost; ready = f.ready; level = f.level; foremost = f.foremost })) (sym (same g at))
+    (now_offering k (number c.in-Some.p.0) (offers_of number c.args.self.now) f (taken g at) c.requires m known (unset g at) (inside g at))
 
-pub offer_all-requires-clause-offered : goal.offer_all-requires-clause-offered
-offer_all-requires-clause-offered g c =
+pub offer_listed-requires-clause-offered : goal.offer_listed-requires-clause-offered
+offer_listed-requires-clause-offered g c =
     let number = g.S.Storage.number in
     let k = c.args.tight.now in
-    let x = k.tables in
-    let items = c.args.self.now.choices.items in
-    let f = offers_of number c.args.self.now in
-    let p = number c.args.p.0 in
-    let value = c.rule_of-rule.ensures.value in
+    let f = offers_of number c.next.new.self in
+    let at = (goal.at.offer_listed-requires-clause-offered g c).After-index_mut in
+    let t = taken g at in
     let (m, known) = c.rules_len-rules.ensures.known in
-    let inside : owner x p < x.grammar.rules = subst (λ i. i < x.grammar.rules) value c.rule_of-rule.ensures.within in
-    let within : owner x p < length items = subst (λ i. owner x p < i) (length-map items (choice_of number)) (subst (λ i. owner x p < i) (sym c.requires.level.choosing.listed) inside) in
-    let unset = unset_shown number items c.from.result (owner x p) (c.from.ensures ∙ value) within c.index.result.now c.index.ensures (sym c.is_some.ensures ∙ c.if-is_some.false) in
-    let same = chosen_shown number items c.from-2.result (owner x p) (c.from-2.ensures ∙ value) within c.args.p c.args.self.now.number in
-    λ q h. subst (λ l. IsOffered x l (f.number + 1) f.cost q) (sym same)
-    (heir_offered k m known f p c.requires.level c.requires.next unset inside q (subst (IsHeir x q) value ((c.handing_to.ensures.all q).0 h)))
+    λ q heir. subst (λ l. IsOffered k l (f.number + 1) f.cost q) (sym (same g at))
+    (heir_offered k m known f (number c.in-Some.p.0) t.level t.next (unset g at) (inside g at) q (subst (IsHeir k.tables q) c.rule_of-rule.ensures.value heir))
 
-pub offer_all-requires-clause-floor : goal.offer_all-requires-clause-floor
-offer_all-requires-clause-floor g c =
-    let number = g.S.Storage.number in
-    let k = c.args.tight.now in
-    let x = k.tables in
-    let items = c.args.self.now.choices.items in
-    let f = offers_of number c.args.self.now in
-    let p = number c.args.p.0 in
-    let value = c.rule_of-rule.ensures.value in
-    let (m, known) = c.rules_len-rules.ensures.known in
-    let inside : owner x p < x.grammar.rules = subst (λ i. i < x.grammar.rules) value c.rule_of-rule.ensures.within in
-    let within : owner x p < length items = subst (λ i. owner x p < i) (length-map items (choice_of number)) (subst (λ i. owner x p < i) (sym c.requires.level.choosing.listed) inside) in
-    let unset = unset_shown number items c.from.result (owner x p) (c.from.ensures ∙ value) within c.index.result.now c.index.ensures (sym c.is_some.ensures ∙ c.if-is_some.false) in
-    let same = chosen_shown number items c.from-2.result (owner x p) (c.from-2.ensures ∙ value) within c.args.p c.args.self.now.number in
-    λ q h. subst (λ l. IsFloor k l f.cost q) (sym same)
-    (heir_floor k m known f p c.requires.level c.requires.next unset inside q (subst (IsHeir x q) value ((c.handing_to.ensures.all q).0 h)))
+pub returns-in_default : goal.returns-in_default
+returns-in_default g c =
+    let d = c.in_default.ensures c.args.tight.now c.requires.offering.level in record {
+      going = subst (Going c.args.tight.now) (sym d.1) c.requires;
+      handles = λ q h. subst (λ f. IsHandled c.args.tight.now.tables f q) (sym d.1) h;
+      cost = ap (λ (f : Offers). f.cost) d.1;
+      left = ap waiting d.1 ∙ d.0;
+    }
 
-pub returns-then-is_some-clause-going : goal.returns-then-is_some-clause-going
-returns-then-is_some-clause-going g c =
+pub returns-then-is_some : goal.returns-then-is_some
+returns-then-is_some g c =
     let number = g.S.Storage.number in
     let k = c.args.tight.now in
-    let x = k.tables in
-    let items = c.args.self.now.choices.items in
     let f = offers_of number c.args.self.now in
-    let p = number c.args.p.0 in
-    let value = c.rule_of-rule.ensures.value in
+    let f' = offers_of number c.next.new.self in
+    let p = number c.in-Some.p.0 in
+    let items = c.next.new.self.choices.items in
+    let t = c.in-Some.ensures k c.requires.offering.level in
     let (m, known) = c.rules_len-rules.ensures.known in
-    let inside : owner x p < x.grammar.rules = subst (λ i. i < x.grammar.rules) value c.rule_of-rule.ensures.within in
-    let within : owner x p < length items = subst (λ i. owner x p < i) (length-map items (choice_of number)) (subst (λ i. owner x p < i) (sym c.requires.level.choosing.listed) inside) in
-    let has = has_shown number items c.from.result (owner x p) (c.from.ensures ∙ value) within c.index.result.now c.index.ensures (sym c.is_some.ensures ∙ c.if-is_some.true) in
-    let done = was_chosen k m known f p c.requires.level c.requires.next has in
-    let handled = λ (q : ℕ) (h : IsHandled x f q ⊎ (q ≡ p)). elim h as (λ _. IsHandled x f q) [ inl old ↦ old | inr is ↦ inl (subst (IsDone x f.choices) (sym is) done) ] in
-    record { level = c.requires.level; hands = λ q r heir has. handled q (c.requires.hands q r heir has) }
+    let value = c.rule_of-rule.ensures.value in
+    let within = entry_within (choice_of number) items _ _ _ t.level.choosing.listed value c.rule_of-rule.ensures.within in
+    let has = has_shown number items c.from.result _ (c.from.ensures ∙ value) within c.index.result.now c.index.ensures (sym c.is_some.ensures ∙ c.if-is_some.true) in record {
+      going = passed_going k p f f' t c.requires m known has;
+      handles = passed_handles k p f f' t c.requires m known has;
+      cost = taken_cost k p f f' t;
+      left = taken_less k p f f' t;
+    }
 
-pub returns-then-is_some-clause-handles : goal.returns-then-is_some-clause-handles
-returns-then-is_some-clause-handles g c =
+pub returns : goal.returns
+returns g c =
     let number = g.S.Storage.number in
     let k = c.args.tight.now in
     let x = k.tables in
-    let items = c.args.self.now.choices.items in
     let f = offers_of number c.args.self.now in
-    let p = number c.args.p.0 in
-    let value = c.rule_of-rule.ensures.value in
+    let f' = offers_of number c.next.new.self in
+    let f'' = offers_of number c.offer_listed.new.self in
+    let p = number c.in-Some.p.0 in
+    let at = (goal.at.returns g c).After-index_mut in
+    let t = taken g at in
     let (m, known) = c.rules_len-rules.ensures.known in
-    let inside : owner x p < x.grammar.rules = subst (λ i. i < x.grammar.rules) value c.rule_of-rule.ensures.within in
-    let within : owner x p < length items = subst (λ i. owner x p < i) (length-map items (choice_of number)) (subst (λ i. owner x p < i) (sym c.requires.level.choosing.listed) inside) in
-    let has = has_shown number items c.from.result (owner x p) (c.from.ensures ∙ value) within c.index.result.now c.index.ensures (sym c.is_some.ensures ∙ c.if-is_some.true) in
-    let done = was_chosen k m known f p c.requires.level c.requires.next has in
-    let handled = λ (q : ℕ) (h : IsHandled x f q ⊎ (q ≡ p)). elim h as (λ _. IsHandled x f q) [ inl old ↦ old | inr is ↦ inl (subst (IsDone x f.choices) (sym is) done) ] in
-    handled
-
-pub returns-clause-going : goal.returns-clause-going
-returns-clause-going g c =
-    let number = g.S.Storage.number in
-    let k = c.args.tight.now in
-    let x = k.tables in
-    let items = c.args.self.now.choices.items in
-    let f = offers_of number c.args.self.now in
-    let p = number c.args.p.0 in
-    let value = c.rule_of-rule.ensures.value in
-    let (m, known) = c.rules_len-rules.ensures.known in
-    let inside : owner x p < x.grammar.rules = subst (λ i. i < x.grammar.rules) value c.rule_of-rule.ensures.within in
-    let within : owner x p < length items = subst (λ i. owner x p < i) (length-map items (choice_of number)) (subst (λ i. owner x p < i) (sym c.requires.level.choosing.listed) inside) in
-    let unset = unset_shown number items c.from.result (owner x p) (c.from.ensures ∙ value) within c.index.result.now c.index.ensures (sym c.is_some.ensures ∙ c.if-is_some.false) in
-    let same = chosen_shown number items c.from-2.result (owner x p) (c.from-2.ensures ∙ value) within c.args.p c.args.self.now.number in
-    let f' = offers_of number c.offer_all.new.self in
-    let heirs = places_of number c.handing_to.result.now in
-    let len = length-map c.handing_to.result.now (λ q. number q.0) in
-    let all = λ (q : ℕ) (h : IsHeir x q (owner x p)). (c.handing_to.ensures.all q).1 (subst (IsHeir x q) (sym value) h) in
-    let adds = subst (λ l. Adds (Contains heirs) (length heirs) (record { choices = l; number = f.number + 1; cost = f.cost; ready = f.ready; level = f.level }) f') same
-    (subst (λ i. Adds (Contains heirs) i (record { choices = map (choice_of number) (slice_set items c.from-2.result (Some (c.args.p, c.args.self.now.number))); number = f.number + 1; cost = f.cost; ready = f.ready; level = f.level }) f') (sym len) c.in_ok-offer_all.ensures.adds) in
-    record { level = c.in_ok-offer_all.ensures.level; hands = choose_hands k m known f p c.requires.level c.requires.next unset inside f' heirs all adds c.requires.hands }
-
-pub returns-clause-handles : goal.returns-clause-handles
-returns-clause-handles g c =
-    let number = g.S.Storage.number in
-    let k = c.args.tight.now in
-    let x = k.tables in
-    let items = c.args.self.now.choices.items in
-    let f = offers_of number c.args.self.now in
-    let p = number c.args.p.0 in
-    let value = c.rule_of-rule.ensures.value in
-    let (m, known) = c.rules_len-rules.ensures.known in
-    let inside : owner x p < x.grammar.rules = subst (λ i. i < x.grammar.rules) value c.rule_of-rule.ensures.within in
-    let within : owner x p < length items = subst (λ i. owner x p < i) (length-map items (choice_of number)) (subst (λ i. owner x p < i) (sym c.requires.level.choosing.listed) inside) in
-    let unset = unset_shown number items c.from.result (owner x p) (c.from.ensures ∙ value) within c.index.result.now c.index.ensures (sym c.is_some.ensures ∙ c.if-is_some.false) in
-    let same = chosen_shown number items c.from-2.result (owner x p) (c.from-2.ensures ∙ value) within c.args.p c.args.self.now.number in
-    let f' = offers_of number c.offer_all.new.self in
-    let heirs = places_of number c.handing_to.result.now in
-    let len = length-map c.handing_to.result.now (λ q. number q.0) in
-    let all = λ (q : ℕ) (h : IsHeir x q (owner x p)). (c.handing_to.ensures.all q).1 (subst (IsHeir x q) (sym value) h) in
-    let adds = subst (λ l. Adds (Contains heirs) (length heirs) (record { choices = l; number = f.number + 1; cost = f.cost; ready = f.ready; level = f.level }) f') same
-    (subst (λ i. Adds (Contains heirs) i (record { choices = map (choice_of number) (slice_set items c.from-2.result (Some (c.args.p, c.args.self.now.number))); number = f.number + 1; cost = f.cost; ready = f.ready; level = f.level }) f') (sym len) c.in_ok-offer_all.ensures.adds) in
-    choose_handles k m known f p c.requires.level c.requires.next unset inside f' heirs all adds
-
-pub returns-clause-left : goal.returns-clause-left
-returns-clause-left g c =
-    let number = g.S.Storage.number in
-    let k = c.args.tight.now in
-    let x = k.tables in
-    let items = c.args.self.now.choices.items in
-    let f = offers_of number c.args.self.now in
-    let p = number c.args.p.0 in
-    let value = c.rule_of-rule.ensures.value in
-    let (m, known) = c.rules_len-rules.ensures.known in
-    let inside : owner x p < x.grammar.rules = subst (λ i. i < x.grammar.rules) value c.rule_of-rule.ensures.within in
-    let within : owner x p < length items = subst (λ i. owner x p < i) (length-map items (choice_of number)) (subst (λ i. owner x p < i) (sym c.requires.level.choosing.listed) inside) in
-    let unset = unset_shown number items c.from.result (owner x p) (c.from.ensures ∙ value) within c.index.result.now c.index.ensures (sym c.is_some.ensures ∙ c.if-is_some.false) in
-    let same = chosen_shown number items c.from-2.result (owner x p) (c.from-2.ensures ∙ value) within c.args.p c.args.self.now.number in
-    let f' = offers_of number c.offer_all.new.self in
-    let heirs = places_of number c.handing_to.result.now in
-    let len = length-map c.handing_to.result.now (λ q. number q.0) in
-    let all = λ (q : ℕ) (h : IsHeir x q (owner x p)). (c.handing_to.ensures.all q).1 (subst (IsHeir x q) (sym value) h) in
-    let adds = subst (λ l. Adds (Contains heirs) (length heirs) (record { choices = l; number = f.number + 1; cost = f.cost; ready = f.ready; level = f.level }) f') same
-    (subst (λ i. Adds (Contains heirs) i (record { choices = map (choice_of number) (slice_set items c.from-2.result (Some (c.args.p, c.args.self.now.number))); number = f.number + 1; cost = f.cost; ready = f.ready; level = f.level }) f') (sym len) c.in_ok-offer_all.ensures.adds) in
-    chosen_left k m known f p c.requires.level c.requires.next unset inside (length heirs) (subst (λ i. i ≤ length x.grammar.productions) (sym len) c.handing_to.ensures.short) f' (Contains heirs) adds
+    let places = length x.grammar.productions in
+    let adds = subst (λ r. Adds x (λ q. IsHeir x q r) places (now k p f f' t c.requires m known (unset g at) (inside g at)) f'') c.rule_of-rule.ensures.value
+    (subst (λ l. Adds x (λ q. IsHeir x q (number c.rule_of-rule.result.0)) places (record { choices = l; number = f'.number + 1; cost = f'.cost; ready = f'.ready; level = f'.level; foremost = f'.foremost }) f'')
+    (same g at) c.in_ok-offer_listed.ensures.adds) in record {
+      going = chosen_going k p f f' t c.requires m known (unset g at) (inside g at) f'' adds c.in_ok-offer_listed.ensures.offering;
+      handles = chosen_handles k p f f' t c.requires m known (unset g at) (inside g at) f'' adds;
+      cost = adds.cost ∙ taken_cost k p f f' t;
+      left = chosen_left k p f f' t c.requires m known (unset g at) (inside g at) f'' adds;
+    }

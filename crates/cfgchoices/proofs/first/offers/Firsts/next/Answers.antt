@@ -16,7 +16,7 @@ returns g c =
     let f = offers_of number c.args.self.now in
     let rest : c.pop.new.self.items ≡ [] = c.in_default.ensures.rest ∙ ap (λ n. take (n - 1) c.args.self.now.ready.items) c.in_default.ensures.cases.0 in
     let none : c.args.self.now.ready.items ≡ [] = c.in_default.ensures.items ∙ ap (λ l. l ++ []) rest in
-    λ k level. subst (λ r. Takes k (number c.in_ok-p.p.0) f (record { choices = f.choices; number = f.number; cost = f.cost; ready = r; level = places_of number c.pop_back.new.self.items }))
+    λ k level. subst (λ r. Takes k (number c.in_ok-p.p.0) f (record { choices = f.choices; number = f.number; cost = f.cost; ready = r; level = places_of number c.pop_back.new.self.items; foremost = f.foremost }))
     (ap (places_of number) none ∙ sym (ap (places_of number) rest))
     (take_level k f level (number c.in_ok-p.p.0) (places_of number c.pop_back.new.self.items) (ap (places_of number) none)
     (last_taken number c.args.self.now.level.items c.pop_back.new.self.items c.in_ok-p.p c.in_ok-p.ensures.items))

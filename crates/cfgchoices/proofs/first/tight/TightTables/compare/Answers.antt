@@ -4,8 +4,9 @@ use Rattle.std.specs.Ordering.{is_ne}
 use Rattle.cfgtables.specs.Symbols.{sym_of}
 use Rattle.cfgindex.specs.declared.idxnewtype.TIdx.{TIdx}
 use Rattle.cfgleast.specs.Certificate.{choice_of}
-use Rattle.cfgchoices.specs.Inner.Offers.{Gives, Pends, left_to_open}
-use Rattle.cfgchoices.proofs.Compared.{Begins, differs, ended, goes_on}
+use Rattle.cfgchoices.specs.Inner.Choices.{ChoicesGive}
+use Rattle.cfgchoices.specs.Inner.Offers.{Gives, Pends, by, left_to_open}
+use Rattle.cfgchoices.proofs.Compared.{Begins, differs, ended, first_differ, goes_on}
 use Rattle.cfgchoices.proofs.first.tight.TightTables.compare.Goals as goal
 
 pub loop-others-init : goal.loop-others-init
@@ -52,7 +53,7 @@ loop-others-preserved g c =
     let r = c.loop-others.invariant u v h k in
     goes_on (λ t. number t.0) _ (λ a b. g.met.S.Storage.ordered a.0 b.0) (Pends x l (map (sym_of number) c.loop-others.ones.items)) (Pends x l (map (sym_of number) c.loop-others.others.items))
     One' Other' c.in-Some.token c.in_ok-next_token.field-0 u v r (subst (Begins (λ t. number t.0) One' r.one) c.in-Some.is (c.in_ok-token.ensures.next r.one r.first))
-    (c.in_ok-next_token.ensures.next r.other r.second) (sym (ap is_ne c.cmp-ordering.ensures) ∙ sym c.is_ne.ensures ∙ c.if-is_ne.false)
+    (c.in_ok-next_token.ensures.next r.other r.second) (sym (ap is_ne c.cmp-ordering.ensures) ∙ sym c.is_ne-in-Some.ensures ∙ c.if-is_ne-2.false)
 
 pub loop-others-smaller : goal.loop-others-smaller
 loop-others-smaller g c =
@@ -62,8 +63,8 @@ loop-others-smaller g c =
     subst (λ o. IfSome o (λ _. left_to_open x l (map (sym_of number) c.next_token.new.pending.items) < left_to_open x l (map (sym_of number) c.loop-others.ones.items)))
     c.in-Some.is c.in_ok-token.ensures.less
 
-pub returns-then-is_ne : goal.returns-then-is_ne
-returns-then-is_ne g c =
+pub returns-then-is_ne-2 : goal.returns-then-is_ne-2
+returns-then-is_ne-2 g c =
     let number = g.S.Storage.number in
     let x = c.args.self.now.tables in
     let l = map (choice_of number) c.args.choices.now in
@@ -74,7 +75,7 @@ returns-then-is_ne g c =
     c.cmp-ordering.ensures
     ∙ differs (λ t. number t.0) _ (λ a b. g.met.S.Storage.ordered a.0 b.0) (Pends x l (map (sym_of number) c.loop-others.ones.items)) (Pends x l (map (sym_of number) c.loop-others.others.items))
     One' Other' c.in-Some.token c.in_ok-next_token.field-0 u v r (subst (Begins (λ t. number t.0) One' r.one) c.in-Some.is (c.in_ok-token.ensures.next r.one r.first))
-    (c.in_ok-next_token.ensures.next r.other r.second) (sym (ap is_ne c.cmp-ordering.ensures) ∙ sym c.is_ne.ensures ∙ c.if-is_ne.true)
+    (c.in_ok-next_token.ensures.next r.other r.second) (sym (ap is_ne c.cmp-ordering.ensures) ∙ sym c.is_ne-in-Some.ensures ∙ c.if-is_ne-2.true)
 
 pub returns : goal.returns
 returns g c =
@@ -89,3 +90,11 @@ returns g c =
     ∙ ended (λ t. number t.0) _ (λ a b. g.met.S.Storage.ordered a.0 b.0) (Pends x l (map (sym_of number) c.loop-others.ones.items)) (Pends x l (map (sym_of number) c.loop-others.others.items))
     One' Other' c.in_ok-next_token-2.field-0 u v r (subst (Begins (λ (t : TIdx _). number t.0) One' r.one) c.in_default.is (c.in_ok-token.ensures.next r.one r.first))
     (c.in_ok-next_token-2.ensures.next r.other r.second)
+
+pub returns-then-is_ne : goal.returns-then-is_ne
+returns-then-is_ne g c =
+    let number = g.S.Storage.number in
+    let x = by c.args.self.now.tables (map (choice_of number) c.args.choices.now) in
+    let ne = sym c.is_ne.ensures ∙ c.if-is_ne.true in
+    λ u v h k. first_differ x _ _ c.first_tokens-first.result (c.first_tokens-first.ensures ne) ne u v
+    (subst (λ a. ChoicesGive x a u) (sym c.symbols.ensures) h) (subst (λ a. ChoicesGive x a v) (sym c.symbols-2.ensures) k)

@@ -1,0 +1,100 @@
+-- Lists that are gone through: what stands before the next production was offered.
+use Rattle.std.proofs.Common.{◌≡◌, ℕ, ◌+◌, ◌-◌, ◌<◌, ◌≤◌, inl, inr, length, Option, Some, None, arith, refl, sym, subst, ◌∙◌}
+use Rattle.std.proofs.lemmas.Bool.{cases_lt}
+use Rattle.cfgindex.specs.declared.idxnewtype.PIdx.{PIdx}
+use Rattle.cfgleast.specs.Generator.{CostTables}
+use Rattle.cfgchoices.specs.Inner.Kinds.{IsHeir, IsTight}
+use Rattle.cfgchoices.specs.Inner.Lists.{IsFirstFrom, IsIn, IsOwnAt}
+use Rattle.cfgchoices.specs.Inner.Offers.{Adds, IsOffered, Known, Offers}
+use Rattle.cfgchoices.specs.declared.first.lists.Listed.{Listed}
+use Rattle.cfgchoices.specs.declared.first.lists.Listed.TheVariants.{Own, HandingTo}
+
+pub in_tight : {S : Type 0} (number : S → ℕ) (x : CostTables) (listed : Listed S) (p : ℕ) → IsIn number x listed p → IsTight x p
+in_tight number x (Own c) p h = h.0.tight
+in_tight number x (HandingTo r) p h = h.tight
+
+pub next_in : {S : Type 0} (number : S → ℕ) (x : CostTables) (listed : Listed S) (p : ℕ) (next : Option (PIdx S)) → IsIn number x listed p
+    → ((c : ℕ) → IsOwnAt x c p → IsFirstFrom number (IsOwnAt x c) (p + 1) next) → ((r : ℕ) → IsHeir x p r → IsFirstFrom number (λ q. IsHeir x q r) (p + 1) next)
+    → IsFirstFrom number (IsIn number x listed) (p + 1) next
+next_in number x (Own c) p next h own handing = own c h
+next_in number x (HandingTo r) p next h own handing = handing (number r.0) h
+
+-- how many productions are left from the next one on
+abbrev pub left_from : {S : Type 0} → (S → ℕ) → ℕ → Option (PIdx S) → ℕ
+left_from number n None = 0
+left_from number n (Some p) = n - number p.0
+
+module _ {S : Type 0} (number : S → ℕ) (x : CostTables) (listed : Listed S) (f : Offers) where
+  abbrev Is : ℕ → Type 0
+  Is = IsIn number x listed
+
+  abbrev places : ℕ
+  places = length x.grammar.productions
+
+  pub record Gone (f' : Offers) (next : Option (PIdx S)) : Type 0 where
+    pub from : ℕ
+    pub within : from ≤ length x.grammar.productions
+    pub first : IsFirstFrom number (IsIn number x listed) from next
+    pub adds : Adds x (λ p. IsIn number x listed p × (p < from)) from f f'
+
+  pub gone_begins : (next : Option (PIdx S)) → IsFirstFrom number Is 0 next → Gone f next
+  gone_begins next first = record {
+    from = 0;
+    within = omega arith;
+    first = first;
+    adds = record { choices = refl; number = refl; cost = refl; handles = λ q h. elim h [ inl old ↦ old | inr none ↦ let lt = none.1 in absurd (omega (arith, lt)) ]; together = omega arith };
+  }
+
+  pub gone_more : (mid f' : Offers) (p : PIdx S) (next : Option (PIdx S)) → Gone mid (Some p) → Adds x (λ q. q ≡ number p.0) 1 mid f' → IsFirstFrom number Is (number p.0 + 1) next → Gone f' next
+  gone_more mid f' p next g b first =
+      let (le, is, none) = g.first in
+      let place = (in_tight number x listed (number p.0) is).place in
+      let a = g.adds in record {
+        from = number p.0 + 1;
+        within = omega (arith, place);
+        first = first;
+        adds = record {
+          choices = b.choices ∙ a.choices;
+          number = b.number ∙ a.number;
+          cost = b.cost ∙ a.cost;
+          handles = λ q h. elim h [
+            | inl old ↦ b.handles q (inl (a.handles q (inl old)))
+            | inr among ↦ let lt = among.1 in elim (cases_lt q g.from) [
+              | inl less ↦ b.handles q (inl (a.handles q (inr (among.0, less))))
+              | inr ge ↦ elim (cases_lt q (number p.0)) [
+                | inl before ↦ absurd (none q ge before among.0)
+                | inr behind ↦ b.handles q (inr (omega (arith, lt, behind)))
+              ]
+            ]
+          ];
+          together = let one = a.together in let more = b.together in omega (arith, one, more, le);
+        };
+      }
+
+  pub gone_ends : (f' : Offers) → Gone f' None → Adds x Is places f f'
+  gone_ends f' g =
+      let a = g.adds in
+      let within = g.within in record {
+        choices = a.choices;
+        number = a.number;
+        cost = a.cost;
+        handles = λ q h. elim h [
+          | inl old ↦ a.handles q (inl old)
+          | inr among ↦ elim (cases_lt q g.from) [ inl less ↦ a.handles q (inr (among, less)) | inr ge ↦ absurd (g.first q ge among) ]
+        ];
+        together = let all = a.together in omega (arith, all, within);
+      }
+
+  pub gone_less : (f' : Offers) (p : PIdx S) (next : Option (PIdx S)) → Gone f' (Some p) → IsFirstFrom number Is (number p.0 + 1) next → left_from number places next < left_from number places (Some p)
+  gone_less f' p next g first =
+      let place = (in_tight number x listed (number p.0) g.first.1).place in
+      go next first place
+    where
+      go : (next : Option (PIdx S)) → IsFirstFrom number Is (number p.0 + 1) next → number p.0 < places → left_from number places next < places - number p.0
+      go None first place = omega (arith, place)
+      go (Some q) first place = let le = first.0 in omega (arith, le, place)
+
+-- what could be offered still can
+pub offered_still : (k : Known) (Is : ℕ → Type 0) (n : ℕ) (f f' : Offers) → Adds k.tables Is n f f' → (q : ℕ) → IsOffered k f.choices f.number f.cost q → IsOffered k f'.choices f'.number f'.cost q
+offered_still k Is n f f' a q o = subst (λ c. IsOffered k f'.choices f'.number c q) (sym a.cost)
+    (subst (λ m. IsOffered k f'.choices m f.cost q) (sym a.number) (subst (λ l. IsOffered k l f.number f.cost q) (sym a.choices) o))

@@ -1,0 +1,90 @@
+-- Lists of productions, to whose fronts productions are put from the last one down.
+use Rattle.std.proofs.Common.{◌≡◌, ℕ, ◌+◌, ◌<◌, ◌≤◌, ◌⊎◌, inl, inr, List, get_or, length, replicate, slice_set, Option, Some, None, arith, sym, ap, subst, ◌∙◌}
+use Rattle.std.proofs.lemmas.Bool.{cases_lt}
+use Rattle.std.proofs.lemmas.List.{get_or_default, get_or-set_same, get_or-set_other}
+use Rattle.lemmas.proofs.Elements.{get_or-replicate_default}
+use Rattle.cfgindex.specs.declared.idxnewtype.PIdx.{PIdx}
+use Rattle.cfgsums.specs.Lists.{rule_cost}
+use Rattle.cfgleast.specs.Generator.{CostTables, IsGenerator}
+use Rattle.cfgleast.proofs.Generated.{answered_some}
+use Rattle.cfgchoices.specs.Inner.Kinds.{HasNoHeir}
+use Rattle.cfgchoices.specs.Inner.Offers.{owner}
+use Rattle.cfgchoices.proofs.Tight.{answered_within}
+use Rattle.cfgchoices.specs.Inner.Lists.{AreListed, IsFirstFrom}
+
+module _ {S : Type 0} (number : S → ℕ) (Is : ℕ → ℕ → Type 0) (n : ℕ) (firsts next : List (Option (PIdx S))) (listed : AreListed number Is (n + 1) firsts next) where
+  at_or_behind : (p : ℕ) → n ≤ p → (n + 1 ≤ p) ⊎ (p ≡ n)
+  at_or_behind p le = elim (cases_lt n p) [ inl lt ↦ inl (omega (arith, lt)) | inr ge ↦ inr (omega (arith, le, ge)) ]
+
+  -- a list in which n isn't
+  wider : (k : ℕ) → (Is k n → ⊥) → (o : Option (PIdx S)) → IsFirstFrom number (Is k) (n + 1) o → IsFirstFrom number (Is k) n o
+  wider k not None none = λ p le i. elim (at_or_behind p le) [ inl behind ↦ none p behind i | inr same ↦ not (subst (Is k) same i) ]
+  wider k not (Some p) (from, is, first) = (
+    omega (arith, from),
+    is,
+    (λ q le lt i. elim (at_or_behind q le) [ inl behind ↦ first q behind lt i | inr same ↦ not (subst (Is k) same i) ]),
+  )
+
+  pub listed_nowhere : ((k : ℕ) → Is k n → ⊥) → AreListed number Is n firsts next
+  listed_nowhere not = record {
+    first = λ k. wider k (not k) (get_or firsts k None) (listed.first k);
+    behind = λ k p le i. elim (at_or_behind p le) [ inl behind ↦ listed.behind k p behind i | inr same ↦ absurd (not k (subst (Is k) same i)) ];
+  }
+
+  module _ (i : ℕ) (at : i ≡ n) (o : Option (PIdx S)) where
+    kept : (p : ℕ) → n + 1 ≤ p → get_or (slice_set next i o) p None ≡ get_or next p None
+    kept p behind = get_or-set_other next i p o None (λ e. omega (arith, behind, e, at))
+
+    -- n comes into another list
+    pub listed_elsewhere : ((k : ℕ) → Is k n → ⊥) → AreListed number Is n firsts (slice_set next i o)
+    listed_elsewhere not = record {
+      first = λ k. wider k (not k) (get_or firsts k None) (listed.first k);
+      behind = λ k p le h. elim (at_or_behind p le) [
+        | inl behind ↦ subst (IsFirstFrom number (Is k) (p + 1)) (sym (kept p behind)) (listed.behind k p behind h)
+        | inr same ↦ absurd (not k (subst (Is k) same h))
+      ];
+    }
+
+    -- n comes to the front of list k, which is read and written at these places
+    pub listed_first : (k j m : ℕ) (p : PIdx S) → number p.0 ≡ n → Is k n → ((l : ℕ) → Is l n → l ≡ k) → k < length firsts → n < length next → j ≡ k → m ≡ k → o ≡ get_or firsts j o
+        → AreListed number Is n (slice_set firsts m (Some p)) (slice_set next i o)
+    listed_first k j m p here is only within there read written old = subst (λ m. AreListed number Is n (slice_set firsts m (Some p)) (slice_set next i o)) (sym written) (record {
+      first = λ l. elim (same_or l) [
+        | inl e ↦ subst (λ i. IsFirstFrom number (Is i) n (get_or (slice_set firsts k (Some p)) i None)) (sym e)
+            (subst (IsFirstFrom number (Is k) n) (sym (get_or-set_same firsts k (Some p) None within))
+            (omega (arith, here), subst (Is k) (sym here) is, λ q le lt i. absurd (omega (arith, le, lt, here))))
+        | inr other ↦ subst (IsFirstFrom number (Is l) n) (sym (get_or-set_other firsts k l (Some p) None other))
+            (wider l (λ i. other (only l i)) (get_or firsts l None) (listed.first l))
+      ];
+      behind = λ l q le h. elim (at_or_behind q le) [
+        | inl behind ↦ subst (IsFirstFrom number (Is l) (q + 1)) (sym (kept q behind)) (listed.behind l q behind h)
+        | inr same ↦ subst (λ m. IsFirstFrom number (Is l) (m + 1) (get_or (slice_set next i o) m None)) (sym same)
+            (subst (IsFirstFrom number (Is l) (n + 1)) (sym now)
+            (subst (λ m. IsFirstFrom number (Is m) (n + 1) (get_or firsts k None)) (sym (only l (subst (Is l) same h))) (listed.first k)))
+      ];
+    })
+      where
+        now : get_or (slice_set next i o) n None ≡ get_or firsts k None
+        now = ap (λ m. get_or (slice_set next m o) n None) at ∙ get_or-set_same next n o None there ∙ old ∙ ap (λ m. get_or firsts m o) read ∙ get_or_default firsts k o None within
+
+        same_or : (l : ℕ) → (l ≡ k) ⊎ (l ≡ k → ⊥)
+        same_or l = elim (cases_lt l k) [
+          | inl lt ↦ inr (λ e. omega (arith, lt, e))
+          | inr ge ↦ elim (cases_lt k l) [ inl gt ↦ inr (λ e. omega (arith, gt, e)) | inr le ↦ inl (omega (arith, ge, le)) ]
+        ]
+
+-- nothing is listed yet
+pub listed_none : {S : Type 0} (number : S → ℕ) (Is : ℕ → ℕ → Type 0) (n lists : ℕ) (firsts next : List (Option (PIdx S))) → ((k p : ℕ) → Is k p → p < n)
+    → firsts ≡ replicate lists None → AreListed number Is n firsts next
+listed_none number Is n lists firsts next below none = record {
+  first = λ k. subst (IsFirstFrom number (Is k) n) (sym (ap (λ l. get_or l k None) none ∙ get_or-replicate_default lists k None)) (λ p le h. let lt = below k p h in omega (arith, le, lt));
+  behind = λ k p le h. let lt = below k p h in absurd (omega (arith, le, lt));
+}
+
+-- what an own production costs, as the list of the code tells it
+pub own_cost_told : (x : CostTables) (n : ℕ) → IsGenerator x n → (p i c : ℕ) (own : HasNoHeir x p) (o : Option ℕ) → i ≡ owner x p → o ≡ get_or x.least i o → o ≡ Some c → own.tight.cost ≡ c
+own_cost_told x n is p i c own o at read some =
+    let within = subst (λ m. owner x p < m) (sym is.settled.chosen.costs) (answered_within x n is (owner x p) own.tight.cost own.tight.rule) in
+    let both : Some own.tight.cost ≡ Some c = sym (answered_some (rule_cost x.least (owner x p)) own.tight.cost own.tight.rule).0
+    ∙ sym (read ∙ ap (λ n. get_or x.least n o) at ∙ get_or_default x.least (owner x p) o None within) ∙ some in
+    cc

@@ -1,0 +1,129 @@
+//! Productions in lists: those that hand on to one rule, and the own ones of one cost.
+
+ghost use Rattle.std.specs.Prelude.{◌≡◌, ℕ, ◌+◌, ◌<◌, IfOk, None, Some, length, replicate};
+ghost use Rattle.cfgsums.specs.Lists.{rule_cost};
+ghost use Rattle.cfgleast.specs.Generator.{IsGenerator, tables_of};
+ghost use Rattle.cfgchoices.specs.Inner.Kinds.{AreKinds, IsKind};
+ghost use Rattle.cfgchoices.specs.Inner.Lists.{AreLists};
+
+use crate::kinds::Kind;
+use cfgindex::{PIdx, RIdx, Storage, to_storage};
+use cfgleast::settle::Settled;
+use cfgtables::Tables;
+use std::alloc::{AllocError, Global};
+
+/// Which productions stand in a list.
+#[derive(Clone, Copy)]
+pub(crate) enum Listed<S> {
+    /// Those that are their rules' own, and cost this.
+    Own(usize),
+    /// Those that hand on to this rule.
+    HandingTo(RIdx<S>),
+}
+
+/// Lists of productions: for each the first one, and for each production the next one of its list.
+#[derive(Drop)]
+pub(crate) struct Lists<S: Storage> {
+    pub(crate) own: Vec<Option<PIdx<S>>>,
+    pub(crate) handing: Vec<Option<PIdx<S>>>,
+    pub(crate) next: Vec<Option<PIdx<S>>>,
+}
+
+/// A list with so many places, none of which has a production.
+///
+/// # Errors
+///
+/// Want of memory.
+pub(crate) fn no_productions<S: Storage>(
+    alloc: Global,
+    len: usize,
+) -> Result<Vec<Option<PIdx<S>>>, AllocError>
+    ensures { IfOk result (λ list. list.items ≡ replicate len None) }
+{
+    vec![in alloc; None; len]
+}
+
+/// One more than the greatest of these costs.
+fn costs_len(least: &[Option<u32>]) -> usize
+    ensures { (r c : ℕ) → rule_cost least.now r ≡ Some c → c < result }
+{
+    let mut len = 0;
+    for entry in least {
+        if let Some(cost) = *entry {
+            if len <= cost as usize {
+                len = cost as usize + 1;
+            }
+        }
+    }
+    len
+}
+
+impl<S: Storage> Lists<S> {
+    /// Puts a production to the front of its list, if it costs just what its rule does.
+    fn add<T: Tables<S>>(
+        &mut self,
+        tables: &T,
+        costs: &[u8],
+        settled: &Settled<S>,
+        kind: Kind<S>,
+        p: PIdx<S>,
+    )
+        requires generator { IsGenerator (tables_of S.number (T.grammar tables.now) costs.now settled.now.least.items
+            settled.now.choices.items) settled.now.number }
+        requires place { S.number p.0 < length (T.grammar tables.now).productions }
+        requires kind { IsKind S.number (tables_of S.number (T.grammar tables.now) costs.now settled.now.least.items
+            settled.now.choices.items) (S.number p.0) kind }
+        requires lists { AreLists S.number (tables_of S.number (T.grammar tables.now) costs.now
+            settled.now.least.items settled.now.choices.items) (S.number p.0 + 1) self.old }
+        ensures { AreLists S.number (tables_of S.number (T.grammar tables.now) costs.now
+            settled.now.least.items settled.now.choices.items) (S.number p.0) self.new }
+    {
+        let _rules = tables.rules_len();
+        match kind {
+            Kind::Slack => {}
+            Kind::Own => {
+                if let Some(cost) = settled.least[usize::from(tables.prod_to_rule(p))] {
+                    self.next[usize::from(p)] = self.own[cost as usize];
+                    self.own[cost as usize] = Some(p);
+                }
+            }
+            Kind::HandsOn(rule) => {
+                self.next[usize::from(p)] = self.handing[usize::from(rule)];
+                self.handing[usize::from(rule)] = Some(p);
+            }
+        }
+    }
+
+    /// The productions that cost just what their rules do, in lists.
+    ///
+    /// # Errors
+    ///
+    /// Want of memory.
+    pub(crate) fn new<T: Tables<S>>(
+        alloc: Global,
+        tables: &T,
+        costs: &[u8],
+        settled: &Settled<S>,
+        kinds: &[Kind<S>],
+    ) -> Result<Self, AllocError>
+        requires generator { IsGenerator (tables_of S.number (T.grammar tables.now) costs.now settled.now.least.items
+            settled.now.choices.items) settled.now.number }
+        requires kinds { AreKinds S.number (tables_of S.number (T.grammar tables.now) costs.now
+            settled.now.least.items settled.now.choices.items) kinds.now }
+        ensures { IfOk result (AreLists S.number (tables_of S.number (T.grammar tables.now) costs.now
+            settled.now.least.items settled.now.choices.items) 0) }
+    {
+        let _prods = tables.prods_len().0.to_usize();
+        let mut lists = Lists {
+            own: no_productions(alloc, costs_len(&settled.least))?,
+            handing: no_productions(alloc, usize::from(tables.rules_len()))?,
+            next: no_productions(alloc, kinds.len())?,
+        };
+        let mut left = kinds.len();
+        while left > 0 {
+            left -= 1;
+            lists.add(tables, costs, settled, kinds[left], PIdx(to_storage(left)));
+        }
+        Ok(lists)
+    }
+}
