@@ -1,9 +1,11 @@
 pub mod Greatest
 pub mod TokenCosts
 pub mod Refused
-pub mod Sentences
-pub mod Tokens
-pub mod Counted
+pub mod Counts
+pub mod Plans
+pub mod Weights
+pub mod Walking
+pub mod Opened
 pub mod Joins
 pub mod Keys
 pub mod Tables

@@ -16,8 +16,8 @@ use crate::errors::SentenceError;
 use crate::generator::SentenceGenerator;
 use crate::minimal::products::row_words;
 use crate::minimal::table::{SentenceTable, add_all};
-use cfgtables::Tables;
 use cfgindex::{PIdx, RIdx, Storage, TIdx, to_storage};
+use cfgtables::Tables;
 use std::alloc::{AllocError, Global};
 use std::collections::BTreeSet;
 
