@@ -8,8 +8,7 @@ pub mod Walking
 pub mod Opened
 pub mod Joins
 pub mod Keys
-pub mod Tables
-pub mod Inserted
+pub mod Sorted
 pub mod OnlyHeirs
 pub mod Searches
 pub mod OwnBelow
