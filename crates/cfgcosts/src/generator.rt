@@ -11,15 +11,15 @@ ghost use Rattle.cfgleast.specs.Certificate.{IsCovered, IsReached, choice_of, ru
 ghost use Rattle.cfgleast.specs.Generator.{AnswersLeast, HasNone, IsLeastProduction, IsTooDear, choice_answer};
 ghost use Rattle.cfgleast.specs.Generator.{cost_answer, token_cost};
 
-use cfgchoices::first::first_choices;
 use crate::heirs::last_heirs;
+use cfgchoices::first::first_choices;
 use cfgchoices::kinds::{Kind, kinds};
-use cfgleast::settle::{Settled, settle};
-use cfgleast::walk::TOO_LARGE;
-use cfgtables::Tables;
 use cfggreatest::greatest_costs;
 use cfgindex::{PIdx, RIdx, Storage, TIdx, to_storage};
+use cfgleast::settle::{Settled, settle};
+use cfgleast::walk::TOO_LARGE;
 use cfgsums::CostError;
+use cfgtables::Tables;
 use std::alloc::{AllocError, Global};
 use std::marker::Model;
 

@@ -8,8 +8,8 @@ ghost use Rattle.cfgchoices.specs.Inner.Kinds.{HasRulesAsHeirs};
 ghost use Rattle.cfgchoices.specs.declared.kinds.Kind.{Kind};
 
 use cfgchoices::kinds::Kind;
-use cfgtables::Tables;
 use cfgindex::{RIdx, Storage, to_storage};
+use cfgtables::Tables;
 use std::alloc::{AllocError, Global};
 
 /// The rule that a production of the rule hands on to, where its other productions all cost more.

@@ -6,6 +6,7 @@ pub mod generator;
 mod heirs;
 pub mod laws;
 mod minimal;
+mod opener;
 mod over;
 mod sentence;
 

@@ -5,4 +5,3 @@ mod asked;
 mod levels;
 mod products;
 mod search;
-mod table;

@@ -1,13 +1,11 @@
 -- Walks by chosen productions from a rule, from the last token of its first minimal sentence to the first.
-use Rattle.std.specs.Prelude.{◌≡◌, ℕ, ◌<◌, List, [], ◌∷◌, ◌++◌, Option, Some, length, ◌+◌, ◌≤◌, None, All, ◌*◌}
-use Rattle.cfgindex.specs.declared.idxnewtype.PIdx.{PIdx}
-use Rattle.derivation.specs.Grammar.{Grammar, Sym, Rule, Token, HasProduction}
-use Rattle.cfgtables.specs.Openings.{nth_production, OpensOne}
+use Rattle.std.specs.Prelude.{◌≡◌, ℕ, ◌+◌, ◌*◌, ◌<◌, ◌≤◌, List, [], ◌∷◌, All, length}
+use Rattle.derivation.specs.Grammar.{Grammar, Sym, Rule, HasProduction}
 use Rattle.derivation.specs.Sentence.{cost_of}
-use Rattle.cfgleast.specs.Certificate.{rule_choice}
 use Rattle.derivation.specs.Costs.{Least}
 use Rattle.cfgchoices.specs.First.{FirstMinimal}
-use Rattle.cfgcosts.specs.DerivedBy.{IsDerivedBy, OpensNoneFree}
+use Rattle.cfgchoices.specs.Splits.{Split}
+use Rattle.cfgcosts.specs.DerivedBy.{DerivesBy, IsFree, OpensNoneFree, times}
 
 -- the first minimal sentence of a rule: it has at most as many tokens as it costs, and none is the end token
 pub record IsFirstSentence (g : Grammar) (cost : ℕ → ℕ) (r : ℕ) (w : List ℕ) : Type 0 where
@@ -15,36 +13,25 @@ pub record IsFirstSentence (g : Grammar) (cost : ℕ → ℕ) (r : ℕ) (w : Lis
   pub short : length w ≤ cost_of cost w
   pub within : All (λ t. t + 1 < g.tokens) w
 
--- What becomes of a symbol: a token goes to the word, which is made from its end. Of a rule the chosen production is
--- answered, if it has one.
-pub data Takes (choices : List (Option (ℕ × ℕ))) (s : Sym) (place : Option ℕ) (word word' : List ℕ) : Type 0 where
-  token : (t : ℕ) → s ≡ Token t → place ≡ None → word' ≡ word ++ (t ∷ []) → Takes choices s place word word'
-  unchosen : (r : ℕ) → s ≡ Rule r → rule_choice choices r ≡ None → place ≡ None → word' ≡ word → Takes choices s place word word'
-  chosen : (r p m : ℕ) → s ≡ Rule r → rule_choice choices r ≡ Some (p, m) → place ≡ Some p → word' ≡ word → Takes choices s place word word'
-
--- the number of a production, where there is one
-abbrev pub number_of : {S : Type 0} → (S → ℕ) → Option (PIdx S) → Option ℕ
-number_of number None = None
-number_of number (Some p) = Some (number p.0)
-
--- the symbols of a production, where there is one
-abbrev pub symbols_at : Grammar → Option ℕ → List Sym
-symbols_at g None = []
-symbols_at g (Some p) = (nth_production g p).symbols
-
--- the production was opened, where there is one; nothing else changed
-pub data OpensAt (place : Option ℕ) (content content' : Grammar) (opened opened' : ℕ → ℕ) (all all' : ℕ) : Type 0 where
-  nothing : place ≡ None → content' ≡ content → ((p : ℕ) → opened' p ≡ opened p) → all' ≡ all → OpensAt place content content' opened opened' all all'
-  one : (p : ℕ) → place ≡ Some p → OpensOne p content content' opened opened' all all' → OpensAt place content content' opened opened' all all'
+-- each production is counted as often as it stands among the opened ones
+pub record AreCountsOf (g : Grammar) (opened : ℕ → ℕ) (all : ℕ) (places : List ℕ) : Type 0 where
+  pub each : (p : ℕ) → p < length g.productions → opened p ≡ times p places
+  pub together : all ≡ length places
 
 -- how a walk from the rule has ended: with its first minimal sentence, which the opened productions derive
-pub record HasWalked (g : Grammar) (cost : ℕ → ℕ) (r : ℕ) (opened : ℕ → ℕ) (all : ℕ) (w : List ℕ) : Type 0 where
+pub record HasWalked (g : Grammar) (cost : ℕ → ℕ) (r : ℕ) (HasOpened : List ℕ → Type 0) (w : List ℕ) : Type 0 where
   pub found : IsFirstSentence g cost r w
-  pub derived : IsDerivedBy g cost opened all r w
-  pub few : all ≤ 1 + length w * g.rules
-  pub free : OpensNoneFree g cost opened
+  pub places : List ℕ
+  pub opened : HasOpened places
+  pub list : List Sym
+  pub derived : DerivesBy g places (Rule r ∷ []) list
+  pub tokens : Split (IsFree g cost) list w
+  pub few : length places ≤ 1 + length w * g.rules
+  pub free : OpensNoneFree g cost (λ p. times p places)
 
 -- or for want of memory
-pub record HasStopped (g : Grammar) (cost : ℕ → ℕ) (r : ℕ) (opened : ℕ → ℕ) (all : ℕ) : Type 0 where
-  pub few : (c : ℕ) → Least (HasProduction g) cost r c → all ≤ 1 + c * g.rules
-  pub free : OpensNoneFree g cost opened
+pub record HasStopped (g : Grammar) (cost : ℕ → ℕ) (r : ℕ) (HasOpened : List ℕ → Type 0) : Type 0 where
+  pub places : List ℕ
+  pub opened : HasOpened places
+  pub few : (c : ℕ) → Least (HasProduction g) cost r c → length places ≤ 1 + c * g.rules
+  pub free : OpensNoneFree g cost (λ p. times p places)

@@ -6,9 +6,9 @@ ghost use Rattle.cfgcosts.specs.Inner.Minimal.{AreAsked};
 
 use crate::generator::SentenceGenerator;
 use crate::minimal::search::Search;
+use cfgindex::{RIdx, Storage};
 use cfgleast::queue::Queue;
 use cfgtables::Tables;
-use cfgindex::{RIdx, Storage};
 use std::alloc::{AllocError, Global};
 
 impl<'a, S: Storage, T: Tables<S>> SentenceGenerator<'a, S, T> {

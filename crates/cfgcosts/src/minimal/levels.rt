@@ -8,10 +8,10 @@ ghost use Rattle.cfgcosts.specs.Inner.Minimal.{Lists};
 ghost use Rattle.cfgchoices.specs.Inner.Kinds.{IsOwnBelow};
 
 use crate::generator::SentenceGenerator;
-use cfgchoices::kinds::Kind;
 use crate::minimal::search::Search;
-use cfgtables::Tables;
+use cfgchoices::kinds::Kind;
 use cfgindex::{PIdx, RIdx, Storage};
+use cfgtables::Tables;
 use std::alloc::{AllocError, Global};
 
 impl<'a, S: Storage, T: Tables<S>> SentenceGenerator<'a, S, T> {

@@ -6,8 +6,8 @@ ghost use Rattle.derivation.specs.Grammar.{Grammar, IsSymbolOf, Rule};
 ghost use Rattle.cfganalysis.specs.Paths.{IsHeldBy, Reaches};
 ghost use Rattle.cfgtables.specs.Symbols.{sym_of};
 
-use cfgtables::Tables;
 use cfgindex::{PIdx, RIdx, Storage, Symbol};
+use cfgtables::Tables;
 use std::alloc::{AllocError, Global};
 use std::collections::BTreeSet;
 use std::marker::Model;
