@@ -13,4 +13,5 @@ pub mod FollowVisits
 pub mod Gathering
 pub mod Fitting
 pub mod FollowBits
+pub mod References
 pub mod Searching

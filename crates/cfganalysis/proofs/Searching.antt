@@ -10,7 +10,7 @@ use Rattle.derivation.specs.Path.{Holds, Path, one, more}
 use Rattle.cfganalysis.specs.Openings.{nth_production}
 use Rattle.cfganalysis.specs.Table.{bits_on}
 use Rattle.cfganalysis.specs.Paths.{SearchState, IsHeldBy, IsReachedIn, Reaches, ArePlacesOf}
-use Rattle.cfganalysis.proofs.OneBit.{bits_on-set}
+use Rattle.search.proofs.Bits.{bits_on-set}
 
 pub reaches_none : (found : ℕ → Type 0) (x : SearchState) → ((r : ℕ) → found r → ⊥) → Reaches found x x
 reaches_none found x never = record {

@@ -1,8 +1,17 @@
--- A search for the rules to which a rule has a path.
+-- The rules that productions hold.
 use Rattle.std.specs.Prelude.{◌≡◌, ◌↔◌, ◌⊎◌, ◌<◌, ◌≤◌, ℕ, ◌+◌, Bool, false, List, length, All, Contains, IsTrue, slice_index_or}
 use Rattle.derivation.specs.Grammar.{Rule, Grammar}
 use Rattle.cfganalysis.specs.Openings.{nth_production}
 use Rattle.cfganalysis.specs.Table.{bits_on}
+
+-- the places of a rule's productions
+pub record ArePlacesOf (g : Grammar) (rule : ℕ) (places : List ℕ) : Type 0 where
+  pub within : All (λ p. p < length g.productions) places
+  pub listed : (p : ℕ) → p < length g.productions → (Contains places p ↔ ((nth_production g p).rule ≡ rule))
+
+-- the production at this place holds the rule
+abbrev pub HeldIn : Grammar → ℕ → ℕ → Type 0
+HeldIn g place r = Contains (nth_production g place).symbols (Rule r)
 
 -- a bit for each rule that was reached, and those of them that wait
 pub record SearchState : Type 0 where
@@ -21,11 +30,6 @@ pub record Reaches (found : ℕ → Type 0) (old new : SearchState) : Type 0 whe
   pub waits : (r : ℕ) → Contains new.waiting r → Contains old.waiting r ⊎ IsReachedIn new r
   pub grows : bits_on old.rules ≤ bits_on new.rules
   pub together : length new.waiting + bits_on old.rules ≡ length old.waiting + bits_on new.rules
-
--- the places of a rule's productions
-pub record ArePlacesOf (g : Grammar) (rule : ℕ) (places : List ℕ) : Type 0 where
-  pub within : All (λ p. p < length g.productions) places
-  pub listed : (p : ℕ) → p < length g.productions → (Contains places p ↔ ((nth_production g p).rule ≡ rule))
 
 -- one of these productions holds the rule
 pub record IsHeldBy (g : Grammar) (places : List ℕ) (r : ℕ) : Type 0 where

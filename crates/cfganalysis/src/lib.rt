@@ -17,5 +17,5 @@ pub use bits::BitTable;
 pub use counted::{CountedTables, Tables};
 pub use firsts::{YaccFirsts, firsts_over};
 pub use follows::{YaccFollows, follows_over};
-pub use paths::{Search, has_path};
+pub use paths::{has_path, reach_held};
 pub use productions::Productions;

@@ -7,10 +7,10 @@ use Rattle.std.proofs.lemmas.List.Elements.{Contains-append_left, Contains-push,
 use Rattle.search.specs.Reached.{SearchState, Reaches, FoundBy}
 use Rattle.search.proofs.Reaching.{reaches_known, reaches_as, reaches_then}
 
-module _ {A : Type 0} (Finds : A → ℕ → Type 0) (things : List A) where
-  pub each_none : (x : SearchState) → Reaches (FoundBy Finds (take 0 things)) x x
-  each_none x = reaches_known _ x (λ n h. absurd (omega (arith, h.among.1)))
+pub each_none : {A : Type 0} (Finds : A → ℕ → Type 0) (x : SearchState) → Reaches (FoundBy Finds []) x x
+each_none Finds x = reaches_known _ x (λ n h. absurd (omega (arith, h.among.1)))
 
+module _ {A : Type 0} (Finds : A → ℕ → Type 0) (things : List A) where
   pub each_more : (i : ℕ) (thing : A) (old mid new : SearchState) → i < length things → thing ≡ get_or things i thing
       → Reaches (FoundBy Finds (take i things)) old mid → Reaches (Finds thing) mid new → Reaches (FoundBy Finds (take (i + 1) things)) old new
   each_more i thing old mid new lt is w v = reaches_as _ _ old new
