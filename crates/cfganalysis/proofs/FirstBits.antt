@@ -12,13 +12,6 @@ use Rattle.cfganalysis.specs.Inner.GrowingFirsts.{SayFirsts, HaveFirstsOf, Begin
 use Rattle.cfganalysis.specs.Inner.Growth.{CoversEach}
 use Rattle.cfganalysis.proofs.OneBit.{bit-no_bits, IsTable-no_bits}
 
--- a production's rule and symbols are of the grammar
-pub owner : (g : Grammar) (p : Production) → IsGrammar g → Contains g.productions p → p.rule < g.rules
-owner g p is has = subst (λ (q : Production). q.rule < g.rules) has.2 (is.owners has.0 p has.1)
-
-pub all_symbols : (g : Grammar) (p : Production) → IsGrammar g → Contains g.productions p → All (IsSymbolOf g) p.symbols
-all_symbols g p is has = subst (λ (q : Production). All (IsSymbolOf g) q.symbols) has.2 (is.symbols has.0 p has.1)
-
 -- sets to which a production adds what it gives
 module _ (g : Grammar) (rule : ℕ) (symbols : List Sym) (has : HasProduction g rule symbols) where
   closed : Covers (Empty (HasProduction g)) (First (HasProduction g)) rule symbols

@@ -12,11 +12,12 @@ use Rattle.cfganalysis.specs.Inner.GrowingFirsts.{SayFirsts, HasNoMoreFirsts, Ha
 use Rattle.cfganalysis.specs.Inner.Growth.{TakesIn}
 use Rattle.cfganalysis.specs.Inner.Waiting.{Waits, NoneWaits}
 use Rattle.cfganalysis.proofs.Noting.{put_waits, put_there}
-use Rattle.cfganalysis.proofs.Joins.{grown}
+use Rattle.lemmas.proofs.Passes.{grown}
 use Rattle.search.proofs.Bits.{bits_on-fewer, bits_on-set}
 use Rattle.cfganalysis.proofs.OneBit.{count_of-fewer}
 use Rattle.cfganalysis.proofs.Fronts.{begins_front, begins_past, vanishes_among, begins_among, vanishes_alone, stays_alone}
-use Rattle.cfganalysis.proofs.FirstBits.{owner, say_first, say_epsilon}
+use Rattle.cfganalysis.proofs.FirstBits.{say_first, say_epsilon}
+use Rattle.cfgtables.proofs.Placed.{owner}
 
 -- what begins the symbol was put into the rule's set
 pub record Puts (rule : ℕ) (s : Sym) (old new : FirstSets) (changed : Bool) : Type 0 where

@@ -2,7 +2,7 @@
 use Rattle.std.proofs.Common.{◌≡◌, ℕ, ◌+◌, ◌*◌, ◌<◌, ◌≤◌, length, arith}
 use Rattle.std.proofs.lemmas.Nat.{mul-le}
 use Rattle.derivation.specs.Grammar.{Grammar}
-use Rattle.cfganalysis.specs.Openings.{most_openings, most_openings_all}
+use Rattle.cfgtables.specs.Openings.{most_openings, most_openings_all}
 
 pub openings_fit : (g : Grammar) (rules tokens most : ℕ) → rules ≡ g.rules → tokens ≡ g.tokens → rules ≤ most → tokens ≤ most → most < 4294967296
     → most_openings g < 18446744073709551615

@@ -4,18 +4,11 @@ use Rattle.std.proofs.lemmas.Bool.{cases_eq, or_cases, or_left, or_right, or_par
 use Rattle.std.proofs.lemmas.List.{get_or_default, set-get_or, get_or_append_left, get_or-append_right, set-append_left, set-append_right}
 use Rattle.std.proofs.lemmas.List.Sums.{sum_by-cons, sum_by-set}
 use Rattle.std.proofs.lemmas.List.Elements.{All-get_or, All-set}
+use Rattle.lemmas.proofs.Passes.{grown}
 use Rattle.cfgindex.proofs.Bits.{length-union, get_or-union}
 use Rattle.cfganalysis.specs.Table.{Table, IsTable, HasBit, Joins, row_of, bit, bits_on, count_of, with_bit}
 use Rattle.cfganalysis.specs.Inner.Joined.{GrewTo, joined}
 use Rattle.cfganalysis.proofs.OneBit.{bit-with_bit, IsTable-with_bit, count_of-with_bit, row_wide}
-
--- two steps grow if one of them does
-pub grown : {X : Type 0} (bits : X → ℕ) (old mid new : X) (c r : Bool) → (c ≡ true → bits old < bits mid) → (c ≡ false → mid ≡ old) → (r ≡ true → bits mid < bits new) → (r ≡ false → new ≡ mid)
-    → (c || r) ≡ true → bits old < bits new
-grown bits old mid new true true m s m' s' e = let h = m refl in let k = m' refl in omega (arith, h, k)
-grown bits old mid new true false m s m' s' e = subst (λ x. bits old < bits x) (sym (s' refl)) (m refl)
-grown bits old mid new false true m s m' s' e = subst (λ x. bits x < bits new) (s refl) (m' refl)
-grown bits old mid new false false m s m' s' e = absurd (true≢false (sym e))
 
 bits_on-cons : (b : Bool) (l : List Bool) → bits_on (b ∷ l) ≡ cond b 1 0 + bits_on l
 bits_on-cons b l = sum_by-cons (λ b. cond b 1 0) b l

@@ -1,4 +1,3 @@
-pub mod Placed
 pub mod OneBit
 pub mod Stacking
 pub mod Noting
@@ -8,7 +7,6 @@ pub mod Fronts
 pub mod FirstBits
 pub mod FirstVisits
 pub mod Joins
-pub mod Slices
 pub mod FollowVisits
 pub mod Gathering
 pub mod Fitting

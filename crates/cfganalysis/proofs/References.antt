@@ -6,8 +6,9 @@ use Rattle.derivation.specs.Grammar.{Sym, Rule, Token, Grammar, Production, IsGr
 use Rattle.derivation.specs.Path.{Holds, Path, one, more}
 use Rattle.search.specs.Reached.{FoundBy, Reached, Reaches, SearchState, led, seed}
 use Rattle.search.proofs.Reaching.{reaches_as, reaches_known}
-use Rattle.cfganalysis.specs.Openings.{nth_production}
-use Rattle.cfganalysis.specs.Paths.{ArePlacesOf, HeldIn}
+use Rattle.cfgtables.specs.Openings.{nth_production}
+use Rattle.cfgtables.specs.Openings.{ArePlacesOf}
+use Rattle.cfganalysis.specs.Paths.{HeldIn}
 
 pub reaches_no_token : (u : ℕ) (x : SearchState) → Reaches (λ r. Rule r ≡ Token u) x x
 reaches_no_token u x = reaches_known _ x (λ r e. absurd (not_token r e))

@@ -7,9 +7,10 @@ use Rattle.std.proofs.lemmas.Option.{get_or_from_slice_get}
 use Rattle.lemmas.proofs.Elements.{get_or-set, get_or-replicate_default, set-slice_get, within_from_get_or}
 use Rattle.derivation.specs.Grammar.{Sym, Rule, Token, Grammar, Production, IsGrammar, IsSymbolOf, HasProduction}
 use Rattle.derivation.specs.Path.{Holds, Path, one, more}
-use Rattle.cfganalysis.specs.Openings.{nth_production}
+use Rattle.cfgtables.specs.Openings.{nth_production}
 use Rattle.cfganalysis.specs.Table.{bits_on}
-use Rattle.cfganalysis.specs.Paths.{SearchState, IsHeldBy, IsReachedIn, Reaches, ArePlacesOf}
+use Rattle.cfganalysis.specs.Paths.{SearchState, IsHeldBy, IsReachedIn, Reaches}
+use Rattle.cfgtables.specs.Openings.{ArePlacesOf}
 use Rattle.search.proofs.Bits.{bits_on-set}
 
 pub reaches_none : (found : ℕ → Type 0) (x : SearchState) → ((r : ℕ) → found r → ⊥) → Reaches found x x

@@ -6,12 +6,12 @@ use Rattle.std.proofs.lemmas.List.{ext_get_or, length-replicate}
 use Rattle.std.proofs.lemmas.List.Sums.{count_by-le-length}
 use Rattle.lemmas.proofs.Elements.{get_or-replicate_default, within_from_get_or}
 use Rattle.derivation.specs.Grammar.{Grammar, Production, IsGrammar}
-use Rattle.cfganalysis.specs.Openings.{nth_production, OpensOne}
+use Rattle.cfgtables.specs.Openings.{nth_production, OpensOne}
 use Rattle.cfganalysis.specs.Inner.Growth.{CoversEach, TakesIn, TakesInto, Visited, left_to_do}
 use Rattle.cfganalysis.specs.Table.{bits_on}
 use Rattle.cfganalysis.specs.Inner.Waiting.{waits, Waits, NoneWaits, WaitsNoMore}
 use Rattle.cfganalysis.specs.Inner.Work.{users_of, Notes, LetsWait}
-use Rattle.cfganalysis.proofs.Placed.{same_production, at_place}
+use Rattle.cfgtables.proofs.Placed.{same_production, at_place}
 use Rattle.cfganalysis.proofs.Noting.{nothing_among}
 use Rattle.cfganalysis.proofs.Stacking.{bits_on-clear, bits_on-none}
 

@@ -1,6 +1,4 @@
 -- Who relies on the calls of this crate has to read these files; those in Inner have the words of private clauses.
-pub mod Symbols
-pub mod Openings
 pub mod Table
 pub mod Firsts
 pub mod Follows

@@ -1,13 +1,8 @@
 -- The rules that productions hold.
 use Rattle.std.specs.Prelude.{◌≡◌, ◌↔◌, ◌⊎◌, ◌<◌, ◌≤◌, ℕ, ◌+◌, Bool, false, List, length, All, Contains, IsTrue, slice_index_or}
 use Rattle.derivation.specs.Grammar.{Rule, Grammar}
-use Rattle.cfganalysis.specs.Openings.{nth_production}
+use Rattle.cfgtables.specs.Openings.{nth_production}
 use Rattle.cfganalysis.specs.Table.{bits_on}
-
--- the places of a rule's productions
-pub record ArePlacesOf (g : Grammar) (rule : ℕ) (places : List ℕ) : Type 0 where
-  pub within : All (λ p. p < length g.productions) places
-  pub listed : (p : ℕ) → p < length g.productions → (Contains places p ↔ ((nth_production g p).rule ≡ rule))
 
 -- the production at this place holds the rule
 abbrev pub HeldIn : Grammar → ℕ → ℕ → Type 0

@@ -6,18 +6,18 @@ ghost use Rattle.derivation.specs.Grammar.{Grammar, IsGrammar, IsSymbolOf, Rule}
 ghost use Rattle.cfganalysis.specs.Firsts.{AreFirsts, FitsGrammar, IsAmongFirsts, IsEpsilon, epsilon_bit, with_first};
 ghost use Rattle.cfganalysis.specs.Inner.GrowingFirsts.{BeginsBy, HasNoMoreFirsts, HaveFirstsOf, HoldsRule, SayFirsts};
 ghost use Rattle.cfganalysis.specs.Inner.GrowingFirsts.{count_firsts, is_empty_symbol, no_firsts, with_epsilon};
-ghost use Rattle.cfganalysis.specs.Openings.{most_openings, most_openings_all};
+ghost use Rattle.cfgtables.specs.Openings.{most_openings, most_openings_all};
 ghost use Rattle.cfganalysis.specs.Inner.Growth.{TakesIn};
-ghost use Rattle.cfganalysis.specs.Symbols.{sym_of};
+ghost use Rattle.cfgtables.specs.Symbols.{sym_of};
 ghost use Rattle.cfganalysis.specs.Table.{Joins, row_of};
 ghost use Rattle.cfganalysis.specs.Inner.Bounds.{firsts_bounded};
 ghost use Rattle.cfganalysis.specs.Inner.Waiting.{NoneWaits, Waits};
 ghost use Rattle.cfganalysis.specs.Inner.Work.{Notes};
 
 use crate::bits::BitTable;
-use crate::counted::{CountedTables, Tables};
+use cfgtables::{CountedTables, Tables};
 use crate::growth::Analysis;
-use crate::productions::Productions;
+use cfgtables::Productions;
 use crate::visits::visit_all;
 use crate::waiting::Waiting;
 use crate::work::Users;

@@ -3,19 +3,16 @@
 #![tactic(auto)]
 
 pub mod bits;
-pub mod counted;
 pub mod firsts;
 pub mod follows;
 mod growth;
 pub mod paths;
-pub mod productions;
 mod visits;
 mod waiting;
 mod work;
 
 pub use bits::BitTable;
-pub use counted::{CountedTables, Tables};
+pub use cfgtables::{CountedTables, Productions, Tables};
 pub use firsts::{YaccFirsts, firsts_over};
 pub use follows::{YaccFollows, follows_over};
 pub use paths::{has_path, reach_held};
-pub use productions::Productions;

@@ -5,11 +5,11 @@ ghost use Rattle.std.specs.Prelude.{◌≡◌, ℕ, ◌+◌, ◌-◌, ◌*◌, �
 ghost use Rattle.std.specs.Prelude.{IfOk, MatchBool, OnErr, OnOk};
 ghost use Rattle.derivation.specs.Grammar.{Grammar, IsGrammar};
 ghost use Rattle.cfganalysis.specs.Inner.Growth.{CoversEach, Visited, left_to_do};
-ghost use Rattle.cfganalysis.specs.Openings.{OpensOne, most_openings, most_openings_all};
+ghost use Rattle.cfgtables.specs.Openings.{OpensOne, most_openings, most_openings_all};
 ghost use Rattle.cfganalysis.specs.Inner.Waiting.{NoneWaits};
 
 use crate::growth::{Analysis, take_in};
-use crate::productions::Productions;
+use cfgtables::Productions;
 use crate::work::Work;
 use cfgindex::{PIdx, Storage, to_storage};
 use std::alloc::{AllocError, Global};

@@ -4,15 +4,16 @@ use Rattle.std.specs.List.Sorted.{IsPermutation}
 use Rattle.std.proofs.lemmas.List.Elements.{Contains-push}
 use Rattle.std.proofs.lemmas.List.Sorted.{Contains-permutation, IsPermutation-sym}
 use Rattle.derivation.specs.Grammar.{Rule, IsGrammar}
-use Rattle.cfganalysis.specs.Openings.{nth_production}
+use Rattle.cfgtables.specs.Openings.{nth_production}
 use Rattle.cfganalysis.specs.Paths.{SearchState, IsHeldBy, IsReachedIn, Reaches}
 use Rattle.cfganalysis.proofs.Searching.{reaches_as}
-use Rattle.cfgcosts.specs.Generator.{CostTables, IsGenerator, cost_answer}
-use Rattle.cfgcosts.specs.Levels.{Along, here, next}
-use Rattle.cfgcosts.specs.Minimal.{AreAsked, IsOwnBelow}
-use Rattle.cfgcosts.proofs.Contained.{contains_cases, contains_first, contains_later, contains_none}
+use Rattle.cfgleast.specs.Generator.{CostTables, IsGenerator, cost_answer}
+use Rattle.cfgchoices.specs.Levels.{Along, here, next}
+use Rattle.cfgcosts.specs.Inner.Minimal.{AreAsked}
+use Rattle.cfgchoices.specs.Inner.Kinds.{IsOwnBelow}
+use Rattle.lemmas.proofs.Contained.{contains_cases, contains_first, contains_later, contains_none}
 use Rattle.cfgcosts.proofs.Searches.{Searching, search_begins, search_ends, search_goes_on, still_reached}
-use Rattle.cfgcosts.proofs.Tight.{own_costs}
+use Rattle.cfgchoices.proofs.Tight.{own_costs}
 
 module _ (x : CostTables) (r : ℕ) where
   -- an own production below the rule holds the other

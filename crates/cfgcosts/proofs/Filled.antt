@@ -5,12 +5,13 @@ use Rattle.std.proofs.lemmas.Bool.{cases_eq}
 use Rattle.std.proofs.lemmas.List.Elements.{All-contains, Contains-append_left, Contains-push, Contains-push_cases}
 use Rattle.std.proofs.lemmas.List.Sorted.{Contains-permutation, IsPermutation-sym}
 use Rattle.derivation.specs.Grammar.{Grammar, Sym, Rule, IsGrammar}
-use Rattle.cfganalysis.specs.Openings.{nth_production}
-use Rattle.cfgcosts.specs.Generator.{CostTables, IsGenerator, cost_answer}
-use Rattle.cfgcosts.specs.Minimal.{AreAsked, HasMinimal, HasSentence, IsMadeBy, IsMinimal, IsOwnBelow, IsReadyFor, Puts}
-use Rattle.cfgcosts.specs.Splits.{Split, done, itself, part}
-use Rattle.cfgcosts.proofs.Contained.{contains_cases, contains_first, contains_later, contains_none, contains_one}
-use Rattle.cfgcosts.proofs.Tight.{free_minimal, minimal_free, minimal_made, own_less, own_makes}
+use Rattle.cfgtables.specs.Openings.{nth_production}
+use Rattle.cfgleast.specs.Generator.{CostTables, IsGenerator, cost_answer}
+use Rattle.cfgcosts.specs.Inner.Minimal.{AreAsked, HasMinimal, HasSentence, IsMadeBy, IsReadyFor, Puts}
+use Rattle.cfgchoices.specs.Inner.Kinds.{IsMinimal, IsOwnBelow}
+use Rattle.cfgchoices.specs.Splits.{Split, done, itself, part}
+use Rattle.lemmas.proofs.Contained.{contains_cases, contains_first, contains_later, contains_none, contains_one}
+use Rattle.cfgchoices.proofs.Tight.{free_minimal, minimal_free, minimal_made, own_less, own_makes}
 
 -- a word cut otherwise, as the rules of the row allow
 cut_within : (F G : ℕ → List ℕ → Type 0) {a : List Sym} {w : List ℕ} → ((r : ℕ) (u : List ℕ) → Contains a (Rule r) → F r u → G r u) → Split F a w → Split G a w

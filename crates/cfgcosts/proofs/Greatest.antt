@@ -6,7 +6,7 @@ use Rattle.cfgsums.specs.declared.errors.CostError.{CostError}
 use Rattle.cfgsums.specs.declared.errors.CostError.TheVariants.{NoSentence}
 use Rattle.cfggreatest.specs.Words.{AreTold, Means}
 use Rattle.cfggreatest.proofs.Telling.{exactly}
-use Rattle.cfgcosts.specs.Generator.{CostTables, token_cost}
+use Rattle.cfgleast.specs.Generator.{CostTables, token_cost}
 
 pub answer_at : (x y : CostTables) → x ≡ y → (answers : List (Result (Option ℕ) CostError)) → AreTold x.grammar (token_cost x) answers
     → (r place : ℕ) → place ≡ r → r < y.grammar.rules → (answer : Result (Option ℕ) CostError) → answer ≡ get_or answers place answer

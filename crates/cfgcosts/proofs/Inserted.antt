@@ -10,8 +10,10 @@ use Rattle.std.specs.List.Sorted.{IsStrictlySortedBy}
 use Rattle.std.specs.List.{AllByRecursion}
 use Rattle.std.specs.BTreeSet.{BTreeSet, insert_key}
 use Rattle.cfgindex.specs.declared.idxnewtype.TIdx.{TIdx}
-use Rattle.cfgcosts.specs.Minimal.{dictionary, numbers_of, set_of}
-use Rattle.cfgcosts.proofs.Contained.{contains_cases, contains_first, contains_later}
+use Rattle.cfgchoices.specs.First.{dictionary}
+use Rattle.cfgcosts.specs.Sentences.{numbers_of}
+use Rattle.cfgcosts.specs.Inner.Minimal.{set_of}
+use Rattle.lemmas.proofs.Contained.{contains_cases, contains_first, contains_later}
 use Rattle.cfgcosts.proofs.Tables.{inserts}
 
 pub order_shown : {A : Type 0} (cmp : A → A → Ordering) (f : A → ℕ) → ((x y : A) → cmp x y ≡ nat_cmp (f x) (f y)) → (v w : List A) → slice_cmp cmp v w ≡ dictionary (map f v) (map f w)

@@ -2,9 +2,9 @@
 use Rattle.std.proofs.Common.{◌≡◌, ◌↔◌, ℕ, inl, inr, List, [], ◌∷◌, ◌++◌, map, Contains, append-nil, append_assoc, refl, sym, ap, subst, ◌∙◌}
 use Rattle.std.proofs.lemmas.List.Elements.{Contains-append_left, Contains-append_right, Contains-append_cases}
 use Rattle.derivation.specs.Grammar.{Sym, Rule, Token}
-use Rattle.cfgcosts.specs.Splits.{Split, done, itself, part}
-use Rattle.cfgcosts.specs.Minimal.{HasSentence, IsJoined, words_of_symbol}
-use Rattle.cfgcosts.proofs.Contained.{contains_first, contains_later, contains_none, contains_one, contains_cases, contains_mapped, contains_source}
+use Rattle.cfgchoices.specs.Splits.{Split, done, itself, part}
+use Rattle.cfgcosts.specs.Inner.Minimal.{HasSentence, IsJoined, words_of_symbol}
+use Rattle.lemmas.proofs.Contained.{contains_first, contains_later, contains_none, contains_one, contains_cases, contains_mapped, contains_source}
 
 -- a list of words holds just those that are joined
 abbrev pub AreJoined : List (List ℕ) → List (List ℕ) → List (List ℕ) → Type 0

@@ -9,17 +9,19 @@ use Rattle.std.proofs.lemmas.List.Elements.{All-get_or, All-set, Contains-append
 use Rattle.lemmas.proofs.Elements.{get_or-set}
 use Rattle.cfgindex.specs.declared.idxnewtype.RIdx.{RIdx}
 use Rattle.derivation.specs.Grammar.{Grammar, IsGrammar}
-use Rattle.cfganalysis.specs.Openings.{nth_production}
-use Rattle.cfganalysis.specs.Paths.{ArePlacesOf}
-use Rattle.cfgcosts.specs.Generator.{CostTables, IsGenerator, cost_answer}
+use Rattle.cfgtables.specs.Openings.{nth_production}
+use Rattle.cfgtables.specs.Openings.{ArePlacesOf}
+use Rattle.cfgleast.specs.Generator.{CostTables, IsGenerator, cost_answer}
 use Rattle.cfgsums.proofs.Rows.{item_shown}
-use Rattle.cfgcosts.specs.Heirs.{AreHeirs, HasRulesAsHeirs, IsOnlyHeir, rules_of}
-use Rattle.cfgcosts.specs.Levels.{Along, here, next}
-use Rattle.cfgcosts.specs.Minimal.{AreKinds, HasHeir, IsHeir, IsKind, IsMinimal, IsOwnBelow, IsTight}
-use Rattle.cfgcosts.specs.declared.kinds.Kind.{Kind}
-use Rattle.cfgcosts.specs.declared.kinds.Kind.TheVariants.{Slack, HandsOn}
-use Rattle.cfgcosts.proofs.Contained.{contains_none}
-use Rattle.cfgcosts.proofs.Tight.{answered_within, minimal_made, one_heir, own_makes}
+use Rattle.cfgcosts.specs.Inner.Heirs.{AreHeirs, IsOnlyHeir, rules_of}
+use Rattle.cfgchoices.specs.Inner.Kinds.{HasRulesAsHeirs}
+use Rattle.cfgchoices.specs.Levels.{Along, here, next}
+use Rattle.cfgchoices.specs.Inner.Kinds.{AreKinds, HasHeir, IsHeir, IsKind, IsTight}
+use Rattle.cfgchoices.specs.Inner.Kinds.{IsMinimal, IsOwnBelow}
+use Rattle.cfgchoices.specs.declared.kinds.Kind.{Kind}
+use Rattle.cfgchoices.specs.declared.kinds.Kind.TheVariants.{Slack, HandsOn}
+use Rattle.lemmas.proofs.Contained.{contains_none}
+use Rattle.cfgchoices.proofs.Tight.{answered_within, minimal_made, one_heir, own_makes}
 
 pub none_is : {X : Type 0} (o : Option X) → is_some o ≡ false → o ≡ None
 none_is None e = refl
@@ -156,13 +158,6 @@ module _ {S : Type 0} (number : S → ℕ) (heirs : List (RIdx S)) (r i : ℕ) (
 
     pub gone_on : (g : Grammar) (kinds : List (Kind S)) → AreHeirs number g kinds (rules_of number heirs) → AreHeirs number g kinds (rules_of number (slice_set heirs r after))
     gone_on g kinds are = subst (AreHeirs number g kinds) put (heirs_gone_on number g kinds (rules_of number heirs) r (number heir.0) (number after.0) placed (sym first) (sym second) are)
-
-pub heirs_are_rules : {S : Type 0} (number : S → ℕ) (x : CostTables) (kinds : List (Kind S)) (n : ℕ) → IsGenerator x n
-    → ((p : ℕ) → p < length kinds → IsKind number x p (get_or kinds p Slack)) → HasRulesAsHeirs number x.grammar kinds
-heirs_are_rules number x kinds n is each p heir e = elim (cases_lt p (length kinds)) [
-  | inl lt ↦ let h = subst (IsKind number x p) e (each p lt) in answered_within x n is (number heir.0) h.tight.cost h.same
-  | inr past ↦ let no : Slack ≡ HandsOn heir = sym (get_or_past kinds p Slack past) ∙ e in absurd (cc)
-]
 
 module _ {S : Type 0} (number : S → ℕ) (x : CostTables) (kinds : List (Kind S)) (are : AreKinds number x kinds) where
   kind_is : (p : ℕ) (kind : Kind S) → p < length x.grammar.productions → get_or kinds p Slack ≡ kind → IsKind number x p kind

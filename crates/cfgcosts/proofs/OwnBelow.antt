@@ -2,15 +2,18 @@
 use Rattle.std.proofs.Common.{◌≡◌, ◌↔◌, ℕ, ◌+◌, ◌<◌, ◌≤◌, ◌⊎◌, inl, inr, false, List, [], ◌∷◌, ◌++◌, Contains, get_or, length, take, replicate, refl, sym, ap, subst, ◌∙◌}
 use Rattle.std.proofs.lemmas.List.{take_all, take_more}
 use Rattle.std.proofs.lemmas.List.Elements.{Contains-append_left, Contains-push, Contains-push_cases}
-use Rattle.cfganalysis.specs.Openings.{nth_production}
-use Rattle.cfganalysis.specs.Paths.{SearchState, IsReachedIn, Reaches, ArePlacesOf}
+use Rattle.cfgtables.specs.Openings.{nth_production}
+use Rattle.cfganalysis.specs.Paths.{SearchState, IsReachedIn, Reaches}
+use Rattle.cfgtables.specs.Openings.{ArePlacesOf}
 use Rattle.cfganalysis.proofs.Searching.{reaches_as, reaches_none, reaches_then}
-use Rattle.cfgcosts.specs.Generator.{CostTables}
-use Rattle.cfgcosts.specs.Levels.{Along, here}
-use Rattle.cfgcosts.specs.Minimal.{HasHeir, HasNoHeir, IsHeir, IsLinked, IsOwnBelow, IsTight, Lists}
-use Rattle.cfgcosts.proofs.Contained.{contains_none}
+use Rattle.cfgleast.specs.Generator.{CostTables}
+use Rattle.cfgchoices.specs.Levels.{Along, here}
+use Rattle.cfgchoices.specs.Inner.Kinds.{HasHeir, HasNoHeir, IsHeir, IsTight}
+use Rattle.cfgcosts.specs.Inner.Minimal.{IsLinked, Lists}
+use Rattle.cfgchoices.specs.Inner.Kinds.{IsOwnBelow}
+use Rattle.lemmas.proofs.Contained.{contains_none}
 use Rattle.cfgcosts.proofs.Searches.{Searching, along_more, popped_is, search_begins, search_ends, search_goes_on, still_reached}
-use Rattle.cfgcosts.proofs.Tight.{one_heir}
+use Rattle.cfgchoices.proofs.Tight.{one_heir}
 
 pub lists_none : (own : List ℕ) (Is : ℕ → Type 0) → ((p : ℕ) → Is p → ⊥) → Lists Is own own
 lists_none own Is never p = (λ h. inl h, λ h. elim h [ inl i ↦ i | inr i ↦ absurd (never p i) ])

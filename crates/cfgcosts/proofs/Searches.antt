@@ -4,7 +4,7 @@ use Rattle.std.proofs.lemmas.List.{length-replicate}
 use Rattle.std.proofs.lemmas.List.Elements.{Contains-append_left, Contains-push, Contains-push_cases}
 use Rattle.lemmas.proofs.Elements.{get_or-replicate_default, within_from_get_or}
 use Rattle.cfganalysis.specs.Paths.{SearchState, IsReachedIn, Reaches}
-use Rattle.cfgcosts.specs.Levels.{Along, here, next}
+use Rattle.cfgchoices.specs.Levels.{Along, here, next}
 
 module _ (Link : ℕ → ℕ → Type 0) where
   pub along_more : {a b c : ℕ} → Along Link a b → Link b c → Along Link a c

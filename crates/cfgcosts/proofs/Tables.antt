@@ -11,19 +11,11 @@ use Rattle.std.specs.Map.{lookup}
 use Rattle.std.specs.Option.{option_copied, option_map, unwrap_or}
 use Rattle.std.proofs.lemmas.Cmp.{ranked, by_ranked}
 use Rattle.std.proofs.lemmas.Map.Made.{lookup-map_values}
-use Rattle.cfgcosts.specs.Minimal.{Puts, dictionary, sentences_of}
-use Rattle.cfgcosts.proofs.Contained.{contains_first, contains_later, contains_cases}
+use Rattle.cfgchoices.proofs.Dictionary.{dictionary_same}
+use Rattle.cfgcosts.specs.Inner.Minimal.{Puts, sentences_of}
+use Rattle.cfgchoices.specs.First.{dictionary}
+use Rattle.lemmas.proofs.Contained.{contains_first, contains_later, contains_cases}
 use Rattle.cfgcosts.proofs.Keys.{itself_found, same_key}
-
--- words that the dictionary doesn't tell apart are the same
-pub dictionary_same : (v w : List ℕ) → dictionary v w ≡ Equal → v ≡ w
-dictionary_same [] [] e = refl
-dictionary_same [] (y ∷ w) e = absurd (let no : ◌≡◌ {A = Ordering} Less Equal = e in cc)
-dictionary_same (x ∷ v) [] e = absurd (let no : ◌≡◌ {A = Ordering} Greater Equal = e in cc)
-dictionary_same (x ∷ v) (y ∷ w) e = by_ranked (x < y) (x ≡ y) (y < x) (nat_cmp x y) (ranked x y (nat_cmp x y) refl)
-    (λ o h. absurd (let no : ◌≡◌ {A = Ordering} Less Equal = sym (ap (λ r. ordering_then r (dictionary v w)) o) ∙ e in cc))
-    (λ o same. ap (λ z. z ∷ v) same ∙ ap (λ l. y ∷ l) (dictionary_same v w (sym (ap (λ r. ordering_then r (dictionary v w)) o) ∙ e)))
-    (λ o h. absurd (let no : ◌≡◌ {A = Ordering} Greater Equal = sym (ap (λ r. ordering_then r (dictionary v w)) o) ∙ e in cc))
 
 module _ (w : List ℕ) where
   pub record Inserts (words new : List (List ℕ)) : Type 0 where

@@ -1,16 +1,4 @@
-pub mod Numbers
-pub mod Certificate
-pub mod Choices
-pub mod Queue
-pub mod Open
-pub mod Settled
-pub mod Generator
+-- Who relies on the calls of this crate has to read these files; those in Inner have the words of private clauses.
 pub mod Sentences
-pub mod Splits
-pub mod Levels
-pub mod Heirs
-pub mod Minimal
-pub mod FirstChoices
-pub mod Marks
 pub mod DerivedBy
-pub mod Offers
+pub mod Inner

@@ -7,19 +7,19 @@ ghost use Rattle.cfgindex.specs.declared.idxnewtype.TIdx.{TIdx};
 ghost use Rattle.derivation.specs.Grammar.{HasProduction};
 ghost use Rattle.derivation.specs.Costs.{Greatest, Least, Unbounded};
 ghost use Rattle.cfgsums.specs.Lists.{rule_cost};
-ghost use Rattle.cfgcosts.specs.Certificate.{IsCovered, IsReached, choice_of, rule_choice};
-ghost use Rattle.cfgcosts.specs.Generator.{AnswersLeast, HasNone, IsLeastProduction, IsTooDear, choice_answer};
-ghost use Rattle.cfgcosts.specs.Generator.{cost_answer, token_cost};
+ghost use Rattle.cfgleast.specs.Certificate.{IsCovered, IsReached, choice_of, rule_choice};
+ghost use Rattle.cfgleast.specs.Generator.{AnswersLeast, HasNone, IsLeastProduction, IsTooDear, choice_answer};
+ghost use Rattle.cfgleast.specs.Generator.{cost_answer, token_cost};
 
-use crate::first::first_choices;
 use crate::heirs::last_heirs;
-use crate::kinds::{Kind, kinds};
-use crate::settle::{Settled, settle};
-use crate::walk::TOO_LARGE;
-use cfganalysis::Tables;
+use cfgchoices::first::first_choices;
+use cfgchoices::kinds::{Kind, kinds};
 use cfggreatest::greatest_costs;
 use cfgindex::{PIdx, RIdx, Storage, TIdx, to_storage};
+use cfgleast::settle::{Settled, settle};
+use cfgleast::walk::TOO_LARGE;
 use cfgsums::CostError;
+use cfgtables::Tables;
 use std::alloc::{AllocError, Global};
 use std::marker::Model;
 
@@ -62,10 +62,10 @@ pub struct SentenceGenerator<'a, S: Storage, T: Tables<S>> {
 impl<'a, S: Storage, T: Tables<S>> Model for SentenceGenerator<'a, S, T> {
     ghost use Rattle.std.specs.Prelude.{slice_index};
     ghost use Rattle.cfggreatest.specs.Words.{AreTold};
-    ghost use Rattle.cfgcosts.specs.FirstChoices.{AreFirst, Walks};
-    ghost use Rattle.cfgcosts.specs.Generator.{CostTables, IsGenerator, tables_of};
-    ghost use Rattle.cfgcosts.specs.Heirs.{AreHeirs, rules_of};
-    ghost use Rattle.cfgcosts.specs.Minimal.{AreKinds};
+    ghost use Rattle.cfgchoices.specs.Inner.FirstChoices.{AreFirst, Walks};
+    ghost use Rattle.cfgleast.specs.Generator.{CostTables, IsGenerator, tables_of};
+    ghost use Rattle.cfgcosts.specs.Inner.Heirs.{AreHeirs, rules_of};
+    ghost use Rattle.cfgchoices.specs.Inner.Kinds.{AreKinds};
 
     ghost Value = { CostTables };
 

@@ -3,12 +3,13 @@
 
 ghost use Rattle.std.specs.Prelude.{◌≡◌, ◌<◌, List, All, IfOk, IfSome, length};
 ghost use Rattle.derivation.specs.Grammar.{Grammar};
-ghost use Rattle.cfgcosts.specs.Heirs.{AreHeirs, HasRulesAsHeirs, IsOnlyHeir, rules_of};
-ghost use Rattle.cfgcosts.specs.declared.kinds.Kind.{Kind};
+ghost use Rattle.cfgcosts.specs.Inner.Heirs.{AreHeirs, IsOnlyHeir, rules_of};
+ghost use Rattle.cfgchoices.specs.Inner.Kinds.{HasRulesAsHeirs};
+ghost use Rattle.cfgchoices.specs.declared.kinds.Kind.{Kind};
 
-use crate::kinds::Kind;
-use cfganalysis::Tables;
+use cfgchoices::kinds::Kind;
 use cfgindex::{RIdx, Storage, to_storage};
+use cfgtables::Tables;
 use std::alloc::{AllocError, Global};
 
 /// The rule that a production of the rule hands on to, where its other productions all cost more.

@@ -8,10 +8,10 @@ ghost use Rattle.derivation.specs.Grammar.{Grammar, IsGrammar, HasProduction, Sy
 ghost use Rattle.derivation.specs.Sentence.{Sentence, cost_of};
 ghost use Rattle.derivation.specs.Costs.{Least, Minimal};
 ghost use Rattle.cfgsums.specs.Lists.{rule_cost};
-ghost use Rattle.cfgcosts.specs.Certificate.{IsCovered, IsReached};
-ghost use Rattle.cfgcosts.specs.Levels.{IsHandedDown};
-ghost use Rattle.cfgcosts.specs.Minimal.{FirstMinimal, dictionary};
-ghost use Rattle.cfgcosts.specs.Splits.{Split};
+ghost use Rattle.cfgleast.specs.Certificate.{IsCovered, IsReached};
+ghost use Rattle.cfgchoices.specs.Levels.{IsHandedDown};
+ghost use Rattle.cfgchoices.specs.First.{FirstMinimal, dictionary};
+ghost use Rattle.cfgchoices.specs.Splits.{Split};
 ghost use Rattle.cfgcosts.specs.declared.errors.SentenceError.{SentenceError};
 
 use crate::errors::SentenceError;

@@ -7,7 +7,7 @@ use Rattle.derivation.specs.Grammar.{Sym, Rule, Token, Grammar, Production, IsGr
 use Rattle.derivation.specs.Sentence.{cost_of, Sentence}
 use Rattle.derivation.specs.Costs.{Greatest}
 use Rattle.derivation.proofs.Trees.{trees_from_derivation, derivation_from_trees}
-use Rattle.cfganalysis.specs.Openings.{nth_production}
+use Rattle.cfgtables.specs.Openings.{nth_production}
 use Rattle.cfgsums.specs.Lists.{rule_cost}
 use Rattle.cfgsums.specs.Sums.{sum_of, symbol_cost}
 use Rattle.cfggreatest.specs.Inner.Rows.{are_in}

@@ -4,8 +4,8 @@ use Rattle.std.proofs.lemmas.Bool.{cases_Bool, cases_lt, cases_eq}
 use Rattle.std.proofs.lemmas.List.{get_or_default, length-replicate}
 use Rattle.lemmas.proofs.Elements.{get_or-set}
 use Rattle.derivation.specs.Grammar.{Sym, Grammar, Production, IsGrammar, HasProduction}
-use Rattle.cfganalysis.specs.Openings.{nth_production}
-use Rattle.cfganalysis.specs.Paths.{ArePlacesOf}
+use Rattle.cfgtables.specs.Openings.{nth_production}
+use Rattle.cfgtables.specs.Openings.{ArePlacesOf}
 use Rattle.cfggreatest.specs.Inner.Rows.{in_set}
 use Rattle.cfggreatest.specs.Inner.Tops.{live_in, positive_in}
 use Rattle.cfggreatest.specs.Inner.Keep.{AddsGroup, AreSame, DifferFrom, IsKeeping, IsRuleKept}

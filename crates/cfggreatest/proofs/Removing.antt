@@ -5,7 +5,7 @@ use Rattle.std.proofs.lemmas.List.Sums.{sum_by-set, sum_by-le}
 use Rattle.lemmas.proofs.Elements.{get_or-set}
 use Rattle.derivation.specs.Grammar.{Sym, Grammar, IsGrammar, HasProduction}
 use Rattle.cfggreatest.specs.Inner.Rounds.{SweepsOne}
-use Rattle.cfganalysis.proofs.FirstBits.{owner}
+use Rattle.cfgtables.proofs.Placed.{owner}
 use Rattle.cfggreatest.specs.Inner.Rows.{in_set}
 use Rattle.cfggreatest.specs.Inner.Tops.{live_in, positive_in}
 use Rattle.cfggreatest.specs.Inner.Peel.{IsKept, IsPeeled, IsRemoved, Peels, count_removed}

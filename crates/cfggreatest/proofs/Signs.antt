@@ -4,7 +4,7 @@ use Rattle.std.specs.List.{slice_index}
 use Rattle.std.proofs.lemmas.Bool.{and_parts}
 use Rattle.std.proofs.lemmas.List.Elements.{All-head, All-tail, All-get_or}
 use Rattle.derivation.specs.Grammar.{Sym, Rule, Token, Grammar, IsGrammar, IsSymbolOf, HasProduction}
-use Rattle.cfganalysis.proofs.FirstBits.{all_symbols}
+use Rattle.cfgtables.proofs.Placed.{all_symbols}
 use Rattle.cfgsums.specs.Lists.{rule_cost}
 use Rattle.cfgsums.specs.Sums.{sum_of, symbol_cost}
 use Rattle.cfgsums.proofs.Sums.{plus_both}

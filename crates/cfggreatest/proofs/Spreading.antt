@@ -5,7 +5,7 @@ use Rattle.std.proofs.lemmas.List.{get_or-map, length-map}
 use Rattle.std.proofs.lemmas.List.Elements.{All-push}
 use Rattle.derivation.specs.Grammar.{Sym, Grammar, IsGrammar}
 use Rattle.cfggreatest.specs.Inner.Rounds.{SweepsOne}
-use Rattle.cfganalysis.proofs.FirstBits.{owner}
+use Rattle.cfgtables.proofs.Placed.{owner}
 use Rattle.cfggreatest.specs.Inner.Rows.{in_set}
 use Rattle.cfggreatest.specs.Inner.Tops.{AreReached, IsTopped, sum_ranks}
 use Rattle.cfggreatest.specs.Inner.Spread.{IsPaid, IsSpreading}

@@ -2,9 +2,9 @@
 use Rattle.std.proofs.Common.{◌≡◌, ℕ, ◌+◌, ◌<◌, ◌||◌, Bool, length, ◌∙◌, subst, below_more}
 use Rattle.std.proofs.lemmas.Bool.{or_parts}
 use Rattle.derivation.specs.Grammar.{Grammar, Production, IsGrammar}
-use Rattle.cfganalysis.specs.Openings.{nth_production}
-use Rattle.cfganalysis.proofs.Joins.{grown}
-use Rattle.cfganalysis.proofs.Placed.{same_production, at_place}
+use Rattle.cfgtables.specs.Openings.{nth_production}
+use Rattle.lemmas.proofs.Passes.{grown}
+use Rattle.cfgtables.proofs.Placed.{same_production, at_place}
 use Rattle.cfggreatest.specs.Inner.Rounds.{SweepsOne, Sweeps}
 
 module _ {X : Type 0} (holds : Grammar → X → Type 0) (covers : X → Production → Type 0) (bits : X → ℕ) where

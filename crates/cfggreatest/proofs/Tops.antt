@@ -8,7 +8,7 @@ use Rattle.lemmas.proofs.Elements.{get_or-set, get_or-replicate_default}
 use Rattle.derivation.specs.Grammar.{Sym, Rule, Grammar, Production, IsGrammar, HasProduction}
 use Rattle.derivation.specs.Sentence.{cost_of}
 use Rattle.derivation.specs.Tree.{Yields, empty, token, opened}
-use Rattle.cfganalysis.proofs.FirstBits.{owner}
+use Rattle.cfgtables.proofs.Placed.{owner}
 use Rattle.cfgsums.specs.Lists.{rule_cost}
 use Rattle.cfgsums.specs.Sums.{sum_of, symbol_cost}
 use Rattle.cfgsums.proofs.Sums.{plus_both, plus_zero}

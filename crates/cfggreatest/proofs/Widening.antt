@@ -5,7 +5,7 @@ use Rattle.std.proofs.lemmas.Bool.{cases_lt}
 use Rattle.lemmas.proofs.Elements.{get_or-replicate_default}
 use Rattle.derivation.specs.Grammar.{Sym, Rule, Grammar, Production, IsGrammar, HasProduction}
 use Rattle.derivation.specs.Tree.{Yields, opened}
-use Rattle.cfganalysis.proofs.FirstBits.{owner}
+use Rattle.cfgtables.proofs.Placed.{owner}
 use Rattle.cfggreatest.specs.Inner.Rows.{in_set}
 use Rattle.cfggreatest.specs.Inner.Tops.{live_in, positive_in}
 use Rattle.cfggreatest.specs.Inner.Peel.{AreKept, IsKept, IsPeeled, IsRemoved, Keeps}

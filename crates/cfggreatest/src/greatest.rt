@@ -15,7 +15,7 @@ use crate::rounds::rule_top;
 use crate::stages::bounded_rules;
 use crate::tables::{signs, tops};
 use crate::uses::uses;
-use cfganalysis::Tables;
+use cfgtables::Tables;
 use cfgindex::{PIdx, Storage};
 use cfgsums::CostError;
 use std::alloc::{AllocError, Global};

@@ -9,7 +9,7 @@ ghost use Rattle.cfggreatest.specs.Inner.Uses.{AreListsBelow};
 
 use crate::peel::is_kept;
 use crate::stages::rule_set;
-use cfganalysis::Tables;
+use cfgtables::Tables;
 use cfgindex::{PIdx, RIdx, Storage, to_storage};
 use std::alloc::{AllocError, Global};
 

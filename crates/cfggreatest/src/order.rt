@@ -5,14 +5,14 @@
 ghost use Rattle.std.specs.Prelude.{◌≡◌, ℕ, ◌+◌, ◌<◌, ◌≤◌, All, Bool, IfOk, List, OnOk, Option};
 ghost use Rattle.std.specs.Prelude.{length, map};
 ghost use Rattle.derivation.specs.Grammar.{IsGrammar};
-ghost use Rattle.cfganalysis.specs.Symbols.{sym_of};
+ghost use Rattle.cfgtables.specs.Symbols.{sym_of};
 ghost use Rattle.cfgsums.specs.Lists.{IsListed};
 ghost use Rattle.cfggreatest.specs.Inner.Uses.{AreListsBelow};
 ghost use Rattle.cfggreatest.specs.Inner.Walk.{IsWalking, unentered};
 
 use crate::peel::are_live;
 use crate::stages::rule_set;
-use cfganalysis::Tables;
+use cfgtables::Tables;
 use cfgindex::{PIdx, RIdx, Storage, Symbol, to_storage};
 use std::alloc::{AllocError, Global};
 

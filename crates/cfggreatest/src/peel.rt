@@ -4,7 +4,7 @@
 ghost use Rattle.std.specs.Prelude.{◌≡◌, ℕ, ◌<◌, ◌≤◌, All, Bool, Contains, IfOk, List, Option, false};
 ghost use Rattle.std.specs.Prelude.{length, map, true};
 ghost use Rattle.derivation.specs.Grammar.{Grammar, IsGrammar};
-ghost use Rattle.cfganalysis.specs.Symbols.{sym_of};
+ghost use Rattle.cfgtables.specs.Symbols.{sym_of};
 ghost use Rattle.cfgsums.specs.Lists.{IsListed};
 ghost use Rattle.cfggreatest.specs.Inner.Rows.{are_in, count_positive, in_set, is_in};
 ghost use Rattle.cfggreatest.specs.Inner.Tops.{has_more, live_in, positive_in};
@@ -13,7 +13,7 @@ ghost use Rattle.cfggreatest.specs.Inner.Merge.{Adds, Merges};
 ghost use Rattle.cfggreatest.specs.Inner.Peel.{AreKept, IsKept, IsPeeled, Keeps, Peels, Removes, count_removed};
 
 use crate::rounds::rule_top;
-use cfganalysis::Tables;
+use cfgtables::Tables;
 use cfgindex::{PIdx, Storage, Symbol, to_storage};
 use std::alloc::{AllocError, Global};
 

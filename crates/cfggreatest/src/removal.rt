@@ -5,7 +5,7 @@ ghost use Rattle.cfggreatest.specs.Inner.Removal.{IsRemovalPaid, IsRemoving};
 ghost use Rattle.cfggreatest.specs.Inner.Uses.{AreListsBelow};
 
 use crate::peel::peel_one;
-use cfganalysis::Tables;
+use cfgtables::Tables;
 use cfgindex::{PIdx, Storage};
 use std::alloc::AllocError;
 

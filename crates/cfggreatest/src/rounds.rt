@@ -4,7 +4,7 @@ ghost use Rattle.std.specs.Prelude.{◌≡◌, ◌↔◌, ℕ, ◌<◌, ◌≤�
 ghost use Rattle.std.specs.Prelude.{IfOk, IsTrue, List, None, Option, Some, length, map, min, option_map, replicate};
 ghost use Rattle.std.specs.Prelude.{slice_index, slice_index_or};
 ghost use Rattle.derivation.specs.Grammar.{Grammar, HasProduction, IsGrammar};
-ghost use Rattle.cfganalysis.specs.Symbols.{sym_of};
+ghost use Rattle.cfgtables.specs.Symbols.{sym_of};
 ghost use Rattle.cfgsums.specs.Lists.{IsListed, rule_cost, sum_by_lists};
 ghost use Rattle.cfgsums.specs.Sums.{symbol_cost};
 ghost use Rattle.cfggreatest.specs.Inner.Rounds.{Sweeps, SweepsOne};
@@ -13,7 +13,7 @@ ghost use Rattle.cfggreatest.specs.Inner.Rows.{in_set};
 ghost use Rattle.cfggreatest.specs.Inner.Tops.{AreReached, AreTopped, IsTopped, live_in, positive_in, rank, sum_ranks};
 ghost use Rattle.cfggreatest.specs.Inner.Peel.{AreSigns};
 
-use cfganalysis::Tables;
+use cfgtables::Tables;
 use cfgindex::{PIdx, RIdx, Storage, Symbol, to_storage};
 use std::alloc::{AllocError, Global};
 

@@ -6,7 +6,7 @@ ghost use Rattle.cfggreatest.specs.Inner.Spread.{IsPaid, IsSpreading};
 ghost use Rattle.cfggreatest.specs.Inner.Uses.{AreListsBelow};
 
 use crate::rounds::take_in;
-use cfganalysis::Tables;
+use cfgtables::Tables;
 use cfgindex::{PIdx, RIdx, Storage, to_storage};
 use std::alloc::AllocError;
 

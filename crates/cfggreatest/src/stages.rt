@@ -11,7 +11,7 @@ use crate::keep::keep_groups;
 use crate::peel::{merge, peel};
 use crate::removal::remove_users;
 use crate::tables::numbers;
-use cfganalysis::Tables;
+use cfgtables::Tables;
 use cfgindex::{PIdx, Storage};
 use std::alloc::{AllocError, Global};
 

@@ -13,7 +13,7 @@ use crate::rounds::raise_all;
 use crate::spread::{spread, visit_rules};
 use crate::stages::rule_set;
 use crate::uses::uses;
-use cfganalysis::Tables;
+use cfgtables::Tables;
 use cfgindex::{PIdx, Storage};
 use std::alloc::{AllocError, Global};
 use std::slice::from_ref;

@@ -1,12 +1,12 @@
 //! Which productions hold a rule.
 
 ghost use Rattle.std.specs.Prelude.{◌≡◌, ℕ, ◌<◌, All, IfOk, List, OnOk, Option, length, map};
-ghost use Rattle.cfganalysis.specs.Symbols.{sym_of};
+ghost use Rattle.cfgtables.specs.Symbols.{sym_of};
 ghost use Rattle.cfgsums.specs.Lists.{IsListed};
 ghost use Rattle.cfggreatest.specs.Inner.Uses.{AreListsBelow};
 
 use crate::peel::are_live;
-use cfganalysis::Tables;
+use cfgtables::Tables;
 use cfgindex::{PIdx, Storage, Symbol, to_storage};
 use std::alloc::{AllocError, Global};
 

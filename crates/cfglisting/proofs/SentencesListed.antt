@@ -6,10 +6,10 @@ use Rattle.std.proofs.lemmas.List.Elements.{All-nil, Contains-get_or}
 use Rattle.derivation.specs.Grammar.{Sym, Grammar, IsGrammar, HasProduction}
 use Rattle.derivation.specs.Sentence.{cost_of}
 use Rattle.derivation.specs.Costs.{Minimal}
-use Rattle.cfgcosts.specs.Generator.{HasNone, IsTooDear}
-use Rattle.cfgcosts.specs.Minimal.{dictionary}
+use Rattle.cfgleast.specs.Generator.{HasNone, IsTooDear}
+use Rattle.cfgchoices.specs.First.{dictionary}
 use Rattle.cfglisting.specs.SentenceLines.{ListsMinimal}
-use Rattle.cfgcosts.proofs.SentenceTokens.{sentence_tokens}
+use Rattle.cfgchoices.proofs.SentenceTokens.{sentence_tokens}
 
 none_sorted : IsStrictlySortedBy dictionary []
 unfolding IsStrictlySortedBy

@@ -6,8 +6,8 @@ use Rattle.std.specs.Fmt.{decimal}
 use Rattle.derivation.specs.Grammar.{Sym, Token, HasProduction}
 use Rattle.derivation.specs.Sentence.{cost_of}
 use Rattle.derivation.specs.Costs.{Greatest, Minimal, Unbounded}
-use Rattle.cfgcosts.specs.Generator.{AnswersLeast, HasNone}
-use Rattle.cfgcosts.specs.Minimal.{dictionary}
+use Rattle.cfgleast.specs.Generator.{AnswersLeast, HasNone}
+use Rattle.cfgchoices.specs.First.{dictionary}
 use Rattle.cfgsums.specs.declared.errors.CostError.{CostError}
 use Rattle.cfgsums.specs.declared.errors.CostError.TheVariants.{NoSentence, CostTooLarge}
 use Rattle.cfgnumbers.specs.Numbered.{Numbered, core}

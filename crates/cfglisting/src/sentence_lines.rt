@@ -3,8 +3,8 @@
 ghost use Rattle.std.specs.Prelude.{◌≡◌, ◌++◌, ◌<◌, All, length, map, IfOk, OnOk, string_bytes};
 ghost use Rattle.std.specs.List.{concat};
 ghost use Rattle.derivation.specs.Grammar.{HasProduction};
-ghost use Rattle.cfgcosts.specs.Generator.{token_cost};
-ghost use Rattle.cfgcosts.specs.Minimal.{numbers_of};
+ghost use Rattle.cfgleast.specs.Generator.{token_cost};
+ghost use Rattle.cfgcosts.specs.Sentences.{numbers_of};
 ghost use Rattle.cfgnumbers.specs.Numbered.{core};
 ghost use Rattle.cfglisting.specs.SentenceLines.{AreNamed, AreSentenceLines, ListsMinimal, TellsEach, TellsRule};
 ghost use Rattle.cfglisting.specs.SentenceLines.{cost_line, greatest_word, least_word, sentence_line, token_text};

@@ -6,7 +6,7 @@ use Rattle.std.proofs.lemmas.Option.{get_or_from_slice_get, slice_get_within}
 use Rattle.derivation.specs.Grammar.{Sym, IsSymbolOf}
 use Rattle.cfgindex.specs.declared.idxnewtype.Symbol.{Symbol}
 use Rattle.cfgindex.specs.declared.idxnewtype.Symbol.TheVariants as symbols
-use Rattle.cfganalysis.specs.Symbols.{sym_of}
+use Rattle.cfgtables.specs.Symbols.{sym_of}
 use Rattle.cfgnumbers.specs.Numbered.{Numbered, NumberedProduction, NumberedRule, core, production_core}
 use Rattle.cfgnumbers.specs.WellNumbered.{IsWhole, IsWellNumbered}
 use Rattle.cfgnumbers.specs.Shown.{IsSymbolWithin, production_part, rule_part}

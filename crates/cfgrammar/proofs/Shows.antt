@@ -13,7 +13,7 @@ use Rattle.cfgnumbers.specs.Numbered.{Numbered, NumberedRule, NumberedToken, Num
 use Rattle.cfgnumbers.specs.Fits.{Fits}
 use Rattle.cfgnumbers.specs.Shown.{rule_part, token_part, production_part, production_text, sym_name, sym_text}
 use Rattle.cfgnumbers.specs.View.{rule_view, production_view, tables}
-use Rattle.cfganalysis.specs.Symbols.{sym_of}
+use Rattle.cfgtables.specs.Symbols.{sym_of}
 use Rattle.cfgnumbers.specs.declared.rows.RuleRow.{RuleRow}
 use Rattle.cfgnumbers.specs.declared.rows.ProductionRow.{ProductionRow}
 use Rattle.cfgnumbers.specs.declared.rows.TokenRow.{TokenRow}

@@ -1,3 +1,4 @@
+pub mod Contained
 pub mod Copies
 pub mod Elements
 pub mod Ended
@@ -6,8 +7,10 @@ pub mod Fronts
 pub mod Growing
 pub mod Lookups
 pub mod Options
+pub mod Passes
 pub mod Passing
 pub mod Places
+pub mod Popped
 pub mod Pushed
 pub mod Roads
 pub mod Taken

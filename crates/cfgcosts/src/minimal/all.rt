@@ -4,16 +4,20 @@ ghost use Rattle.std.specs.Prelude.{◌≡◌, ◌↔◌, ℕ, ◌<◌, List, Al
 ghost use Rattle.std.specs.List.Sorted.{IsStrictlySortedBy};
 ghost use Rattle.derivation.specs.Grammar.{HasProduction};
 ghost use Rattle.derivation.specs.Costs.{Minimal};
-ghost use Rattle.cfgcosts.specs.Generator.{HasNone, IsTooDear, cost_answer, token_cost};
-ghost use Rattle.cfgcosts.specs.Minimal.{HasMinimal, IsMadeBy, IsMinimal, IsReadyFor};
-ghost use Rattle.cfgcosts.specs.Minimal.{dictionary, numbers_of, places_of, set_of};
+ghost use Rattle.cfgleast.specs.Generator.{HasNone, IsTooDear, cost_answer, token_cost};
+ghost use Rattle.cfgcosts.specs.Inner.Minimal.{HasMinimal, IsMadeBy, IsReadyFor};
+ghost use Rattle.cfgchoices.specs.Inner.Kinds.{IsMinimal};
+ghost use Rattle.cfgchoices.specs.First.{dictionary};
+ghost use Rattle.cfgcosts.specs.Sentences.{numbers_of};
+ghost use Rattle.cfgchoices.specs.Inner.Kinds.{places_of};
+ghost use Rattle.cfgcosts.specs.Inner.Minimal.{set_of};
 
 use crate::errors::SentenceError;
 use crate::generator::SentenceGenerator;
 use crate::minimal::products::row_words;
 use crate::minimal::table::{SentenceTable, add_all};
-use cfganalysis::Tables;
 use cfgindex::{PIdx, RIdx, Storage, TIdx, to_storage};
+use cfgtables::Tables;
 use std::alloc::{AllocError, Global};
 use std::collections::BTreeSet;
 

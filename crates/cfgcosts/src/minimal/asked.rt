@@ -1,14 +1,14 @@
 //! The rules whose minimal sentences those of another are made of.
 
 ghost use Rattle.std.specs.Prelude.{◌≡◌, ℕ, ◌<◌, IfOk, Some};
-ghost use Rattle.cfgcosts.specs.Generator.{cost_answer};
-ghost use Rattle.cfgcosts.specs.Minimal.{AreAsked};
+ghost use Rattle.cfgleast.specs.Generator.{cost_answer};
+ghost use Rattle.cfgcosts.specs.Inner.Minimal.{AreAsked};
 
 use crate::generator::SentenceGenerator;
 use crate::minimal::search::Search;
-use crate::queue::Queue;
-use cfganalysis::Tables;
 use cfgindex::{RIdx, Storage};
+use cfgleast::queue::Queue;
+use cfgtables::Tables;
 use std::alloc::{AllocError, Global};
 
 impl<'a, S: Storage, T: Tables<S>> SentenceGenerator<'a, S, T> {

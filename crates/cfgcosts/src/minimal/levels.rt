@@ -1,15 +1,17 @@
 //! Productions that cost just what their rules do: they hand on to a rule of the same cost, or are their rules' own.
 
 ghost use Rattle.std.specs.Prelude.{◌≡◌, ◌↔◌, ℕ, ◌<◌, Contains, IfOk, OnOk, length};
-ghost use Rattle.cfganalysis.specs.Openings.{nth_production};
+ghost use Rattle.cfgtables.specs.Openings.{nth_production};
 ghost use Rattle.cfganalysis.specs.Paths.{Reaches};
-ghost use Rattle.cfgcosts.specs.Minimal.{HasHeir, HasNoHeir, IsHeir, IsOwnBelow, Lists, places_of};
+ghost use Rattle.cfgchoices.specs.Inner.Kinds.{HasHeir, HasNoHeir, IsHeir, places_of};
+ghost use Rattle.cfgcosts.specs.Inner.Minimal.{Lists};
+ghost use Rattle.cfgchoices.specs.Inner.Kinds.{IsOwnBelow};
 
 use crate::generator::SentenceGenerator;
-use crate::kinds::Kind;
 use crate::minimal::search::Search;
-use cfganalysis::Tables;
+use cfgchoices::kinds::Kind;
 use cfgindex::{PIdx, RIdx, Storage};
+use cfgtables::Tables;
 use std::alloc::{AllocError, Global};
 
 impl<'a, S: Storage, T: Tables<S>> SentenceGenerator<'a, S, T> {

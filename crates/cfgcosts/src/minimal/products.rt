@@ -1,9 +1,10 @@
 //! What rows of symbols derive by the sentences of a table.
 
 ghost use Rattle.std.specs.Prelude.{◌≡◌, ◌↔◌, ◌++◌, ◌∷◌, [], ℕ, List, Contains, IfOk, OnOk, map};
-ghost use Rattle.cfganalysis.specs.Symbols.{sym_of};
-ghost use Rattle.cfgcosts.specs.Minimal.{HasSentence, IsJoined, numbers_of, words_of_symbol};
-ghost use Rattle.cfgcosts.specs.Splits.{Split};
+ghost use Rattle.cfgtables.specs.Symbols.{sym_of};
+ghost use Rattle.cfgcosts.specs.Inner.Minimal.{HasSentence, IsJoined, words_of_symbol};
+ghost use Rattle.cfgcosts.specs.Sentences.{numbers_of};
+ghost use Rattle.cfgchoices.specs.Splits.{Split};
 
 use crate::minimal::table::SentenceTable;
 use cfgindex::{Storage, Symbol, TIdx};

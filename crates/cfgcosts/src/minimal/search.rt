@@ -4,10 +4,10 @@ ghost use Rattle.std.specs.Prelude.{◌≡◌, ◌<◌, [], ◌∷◌, ◌++◌,
 ghost use Rattle.std.specs.Prelude.{false, length, map, replicate, IfOk, MatchOption};
 ghost use Rattle.derivation.specs.Grammar.{Grammar, IsSymbolOf, Rule};
 ghost use Rattle.cfganalysis.specs.Paths.{IsHeldBy, Reaches};
-ghost use Rattle.cfganalysis.specs.Symbols.{sym_of};
+ghost use Rattle.cfgtables.specs.Symbols.{sym_of};
 
-use cfganalysis::Tables;
 use cfgindex::{PIdx, RIdx, Storage, Symbol};
+use cfgtables::Tables;
 use std::alloc::{AllocError, Global};
 use std::collections::BTreeSet;
 use std::marker::Model;
@@ -24,7 +24,7 @@ pub(crate) struct Search<S: Storage> {
 impl<S: Storage> Model for Search<S> {
     ghost use Rattle.std.specs.Prelude.{map};
     ghost use Rattle.cfganalysis.specs.Paths.{SearchState};
-    ghost use Rattle.cfgcosts.specs.Marks.{bits_at};
+    ghost use Rattle.cfgcosts.specs.Inner.Marks.{bits_at};
 
     ghost Value = { SearchState };
 

@@ -2,7 +2,9 @@
 
 ghost use Rattle.std.specs.Prelude.{◌≡◌, ◌↔◌, ◌⊎◌, ℕ, [], List, Contains, IfOk, MatchOption, OnOk, map};
 ghost use Rattle.std.specs.List.Sorted.{IsStrictlySortedBy};
-ghost use Rattle.cfgcosts.specs.Minimal.{Puts, dictionary, numbers_of, sentences_of, set_of};
+ghost use Rattle.cfgcosts.specs.Inner.Minimal.{Puts, sentences_of, set_of};
+ghost use Rattle.cfgchoices.specs.First.{dictionary};
+ghost use Rattle.cfgcosts.specs.Sentences.{numbers_of};
 
 use cfgindex::{Storage, TIdx};
 use std::alloc::{AllocError, Global};
@@ -35,7 +37,7 @@ pub(crate) struct SentenceTable<S: Storage> {
 
 impl<S: Storage> Model for SentenceTable<S> {
     ghost use Rattle.std.specs.Prelude.{ℕ, List, map};
-    ghost use Rattle.cfgcosts.specs.Minimal.{set_of};
+    ghost use Rattle.cfgcosts.specs.Inner.Minimal.{set_of};
 
     ghost Value = { List (ℕ × List (List ℕ)) };
 

@@ -3,7 +3,7 @@ use Rattle.std.specs.Prelude.{◌≡◌, ℕ, ◌<◌, ◌≤◌, ◌⊎◌, Boo
 use Rattle.derivation.specs.Grammar.{Sym, Rule, Grammar, Production, HasProduction}
 use Rattle.derivation.specs.Sentence.{cost_of}
 use Rattle.derivation.specs.Tree.{Yields}
-use Rattle.cfganalysis.specs.Openings.{nth_production}
+use Rattle.cfgtables.specs.Openings.{nth_production}
 use Rattle.cfggreatest.specs.Inner.Rows.{are_in, count_positive, in_set}
 use Rattle.cfggreatest.specs.Inner.Rising.{AtLeast, Rises, TokensCost}
 use Rattle.cfggreatest.specs.Inner.Tops.{live_in, positive_in}

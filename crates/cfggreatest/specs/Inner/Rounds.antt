@@ -1,7 +1,7 @@
 -- Rounds over productions: a set that grows by what each gives, till none gives more.
 use Rattle.std.specs.Prelude.{◌≡◌, ℕ, ◌<◌, Bool, true, false, length, Contains}
 use Rattle.derivation.specs.Grammar.{Grammar, Production, IsGrammar}
-use Rattle.cfganalysis.specs.Openings.{nth_production}
+use Rattle.cfgtables.specs.Openings.{nth_production}
 
 -- of sets: what they say is so, they have all that a production gives, how many bits are on
 module _ {X : Type 0} (holds : Grammar → X → Type 0) (covers : X → Production → Type 0) (bits : X → ℕ) where

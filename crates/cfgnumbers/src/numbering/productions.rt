@@ -12,7 +12,7 @@ ghost use Rattle.cfgnumbers.specs.Fits.{LeavesRoom};
 ghost use Rattle.cfgnumbers.specs.Numbered.{added_production, added_productions, file_production, token_index};
 ghost use Rattle.cfgnumbers.specs.Inner.Resolved.{AreTokens, IsResolved, Resolves};
 ghost use Rattle.cfgnumbers.specs.View.{names, file_of, implicit_in, production_view};
-ghost use Rattle.cfganalysis.specs.Symbols.{sym_of};
+ghost use Rattle.cfgtables.specs.Symbols.{sym_of};
 
 use super::Numbering;
 use super::marks::precedence_of;

@@ -10,7 +10,7 @@ ghost use Rattle.cfgnumbers.specs.Numbered.{rule_index, rules_before, token_inde
 ghost use Rattle.cfgnumbers.specs.Numbered.{start_symbols};
 ghost use Rattle.cfgnumbers.specs.Inner.Resolved.{IsResolved};
 ghost use Rattle.cfgnumbers.specs.View.{file_of, implicit_in};
-ghost use Rattle.cfganalysis.specs.Symbols.{sym_of};
+ghost use Rattle.cfgtables.specs.Symbols.{sym_of};
 
 use super::Numbering;
 use cfgindex::{RIdx, Storage, Symbol, TIdx, to_storage};

@@ -1,5 +1,6 @@
 //! What the sentences of rules cost, minimal sentences, and the certificate of least costs.
 
+pub use cfgcertificate::{check_least, check_reached};
 pub use cfgcosts::{
-    CostError, SentenceError, SentenceGenerator, check_least, check_reached, min_sentence_over,
+    CostError, SentenceError, SentenceGenerator, min_sentence_over,
 };

@@ -2,7 +2,7 @@ use Rattle.std.proofs.Common.{◌<◌, length, arith, ◌∙◌, subst, Contains
 use Rattle.derivation.specs.Grammar.{Rule}
 use Rattle.search.specs.Reached.{Reaches}
 use Rattle.search.proofs.Each.{each_more, each_all, each_none, found_mapped}
-use Rattle.cfganalysis.proofs.Slices.{mapped_all}
+use Rattle.cfgtables.proofs.Slices.{mapped_all}
 use Rattle.cfganalysis.proofs.References.{symbols_there}
 use Rattle.cfganalysis.proofs.paths.reach_held.Goals as goal
 

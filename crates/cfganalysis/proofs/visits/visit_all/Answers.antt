@@ -1,6 +1,6 @@
 use Rattle.std.proofs.Common.{◌≤◌, MatchBool, length, subst, refl, sym, arith, ◌<◌, ◌∙◌}
 use Rattle.derivation.specs.Grammar.{IsGrammar}
-use Rattle.cfganalysis.specs.Openings.{most_openings, most_openings_all}
+use Rattle.cfgtables.specs.Openings.{most_openings, most_openings_all}
 use Rattle.cfganalysis.specs.Inner.Growth.{Visited, left_to_do}
 use Rattle.cfganalysis.specs.Inner.Waiting.{NoneWaits}
 use Rattle.cfganalysis.proofs.Fitting.{all_openings_fit}

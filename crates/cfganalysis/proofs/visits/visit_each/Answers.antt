@@ -1,7 +1,7 @@
 use Rattle.std.proofs.Common.{ℕ, ◌+◌, ◌<◌, ◌≤◌, length, arith, Result, Ok, Err, OnErr, refl, sym, subst, ◌∙◌}
 use Rattle.derivation.specs.Grammar.{IsGrammar}
 use Rattle.cfganalysis.specs.Inner.Growth.{Visited}
-use Rattle.cfganalysis.specs.Openings.{OpensOne, most_openings, most_openings_all}
+use Rattle.cfgtables.specs.Openings.{OpensOne, most_openings, most_openings_all}
 use Rattle.cfganalysis.proofs.Visiting.{few_refused, few_refused_all}
 use Rattle.cfganalysis.proofs.visits.visit_each.Goals as goal
 

@@ -1,5 +1,5 @@
 use Rattle.std.proofs.Common.{arith, ◌∙◌}
-use Rattle.cfganalysis.proofs.Placed.{at_place}
+use Rattle.cfgtables.proofs.Placed.{at_place}
 use Rattle.cfganalysis.proofs.Visiting.{all_below, noted_within, visited_first}
 use Rattle.cfganalysis.proofs.visits.visit_first.Goals as goal
 

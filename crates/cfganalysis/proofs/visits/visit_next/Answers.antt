@@ -1,5 +1,5 @@
 use Rattle.std.proofs.Common.{◌<◌, length, arith, refl, sym, subst, ap, length-set, false}
-use Rattle.cfganalysis.proofs.Placed.{at_place}
+use Rattle.cfgtables.proofs.Placed.{at_place}
 use Rattle.cfganalysis.proofs.Visiting.{all_again, few_opened, visited_next, visited_less}
 use Rattle.cfganalysis.proofs.visits.visit_next.Goals as goal
 

@@ -1,7 +1,7 @@
 use Rattle.std.proofs.Common.{◌≡◌, ◌<◌, List, All, length}
 use Rattle.derivation.specs.Grammar.{Grammar}
-use Rattle.cfgcosts.specs.Heirs.{AreHeirs, rules_of}
-use Rattle.cfgcosts.specs.declared.kinds.Kind.{Kind}
+use Rattle.cfgcosts.specs.Inner.Heirs.{AreHeirs, rules_of}
+use Rattle.cfgchoices.specs.declared.kinds.Kind.{Kind}
 use Rattle.cfgcosts.proofs.heirs.go_on.Given as goal
 
 abbrev pub invariant-loop-number : goal.invariant-loop-number

@@ -1,7 +1,7 @@
 use Rattle.std.proofs.Common.{◌<◌, All, sym, subst, ◌∙◌}
 use Rattle.std.proofs.lemmas.List.{length-map}
 use Rattle.cfgindex.specs.declared.idxnewtype.RIdx.{RIdx}
-use Rattle.cfgcosts.specs.Heirs.{rules_of}
+use Rattle.cfgcosts.specs.Inner.Heirs.{rules_of}
 use Rattle.cfgcosts.proofs.heirs.last_heirs.Goals as goal
 
 pub go_on-requires : goal.go_on-requires

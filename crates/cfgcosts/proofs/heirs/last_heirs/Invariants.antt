@@ -1,4 +1,4 @@
-use Rattle.cfgcosts.specs.Heirs.{AreHeirs, rules_of}
+use Rattle.cfgcosts.specs.Inner.Heirs.{AreHeirs, rules_of}
 use Rattle.cfgcosts.proofs.heirs.last_heirs.Given as goal
 
 abbrev pub invariant-loop-turn : goal.invariant-loop-turn

@@ -1,8 +1,8 @@
 use Rattle.std.proofs.Common.{◌≡◌, ◌+◌, ◌<◌, get_or, length, take, sym, subst, ◌∙◌, arith}
 use Rattle.std.proofs.lemmas.List.{get_or_default, length-map}
-use Rattle.cfganalysis.proofs.Slices.{mapped_within, mapped_at, mapped_all}
-use Rattle.cfgcosts.specs.Minimal.{places_of}
-use Rattle.cfgcosts.specs.declared.kinds.Kind.TheVariants.{Slack}
+use Rattle.cfgtables.proofs.Slices.{mapped_within, mapped_at, mapped_all}
+use Rattle.cfgchoices.specs.Inner.Kinds.{places_of}
+use Rattle.cfgchoices.specs.declared.kinds.Kind.TheVariants.{Slack}
 use Rattle.cfgcosts.proofs.OnlyHeirs.{OnlyOne, none_is, only_ends, only_found, only_slack}
 use Rattle.cfgcosts.proofs.heirs.only_heir.Goals as goal
 use Rattle.cfgcosts.proofs.heirs.only_heir.Goals.{in-Slack, in-HandsOn}

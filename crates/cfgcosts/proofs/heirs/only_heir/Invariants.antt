@@ -1,5 +1,5 @@
 use Rattle.std.proofs.Common.{take}
-use Rattle.cfgcosts.specs.Minimal.{places_of}
+use Rattle.cfgchoices.specs.Inner.Kinds.{places_of}
 use Rattle.cfgcosts.proofs.OnlyHeirs.{OnlyOne}
 use Rattle.cfgcosts.proofs.heirs.only_heir.Given as goal
 

@@ -3,8 +3,8 @@ use Rattle.std.specs.Prelude.{IfSome}
 use Rattle.std.proofs.lemmas.List.{length_push, map-append}
 use Rattle.std.proofs.lemmas.List.Elements.{All-push, All-same}
 use Rattle.cfgindex.specs.declared.idxnewtype.RIdx.{RIdx}
-use Rattle.cfgcosts.specs.Heirs.{IsOnlyHeir, rules_of}
-use Rattle.cfgcosts.specs.Levels.{Along}
+use Rattle.cfgcosts.specs.Inner.Heirs.{IsOnlyHeir, rules_of}
+use Rattle.cfgchoices.specs.Levels.{Along}
 use Rattle.cfgcosts.proofs.OnlyHeirs.{heirs_more, only_or_itself}
 use Rattle.cfgcosts.proofs.heirs.only_heirs.Goals as goal
 

@@ -1,6 +1,6 @@
 use Rattle.std.proofs.Common.{◌≡◌, ◌<◌, ℕ, All, length, get_or}
-use Rattle.cfgcosts.specs.Heirs.{IsOnlyHeir, rules_of}
-use Rattle.cfgcosts.specs.Levels.{Along}
+use Rattle.cfgcosts.specs.Inner.Heirs.{IsOnlyHeir, rules_of}
+use Rattle.cfgchoices.specs.Levels.{Along}
 use Rattle.cfgcosts.proofs.heirs.only_heirs.Given as goal
 
 abbrev pub invariant-loop-number : goal.invariant-loop-number

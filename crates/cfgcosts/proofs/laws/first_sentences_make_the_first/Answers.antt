@@ -1,7 +1,7 @@
 use Rattle.std.specs.Prelude.{slice_index}
 use Rattle.derivation.specs.Grammar.{HasProduction}
-use Rattle.cfgcosts.proofs.Firsts.{first_of_row}
-use Rattle.cfgcosts.proofs.Lengths.{productions_paid}
+use Rattle.cfgchoices.proofs.Firsts.{first_of_row}
+use Rattle.cfgchoices.proofs.Lengths.{productions_paid}
 use Rattle.cfgcosts.proofs.laws.first_sentences_make_the_first.Goals as goal
 
 pub returns : goal.returns

@@ -1,7 +1,7 @@
 use Rattle.std.specs.Prelude.{slice_index}
 use Rattle.derivation.specs.Grammar.{HasProduction}
-use Rattle.cfgcosts.proofs.Lengths.{productions_paid}
-use Rattle.cfgcosts.proofs.Levels.{handed_down_minimal, minimal_handed_down}
+use Rattle.cfgchoices.proofs.Lengths.{productions_paid}
+use Rattle.cfgchoices.proofs.Levels.{handed_down_minimal, minimal_handed_down}
 use Rattle.cfgcosts.proofs.laws.minimal_sentences_are_handed_down.Goals as goal
 
 pub returns : goal.returns

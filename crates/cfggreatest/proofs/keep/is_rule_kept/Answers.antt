@@ -1,12 +1,12 @@
 use Rattle.std.proofs.Common.{refl, ◌<◌, All, map, length, sym, subst, ◌∙◌, arith}
 use Rattle.std.proofs.lemmas.List.{length-map}
-use Rattle.cfganalysis.specs.Paths.{ArePlacesOf}
+use Rattle.cfgtables.specs.Openings.{ArePlacesOf}
 use Rattle.cfggreatest.specs.Inner.Rows.{in_set}
 use Rattle.cfggreatest.specs.Inner.Tops.{live_in, positive_in}
 use Rattle.cfggreatest.specs.Inner.Peel.{Keeps}
 use Rattle.cfggreatest.proofs.Keeping.{places_more, rule_kept}
-use Rattle.cfganalysis.specs.Symbols.{sym_of}
-use Rattle.cfganalysis.proofs.Slices.{mapped_all, mapped_at, mapped_within}
+use Rattle.cfgtables.specs.Symbols.{sym_of}
+use Rattle.cfgtables.proofs.Slices.{mapped_all, mapped_at, mapped_within}
 use Rattle.cfgsums.specs.Lists.{IsListed}
 use Rattle.cfgsums.proofs.Listed.{symbols_listed}
 use Rattle.cfggreatest.proofs.keep.is_rule_kept.Goals as goal

@@ -1,5 +1,5 @@
 use Rattle.std.proofs.Common.{ℕ, ◌<◌, map, get_or}
-use Rattle.cfganalysis.specs.Openings.{nth_production}
+use Rattle.cfgtables.specs.Openings.{nth_production}
 use Rattle.cfggreatest.specs.Inner.Rows.{in_set}
 use Rattle.cfggreatest.specs.Inner.Tops.{live_in, positive_in}
 use Rattle.cfggreatest.specs.Inner.Peel.{Keeps}

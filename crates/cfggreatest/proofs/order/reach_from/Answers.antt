@@ -1,6 +1,6 @@
 use Rattle.std.proofs.Common.{◌<◌, All, map, length, sym, subst, ◌∙◌, arith}
-use Rattle.cfganalysis.specs.Symbols.{sym_of}
-use Rattle.cfganalysis.proofs.Slices.{mapped_all}
+use Rattle.cfgtables.specs.Symbols.{sym_of}
+use Rattle.cfgtables.proofs.Slices.{mapped_all}
 use Rattle.cfgsums.specs.Lists.{IsListed}
 use Rattle.cfgsums.proofs.Listed.{symbols_listed}
 use Rattle.cfggreatest.proofs.order.reach_from.Goals as goal

@@ -1,5 +1,5 @@
 use Rattle.std.proofs.Common.{◌<◌, All, map, length, sym, subst}
-use Rattle.cfganalysis.specs.Symbols.{sym_of}
+use Rattle.cfgtables.specs.Symbols.{sym_of}
 use Rattle.cfgsums.specs.Lists.{IsListed}
 use Rattle.cfgsums.proofs.Rows.{shown_holds}
 use Rattle.cfggreatest.proofs.order.reach_symbols.Goals as goal

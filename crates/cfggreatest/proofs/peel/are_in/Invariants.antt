@@ -1,5 +1,5 @@
 use Rattle.std.proofs.Common.{◌≡◌, map, drop}
-use Rattle.cfganalysis.specs.Symbols.{sym_of}
+use Rattle.cfgtables.specs.Symbols.{sym_of}
 use Rattle.cfggreatest.specs.Inner.Rows.{are_in, in_set}
 use Rattle.cfggreatest.proofs.peel.are_in.Given as goal
 

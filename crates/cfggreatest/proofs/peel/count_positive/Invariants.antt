@@ -1,5 +1,5 @@
 use Rattle.std.proofs.Common.{◌≡◌, ◌+◌, ◌≤◌, map, drop}
-use Rattle.cfganalysis.specs.Symbols.{sym_of}
+use Rattle.cfgtables.specs.Symbols.{sym_of}
 use Rattle.cfggreatest.specs.Inner.Rows.{count_positive}
 use Rattle.cfggreatest.specs.Inner.Tops.{positive_in}
 use Rattle.cfggreatest.proofs.peel.count_positive.Given as goal

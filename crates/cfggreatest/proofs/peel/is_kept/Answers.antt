@@ -1,6 +1,6 @@
 use Rattle.std.proofs.Common.{◌≤◌, inl, inr, All, map, sym, subst, ◌∙◌, true≢false}
 use Rattle.std.proofs.lemmas.Bool.{leb-true, leb-false}
-use Rattle.cfganalysis.specs.Symbols.{sym_of}
+use Rattle.cfgtables.specs.Symbols.{sym_of}
 use Rattle.cfgsums.specs.Lists.{IsListed}
 use Rattle.cfggreatest.proofs.peel.is_kept.Goals as goal
 

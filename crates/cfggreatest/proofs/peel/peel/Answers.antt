@@ -1,5 +1,5 @@
 use Rattle.std.proofs.Common.{◌≤◌, sym, subst}
-use Rattle.cfganalysis.specs.Openings.{nth_production}
+use Rattle.cfgtables.specs.Openings.{nth_production}
 use Rattle.cfggreatest.specs.Inner.Peel.{IsKept, count_removed}
 use Rattle.cfggreatest.proofs.Ending.{round_smaller_by}
 use Rattle.cfggreatest.proofs.Removing.{few_removed}

@@ -1,7 +1,7 @@
 use Rattle.std.proofs.Common.{◌<◌, [], length, subst, sym, ap, ◌∙◌, All, map, arith}
-use Rattle.cfganalysis.specs.Symbols.{sym_of}
-use Rattle.cfganalysis.specs.Openings.{nth_production}
-use Rattle.cfganalysis.proofs.Placed.{at_place}
+use Rattle.cfgtables.specs.Symbols.{sym_of}
+use Rattle.cfgtables.specs.Openings.{nth_production}
+use Rattle.cfgtables.proofs.Placed.{at_place}
 use Rattle.cfggreatest.proofs.Sweeping.{sweep_one}
 use Rattle.cfgsums.specs.Lists.{IsListed}
 use Rattle.cfgsums.proofs.Listed.{symbols_listed}

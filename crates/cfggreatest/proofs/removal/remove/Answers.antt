@@ -1,6 +1,6 @@
 use Rattle.std.proofs.Common.{◌∙◌, All, map, sym, subst}
-use Rattle.cfganalysis.specs.Symbols.{sym_of}
-use Rattle.cfganalysis.proofs.Placed.{at_place}
+use Rattle.cfgtables.specs.Symbols.{sym_of}
+use Rattle.cfgtables.proofs.Placed.{at_place}
 use Rattle.cfgsums.specs.Lists.{IsListed}
 use Rattle.cfgsums.proofs.Listed.{symbols_listed}
 use Rattle.cfggreatest.proofs.Spreading.{removes_more, removal_kept, removal_paid, stays_removing}

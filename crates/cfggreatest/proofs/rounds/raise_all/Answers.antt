@@ -1,6 +1,6 @@
 use Rattle.std.proofs.Common.{◌+◌, ◌*◌, sym, subst}
 use Rattle.std.specs.List.{slice_index}
-use Rattle.cfganalysis.specs.Openings.{nth_production}
+use Rattle.cfgtables.specs.Openings.{nth_production}
 use Rattle.cfggreatest.specs.Inner.Rows.{in_set}
 use Rattle.cfggreatest.specs.Inner.Tops.{IsTopped, sum_ranks}
 use Rattle.cfggreatest.proofs.Ending.{round_smaller_by}

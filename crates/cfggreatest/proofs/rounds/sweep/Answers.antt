@@ -1,5 +1,5 @@
 use Rattle.std.proofs.Common.{ap, ◌∙◌, arith}
-use Rattle.cfganalysis.specs.Openings.{nth_production}
+use Rattle.cfgtables.specs.Openings.{nth_production}
 use Rattle.cfggreatest.proofs.Sweeping.{sweep_one}
 use Rattle.cfggreatest.proofs.rounds.sweep.Goals as goal
 

@@ -1,8 +1,8 @@
 use Rattle.std.proofs.Common.{◌<◌, All, [], length, map, subst, sym, ◌∙◌}
 use Rattle.std.proofs.lemmas.List.{get_or_default}
 use Rattle.derivation.specs.Grammar.{Production}
-use Rattle.cfganalysis.specs.Symbols.{sym_of}
-use Rattle.cfganalysis.proofs.FirstBits.{owner}
+use Rattle.cfgtables.specs.Symbols.{sym_of}
+use Rattle.cfgtables.proofs.Placed.{owner}
 use Rattle.cfgsums.specs.Lists.{IsListed}
 use Rattle.cfgsums.proofs.Listed.{symbols_listed}
 use Rattle.cfggreatest.proofs.Raising.{takes_none, takes_raised}

@@ -1,7 +1,7 @@
 use Rattle.std.proofs.Common.{map, length, subst, sym, ◌∙◌}
 use Rattle.std.proofs.lemmas.List.{drop_all}
 use Rattle.std.specs.List.{slice_index}
-use Rattle.cfganalysis.specs.Symbols.{sym_of}
+use Rattle.cfgtables.specs.Symbols.{sym_of}
 use Rattle.cfgsums.specs.Sums.{symbol_cost}
 use Rattle.cfgsums.specs.Lists.{IsListed, rule_cost}
 use Rattle.cfgsums.proofs.Rows.{next_shown, shown_holds}

@@ -1,5 +1,5 @@
 use Rattle.std.proofs.Common.{◌∙◌}
-use Rattle.cfganalysis.proofs.Placed.{at_place}
+use Rattle.cfgtables.proofs.Placed.{at_place}
 use Rattle.cfggreatest.proofs.Spreading.{waits_more}
 use Rattle.cfggreatest.proofs.spread.visit.Goals as goal
 

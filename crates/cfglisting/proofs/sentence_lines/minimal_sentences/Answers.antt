@@ -1,8 +1,8 @@
 use Rattle.std.proofs.Common.{◌↔◌, ℕ, List, Contains, Err, map, ap, subst, ◌∙◌}
 use Rattle.derivation.specs.Grammar.{HasProduction}
 use Rattle.derivation.specs.Costs.{Minimal}
-use Rattle.cfgcosts.specs.Generator.{token_cost}
-use Rattle.cfgcosts.specs.Minimal.{numbers_of}
+use Rattle.cfgleast.specs.Generator.{token_cost}
+use Rattle.cfgcosts.specs.Sentences.{numbers_of}
 use Rattle.cfgnumbers.specs.Numbered.{core}
 use Rattle.cfglisting.specs.SentenceLines.{AreNamed, ListsMinimal}
 use Rattle.cfglisting.proofs.SentencesListed.{listed, none_there, none_cheap, all_of_none, listed_tokens}

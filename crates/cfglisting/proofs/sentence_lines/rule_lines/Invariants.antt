@@ -1,5 +1,5 @@
 use Rattle.std.proofs.Common.{◌≡◌, ◌≤◌, length, string_bytes}
-use Rattle.cfgcosts.specs.Generator.{token_cost}
+use Rattle.cfgleast.specs.Generator.{token_cost}
 use Rattle.cfglisting.specs.SentenceLines.{TellsEach, TellsRule}
 use Rattle.cfglisting.proofs.sentence_lines.rule_lines.Given as goal
 

@@ -1,6 +1,6 @@
 use Rattle.std.proofs.Common.{length, string_bytes, rules}
 use Rattle.std.proofs.lemmas.Result.{IfOk-weaker}
-use Rattle.cfgcosts.specs.Generator.{token_cost}
+use Rattle.cfgleast.specs.Generator.{token_cost}
 use Rattle.cfglisting.specs.SentenceLines.{AreSentenceLines, CostsOne, TellsEach, TellsRule}
 use Rattle.cfglisting.proofs.sentence_lines.sentence_lines.Goals as goal
 

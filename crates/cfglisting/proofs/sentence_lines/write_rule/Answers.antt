@@ -2,8 +2,8 @@ use Rattle.std.proofs.Common.{ℕ, ◌++◌, map, string_bytes, refl, subst, ap,
 use Rattle.std.specs.List.{concat}
 use Rattle.std.proofs.lemmas.Result.{on_ok_weaker}
 use Rattle.derivation.specs.Grammar.{Grammar, HasProduction}
-use Rattle.cfgcosts.specs.Generator.{AnswersLeast, token_cost}
-use Rattle.cfgcosts.specs.Minimal.{numbers_of}
+use Rattle.cfgleast.specs.Generator.{AnswersLeast, token_cost}
+use Rattle.cfgcosts.specs.Sentences.{numbers_of}
 use Rattle.cfglisting.specs.SentenceLines.{AnswersGreatest, TellsRule, cost_line, sentence_line}
 use Rattle.cfglisting.proofs.sentence_lines.write_rule.Goals as goal
 

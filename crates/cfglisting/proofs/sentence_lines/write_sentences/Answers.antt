@@ -1,7 +1,7 @@
 use Rattle.std.proofs.Common.{◌≡◌, ℕ, List, ◌++◌, map, take, codes, Vec, Global, string_bytes, sym, subst, ap, ◌∙◌, append_assoc}
 use Rattle.std.specs.List.{concat}
 use Rattle.cfgindex.specs.declared.idxnewtype.TIdx.{TIdx}
-use Rattle.cfgcosts.specs.Minimal.{numbers_of}
+use Rattle.cfgcosts.specs.Sentences.{numbers_of}
 use Rattle.cfgnumbers.proofs.Turns.{All-shown, more_joined}
 use Rattle.cfglisting.specs.SentenceLines.{AreNamed, sentence_line, token_text}
 use Rattle.cfglisting.proofs.sentence_lines.write_sentences.Goals as goal

@@ -5,7 +5,7 @@ ghost use Rattle.derivation.specs.Grammar.{HasProduction};
 ghost use Rattle.derivation.specs.Path.{Path};
 ghost use Rattle.cfganalysis.specs.Firsts.{AreFirsts};
 ghost use Rattle.cfganalysis.specs.Follows.{AreFollows};
-ghost use Rattle.cfgcosts.specs.Generator.{token_cost};
+ghost use Rattle.cfgleast.specs.Generator.{token_cost};
 ghost use Rattle.cfgindex.specs.declared.idxnewtype.TIdx.{TIdx};
 ghost use Rattle.cfgnumbers.specs.Numbered.{core};
 
@@ -17,9 +17,9 @@ use std::alloc::{AllocError, Global};
 
 impl<S: Storage> Tables<S> for YaccGrammar<S> {
     ghost use Rattle.std.specs.Prelude.{◌≡◌, ◌<◌, length, map};
-    ghost use Rattle.cfganalysis.specs.Openings.{nth_production};
-    ghost use Rattle.cfganalysis.specs.Paths.{ArePlacesOf};
-    ghost use Rattle.cfganalysis.specs.Symbols.{sym_of};
+    ghost use Rattle.cfgtables.specs.Openings.{nth_production};
+    ghost use Rattle.cfgtables.specs.Openings.{ArePlacesOf};
+    ghost use Rattle.cfgtables.specs.Symbols.{sym_of};
 
     ghost grammar = { core };
 

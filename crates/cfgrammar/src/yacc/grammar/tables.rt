@@ -189,7 +189,7 @@ impl<S: Storage> YaccGrammar<S> {
 
 #[tactic(auto, unfolding(cfgnumbers::specs::View::tables))]
 impl<S: Storage> YaccGrammar<S> {
-    ghost use Rattle.cfganalysis.specs.Symbols.{sym_of};
+    ghost use Rattle.cfgtables.specs.Symbols.{sym_of};
 
     /// A law, so the call does nothing: what holds of every grammar holds of this one. Rule 0 is the start rule, with
     /// the one production `start_prod`; the last token is the end token, which no production holds; all that is

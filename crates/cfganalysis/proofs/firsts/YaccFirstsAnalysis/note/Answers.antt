@@ -1,9 +1,9 @@
 use Rattle.std.proofs.Common.{◌<◌, length, arith, ◌∙◌}
 use Rattle.std.proofs.lemmas.List.{length-map}
 use Rattle.derivation.specs.Grammar.{IsSymbolOf}
-use Rattle.cfganalysis.specs.Symbols.{sym_of}
-use Rattle.cfganalysis.proofs.FirstBits.{all_symbols}
-use Rattle.cfganalysis.proofs.Slices.{mapped_within, mapped_at, mapped_all}
+use Rattle.cfgtables.specs.Symbols.{sym_of}
+use Rattle.cfgtables.proofs.Placed.{all_symbols}
+use Rattle.cfgtables.proofs.Slices.{mapped_within, mapped_at, mapped_all}
 use Rattle.cfganalysis.proofs.RuleNotes.{front_more, front_all}
 use Rattle.cfganalysis.proofs.firsts.YaccFirstsAnalysis.note.Goals as goal
 

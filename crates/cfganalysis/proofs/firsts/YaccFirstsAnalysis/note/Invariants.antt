@@ -1,5 +1,5 @@
 use Rattle.std.proofs.Common.{map}
-use Rattle.cfganalysis.specs.Symbols.{sym_of}
+use Rattle.cfgtables.specs.Symbols.{sym_of}
 use Rattle.cfganalysis.proofs.RuleNotes.{NotesFront}
 use Rattle.cfganalysis.proofs.firsts.YaccFirstsAnalysis.note.Given as goal
 

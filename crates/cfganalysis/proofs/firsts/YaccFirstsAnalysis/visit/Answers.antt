@@ -1,5 +1,5 @@
 use Rattle.std.proofs.Common.{◌<◌, length, subst, sym}
-use Rattle.cfganalysis.proofs.FirstBits.{owner}
+use Rattle.cfgtables.proofs.Placed.{owner}
 use Rattle.cfganalysis.proofs.FirstVisits.{gains_put, gains_none}
 use Rattle.cfganalysis.proofs.firsts.YaccFirstsAnalysis.visit.Goals as goal
 

@@ -1,6 +1,6 @@
 use Rattle.std.proofs.Common.{◌<◌, arith, map, sym, subst}
 use Rattle.std.proofs.lemmas.Result.{IfOk-weaker}
-use Rattle.cfganalysis.specs.Paths.{ArePlacesOf}
+use Rattle.cfgtables.specs.Openings.{ArePlacesOf}
 use Rattle.cfganalysis.proofs.References.{held_by_rule}
 use Rattle.cfganalysis.proofs.paths.ReferencesEdges.reach_from.Goals as goal
 

@@ -1,6 +1,6 @@
 use Rattle.std.proofs.Common.{subst}
-use Rattle.cfgcosts.specs.Generator.{CostTables, IsGenerator}
-use Rattle.cfgcosts.proofs.Generated.{answers_covered, answers_reached}
+use Rattle.cfgleast.specs.Generator.{CostTables, IsGenerator}
+use Rattle.cfgleast.proofs.Generated.{answers_covered, answers_reached}
 use Rattle.cfgcosts.proofs.generator.SentenceGenerator.answers_pass_both_checks.Goals as goal
 
 pub returns-clause-least : goal.returns-clause-least

@@ -5,8 +5,8 @@ use Rattle.std.proofs.lemmas.List.Elements.{All-contains_itself, All-weaker}
 use Rattle.derivation.specs.Grammar.{IsGrammar}
 use Rattle.cfganalysis.specs.Paths.{IsHeldBy, SearchState, Reaches}
 use Rattle.cfganalysis.proofs.Searching.{less_to_do}
-use Rattle.cfgcosts.specs.Generator.{CostTables, IsGenerator}
-use Rattle.cfgcosts.specs.Minimal.{places_of}
+use Rattle.cfgleast.specs.Generator.{CostTables, IsGenerator}
+use Rattle.cfgchoices.specs.Inner.Kinds.{places_of}
 use Rattle.cfgcosts.proofs.AskedRules.{Asking, asking_begins, asking_goes_on, asking_ends}
 use Rattle.cfgcosts.proofs.Searches.{popped_is, popped_within}
 use Rattle.cfgcosts.proofs.generator.SentenceGenerator.asked_rules.Goals as goal

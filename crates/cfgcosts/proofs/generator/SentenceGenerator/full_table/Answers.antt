@@ -1,10 +1,11 @@
 use Rattle.std.proofs.Common.{◌≡◌, ◌↔◌, ◌<◌, ℕ, List, ◌∷◌, Contains, Some, sym, ap, subst, arith}
 use Rattle.std.proofs.lemmas.List.Sorted.{length_permutation}
 use Rattle.derivation.specs.Grammar.{IsGrammar}
-use Rattle.cfgcosts.specs.Generator.{CostTables, IsGenerator, cost_answer}
-use Rattle.cfgcosts.specs.Minimal.{IsMinimal, IsReadyFor, set_of}
+use Rattle.cfgleast.specs.Generator.{CostTables, IsGenerator, cost_answer}
+use Rattle.cfgcosts.specs.Inner.Minimal.{IsReadyFor, set_of}
+use Rattle.cfgchoices.specs.Inner.Kinds.{IsMinimal}
 use Rattle.cfgcosts.proofs.Filled.{Filling, filling_begins, filling_goes_on, filling_ends, popped_answer, popped_ready}
-use Rattle.cfgcosts.proofs.Tight.{answered_within}
+use Rattle.cfgchoices.proofs.Tight.{answered_within}
 use Rattle.cfgcosts.proofs.generator.SentenceGenerator.full_table.Goals as goal
 
 pub loop-number-init : goal.loop-number-init

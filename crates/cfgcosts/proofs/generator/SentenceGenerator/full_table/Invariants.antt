@@ -1,5 +1,5 @@
 use Rattle.std.proofs.Common.{ℕ, List, length}
-use Rattle.cfgcosts.specs.Minimal.{AreAsked}
+use Rattle.cfgcosts.specs.Inner.Minimal.{AreAsked}
 use Rattle.cfgcosts.proofs.Filled.{Filling}
 use Rattle.cfgcosts.proofs.generator.SentenceGenerator.full_table.Given as goal
 

@@ -1,9 +1,9 @@
 use Rattle.std.proofs.Common.{◌<◌, length, sym, subst, ◌∙◌, arith}
 use Rattle.std.proofs.lemmas.List.{length-map}
-use Rattle.cfganalysis.specs.Paths.{ArePlacesOf}
-use Rattle.cfganalysis.proofs.Slices.{mapped_within, mapped_at, mapped_all}
-use Rattle.cfgcosts.specs.Generator.{CostTables}
-use Rattle.cfgcosts.specs.Minimal.{IsHeir, places_of}
+use Rattle.cfgtables.specs.Openings.{ArePlacesOf}
+use Rattle.cfgtables.proofs.Slices.{mapped_within, mapped_at, mapped_all}
+use Rattle.cfgleast.specs.Generator.{CostTables}
+use Rattle.cfgchoices.specs.Inner.Kinds.{IsHeir, places_of}
 use Rattle.cfgcosts.proofs.OwnBelow.{links_begin, links_more, heirs_end, owns_begin, owns_more, owns_end}
 use Rattle.cfgcosts.proofs.generator.SentenceGenerator.go_through.Goals as goal
 

@@ -1,6 +1,7 @@
 use Rattle.std.proofs.Common.{take}
 use Rattle.cfganalysis.specs.Paths.{Reaches}
-use Rattle.cfgcosts.specs.Minimal.{IsHeir, IsLinked, Lists, places_of}
+use Rattle.cfgchoices.specs.Inner.Kinds.{IsHeir, places_of}
+use Rattle.cfgcosts.specs.Inner.Minimal.{IsLinked, Lists}
 use Rattle.cfgcosts.proofs.OwnBelow.{OwnAmong}
 use Rattle.cfgcosts.proofs.generator.SentenceGenerator.go_through.Given as goal
 

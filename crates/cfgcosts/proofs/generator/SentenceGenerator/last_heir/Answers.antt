@@ -3,10 +3,10 @@ use Rattle.std.proofs.lemmas.List.Elements.{All-get_or}
 use Rattle.cfgindex.specs.declared.idxnewtype.RIdx.{RIdx}
 use Rattle.derivation.specs.Grammar.{IsGrammar}
 use Rattle.cfgsums.proofs.Rows.{item_shown}
-use Rattle.cfgcosts.specs.Generator.{CostTables, IsGenerator}
-use Rattle.cfgcosts.specs.Heirs.{AreHeirs, IsOnlyHeir, rules_of}
-use Rattle.cfgcosts.specs.Levels.{Along}
-use Rattle.cfgcosts.specs.Minimal.{AreKinds}
+use Rattle.cfgleast.specs.Generator.{CostTables, IsGenerator}
+use Rattle.cfgcosts.specs.Inner.Heirs.{AreHeirs, IsOnlyHeir, rules_of}
+use Rattle.cfgchoices.specs.Levels.{Along}
+use Rattle.cfgchoices.specs.Inner.Kinds.{AreKinds}
 use Rattle.cfgcosts.proofs.OnlyHeirs.{last_cost, last_same}
 use Rattle.cfgcosts.proofs.generator.SentenceGenerator.last_heir.Goals as goal
 

@@ -3,8 +3,9 @@ use Rattle.std.proofs.lemmas.Bool.{cases_lt}
 use Rattle.std.proofs.lemmas.List.Elements.{All-contains_itself, All-weaker}
 use Rattle.std.proofs.lemmas.Result.{IfOk-weaker}
 use Rattle.derivation.specs.Grammar.{IsGrammar}
-use Rattle.cfgcosts.specs.Generator.{CostTables, IsGenerator, cost_answer}
-use Rattle.cfgcosts.specs.Minimal.{IsMinimal, IsOwnBelow, places_of}
+use Rattle.cfgleast.specs.Generator.{CostTables, IsGenerator, cost_answer}
+use Rattle.cfgchoices.specs.Inner.Kinds.{IsMinimal, IsOwnBelow}
+use Rattle.cfgchoices.specs.Inner.Kinds.{places_of}
 use Rattle.cfgcosts.proofs.Filled.{free_alone, made_minimal}
 use Rattle.cfgcosts.proofs.Inserted.{empty_alone, order_shown}
 use Rattle.cfgcosts.proofs.generator.SentenceGenerator.level_sentences.Goals as goal

@@ -1,10 +1,12 @@
 use Rattle.std.proofs.Common.{◌↔◌, ◌<◌, ◌++◌, ◌∷◌, ℕ, List, [], Contains, length, map, take, sym, ap, subst, ◌∙◌, arith}
 use Rattle.std.proofs.lemmas.List.{length-map, take_all, take_more}
-use Rattle.cfganalysis.specs.Openings.{nth_production}
-use Rattle.cfganalysis.proofs.Slices.{mapped_within, mapped_at, mapped_all}
-use Rattle.cfgcosts.specs.Generator.{CostTables}
-use Rattle.cfgcosts.specs.Minimal.{HasSentence, IsMadeBy, numbers_of, places_of, set_of}
-use Rattle.cfgcosts.specs.Splits.{Split}
+use Rattle.cfgtables.specs.Openings.{nth_production}
+use Rattle.cfgtables.proofs.Slices.{mapped_within, mapped_at, mapped_all}
+use Rattle.cfgleast.specs.Generator.{CostTables}
+use Rattle.cfgcosts.specs.Inner.Minimal.{HasSentence, IsMadeBy, set_of}
+use Rattle.cfgcosts.specs.Sentences.{numbers_of}
+use Rattle.cfgchoices.specs.Inner.Kinds.{places_of}
+use Rattle.cfgchoices.specs.Splits.{Split}
 use Rattle.cfgcosts.proofs.Filled.{made_none, made_more}
 use Rattle.cfgcosts.proofs.generator.SentenceGenerator.made_words.Goals as goal
 

@@ -1,5 +1,6 @@
 use Rattle.std.proofs.Common.{◌↔◌, ℕ, List, Contains, take}
-use Rattle.cfgcosts.specs.Minimal.{IsMadeBy, places_of, set_of}
+use Rattle.cfgcosts.specs.Inner.Minimal.{IsMadeBy, set_of}
+use Rattle.cfgchoices.specs.Inner.Kinds.{places_of}
 use Rattle.cfgcosts.proofs.generator.SentenceGenerator.made_words.Given as goal
 
 abbrev pub invariant-loop-p : goal.invariant-loop-p

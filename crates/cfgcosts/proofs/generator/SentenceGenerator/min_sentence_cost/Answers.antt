@@ -1,6 +1,6 @@
 use Rattle.std.proofs.Common.{ℕ, subst}
 use Rattle.derivation.specs.Grammar.{HasProduction}
-use Rattle.cfgcosts.specs.Generator.{AnswersLeast, token_cost}
+use Rattle.cfgleast.specs.Generator.{AnswersLeast, token_cost}
 use Rattle.cfgcosts.proofs.generator.SentenceGenerator.min_sentence_cost.Goals as goal
 
 pub returns-clause-least : goal.returns-clause-least

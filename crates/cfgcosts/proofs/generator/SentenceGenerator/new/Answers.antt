@@ -1,12 +1,12 @@
 use Rattle.std.proofs.Common.{List, ℕ, map, arith, subst, ◌∙◌}
 use Rattle.std.specs.Prelude.{slice_index}
 use Rattle.cfggreatest.specs.Words.{AreTold}
-use Rattle.cfgcosts.specs.Certificate.{choice_of}
-use Rattle.cfgcosts.specs.FirstChoices.{AreFirst, Walks}
-use Rattle.cfgcosts.specs.Generator.{tables_of}
-use Rattle.cfgcosts.specs.Heirs.{AreHeirs, rules_of}
-use Rattle.cfgcosts.specs.Minimal.{AreKinds}
-use Rattle.cfgcosts.specs.Settled.{AreSettled}
+use Rattle.cfgleast.specs.Certificate.{choice_of}
+use Rattle.cfgchoices.specs.Inner.FirstChoices.{AreFirst, Walks}
+use Rattle.cfgleast.specs.Generator.{tables_of}
+use Rattle.cfgcosts.specs.Inner.Heirs.{AreHeirs, rules_of}
+use Rattle.cfgchoices.specs.Inner.Kinds.{AreKinds}
+use Rattle.cfgleast.specs.Inner.Settled.{AreSettled}
 use Rattle.cfgcosts.proofs.generator.SentenceGenerator.new.Goals as goal
 
 pub invariant_of-result : goal.invariant_of-result

@@ -2,8 +2,8 @@ use Rattle.std.proofs.Common.{◌<◌, length, sym, ap, subst, ◌∙◌}
 use Rattle.std.proofs.lemmas.List.{length-replicate}
 use Rattle.cfganalysis.specs.Paths.{SearchState}
 use Rattle.cfganalysis.proofs.Searching.{less_to_do}
-use Rattle.cfgcosts.specs.Generator.{CostTables}
-use Rattle.cfgcosts.specs.Minimal.{places_of}
+use Rattle.cfgleast.specs.Generator.{CostTables}
+use Rattle.cfgchoices.specs.Inner.Kinds.{places_of}
 use Rattle.cfgcosts.proofs.OwnBelow.{Level, level_begins, level_goes_on, level_ends}
 use Rattle.cfgcosts.proofs.Searches.{popped_within}
 use Rattle.cfgcosts.proofs.generator.SentenceGenerator.own_productions.Goals as goal

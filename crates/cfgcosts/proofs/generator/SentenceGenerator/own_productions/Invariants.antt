@@ -1,5 +1,5 @@
 use Rattle.cfganalysis.proofs.Searching.{left_to_do}
-use Rattle.cfgcosts.specs.Minimal.{places_of}
+use Rattle.cfgchoices.specs.Inner.Kinds.{places_of}
 use Rattle.cfgcosts.proofs.OwnBelow.{Level}
 use Rattle.cfgcosts.proofs.generator.SentenceGenerator.own_productions.Given as goal
 

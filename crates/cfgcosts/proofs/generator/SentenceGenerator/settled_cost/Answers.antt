@@ -1,6 +1,6 @@
 use Rattle.std.proofs.Common.{◌≤◌, ◌<◌, ap, subst, ◌∙◌, arith}
-use Rattle.cfgcosts.specs.Generator.{CostTables, IsGenerator}
-use Rattle.cfgcosts.proofs.Generated.{entry_read, reads_none, reads_cost, reads_dear}
+use Rattle.cfgleast.specs.Generator.{CostTables, IsGenerator}
+use Rattle.cfgleast.proofs.Generated.{entry_read, reads_none, reads_cost, reads_dear}
 use Rattle.cfgcosts.proofs.generator.SentenceGenerator.settled_cost.Goals as goal
 
 pub returns-in-Some-clause-least : goal.returns-in-Some-clause-least

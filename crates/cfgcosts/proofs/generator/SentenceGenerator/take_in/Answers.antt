@@ -1,9 +1,9 @@
 use Rattle.std.proofs.Common.{◌<◌, sym, ap, subst, ◌∙◌}
 use Rattle.std.proofs.lemmas.List.{map-append}
-use Rattle.cfgcosts.specs.Generator.{CostTables, IsGenerator}
-use Rattle.cfgcosts.specs.Minimal.{AreKinds, IsKind, places_of}
+use Rattle.cfgleast.specs.Generator.{CostTables, IsGenerator}
+use Rattle.cfgchoices.specs.Inner.Kinds.{AreKinds, IsKind, places_of}
 use Rattle.cfgcosts.proofs.OwnBelow.{heir_lists, heir_reaches, own_lists, own_reaches, slack_lists, slack_reaches}
-use Rattle.cfgcosts.proofs.Tight.{answered_within, kind_read}
+use Rattle.cfgchoices.proofs.Tight.{answered_within, kind_read}
 use Rattle.cfgcosts.proofs.generator.SentenceGenerator.take_in.Goals as goal
 
 pub reach-requires : goal.reach-requires

@@ -1,7 +1,7 @@
 use Rattle.std.proofs.Common.{◌≡◌, ◌∷◌, ◌++◌, [], map, take, sym, ap, subst, ◌∙◌, ◌-◌}
-use Rattle.cfgcosts.specs.Minimal.{numbers_of}
+use Rattle.cfgcosts.specs.Sentences.{numbers_of}
 use Rattle.cfgcosts.proofs.Joins.{AreJoined, joined_front}
-use Rattle.cfgcosts.proofs.Popped.{popped, all_popped, map_twice}
+use Rattle.lemmas.proofs.Popped.{popped, all_popped, map_twice}
 use Rattle.cfgcosts.proofs.minimal.products.join_all.Goals as goal
 
 pub loop-front-preserved : goal.loop-front-preserved

@@ -1,6 +1,6 @@
 use Rattle.std.proofs.Common.{◌≡◌, ◌++◌, map}
 use Rattle.std.specs.Map.Iter.{deref}
-use Rattle.cfgcosts.specs.Minimal.{numbers_of}
+use Rattle.cfgcosts.specs.Sentences.{numbers_of}
 use Rattle.cfgcosts.proofs.minimal.products.join_each.Given as goal
 
 abbrev pub invariant-loop-back : goal.invariant-loop-back

@@ -1,7 +1,8 @@
 use Rattle.std.proofs.Common.{◌↔◌, List, ℕ, map, Contains, sym, ap, subst, ◌∙◌}
 use Rattle.std.specs.Prelude.{IfOk}
-use Rattle.cfganalysis.specs.Symbols.{sym_of}
-use Rattle.cfgcosts.specs.Minimal.{IsJoined, numbers_of, sentences_of, words_of_symbol}
+use Rattle.cfgtables.specs.Symbols.{sym_of}
+use Rattle.cfgcosts.specs.Inner.Minimal.{IsJoined, sentences_of, words_of_symbol}
+use Rattle.cfgcosts.specs.Sentences.{numbers_of}
 use Rattle.cfgcosts.proofs.Joins.{none_joined}
 use Rattle.cfgcosts.proofs.minimal.products.push_symbol.Goals as goal
 

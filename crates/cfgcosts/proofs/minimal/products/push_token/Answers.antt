@@ -1,8 +1,8 @@
 use Rattle.std.proofs.Common.{◌≡◌, ◌∷◌, ◌++◌, [], map, take, sym, ap, subst, ◌∙◌, ◌-◌}
 use Rattle.std.proofs.lemmas.List.{map-append}
-use Rattle.cfgcosts.specs.Minimal.{numbers_of}
+use Rattle.cfgcosts.specs.Sentences.{numbers_of}
 use Rattle.cfgcosts.proofs.Joins.{AreJoined, joined_front}
-use Rattle.cfgcosts.proofs.Popped.{popped, all_popped}
+use Rattle.lemmas.proofs.Popped.{popped, all_popped}
 use Rattle.cfgcosts.proofs.minimal.products.push_token.Goals as goal
 
 pub loop-word-preserved : goal.loop-word-preserved

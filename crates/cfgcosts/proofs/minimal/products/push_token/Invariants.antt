@@ -2,7 +2,7 @@ use Rattle.std.proofs.Common.{◌≡◌, length, List, [], ◌∷◌, ◌++◌, 
 use Rattle.std.specs.Prelude.{Vec}
 use Rattle.std.specs.declared.alloc.Global.{Global}
 use Rattle.cfgindex.specs.declared.idxnewtype.TIdx.{TIdx}
-use Rattle.cfgcosts.specs.Minimal.{numbers_of}
+use Rattle.cfgcosts.specs.Sentences.{numbers_of}
 use Rattle.cfgcosts.proofs.Joins.{AreJoined}
 use Rattle.cfgcosts.proofs.minimal.products.push_token.Given as goal
 

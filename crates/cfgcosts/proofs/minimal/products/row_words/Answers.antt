@@ -1,7 +1,7 @@
 use Rattle.std.proofs.Common.{◌∷◌, ◌++◌, [], map, take, sym, ap, subst, ◌∙◌}
 use Rattle.std.proofs.lemmas.List.{map_more, take_all}
-use Rattle.cfganalysis.specs.Symbols.{sym_of}
-use Rattle.cfgcosts.specs.Minimal.{numbers_of}
+use Rattle.cfgtables.specs.Symbols.{sym_of}
+use Rattle.cfgcosts.specs.Sentences.{numbers_of}
 use Rattle.cfgcosts.proofs.Joins.{AreCut, cut_none, cut_more}
 use Rattle.cfgcosts.proofs.minimal.products.row_words.Goals as goal
 

@@ -1,6 +1,6 @@
 use Rattle.std.proofs.Common.{map, take}
-use Rattle.cfganalysis.specs.Symbols.{sym_of}
-use Rattle.cfgcosts.specs.Minimal.{numbers_of}
+use Rattle.cfgtables.specs.Symbols.{sym_of}
+use Rattle.cfgcosts.specs.Sentences.{numbers_of}
 use Rattle.cfgcosts.proofs.Joins.{AreCut}
 use Rattle.cfgcosts.proofs.minimal.products.row_words.Given as goal
 

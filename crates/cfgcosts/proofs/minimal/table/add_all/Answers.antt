@@ -1,8 +1,9 @@
 use Rattle.std.proofs.Common.{◌≡◌, ◌↔◌, ◌⊎◌, inl, inr, ℕ, List, ◌∷◌, ◌++◌, ◌-◌, [], append-nil, map, take, Contains, sym, ap, subst, ◌∙◌}
-use Rattle.cfgcosts.specs.Minimal.{numbers_of, set_of}
-use Rattle.cfgcosts.proofs.Contained.{contains_none}
+use Rattle.cfgcosts.specs.Sentences.{numbers_of}
+use Rattle.cfgcosts.specs.Inner.Minimal.{set_of}
+use Rattle.lemmas.proofs.Contained.{contains_none}
 use Rattle.cfgcosts.proofs.Inserted.{added_more, order_shown}
-use Rattle.cfgcosts.proofs.Popped.{popped, all_popped}
+use Rattle.lemmas.proofs.Popped.{popped, all_popped}
 use Rattle.cfgcosts.proofs.minimal.table.add_all.Goals as goal
 
 pub loop-word-init : goal.loop-word-init

@@ -2,7 +2,8 @@ use Rattle.std.proofs.Common.{◌≡◌, ◌↔◌, ◌⊎◌, ℕ, ◌++◌, Li
 use Rattle.std.specs.Prelude.{Vec}
 use Rattle.std.specs.declared.alloc.Global.{Global}
 use Rattle.cfgindex.specs.declared.idxnewtype.TIdx.{TIdx}
-use Rattle.cfgcosts.specs.Minimal.{numbers_of, set_of}
+use Rattle.cfgcosts.specs.Sentences.{numbers_of}
+use Rattle.cfgcosts.specs.Inner.Minimal.{set_of}
 use Rattle.cfgcosts.proofs.minimal.table.add_all.Given as goal
 
 abbrev pub invariant-loop-word : goal.invariant-loop-word

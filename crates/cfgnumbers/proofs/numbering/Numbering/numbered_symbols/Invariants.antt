@@ -2,7 +2,7 @@ use Rattle.std.proofs.Common.{◌≡◌, map, take}
 use Rattle.cfgast.specs.View.{symbol_view}
 use Rattle.cfgnumbers.specs.Numbered.{file_symbols}
 use Rattle.cfgnumbers.specs.View.{file_of, implicit_in}
-use Rattle.cfganalysis.specs.Symbols.{sym_of}
+use Rattle.cfgtables.specs.Symbols.{sym_of}
 use Rattle.cfgnumbers.proofs.numbering.Numbering.numbered_symbols.Given as goal
 
 abbrev pub invariant-loop-symbol : goal.invariant-loop-symbol

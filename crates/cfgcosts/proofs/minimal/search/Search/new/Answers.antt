@@ -1,5 +1,5 @@
 use Rattle.std.proofs.Common.{[], map, ap, ◌∙◌}
-use Rattle.cfgcosts.specs.Marks.{bits_at}
+use Rattle.cfgcosts.specs.Inner.Marks.{bits_at}
 use Rattle.cfgcosts.proofs.Keys.{no_bits}
 use Rattle.cfgcosts.proofs.minimal.search.Search.new.Goals as goal
 

@@ -1,7 +1,7 @@
 use Rattle.std.proofs.Common.{◌≡◌, ◌<◌, ◌∙◌, Some, ap, length, not, sym, subst}
 use Rattle.cfganalysis.specs.Paths.{SearchState}
 use Rattle.cfganalysis.proofs.Searching.{reach_pushed, reach_again}
-use Rattle.cfgcosts.specs.Marks.{bits_at}
+use Rattle.cfgcosts.specs.Inner.Marks.{bits_at}
 use Rattle.cfgcosts.proofs.Keys.{bit_on, bit_was, bits_length}
 use Rattle.cfgcosts.proofs.minimal.search.Search.reach.Goals as goal
 

@@ -2,7 +2,7 @@ use Rattle.std.proofs.Common.{◌<◌, length, arith, ◌∙◌, subst, Contains
 use Rattle.std.proofs.lemmas.List.{length-map}
 use Rattle.derivation.specs.Grammar.{Rule}
 use Rattle.cfganalysis.specs.Paths.{Reaches}
-use Rattle.cfganalysis.proofs.Slices.{mapped_within, mapped_at, mapped_all}
+use Rattle.cfgtables.proofs.Slices.{mapped_within, mapped_at, mapped_all}
 use Rattle.cfganalysis.proofs.Searching.{symbols_there, held_more, held_all}
 use Rattle.cfgcosts.proofs.minimal.search.Search.reach_held.Goals as goal
 

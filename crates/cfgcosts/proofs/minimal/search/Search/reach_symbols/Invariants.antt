@@ -1,5 +1,5 @@
 use Rattle.std.proofs.Common.{map}
-use Rattle.cfganalysis.specs.Symbols.{sym_of}
+use Rattle.cfgtables.specs.Symbols.{sym_of}
 use Rattle.cfganalysis.proofs.Searching.{ReachesFront}
 use Rattle.cfgcosts.proofs.minimal.search.Search.reach_symbols.Given as goal
 

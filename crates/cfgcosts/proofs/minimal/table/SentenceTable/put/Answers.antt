@@ -1,5 +1,5 @@
 use Rattle.std.proofs.Common.{ℕ, List, subst}
-use Rattle.cfgcosts.specs.Minimal.{Puts, set_of}
+use Rattle.cfgcosts.specs.Inner.Minimal.{Puts, set_of}
 use Rattle.cfgcosts.proofs.Tables.{table_of, words_put}
 use Rattle.cfgcosts.proofs.minimal.table.SentenceTable.put.Goals as goal
 

@@ -1,6 +1,6 @@
 use Rattle.std.proofs.Common.{◌≡◌, ℕ, List, [], subst}
 use Rattle.std.specs.Prelude.{MatchOption}
-use Rattle.cfgcosts.specs.Minimal.{sentences_of, set_of}
+use Rattle.cfgcosts.specs.Inner.Minimal.{sentences_of, set_of}
 use Rattle.cfgcosts.proofs.Tables.{words_matched}
 use Rattle.cfgcosts.proofs.minimal.table.SentenceTable.sentences.Goals as goal
 

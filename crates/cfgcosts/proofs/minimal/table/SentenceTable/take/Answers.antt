@@ -1,9 +1,11 @@
 use Rattle.std.proofs.Common.{◌≡◌, ◌++◌, inl, inr, [], length, map, append-nil, Some, None, sym, ap, subst, ◌∙◌, true≢false}
 use Rattle.std.specs.List.Sorted.{IsStrictlySortedBy}
 use Rattle.std.proofs.lemmas.Bool.{cases_lt}
-use Rattle.cfgcosts.specs.Minimal.{dictionary, numbers_of, sentences_of, set_of}
+use Rattle.cfgchoices.specs.First.{dictionary}
+use Rattle.cfgcosts.specs.Sentences.{numbers_of}
+use Rattle.cfgcosts.specs.Inner.Minimal.{sentences_of, set_of}
 use Rattle.cfgcosts.proofs.Inserted.{order_shown, sorted_shown}
-use Rattle.cfgcosts.proofs.Popped.{moved_one, none_left, shorter}
+use Rattle.lemmas.proofs.Popped.{moved_one, none_left, shorter}
 use Rattle.cfgcosts.proofs.Tables.{words_found}
 use Rattle.cfgcosts.proofs.minimal.table.SentenceTable.take.Goals as goal
 

@@ -1,5 +1,6 @@
 use Rattle.std.proofs.Common.{◌≡◌, length, ◌++◌, map}
-use Rattle.cfgcosts.specs.Minimal.{numbers_of, sentences_of, set_of}
+use Rattle.cfgcosts.specs.Sentences.{numbers_of}
+use Rattle.cfgcosts.specs.Inner.Minimal.{sentences_of, set_of}
 use Rattle.cfgcosts.proofs.minimal.table.SentenceTable.take.Given as goal
 
 abbrev pub invariant-loop-sentence : goal.invariant-loop-sentence

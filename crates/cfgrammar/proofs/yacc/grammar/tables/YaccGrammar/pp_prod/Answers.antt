@@ -3,7 +3,7 @@ use Rattle.std.specs.List.{concat}
 use Rattle.std.proofs.lemmas.List.{take_all}
 use Rattle.cfgnumbers.specs.Shown.{sym_name, sym_text}
 use Rattle.cfgindex.specs.declared.idxnewtype.Symbol.{Symbol}
-use Rattle.cfganalysis.specs.Symbols.{sym_of}
+use Rattle.cfgtables.specs.Symbols.{sym_of}
 use Rattle.cfgrammar.proofs.Shows.{rule_named, shown_text, token_named}
 use Rattle.cfgnumbers.proofs.Turns.{more_joined}
 use Rattle.cfgrammar.proofs.yacc.grammar.tables.YaccGrammar.pp_prod.Goals as goal

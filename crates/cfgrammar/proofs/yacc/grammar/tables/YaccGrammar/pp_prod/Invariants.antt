@@ -1,7 +1,7 @@
 use Rattle.std.proofs.Common.{◌≡◌, ◌++◌, map, take, string_bytes}
 use Rattle.std.specs.List.{concat}
 use Rattle.cfgnumbers.specs.Shown.{sym_text}
-use Rattle.cfganalysis.specs.Symbols.{sym_of}
+use Rattle.cfgtables.specs.Symbols.{sym_of}
 use Rattle.cfgrammar.proofs.yacc.grammar.tables.YaccGrammar.pp_prod.Given as goal
 
 abbrev pub invariant-loop-symbol : goal.invariant-loop-symbol

@@ -1,5 +1,5 @@
 use Rattle.std.proofs.Common.{All, List, Some, map, ap, subst, sym, ◌∙◌}
-use Rattle.cfganalysis.specs.Symbols.{sym_of}
+use Rattle.cfgtables.specs.Symbols.{sym_of}
 use Rattle.cfgindex.specs.declared.idxnewtype.Symbol.{Symbol}
 use Rattle.cfgnumbers.specs.Shown.{IsSymbolWithin}
 use Rattle.cfgrammar.proofs.Shows.{production_shown}

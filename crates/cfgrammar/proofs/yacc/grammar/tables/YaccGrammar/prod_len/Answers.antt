@@ -1,6 +1,6 @@
 use Rattle.std.proofs.Common.{Some, length, arith, ap, ◌∙◌}
 use Rattle.std.proofs.lemmas.List.{length-map}
-use Rattle.cfganalysis.specs.Symbols.{sym_of}
+use Rattle.cfgtables.specs.Symbols.{sym_of}
 use Rattle.cfgrammar.proofs.Shows.{production_shown, symbols_counted}
 use Rattle.cfgrammar.proofs.yacc.grammar.tables.YaccGrammar.prod_len.Goals as goal
 

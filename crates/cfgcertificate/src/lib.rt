@@ -1,0 +1,6 @@
+//! Checks of least costs: a table that passes both is true, whoever made it.
+#![tactic(auto)]
+
+pub mod certificate;
+
+pub use certificate::{check_least, check_reached};

@@ -1,0 +1,62 @@
+-- No minimal sentence begins another, so the first sentences of a row's symbols make the first of the row.
+use Rattle.std.proofs.Common.{◌≡◌, ℕ, ◌<◌, List, [], ◌∷◌, ◌++◌, All, arith, refl, sym, ap, subst, ◌∙◌}
+use Rattle.std.specs.declared.cmp.Ordering.{Ordering}
+use Rattle.std.specs.declared.cmp.Ordering.TheVariants.{Less, Equal, Greater}
+use Rattle.std.specs.Ordering.{nat_cmp, ordering_then}
+use Rattle.std.specs.Cmp.{nat_cmp_is}
+use Rattle.std.proofs.lemmas.Cmp.{ranked, by_ranked}
+use Rattle.std.proofs.lemmas.List.Sums.{sum_by-append}
+use Rattle.derivation.specs.Grammar.{Sym}
+use Rattle.derivation.specs.Costs.{Minimal}
+use Rattle.cfgchoices.specs.Splits.{Split, done, itself, part}
+use Rattle.cfgchoices.specs.First.{FirstMinimal, dictionary}
+use Rattle.cfgchoices.proofs.Lengths.{IsPaid, dear_back, dear_empty, sentence_dear}
+use Rattle.cfgchoices.proofs.Dictionary.{dictionary_same}
+
+-- what stands first by a difference does so with anything behind it
+less_front : (u u' w w' : List ℕ) → dictionary u u' ≡ Less → ((z : List ℕ) → u' ≡ u ++ z → z ≡ []) → dictionary (u ++ w) (u' ++ w') ≡ Less
+less_front [] [] w w' e h = absurd (let no : ◌≡◌ {A = Ordering} Equal Less = e in cc)
+less_front [] (y ∷ u') w w' e h = absurd (let no : y ∷ u' ≡ [] = h (y ∷ u') refl in cc)
+less_front (x ∷ u) [] w w' e h = absurd (let no : ◌≡◌ {A = Ordering} Greater Less = e in cc)
+less_front (x ∷ u) (y ∷ u') w w' e h = by_ranked (x < y) (x ≡ y) (y < x) (nat_cmp x y) (ranked x y (nat_cmp x y) refl)
+    (λ o lt. ap (λ r. ordering_then r (dictionary (u ++ w) (u' ++ w'))) o)
+    (λ o same. ap (λ r. ordering_then r (dictionary (u ++ w) (u' ++ w'))) o
+    ∙ less_front u u' w w' (sym (ap (λ r. ordering_then r (dictionary u u')) o) ∙ e)
+    (λ z k. h z (ap (λ n. n ∷ u') (sym same) ∙ ap (λ l. x ∷ l) k)))
+    (λ o gt. absurd (let no : ◌≡◌ {A = Ordering} Greater Less = sym (ap (λ r. ordering_then r (dictionary u u')) o) ∙ e in cc))
+
+same_front : (u w w' : List ℕ) → dictionary (u ++ w) (u ++ w') ≡ dictionary w w'
+same_front [] w w' = refl
+same_front (x ∷ u) w w' =
+    let same : nat_cmp x x ≡ Equal = sym (nat_cmp_is x x Equal refl) in
+    let one : dictionary (x ∷ u ++ w) (x ∷ u ++ w') ≡ dictionary (u ++ w) (u ++ w') = ap (λ r. ordering_then r (dictionary (u ++ w) (u ++ w'))) same in
+    one ∙ same_front u w w'
+
+pub by_order : {G : Type 0} (o : Ordering) → (o ≡ Less → G) → (o ≡ Equal → G) → (o ≡ Greater → G) → G
+by_order Less l e g = l refl
+by_order Equal l e g = e refl
+by_order Greater l e g = g refl
+
+module _ (P : ℕ → List Sym → Type 0) (cost : ℕ → ℕ) (paid : (r : ℕ) (symbols : List Sym) → P r symbols → All (IsPaid cost) symbols) where
+  pub begins_none : (r : ℕ) (u z : List ℕ) → Minimal P cost r u → Minimal P cost r (u ++ z) → z ≡ []
+  begins_none r u z m k =
+      let low = k.1 u m.0 in
+      let both = sum_by-append cost u z in
+      dear_empty cost z (dear_back cost u z (sentence_dear P cost paid r (u ++ z) k.0)) (omega (arith, low, both))
+
+  -- a row whose parts don't come behind those of another, and don't begin them, doesn't come behind the other
+  pub row_before : (G H : ℕ → List ℕ → Type 0)
+      → ((r : ℕ) (u u' : List ℕ) → G r u → H r u' → (dictionary u u' ≡ Greater → ⊥) × ((z : List ℕ) → u' ≡ u ++ z → z ≡ []))
+      → {a : List Sym} {w v : List ℕ} → Split G a w → Split H a v → dictionary w v ≡ Greater → ⊥
+  row_before G H each done done g = let no : ◌≡◌ {A = Ordering} Equal Greater = g in cc
+  row_before G H each (itself {t = t} {w = w} s) (itself {w = v} k) g = row_before G H each s k (sym (same_front (t ∷ []) w v) ∙ g)
+  row_before G H each (part {r = r} {u = u} {w = w} f s e) (part {u = u'} {w = w'} m k e') g =
+      let apart = ap (λ l. dictionary l (u' ++ w')) (sym e) ∙ ap (dictionary _) (sym e') ∙ g in
+      let one = each r u u' f m in
+      by_order (dictionary u u')
+      (λ less. let no : ◌≡◌ {A = Ordering} Less Greater = sym (less_front u u' w w' less one.1) ∙ apart in cc)
+      (λ equal. row_before G H each s k (sym (same_front u w w') ∙ ap (λ l. dictionary (u ++ w) (l ++ w')) (dictionary_same u u' equal) ∙ apart))
+      one.0
+
+  pub first_of_row : {a : List Sym} {w v : List ℕ} → Split (FirstMinimal P cost) a w → Split (Minimal P cost) a v → dictionary w v ≡ Greater → ⊥
+  first_of_row = row_before (FirstMinimal P cost) (Minimal P cost) (λ r u u' f m. (f.1 u' m, λ z is. begins_none r u z f.0 (subst (Minimal P cost r) is m)))

@@ -1,0 +1,77 @@
+-- When all own productions were gone through, each rule that costs something has a choice, and a walk by the choices ends.
+use Rattle.std.proofs.Common.{◌≡◌, ℕ, ◌<◌, ◌≤◌, [], Option, Some, None, arith, refl, sym, ap, subst, ◌∙◌}
+use Rattle.derivation.specs.Grammar.{IsGrammar}
+use Rattle.derivation.specs.Sentence.{cost_of}
+use Rattle.cfgtables.specs.Openings.{nth_production}
+use Rattle.cfgtables.proofs.Placed.{at_place}
+use Rattle.cfgsums.specs.Lists.{rule_cost}
+use Rattle.cfgleast.specs.Certificate.{rule_choice}
+use Rattle.cfgchoices.specs.Inner.FirstChoices.{Opens, Walks}
+use Rattle.cfgleast.specs.Generator.{CostTables, IsGenerator, cost_answer, token_cost}
+use Rattle.cfgchoices.specs.Levels.{Along, here, next}
+use Rattle.cfgchoices.specs.Inner.Kinds.{HasHeir, HasNoHeir, IsHeir}
+use Rattle.cfgchoices.specs.Inner.Offers.{Choices, Choosing, HasChoice, by}
+use Rattle.cfgchoices.proofs.ChoosingFirsts.{few, paid_chosen, row_not_above}
+use Rattle.cfgleast.proofs.Generated.{some_answered}
+use Rattle.cfgchoices.proofs.Tight.{least_of, minimal_made, one_cost}
+
+module _ (x : CostTables) (n : ℕ) (is : IsGenerator x n) (grammar : IsGrammar x.grammar) (l : Choices) (k : ℕ) (state : Choosing x l k) where
+  -- heirs cost as much as what hands on to them
+  along_cost : {a b : ℕ} → Along (HasHeir x) a b → (c d : ℕ) → cost_answer x a ≡ Some c → cost_answer x b ≡ Some d → c ≡ d
+  along_cost {a = a} here c d e f = one_cost x a c d e f
+  along_cost {a = a} (next {b = b} link rest) c d e f =
+      let tight = link.heir.tight in
+      let same = one_cost x a c tight.cost e (subst (λ r. cost_answer x r ≡ Some tight.cost) link.owner tight.rule) in
+      same ∙ along_cost rest tight.cost d link.heir.same f
+
+  module _ (bound : ℕ) (own : (p : ℕ) (own : HasNoHeir x p) → own.tight.cost < bound → HasChoice l (nth_production x.grammar p).rule)
+      (hand : (p q : ℕ) → IsHeir x p q → HasChoice l q → HasChoice l (nth_production x.grammar p).rule) where
+    back : {a b : ℕ} → Along (HasHeir x) a b → HasChoice l b → HasChoice l a
+    back here h = h
+    back (next {b = b} link rest) h = subst (HasChoice l) link.owner (hand link.place b link.heir (back rest h))
+
+    pub all_chosen : (r c : ℕ) → cost_answer x r ≡ Some c → 0 < c → c < bound → HasChoice l r
+    all_chosen r c answer some low =
+        let least = least_of x n is grammar r c answer in
+        let (w, s, costs) = least.0 in
+        let made = minimal_made x n is grammar r c w answer some (s, λ v t. subst (λ k. k ≤ cost_of (token_cost x) v) (sym costs) (least.1 v t)) in
+        let below = made.below in
+        let same = along_cost below.leads c below.own.tight.cost answer below.own.tight.rule in
+        back below.leads (own made.place below.own (subst (λ d. d < bound) same low))
+
+    opens : (q d p m : ℕ) → rule_cost x.least q ≡ Some d → d ≤ 65535 → rule_choice l q ≡ Some (p, m) → Opens (by x l) q d p m
+    opens q d p m e small choice =
+        let c = (state.each q p m choice).0 in
+        let less = (state.each q p m choice).1 in
+        let both : Some c.tight.cost ≡ Some d = sym (subst (λ r. cost_answer x r ≡ Some c.tight.cost) c.owner c.tight.rule) ∙ some_answered (rule_cost x.least q) d e small in
+        let same : c.tight.cost ≡ d = cc in
+        record {
+          choice = choice;
+          place = c.tight.place;
+          owner = c.owner;
+          has = at_place x.grammar p _ c.tight.place (sym c.owner) refl;
+          symbols = grammar.symbols p (record { rule = 0; symbols = [] }) c.tight.place;
+          sum = c.tight.sum ∙ ap Some same;
+          below = row_not_above x l k state m (nth_production x.grammar p).symbols c.ready;
+          deep = let all = few x l k state in omega (arith, less, all);
+        }
+
+    free_unchosen : (q : ℕ) → rule_cost x.least q ≡ Some 0 → rule_choice l q ≡ None
+    free_unchosen q e = go (rule_choice l q) refl
+      where
+        go : (o : Option (ℕ × ℕ)) → rule_choice l q ≡ o → rule_choice l q ≡ None
+        go None none = none
+        go (Some (p, m)) some = absurd (paid_chosen x l k state q p m (state.each q p m some).0 (some_answered (rule_cost x.least q) 0 e (omega arith)))
+
+    pub walks : 65535 < bound → Walks (by x l)
+    walks high = record {
+      settled = x.choices;
+      number = n;
+      generator = is;
+      listed = state.listed;
+      free = free_unchosen;
+      chosen = λ q d e some small.
+          let ((p, m), choice) = all_chosen q d (some_answered (rule_cost x.least q) d e small) some (omega (arith, small, high)) in
+          (p, m, opens q d p m e small choice);
+      below = λ q p m e. row_not_above x l k state m (nth_production x.grammar p).symbols (state.each q p m e).0.ready;
+    }

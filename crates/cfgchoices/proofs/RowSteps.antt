@@ -1,0 +1,87 @@
+-- What the choices make of symbols, in numbers, where rules that cost nothing have no choice.
+use Rattle.std.proofs.Common.{◌≡◌, ℕ, zero, suc, ◌+◌, ◌<◌, List, [], ◌∷◌, Option, Some, None, All, arith, refl, ap, ◌∙◌}
+use Rattle.std.specs.Prelude.{IfSome, sum_by}
+use Rattle.std.proofs.lemmas.List.Elements.{All-head, All-tail}
+use Rattle.derivation.specs.Grammar.{Sym, Rule, Token, Grammar}
+use Rattle.cfgtables.specs.Openings.{nth_production}
+use Rattle.cfgleast.specs.Certificate.{rule_choice}
+use Rattle.cfgchoices.specs.Inner.FirstChoices.{IsNotAbove}
+use Rattle.cfgchoices.specs.Inner.Offers.{steps, steps_of}
+use Rattle.cfgchoices.proofs.Steps.{sum_by-cons}
+
+-- elements that count the same have one sum
+sum_by-same : {X : Type 0} (Q : X → Type 0) (f g : X → ℕ) → ((x : X) → Q x → f x ≡ g x) → (xs : List X) → All Q xs → sum_by f xs ≡ sum_by g xs
+sum_by-same Q f g same [] all = refl
+sum_by-same Q f g same (x ∷ xs) all =
+    let here = same x (All-head Q x xs all) in
+    let rest = sum_by-same Q f g same xs (All-tail Q x xs all) in
+    let whole = sum_by-cons f x xs in
+    let other = sum_by-cons g x xs in
+    omega (arith, here, rest, whole, other)
+
+module _ (g : Grammar) (choices : List (Option (ℕ × ℕ))) (each : ℕ) where
+  abbrev size : ℕ → Sym → ℕ
+  size = steps g choices each
+
+  abbrev size_of : (Sym → ℕ) → Option (ℕ × ℕ) → ℕ
+  size_of = steps_of g each
+
+  pub steps_token : (n t : ℕ) → size n (Token t) ≡ 1
+  unfolding steps
+  steps_token zero t = refl
+  steps_token (suc n) t = refl
+
+  pub steps_positive : 0 < each → (n : ℕ) (s : Sym) → 0 < size n s
+  unfolding steps
+  steps_positive some n (Token t) = let one = steps_token n t in omega (arith, one)
+  steps_positive some zero (Rule r) = some
+  steps_positive some (suc n) (Rule r) = go (rule_choice choices r)
+    where
+      go : (o : Option (ℕ × ℕ)) → 0 < size_of (size n) o
+      go None = some
+      go (Some choice) = omega (arith, some)
+
+  module _ (below : (r p m : ℕ) → rule_choice choices r ≡ Some (p, m) → All (IsNotAbove choices m) (nth_production g p).symbols) where
+    lower : (n m : ℕ) (s : Sym) → m < n + 1 → IsNotAbove choices m s → IsNotAbove choices n s
+    lower n m (Token t) lt h = tt
+    lower n m (Rule r) lt h = go (rule_choice choices r) h
+      where
+        go : (o : Option (ℕ × ℕ)) → IfSome o (λ choice. choice.1 < m) → IfSome o (λ choice. choice.1 < n)
+        go None h = tt
+        go (Some choice) h = omega (arith, h, lt)
+
+    -- it is enough to go as deep as the numbers of the choices
+    steps_same : (n m : ℕ) (s : Sym) → IsNotAbove choices n s → IsNotAbove choices m s → size n s ≡ size m s
+    unfolding steps
+    steps_same zero zero (Token t) h k = refl
+    steps_same zero zero (Rule r) h k = refl
+    steps_same zero (suc m) (Token t) h k = refl
+    steps_same (suc n) zero (Token t) h k = refl
+    steps_same (suc n) (suc m) (Token t) h k = refl
+    steps_same zero (suc m) (Rule r) h k = go (rule_choice choices r) h
+      where
+        go : (o : Option (ℕ × ℕ)) → IfSome o (λ choice. choice.1 < 0) → each ≡ size_of (size m) o
+        go None h = refl
+        go (Some choice) h = absurd (omega (arith, h))
+    steps_same (suc n) zero (Rule r) h k = go (rule_choice choices r) k
+      where
+        go : (o : Option (ℕ × ℕ)) → IfSome o (λ choice. choice.1 < 0) → size_of (size n) o ≡ each
+        go None h = refl
+        go (Some choice) h = absurd (omega (arith, h))
+    steps_same (suc n) (suc m) (Rule r) h k = go (λ s. steps_same n m s) (rule_choice choices r) refl h k
+      where
+        go : ((s : Sym) → IsNotAbove choices n s → IsNotAbove choices m s → size n s ≡ size m s) → (o : Option (ℕ × ℕ)) → rule_choice choices r ≡ o
+            → IfSome o (λ choice. choice.1 < suc n) → IfSome o (λ choice. choice.1 < suc m) → size_of (size n) o ≡ size_of (size m) o
+        go same None e h k = refl
+        go same (Some choice) e h k = ap (λ c. c + each) (sum_by-same (IsNotAbove choices choice.1) (size n) (size m)
+            (λ s lt. same s (lower n choice.1 s (omega (arith, h)) lt) (lower m choice.1 s (omega (arith, k)) lt))
+            (nth_production g choice.0).symbols (below r choice.0 choice.1 e))
+
+    -- a rule takes what its symbols take, and `each`
+    pub steps_opened : (n r p m : ℕ) → rule_choice choices r ≡ Some (p, m) → m < n
+        → size n (Rule r) ≡ sum_by (size n) (nth_production g p).symbols + each
+    unfolding steps
+    steps_opened zero r p m e lt = absurd (omega (arith, lt))
+    steps_opened (suc n) r p m e lt = ap (size_of (size n)) e ∙ ap (λ c. c + each) (sum_by-same (IsNotAbove choices m) (size n) (size (suc n))
+        (λ s h. steps_same n (suc n) s (lower n m s (omega (arith, lt)) h) (lower (suc n) m s (omega (arith, lt)) h))
+        (nth_production g p).symbols (below r p m e))

@@ -1,0 +1,408 @@
+-- What the generator's tables tell of productions that cost what their rules do, and what derivations tell of them.
+use Rattle.std.proofs.Common.{◌≡◌, ℕ, ◌<◌, ◌≤◌, inl, inr, List, [], ◌∷◌, ◌++◌, length, get_or, Option, Some, None, Result, Ok, Err, All, Contains, arith, refl, sym, ap, subst, ◌∙◌}
+use Rattle.std.proofs.lemmas.Bool.{cases_lt}
+use Rattle.std.proofs.Math.Seq.{get_or-append_seam}
+use Rattle.std.proofs.lemmas.List.{get_or_append_left, get_or_default, get_or_past, length_push}
+use Rattle.lemmas.proofs.Elements.{within_from_get_or}
+use Rattle.std.proofs.lemmas.List.Elements.{All-get_or}
+use Rattle.std.proofs.lemmas.List.Sums.{sum_by-append}
+use Rattle.derivation.specs.Grammar.{Sym, Rule, Token, Production, IsGrammar, HasProduction}
+use Rattle.derivation.specs.Sentence.{cost_of}
+use Rattle.derivation.specs.Costs.{Least, Minimal}
+use Rattle.derivation.proofs.Costs.{minimal_costs_least, least_is_one}
+use Rattle.cfgtables.specs.Openings.{nth_production}
+use Rattle.cfgtables.proofs.Placed.{at_place}
+use Rattle.cfgsums.specs.declared.errors.CostError.{CostError}
+use Rattle.cfgsums.specs.declared.errors.CostError.TheVariants.{NoSentence, CostTooLarge}
+use Rattle.cfgsums.specs.Sums.{sum_of, symbol_cost}
+use Rattle.cfgsums.specs.Lists.{rule_cost}
+use Rattle.cfgsums.proofs.Sums.{plus_parts, plus_both}
+use Rattle.cfgsums.proofs.Made.{cost_of-token}
+use Rattle.cfgleast.specs.Generator.{CostTables, IsGenerator, cost_answer, token_cost}
+use Rattle.cfgchoices.specs.Levels.{Along, here, next, CostsAsItsRule, HandsOn, IsOwn}
+use Rattle.cfgchoices.specs.Inner.Kinds.{AreKinds, HasHeir, HasNoHeir, HasRulesAsHeirs, IsHeir, IsKind, IsRowKind, IsTight}
+use Rattle.cfgchoices.specs.Inner.Kinds.{IsMinimal, IsOwnBelow}
+use Rattle.cfgleast.specs.Inner.Open.{StopsAt}
+use Rattle.cfgchoices.specs.Splits.{Split, done, itself, part}
+use Rattle.cfgchoices.specs.declared.kinds.Kind.{Kind}
+use Rattle.cfgchoices.specs.declared.kinds.Kind.TheVariants as kinds
+use Rattle.cfgleast.specs.declared.partial.Partial.{Partial}
+use Rattle.lemmas.proofs.Contained.{contains_cases, contains_none}
+use Rattle.cfgleast.proofs.Gains.{HasCost, all_have_costs}
+use Rattle.cfgleast.proofs.Generated.{answered_some, some_answered, reads_cost, reads_dear, reads_none}
+use Rattle.cfgchoices.proofs.Lengths.{IsPaid, productions_paid}
+use Rattle.cfgchoices.proofs.Levels.{at_least, handed_down_minimal, minimal_handed_down, rule_nothing}
+
+-- where a rule has no cost, the row has none
+pub stops_none : (cost : ℕ → ℕ) (settled : ℕ → Option ℕ) (symbols : List Sym) (r : ℕ) (x : Partial) → StopsAt cost settled symbols r x → sum_of (symbol_cost cost settled) symbols ≡ None
+stops_none cost settled symbols r x stop = go (sum_of (symbol_cost cost settled) symbols) refl
+  where
+    go : (o : Option ℕ) → sum_of (symbol_cost cost settled) symbols ≡ o → o ≡ None
+    go None e = refl
+    go (Some n) e =
+        let here = All-get_or (HasCost (symbol_cost cost settled)) symbols x.taken (Rule r) stop.taken (all_have_costs (symbol_cost cost settled) symbols n e) in
+        let rule = subst (HasCost (symbol_cost cost settled)) stop.symbol here in
+        let no : None ≡ Some rule.value = sym stop.unset ∙ rule.is in absurd (cc)
+
+-- a rule and its production cost the same, whoever tells it
+pub one_cost : (x : CostTables) (r c d : ℕ) → cost_answer x r ≡ Some c → cost_answer x r ≡ Some d → c ≡ d
+one_cost x r c d e f = let both : Some c ≡ Some d = sym e ∙ f in cc
+
+-- where a row costs something, it has one symbol at most that costs as much
+module _ (x : CostTables) where
+  abbrev costs : Sym → Option ℕ
+  costs = symbol_cost (token_cost x) (rule_cost x.least)
+
+  pub rule_within : (a : List Sym) (q c m : ℕ) → sum_of costs a ≡ Some m → Contains a (Rule q) → rule_cost x.least q ≡ Some c → c ≤ m
+  rule_within [] q c m e h k = absurd (contains_none (Rule q) h)
+  rule_within (s ∷ a) q c m e h k =
+      let p = plus_parts (costs s) (sum_of costs a) m e in
+      let whole = p.whole in
+      elim (contains_cases s (Rule q) a h) [
+        | inl same ↦
+            let both : Some c ≡ Some p.first = sym k ∙ ap costs (sym same) ∙ p.first_is in
+            let is : c ≡ p.first = cc in omega (arith, is, whole)
+        | inr later ↦ let rest = rule_within a q c p.second p.second_is later k in omega (arith, rest, whole)
+      ]
+
+  one_rule : (a : List Sym) (q r c m : ℕ) → sum_of costs a ≡ Some m → m ≤ c → 0 < c → Contains a (Rule q) → Contains a (Rule r)
+      → rule_cost x.least q ≡ Some c → rule_cost x.least r ≡ Some c → q ≡ r
+  one_rule [] q r c m e small some h h' k k' = absurd (contains_none (Rule q) h)
+  one_rule (s ∷ a) q r c m e small some h h' k k' =
+      let p = plus_parts (costs s) (sum_of costs a) m e in
+      let whole = p.whole in
+      elim (contains_cases s (Rule q) a h) [
+        | inl same ↦ elim (contains_cases s (Rule r) a h') [
+          | inl same' ↦ let rules : Rule q ≡ Rule r = sym same ∙ same' in cc
+          | inr later ↦
+              let both : Some c ≡ Some p.first = sym k ∙ ap costs (sym same) ∙ p.first_is in
+              let is : c ≡ p.first = cc in
+              let rest = rule_within a r c p.second p.second_is later k' in absurd (omega (arith, is, whole, rest, small, some))
+        ]
+        | inr later ↦ elim (contains_cases s (Rule r) a h') [
+          | inl same' ↦
+              let both : Some c ≡ Some p.first = sym k' ∙ ap costs (sym same') ∙ p.first_is in
+              let is : c ≡ p.first = cc in
+              let rest = rule_within a q c p.second p.second_is later k in absurd (omega (arith, is, whole, rest, small, some))
+          | inr later' ↦ one_rule a q r c p.second p.second_is (omega (arith, whole, small)) some later later' k k'
+        ]
+      ]
+
+-- a production is tight whatever is chosen
+pub tight_whatever : (x : CostTables) (choices : List (Option (ℕ × ℕ))) (p : ℕ) → IsTight x p
+    → IsTight (record { grammar = x.grammar; costs = x.costs; least = x.least; choices = choices }) p
+tight_whatever x choices p t = record { place = t.place; cost = t.cost; positive = t.positive; rule = t.rule; sum = t.sum }
+
+-- what a production is to its rule is told by its symbols, where the rule has a cost that is answered and isn't 0
+module _ (x : CostTables) (p c : ℕ) (place : p < length x.grammar.productions) (rule : rule_cost x.least (nth_production x.grammar p).rule ≡ Some c) where
+  cost_is : (tight : IsTight x p) → tight.cost ≡ c
+  cost_is tight = let both : Some c ≡ Some tight.cost = sym rule ∙ (answered_some (rule_cost x.least (nth_production x.grammar p).rule) tight.cost tight.rule).0 in cc
+
+  module _ (some : 0 < c) (small : c < 65536) where
+    tight_now : sum_of (symbol_cost (token_cost x) (rule_cost x.least)) (nth_production x.grammar p).symbols ≡ Some c → IsTight x p
+    tight_now e = record {
+      place = place;
+      cost = c;
+      positive = some;
+      rule = some_answered (rule_cost x.least (nth_production x.grammar p).rule) c rule (omega (arith, small));
+      sum = e;
+    }
+
+    pub kind_told : {S : Type 0} (number : S → ℕ) (kind : Kind S)
+        → IsRowKind number (token_cost x) (rule_cost x.least) c (nth_production x.grammar p).symbols kind → IsKind number x p kind
+    kind_told number kinds.Slack h = λ tight. h (tight.sum ∙ ap Some (cost_is tight))
+    kind_told number kinds.Own h = record {
+      tight = tight_now h.0;
+      none = λ q heir. h.1 q heir.among ((answered_some (rule_cost x.least q) heir.tight.cost heir.same).0 ∙ ap Some (cost_is heir.tight));
+    }
+    kind_told number (kinds.HandsOn r) h = record {
+      tight = tight_now h.0;
+      among = h.1;
+      same = some_answered (rule_cost x.least (number r.0)) c h.2 (omega (arith, small)) ∙ ap Some (sym (cost_is (tight_now h.0)));
+    }
+
+-- the kind that is read of a production, and kinds with one more
+module _ {S : Type 0} (number : S → ℕ) (x : CostTables) where
+  pub kind_read : (listed : List (Kind S)) (p i : ℕ) (kind : Kind S) → AreKinds number x listed → i ≡ p → p < length x.grammar.productions → kind ≡ get_or listed i kind → IsKind number x p kind
+  kind_read listed p i kind are at within is =
+      let there : p < length listed = subst (λ n. p < n) (sym are.all) within in
+      subst (IsKind number x p) (get_or_default listed p kinds.Slack kind there ∙ sym (subst (λ n. kind ≡ get_or listed n kind) at is)) (are.each p there)
+
+  pub kinds_more : (listed listed' : List (Kind S)) (n : ℕ) (kind : Kind S) → length listed ≡ n → listed' ≡ listed ++ kind ∷ [] → IsKind number x n kind
+      → ((p : ℕ) → p < length listed → IsKind number x p (get_or listed p kinds.Slack)) → (p : ℕ) → p < length listed' → IsKind number x p (get_or listed' p kinds.Slack)
+  kinds_more listed listed' n kind len e one before p within = subst (λ l. IsKind number x p (get_or l p kinds.Slack)) (sym e) (
+      let longer = ap length e ∙ length_push listed kind in
+      elim (cases_lt p (length listed)) [
+        | inl lt ↦ subst (IsKind number x p) (sym (get_or_append_left listed (kind ∷ []) kinds.Slack p lt)) (before p lt)
+        | inr ge ↦
+            let is : p ≡ length listed = omega (arith, ge, within, longer) in
+            subst (λ m. IsKind number x m (get_or (listed ++ kind ∷ []) m kinds.Slack)) (sym is)
+            (subst (IsKind number x (length listed)) (sym (get_or-append_seam listed kind [] kinds.Slack)) (subst (λ m. IsKind number x m kind) (sym len) one))
+      ])
+
+-- what has a cost is a rule of the grammar
+pub answered_within : (x : CostTables) (n : ℕ) → IsGenerator x n → (q c : ℕ) → cost_answer x q ≡ Some c → q < x.grammar.rules
+answered_within x n is q c e =
+    let known = (answered_some (rule_cost x.least q) c e).0 in
+    subst (λ m. q < m) is.settled.chosen.costs (within_from_get_or x.least q None (λ none. let never : None ≡ Some c = sym none ∙ known in cc))
+
+-- a production has one heir at most
+pub one_heir : (x : CostTables) (p q r : ℕ) → IsHeir x p q → IsHeir x p r → q ≡ r
+one_heir x p q r h k =
+    let c = h.tight.cost in
+    let same = subst (λ d. cost_answer x r ≡ Some d) (one_cost x (nth_production x.grammar p).rule k.tight.cost c k.tight.rule h.tight.rule) k.same in
+    one_rule x (nth_production x.grammar p).symbols q r c c h.tight.sum (omega arith) h.tight.positive h.among k.among
+    (answered_some (rule_cost x.least q) c h.same).0 (answered_some (rule_cost x.least r) c same).0
+
+module _ (x : CostTables) (n : ℕ) (is : IsGenerator x n) (grammar : IsGrammar x.grammar) where
+  abbrev P : ℕ → List Sym → Type 0
+  P = HasProduction x.grammar
+
+  abbrev cost : ℕ → ℕ
+  cost = token_cost x
+
+  abbrev sums : Sym → Option ℕ
+  sums = symbol_cost (token_cost x) (rule_cost x.least)
+
+  abbrev Cut : List Sym → List ℕ → Type 0
+  Cut = Split (Minimal P cost)
+
+  pub paid : (r : ℕ) (symbols : List Sym) → P r symbols → All (IsPaid cost) symbols
+  paid = productions_paid x.grammar x.costs grammar is.tokens is.positive
+
+  pub least_of : (r c : ℕ) → cost_answer x r ≡ Some c → Least P cost r c
+  least_of r c e = let k = answered_some (rule_cost x.least r) c e in (reads_cost x n is r c k.0 k.1).least
+
+  pub answer_of : (r c : ℕ) → Least P cost r c → c ≤ 65535 → cost_answer x r ≡ Some c
+  answer_of r c l small = go (rule_cost x.least r) refl
+    where
+      go : (o : Option ℕ) → rule_cost x.least r ≡ o → cost_answer x r ≡ Some c
+      go None e = let no : ◌≡◌ {A = Result ℕ CostError} (Err NoSentence) (Ok c) = (reads_none x n is r e).found c l small in absurd (cc)
+      go (Some d) e = elim (cases_lt 65535 d) [
+        | inl dear ↦ let no : ◌≡◌ {A = Result ℕ CostError} (Err CostTooLarge) (Ok c) = (reads_dear x n is r d e dear).found c l small in absurd (cc)
+        | inr within ↦
+            let same : ◌≡◌ {A = Result ℕ CostError} (Ok d) (Ok c) = (reads_cost x n is r d e within).found c l small in
+            let one : d ≡ c = cc in
+            some_answered (rule_cost x.least r) c (e ∙ ap Some one) small
+      ]
+
+  -- a row that has a cost has minimal sentences of that cost
+  cut_of_sum : (a : List Sym) (m : ℕ) → sum_of sums a ≡ Some m → m ≤ 65535 → (w : List ℕ) × Cut a w × (cost_of cost w ≡ m)
+  cut_of_sum [] m e small = let is : 0 ≡ m = cc in ([], done, is)
+  cut_of_sum (Token t ∷ a) m e small =
+      let p = plus_parts (Some (cost t)) (sum_of sums a) m e in
+      let whole = p.whole in
+      let one : Some (cost t) ≡ Some p.first = p.first_is in
+      let first : cost t ≡ p.first = cc in
+      let (w, cut, costs) = cut_of_sum a p.second p.second_is (omega (arith, whole, small)) in
+      let both = cost_of-token cost t w in
+      (t ∷ w, itself cut, omega (arith, both, costs, first, whole))
+  cut_of_sum (Rule r ∷ a) m e small =
+      let p = plus_parts (rule_cost x.least r) (sum_of sums a) m e in
+      let whole = p.whole in
+      let least = (reads_cost x n is r p.first p.first_is (omega (arith, whole, small))).least in
+      let (u, s, costs) = least.0 in
+      let (w, cut, rest) = cut_of_sum a p.second p.second_is (omega (arith, whole, small)) in
+      let both = sum_by-append cost u w in
+      (u ++ w, part (s, λ v t. subst (λ k. k ≤ cost_of cost v) (sym costs) (least.1 v t)) cut refl, omega (arith, both, costs, rest, whole))
+
+  pub sum_of_cut : {a : List Sym} {w : List ℕ} → Cut a w → cost_of cost w ≤ 65535 → sum_of sums a ≡ Some (cost_of cost w)
+  sum_of_cut done small = refl
+  sum_of_cut (itself {t = t} {a = a} {w = w} s) small =
+      let both = cost_of-token cost t w in
+      plus_both (Some (cost t)) (sum_of sums a) (cost t) (cost_of cost w) refl (sum_of_cut s (omega (arith, both, small))) ∙ ap Some (sym both)
+  sum_of_cut (part {r = r} {a = a} {u = u} {w = w} m s e) small =
+      let both = ap (cost_of cost) e ∙ sum_by-append cost u w in
+      let known = answer_of r (cost_of cost u) (minimal_costs_least P cost r u m) (omega (arith, both, small)) in
+      plus_both (rule_cost x.least r) (sum_of sums a) (cost_of cost u) (cost_of cost w) (answered_some (rule_cost x.least r) (cost_of cost u) known).0
+      (sum_of_cut s (omega (arith, both, small))) ∙ ap Some (sym both)
+
+  tight_told : (p : ℕ) (tight : IsTight x p) → CostsAsItsRule P cost (nth_production x.grammar p).rule (nth_production x.grammar p).symbols tight.cost
+  tight_told p tight =
+      let known = answered_some (rule_cost x.least (nth_production x.grammar p).rule) tight.cost tight.rule in
+      let (w, cut, costs) = cut_of_sum (nth_production x.grammar p).symbols tight.cost tight.sum known.1 in record {
+        has = at_place x.grammar p _ tight.place refl refl;
+        least = least_of (nth_production x.grammar p).rule tight.cost tight.rule;
+        word = w;
+        parts = cut;
+        is = costs;
+      }
+
+  -- a production that costs as its rule, with its place
+  pub record Placed (r : ℕ) (symbols : List Sym) (c : ℕ) : Type 0 where
+    pub place : ℕ
+    pub production : nth_production x.grammar place ≡ record { rule = r; symbols = symbols }
+    pub tight : IsTight x place
+    pub costs : tight.cost ≡ c
+
+  pub tight_placed : (r : ℕ) (symbols : List Sym) (c : ℕ) → CostsAsItsRule P cost r symbols c → 0 < c → c ≤ 65535 → Placed r symbols c
+  tight_placed r symbols c tight some small =
+      let has = tight.has in
+      let costs = tight.is in
+      let same = get_or_default x.grammar.productions has.0 (record { rule = 0; symbols = [] }) (record { rule = r; symbols = symbols }) has.1 ∙ has.2 in
+      record {
+        place = has.0;
+        production = same;
+        tight = record {
+          place = has.1;
+          cost = c;
+          positive = some;
+          rule = ap (λ (p : Production). cost_answer x p.rule) same ∙ answer_of r c tight.least small;
+          sum = ap (λ (p : Production). sum_of sums p.symbols) same ∙ sum_of_cut tight.parts (omega (arith, costs, small)) ∙ ap Some costs;
+        };
+        costs = refl;
+      }
+
+  heir_told : (a b : ℕ) → HasHeir x a b → HandsOn P cost a b
+  heir_told a b h =
+      let p = h.place in
+      let tight = h.heir.tight in
+      subst (λ r. HandsOn P cost r b) h.owner (record {
+        symbols = (nth_production x.grammar p).symbols;
+        level = tight.cost;
+        tight = tight_told p tight;
+        among = h.heir.among;
+        same = least_of b tight.cost h.heir.same;
+      })
+
+  own_told : (p : ℕ) → HasNoHeir x p → IsOwn P cost (nth_production x.grammar p).rule (nth_production x.grammar p).symbols
+  own_told p own =
+      let tight = own.tight in
+      let told = tight_told p tight in
+      let known = answered_some (rule_cost x.least (nth_production x.grammar p).rule) tight.cost tight.rule in
+      record {
+        level = tight.cost;
+        tight = told;
+        less = λ q d h l.
+            let low = at_least P cost q d told.parts h l in
+            let costs = told.is in
+            elim (cases_lt d tight.cost) [
+              | inl lt ↦ lt
+              | inr ge ↦
+                  let same : d ≡ tight.cost = omega (arith, ge, low, costs) in
+                  absurd (own.none q (record { tight = tight; among = h; same = answer_of q tight.cost (subst (Least P cost q) same l) known.1 }))
+            ];
+      }
+
+  along_told : {a b : ℕ} → Along (HasHeir x) a b → Along (HandsOn P cost) a b
+  along_told here = here
+  along_told (next {a = a} {b = b} h k) = next (heir_told a b h) (along_told k)
+
+  -- what is made of minimal sentences by an own production below the rule is a minimal sentence of the rule
+  pub own_makes : (r p : ℕ) (w : List ℕ) → IsOwnBelow x r p → Cut (nth_production x.grammar p).symbols w → IsMinimal x r w
+  own_makes r p w below cut = handed_down_minimal P cost paid r w (record {
+    owner = (nth_production x.grammar p).rule;
+    symbols = (nth_production x.grammar p).symbols;
+    leads = along_told below.leads;
+    own = own_told p below.own;
+    parts = cut;
+  })
+
+  -- each rule in such a production costs less
+  pub own_less : (r p c s d : ℕ) → IsOwnBelow x r p → cost_answer x r ≡ Some c → Contains (nth_production x.grammar p).symbols (Rule s) → cost_answer x s ≡ Some d → d < c
+  own_less r p c s d below e h k =
+      let own = own_told p below.own in
+      let less = own.less s d h (least_of s d k) in
+      let same = level (along_told below.leads) own.level own.tight.least in
+      let one = least_is_one P cost r c own.level (least_of r c e) same in
+      omega (arith, less, one)
+    where
+      level : {a b : ℕ} → Along (HandsOn P cost) a b → (c : ℕ) → Least P cost b c → Least P cost a c
+      level here c l = l
+      level (next {a = a} {b = b} h k) c l =
+          let same = least_is_one P cost b c h.level (level k c l) h.same in
+          subst (Least P cost a) (sym same) h.tight.least
+
+  -- a rule in such a production has a cost
+  pub own_costs : (p s : ℕ) → HasNoHeir x p → Contains (nth_production x.grammar p).symbols (Rule s) → (d : ℕ) × (cost_answer x s ≡ Some d)
+  own_costs p s own h =
+      let tight = own.tight in
+      let known = answered_some (rule_cost x.least (nth_production x.grammar p).rule) tight.cost tight.rule in
+      go (nth_production x.grammar p).symbols tight.cost tight.sum known.1 h
+    where
+      go : (a : List Sym) (m : ℕ) → sum_of sums a ≡ Some m → m ≤ 65535 → Contains a (Rule s) → (d : ℕ) × (cost_answer x s ≡ Some d)
+      go [] m e small h = absurd (contains_none (Rule s) h)
+      go (y ∷ a) m e small h =
+          let p = plus_parts (sums y) (sum_of sums a) m e in
+          let whole = p.whole in
+          elim (contains_cases y (Rule s) a h) [
+            | inl same ↦ (p.first, some_answered (rule_cost x.least s) p.first (ap sums (sym same) ∙ p.first_is) (omega (arith, whole, small)))
+            | inr later ↦ go a p.second p.second_is (omega (arith, whole, small)) later
+          ]
+
+  -- a minimal sentence of a rule that costs something is made by an own production below the rule
+  pub record IsMade (r : ℕ) (w : List ℕ) : Type 0 where
+    pub place : ℕ
+    pub below : IsOwnBelow x r place
+    pub parts : Cut (nth_production x.grammar place).symbols w
+
+  heir_placed : (a b c : ℕ) → HandsOn P cost a b → Least P cost a c → 0 < c → c ≤ 65535 → HasHeir x a b
+  heir_placed a b c h l some small =
+      let one = least_is_one P cost a h.level c h.tight.least l in
+      let t = tight_placed a h.symbols h.level h.tight (omega (arith, one, some)) (omega (arith, one, small)) in
+      record {
+        place = t.place;
+        owner = ap (λ (p : Production). p.rule) t.production;
+        heir = record {
+          tight = t.tight;
+          among = subst (λ (p : Production). Contains p.symbols (Rule b)) (sym t.production) h.among;
+          same = answer_of b t.tight.cost (subst (Least P cost b) (sym t.costs) h.same) (let same = t.costs in omega (arith, same, one, small));
+        };
+      }
+
+  along_placed : {a b : ℕ} (c : ℕ) → Along (HandsOn P cost) a b → Least P cost a c → 0 < c → c ≤ 65535 → Along (HasHeir x) a b × Least P cost b c
+  along_placed c here l some small = (here, l)
+  along_placed c (next {a = a} {b = b} h k) l some small =
+      let one = least_is_one P cost a h.level c h.tight.least l in
+      let rest = along_placed c k (subst (Least P cost b) one h.same) some small in
+      (next (heir_placed a b c h l some small) rest.0, rest.1)
+
+  own_placed : (r : ℕ) (symbols : List Sym) (c : ℕ) (own : IsOwn P cost r symbols) → Least P cost r c → 0 < c → c ≤ 65535
+      → (p : ℕ) × (nth_production x.grammar p ≡ record { rule = r; symbols = symbols }) × HasNoHeir x p
+  own_placed r symbols c own l some small =
+      let one = least_is_one P cost r own.level c own.tight.least l in
+      let t = tight_placed r symbols own.level own.tight (omega (arith, one, some)) (omega (arith, one, small)) in
+      let costs = t.costs in (
+        t.place,
+        t.production,
+        record {
+          tight = t.tight;
+          none = λ q heir.
+              let same = one_cost x (nth_production x.grammar t.place).rule heir.tight.cost t.tight.cost heir.tight.rule t.tight.rule in
+              let less = own.less q heir.tight.cost (subst (λ (p : Production). Contains p.symbols (Rule q)) t.production heir.among) (least_of q heir.tight.cost heir.same) in
+              omega (arith, less, same, costs);
+        },
+      )
+
+  pub minimal_made : (r c : ℕ) (w : List ℕ) → cost_answer x r ≡ Some c → 0 < c → IsMinimal x r w → IsMade r w
+  minimal_made r c w e some m =
+      let small = (answered_some (rule_cost x.least r) c e).1 in
+      let down = minimal_handed_down P cost paid r w m in
+      let (along, least) = along_placed c down.leads (least_of r c e) some small in
+      let (p, same, own) = own_placed down.owner down.symbols c down.own least some small in
+      record {
+        place = p;
+        below = record { leads = subst (λ (q : Production). Along (HasHeir x) r q.rule) (sym same) along; own = own };
+        parts = subst (λ (q : Production). Cut q.symbols w) (sym same) down.parts;
+      }
+
+  -- a rule that costs nothing has the empty sentence alone
+  pub minimal_free : (r : ℕ) (w : List ℕ) → cost_answer x r ≡ Some 0 → IsMinimal x r w → w ≡ []
+  minimal_free r w e m =
+      let least = least_is_one P cost r 0 (cost_of cost w) (least_of r 0 e) (minimal_costs_least P cost r w m) in
+      rule_nothing P cost paid r w m.0 (omega (arith, least))
+
+  pub free_minimal : (r : ℕ) → cost_answer x r ≡ Some 0 → IsMinimal x r []
+  free_minimal r e =
+      let least = least_of r 0 e in
+      let (w, s, costs) = least.0 in
+      let none = rule_nothing P cost paid r w s (omega (arith, costs)) in
+      subst (IsMinimal x r) none (s, λ v t. subst (λ k. k ≤ cost_of cost v) (sym costs) (least.1 v t))
+
+-- what is handed on to is a rule of the grammar
+pub heirs_are_rules : {S : Type 0} (number : S → ℕ) (x : CostTables) (list : List (Kind S)) (n : ℕ) → IsGenerator x n
+    → ((p : ℕ) → p < length list → IsKind number x p (get_or list p kinds.Slack)) → HasRulesAsHeirs number x.grammar list
+heirs_are_rules number x list n is each p heir e = elim (cases_lt p (length list)) [
+  | inl lt ↦ let h = subst (IsKind number x p) e (each p lt) in answered_within x n is (number heir.0) h.tight.cost h.same
+  | inr past ↦ let no : kinds.Slack ≡ kinds.HandsOn heir = sym (get_or_past list p kinds.Slack past) ∙ e in absurd (cc)
+]

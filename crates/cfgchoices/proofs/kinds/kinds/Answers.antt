@@ -1,0 +1,25 @@
+use Rattle.std.proofs.Common.{◌+◌, length, subst, ap, ◌∙◌, arith}
+use Rattle.std.proofs.lemmas.List.{length_push}
+use Rattle.cfgleast.specs.Generator.{tables_of}
+use Rattle.cfgchoices.specs.Inner.Kinds.{IsKind}
+use Rattle.cfgchoices.proofs.Tight.{heirs_are_rules, kinds_more}
+use Rattle.cfgchoices.proofs.kinds.kinds.Goals as goal
+
+pub kind_of-requires-clause-place : goal.kind_of-requires-clause-place
+kind_of-requires-clause-place g c = omega (arith, c.to_storage.ensures, c.loop-number-test.true, c.to_usize-prods_len.ensures.value, c.prods_len.ensures)
+
+pub loop-number-preserved : goal.loop-number-preserved
+loop-number-preserved g c =
+    let number = g.S.Storage.number in
+    let x = tables_of number (g.T.Tables.grammar c.args.tables.now) c.args.costs.now c.args.settled.now.least.items c.args.settled.now.choices.items in
+    record {
+      len = ap length c.in_ok-push.ensures.items ∙ length_push c.loop-number.kinds.items c.kind_of.result ∙ ap (λ n. n + 1) c.loop-number.invariant.len;
+      each = kinds_more number x c.loop-number.kinds.items _ c.loop-number.number c.kind_of.result c.loop-number.invariant.len c.in_ok-push.ensures.items
+          (subst (λ p. IsKind number x p c.kind_of.result) c.to_storage.ensures c.kind_of.ensures) c.loop-number.invariant.each;
+    }
+
+pub returns-clause-heirs : goal.returns-clause-heirs
+returns-clause-heirs g c =
+    let number = g.S.Storage.number in
+    let x = tables_of number (g.T.Tables.grammar c.args.tables.now) c.args.costs.now c.args.settled.now.least.items c.args.settled.now.choices.items in
+    heirs_are_rules number x c.loop-number.kinds.items c.args.settled.now.number c.requires c.loop-number.invariant.each

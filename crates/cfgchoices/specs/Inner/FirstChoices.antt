@@ -1,0 +1,43 @@
+-- Choices of productions, one for each rule that costs something, by which first minimal sentences are made.
+use Rattle.std.specs.Prelude.{◌≡◌, ℕ, ◌<◌, ◌≤◌, List, [], ◌∷◌, Option, Some, None, All, length, IfSome}
+use Rattle.std.specs.declared.cmp.Ordering.TheVariants.{Greater}
+use Rattle.derivation.specs.Grammar.{Sym, Rule, Token, IsSymbolOf, HasProduction}
+use Rattle.cfgtables.specs.Openings.{nth_production}
+use Rattle.cfgsums.specs.Lists.{rule_cost}
+use Rattle.cfgsums.specs.Sums.{sum_of, symbol_cost}
+use Rattle.cfgleast.specs.Certificate.{rule_choice}
+use Rattle.cfgchoices.specs.Inner.Choices.{ChoicesGive}
+use Rattle.cfgleast.specs.Generator.{CostTables, IsGenerator, token_cost}
+use Rattle.cfgchoices.specs.Inner.Kinds.{IsTight}
+use Rattle.cfgchoices.specs.First.{dictionary}
+
+-- a rule has no choice, or one with a number below n
+abbrev pub IsNotAbove : List (Option (ℕ × ℕ)) → ℕ → Sym → Type 0
+IsNotAbove choices n (Token t) = Unit {0}
+IsNotAbove choices n (Rule r) = IfSome (rule_choice choices r) (λ choice. choice.1 < n)
+
+-- the choice of a rule that costs d: a production of that cost, whose rules have choices with lesser numbers, or none
+pub record Opens (x : CostTables) (q d p m : ℕ) : Type 0 where
+  pub choice : rule_choice x.choices q ≡ Some (p, m)
+  pub place : p < length x.grammar.productions
+  pub owner : (nth_production x.grammar p).rule ≡ q
+  pub has : HasProduction x.grammar q (nth_production x.grammar p).symbols
+  pub symbols : All (IsSymbolOf x.grammar) (nth_production x.grammar p).symbols
+  pub sum : sum_of (symbol_cost (token_cost x) (rule_cost x.least)) (nth_production x.grammar p).symbols ≡ Some d
+  pub below : All (IsNotAbove x.choices m) (nth_production x.grammar p).symbols
+  pub deep : m < x.grammar.rules
+
+-- least costs are known, and each rule that costs something has a choice; one that costs nothing has none
+pub record Walks (x : CostTables) : Type 0 where
+  pub settled : List (Option (ℕ × ℕ))
+  pub number : ℕ
+  pub generator : IsGenerator (record { grammar = x.grammar; costs = x.costs; least = x.least; choices = settled }) number
+  pub listed : length x.choices ≡ x.grammar.rules
+  pub free : (q : ℕ) → rule_cost x.least q ≡ Some 0 → rule_choice x.choices q ≡ None
+  pub chosen : (q d : ℕ) → rule_cost x.least q ≡ Some d → 0 < d → d ≤ 65535 → (p : ℕ) × (m : ℕ) × Opens x q d p m
+  pub below : (q p m : ℕ) → rule_choice x.choices q ≡ Some (p, m) → All (IsNotAbove x.choices m) (nth_production x.grammar p).symbols
+
+-- no production that costs just what its rule does makes less than the choice of the rule
+abbrev pub AreFirst : CostTables → Type 0
+AreFirst x = (p : ℕ) → IsTight x p → (u v : List ℕ) → ChoicesGive x (Rule (nth_production x.grammar p).rule ∷ []) u
+    → ChoicesGive x (nth_production x.grammar p).symbols v → dictionary u v ≡ Greater → ⊥

@@ -1,0 +1,234 @@
+-- Productions that are offered to their rules, and the choices that are made among them.
+use Rattle.std.specs.Prelude.{◌≡◌, ◌↔◌, ℕ, zero, suc, ◌+◌, ◌-◌, ◌*◌, ◌<◌, ◌≤◌, ◌⊎◌, Bool, true, false, List, [], ◌∷◌, Option, Some, None, All, Contains, IsSomeAnd, Vec, count_by, is_some, length, map, reverse, slice_index_or, sum_by}
+use Rattle.std.specs.declared.alloc.Global.{Global}
+use Rattle.std.specs.declared.cmp.Ordering.TheVariants.{Greater}
+use Rattle.cfgindex.specs.declared.idxnewtype.PIdx.{PIdx}
+use Rattle.derivation.specs.Grammar.{Sym, Rule, Token, Grammar, IsGrammar}
+use Rattle.cfgtables.specs.Openings.{nth_production}
+use Rattle.cfgleast.specs.Certificate.{choice_of, rule_choice}
+use Rattle.cfgchoices.specs.Inner.Choices.{ChoicesGive}
+use Rattle.cfgleast.specs.Generator.{CostTables, IsGenerator, cost_answer}
+use Rattle.cfgchoices.specs.Inner.Kinds.{HasNoHeir, IsHeir, IsTight, places_of}
+use Rattle.cfgchoices.specs.First.{dictionary}
+use Rattle.cfgindex.specs.declared.idxnewtype.RIdx.{RIdx}
+use Rattle.cfgchoices.specs.declared.kinds.Kind.{Kind}
+use Rattle.cfgchoices.specs.declared.kinds.Kind.TheVariants as variants
+use Rattle.cfgchoices.specs.declared.kinds.Kind.TheVariants.{Slack}
+use Rattle.cfgchoices.specs.declared.first.offers.Firsts.{Firsts}
+
+abbrev pub Choices : Type 0
+Choices = List (Option (ℕ × ℕ))
+
+-- the tables with other choices
+abbrev pub by : CostTables → Choices → CostTables
+by x l = record { grammar = x.grammar; costs = x.costs; least = x.least; choices = l }
+
+-- a rule is free, or has a choice with a number below n
+abbrev pub IsReady : CostTables → Choices → ℕ → ℕ → Type 0
+IsReady x l n q = (cost_answer x q ≡ Some 0) ⊎ IsSomeAnd (rule_choice l q) (λ choice. choice.1 < n)
+
+-- the choice of a rule: a production that costs just what the rule does, whose rules are ready
+pub record IsChoice (x : CostTables) (l : Choices) (r p m : ℕ) : Type 0 where
+  pub tight : IsTight x p
+  pub owner : (nth_production x.grammar p).rule ≡ r
+  pub ready : (q : ℕ) → Contains (nth_production x.grammar p).symbols (Rule q) → IsReady x l m q
+
+-- so far n rules have choices
+pub record Choosing (x : CostTables) (l : Choices) (n : ℕ) : Type 0 where
+  pub listed : length l ≡ x.grammar.rules
+  pub count : count_by is_some l ≡ n
+  pub each : (r p m : ℕ) → rule_choice l r ≡ Some (p, m) → IsChoice x l r p m × (m < n)
+
+abbrev pub steps_of : Grammar → ℕ → (Sym → ℕ) → Option (ℕ × ℕ) → ℕ
+steps_of g each f None = each
+steps_of g each f (Some choice) = sum_by f (nth_production g choice.0).symbols + each
+
+-- one for a token, and for a rule `each` and those of the symbols that replace it, by choices that go n deep
+unfoldable pub steps : Grammar → Choices → ℕ → ℕ → Sym → ℕ
+steps g choices each zero (Token t) = 1
+steps g choices each zero (Rule r) = each
+steps g choices each (suc n) (Token t) = 1
+steps g choices each (suc n) (Rule r) = steps_of g each (steps g choices each n) (rule_choice choices r)
+
+-- each element is before those behind it
+abbrev pub IsInOrder : {X : Type 0} → (X → X → Type 0) → X → List X → Type 0
+IsInOrder R d xs = (i j : ℕ) → i < j → j < length xs → R (slice_index_or xs i d) (slice_index_or xs j d)
+
+-- the productions of a list, by their numbers
+abbrev pub productions_of : {S : Type 0} → (S → ℕ) → Vec (PIdx S) Global → List ℕ
+productions_of number list = places_of number list.items
+
+abbrev pub row : CostTables → ℕ → List Sym
+row x p = (nth_production x.grammar p).symbols
+
+abbrev pub owner : CostTables → ℕ → ℕ
+owner x p = (nth_production x.grammar p).rule
+
+-- what the choices make of symbols
+abbrev pub Gives : CostTables → Choices → List Sym → List ℕ → Type 0
+Gives x l = ChoicesGive (by x l)
+
+-- these choices were made one by one
+abbrev pub AreMade : CostTables → Choices → Type 0
+AreMade x l = (n : ℕ) × Choosing x l n
+
+-- what the choices make of the pending symbols, the last of which comes first
+abbrev pub Pends : CostTables → Choices → List Sym → List ℕ → Type 0
+Pends x l pending w = ChoicesGive (by x l) (reverse pending) w
+
+-- how many steps are left till none pends
+abbrev pub left_to_open : CostTables → Choices → List Sym → ℕ
+left_to_open x l pending = sum_by (steps x.grammar l 1 x.grammar.rules) pending
+
+-- what the choices make of these symbols doesn't come behind what they make of those
+abbrev pub NotAfter : CostTables → Choices → List Sym → List Sym → Type 0
+NotAfter x l a b = (u v : List ℕ) → ChoicesGive (by x l) a u → ChoicesGive (by x l) b v → dictionary u v ≡ Greater → ⊥
+
+abbrev pub HasChoice : Choices → ℕ → Type 0
+HasChoice l r = (choice : ℕ × ℕ) × (rule_choice l r ≡ Some choice)
+
+-- the rule of a production has a choice, which makes nothing greater
+pub record IsDone (x : CostTables) (l : Choices) (p : ℕ) : Type 0 where
+  pub chosen : HasChoice l (owner x p)
+  pub given : (w : List ℕ) × ChoicesGive (by x l) (row x p) w
+  pub first : NotAfter x l (Rule (owner x p) ∷ []) (row x p)
+
+-- what is known of productions that cost just what their rules do: whether a rule has more than one, and which hand on to it
+pub record Known : Type 0 where
+  pub tables : CostTables
+  pub alone : List Bool
+  pub handing : List (List ℕ)
+
+abbrev pub is_alone : Known → ℕ → Bool
+is_alone k r = slice_index_or k.alone r false
+
+abbrev pub IsAlone : CostTables → ℕ → Type 0
+IsAlone x r = (p q : ℕ) → IsTight x p → IsTight x q → owner x p ≡ r → owner x q ≡ r → p ≡ q
+
+pub record IsKnown (k : Known) (n : ℕ) : Type 0 where
+  pub generator : IsGenerator k.tables n
+  pub grammar : IsGrammar k.tables.grammar
+  pub flags : length k.alone ≡ k.tables.grammar.rules
+  pub alone : (r : ℕ) → is_alone k r ≡ true → IsAlone k.tables r
+  pub lists : length k.handing ≡ k.tables.grammar.rules
+  pub handing : (p q : ℕ) → (Contains (slice_index_or k.handing q []) p ↔ IsHeir k.tables p q)
+  pub short : (q : ℕ) → length (slice_index_or k.handing q []) ≤ length k.tables.grammar.productions
+
+-- a production that costs just what its rule does, as its kind tells; one that hands on to a rule
+abbrev pub IsCounted : {S : Type 0} → List (Kind S) → ℕ → Type 0
+IsCounted kinds p = (p < length kinds) × (slice_index_or kinds p Slack ≡ Slack → ⊥)
+
+pub record HandsOn {S : Type 0} (number : S → ℕ) (kinds : List (Kind S)) (p q : ℕ) : Type 0 where
+  pub heir : RIdx S
+  pub kind : slice_index_or kinds p Slack ≡ variants.HandsOn heir
+  pub is : number heir.0 ≡ q
+
+-- for each rule the productions that hand on to it, of the first n
+pub record AreHanding {S : Type 0} (number : S → ℕ) (kinds : List (Kind S)) (n rules : ℕ) (handing : List (List ℕ)) : Type 0 where
+  pub lists : length handing ≡ rules
+  pub all : (p q : ℕ) → (Contains (slice_index_or handing q []) p ↔ ((p < n) × HandsOn number kinds p q))
+  pub short : (q : ℕ) → length (slice_index_or handing q []) ≤ n
+
+-- the choices that were made, what productions cost that are offered now, those that are alone in their rules, and the others
+pub record Offers : Type 0 where
+  pub choices : Choices
+  pub number : ℕ
+  pub cost : ℕ
+  pub ready : List ℕ
+  pub level : List ℕ
+
+abbrev pub offers_of : {S : Type 0} → (S → ℕ) → Firsts S → Offers
+offers_of number f = record {
+  choices = map (choice_of number) f.choices.items;
+  number = f.number;
+  cost = f.cost;
+  ready = places_of number f.ready.items;
+  level = places_of number f.level.items;
+}
+
+-- the tables with these choices
+abbrev pub chosen_tables : CostTables → Offers → CostTables
+chosen_tables x f = by x f.choices
+
+abbrev pub Waits : Offers → ℕ → Type 0
+Waits f p = Contains f.ready p ⊎ Contains f.level p
+
+abbrev pub waiting : Offers → ℕ
+waiting f = length f.ready + length f.level
+
+abbrev pub IsHandled : CostTables → Offers → ℕ → Type 0
+IsHandled x f p = IsDone x f.choices p ⊎ Waits f p
+
+-- a production of this cost, whose rules have choices, or cost nothing
+pub record IsOffered (x : CostTables) (l : Choices) (n c p : ℕ) : Type 0 where
+  pub tight : IsTight x p
+  pub cost : tight.cost ≡ c
+  pub ready : (q : ℕ) → Contains (row x p) (Rule q) → IsReady x l n q
+
+-- no choice of this cost makes anything greater, where rules had more than one to choose from
+abbrev pub IsFloor : Known → Choices → ℕ → ℕ → Type 0
+IsFloor k l c p = (r : ℕ) → HasChoice l r → cost_answer k.tables r ≡ Some c → is_alone k r ≡ false → NotAfter k.tables l (Rule r ∷ []) (row k.tables p)
+
+pub record Level (k : Known) (f : Offers) : Type 0 where
+  pub choosing : Choosing k.tables f.choices f.number
+  pub costs : (r : ℕ) → HasChoice f.choices r → (d : ℕ) × (cost_answer k.tables r ≡ Some d) × (d ≤ f.cost)
+  pub offered : (p : ℕ) → Waits f p → IsOffered k.tables f.choices f.number f.cost p
+  pub floor : (p : ℕ) → Waits f p → IsFloor k f.choices f.cost p
+  pub alone : (p : ℕ) → Contains f.ready p → is_alone k (owner k.tables p) ≡ true
+  pub several : (p : ℕ) → Contains f.level p → is_alone k (owner k.tables p) ≡ false
+  pub order : IsInOrder (λ p q. NotAfter k.tables f.choices (row k.tables q) (row k.tables p)) 0 f.level
+
+-- nothing is offered that hands on to a rule which has a choice, unless that is done
+pub record Going (k : Known) (f : Offers) : Type 0 where
+  pub level : Level k f
+  pub hands : (p q : ℕ) → IsHeir k.tables p q → HasChoice f.choices q → IsHandled k.tables f p
+
+-- a production that can be chosen now
+pub record IsNext (k : Known) (f : Offers) (p : ℕ) : Type 0 where
+  pub offered : IsOffered k.tables f.choices f.number f.cost p
+  pub floor : IsFloor k f.choices f.cost p
+  pub least : (is_alone k (owner k.tables p) ≡ true) ⊎ ((q : ℕ) → Waits f q → NotAfter k.tables f.choices (row k.tables p) (row k.tables q))
+
+-- it was taken out
+pub record Takes (k : Known) (p : ℕ) (f f' : Offers) : Type 0 where
+  pub choices : f'.choices ≡ f.choices
+  pub cost : f'.cost ≡ f.cost
+  pub number : f'.number ≡ f.number
+  pub level : Level k f'
+  pub next : IsNext k f' p
+  pub waits : (q : ℕ) → Waits f q → Waits f' q ⊎ (q ≡ p)
+  pub together : waiting f ≡ waiting f' + 1
+
+-- nothing waits, and all stayed
+abbrev pub IsDrained : Offers → Offers → Type 0
+IsDrained f f' = (waiting f ≡ 0) × (f' ≡ f)
+
+-- these and no others wait now too
+pub record Adds (Is : ℕ → Type 0) (n : ℕ) (f f' : Offers) : Type 0 where
+  pub choices : f'.choices ≡ f.choices
+  pub number : f'.number ≡ f.number
+  pub cost : f'.cost ≡ f.cost
+  pub waits : (q : ℕ) → (Waits f' q ↔ (Waits f q ⊎ Is q))
+  pub together : waiting f' ≡ waiting f + n
+
+-- how many steps are left till nothing is offered
+abbrev pub left_to_choose : Known → Offers → ℕ
+left_to_choose k f = (k.tables.grammar.rules - f.number) * (length k.tables.grammar.productions + 1) + waiting f
+
+-- what was handled, and this, is handled
+abbrev pub Handles : CostTables → (ℕ → Type 0) → Offers → Offers → Type 0
+Handles x Is f f' = (q : ℕ) → IsHandled x f q ⊎ Is q → IsHandled x f' q
+
+-- own productions, each with its cost
+pub record AreOwn (x : CostTables) (queue : List (ℕ × ℕ)) : Type 0 where
+  pub all : (p : ℕ) → HasNoHeir x p → (c : ℕ) × Contains queue (c, p)
+  pub costs : (c p : ℕ) → Contains queue (c, p) → (own : HasNoHeir x p) × (own.tight.cost ≡ c)
+
+-- All rules of lesser cost have choices, and none of this cost or a greater one. Own productions are handled, or in the queue.
+pub record Climbing (k : Known) (f : Offers) (queue : List (ℕ × ℕ)) : Type 0 where
+  pub going : Going k f
+  pub own : (p : ℕ) → HasNoHeir k.tables p → ((c : ℕ) × Contains queue (c, p)) ⊎ IsHandled k.tables f p
+  pub costs : (c p : ℕ) → Contains queue (c, p) → (own : HasNoHeir k.tables p) × (own.tight.cost ≡ c)
+  pub dear : All (λ entry. f.cost ≤ entry.0) queue
+  pub older : (r d : ℕ) → cost_answer k.tables r ≡ Some d → 0 < d → d < f.cost → HasChoice f.choices r
+  pub younger : (r d : ℕ) → HasChoice f.choices r → cost_answer k.tables r ≡ Some d → d < f.cost

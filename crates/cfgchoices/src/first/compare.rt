@@ -1,0 +1,121 @@
+//! Productions in the order of what the choices make of them. Two are compared side by side, from their first tokens on.
+
+ghost use Rattle.std.specs.Prelude.{◌≡◌, ℕ, ◌<◌, ◌++◌, ◌∷◌, [], List, IfOk, IfSome, MatchOption, OnOk, length, map};
+ghost use Rattle.std.specs.Prelude.{reverse};
+ghost use Rattle.cfgtables.specs.Symbols.{sym_of};
+ghost use Rattle.cfgleast.specs.Certificate.{choice_of};
+ghost use Rattle.cfgchoices.specs.First.{dictionary};
+ghost use Rattle.cfgchoices.specs.Inner.Offers.{AreMade, Gives, Pends, left_to_open, row};
+
+use crate::first::tight::TightTables;
+use cfgtables::Tables;
+use cfgindex::{PIdx, Storage, Symbol, TIdx};
+use std::alloc::{AllocError, Global};
+use std::cmp::Ordering;
+
+/// Adds the symbols behind those that are pending, the last one first.
+///
+/// # Errors
+///
+/// Want of memory.
+fn push_turned<S: Storage>(
+    pending: &mut Vec<Symbol<S>>,
+    symbols: &[Symbol<S>],
+) -> Result<(), AllocError>
+    ensures { OnOk result (pending.new.items ≡ pending.old.items ++ reverse symbols.now) }
+{
+    for taken in 0..symbols.len() {
+        pending.push(symbols[symbols.len() - 1 - taken])?;
+    }
+    Ok(())
+}
+
+impl<'a, S: Storage, T: Tables<S>> TightTables<'a, S, T> {
+    /// The symbols of a production, pending: the first one is last.
+    ///
+    /// # Errors
+    ///
+    /// Want of memory.
+    fn pending(&self, alloc: Global, p: PIdx<S>) -> Result<Vec<Symbol<S>>, AllocError>
+        requires { S.number p.0 < length self.now.tables.grammar.productions }
+        ensures { IfOk result (λ pending.
+            reverse (map (sym_of S.number) pending.items) ≡ row self.now.tables (S.number p.0)) }
+    {
+        let mut pending = Vec::new(alloc);
+        push_turned(&mut pending, self.symbols(p))?;
+        Ok(pending)
+    }
+
+    /// The next token of what the choices make of the pending symbols, the last of which comes first.
+    ///
+    /// # Errors
+    ///
+    /// Want of memory.
+    fn next_token(
+        &self,
+        choices: &[Option<(PIdx<S>, u32)>],
+        pending: &mut Vec<Symbol<S>>,
+    ) -> Result<Option<TIdx<S>>, AllocError>
+        requires choosing { AreMade self.now.tables (map (choice_of S.number) choices.now) }
+        requires given { (w : List ℕ) × Pends self.now.tables (map (choice_of S.number) choices.now)
+            (map (sym_of S.number) pending.old.items) w }
+        ensures next { IfOk result (λ token. (w : List ℕ)
+            → Pends self.now.tables (map (choice_of S.number) choices.now) (map (sym_of S.number) pending.old.items) w
+            → MatchOption token (w ≡ []) (λ t. (v : List ℕ) × (w ≡ S.number t.0 ∷ v)
+            × Pends self.now.tables (map (choice_of S.number) choices.now)
+            (map (sym_of S.number) pending.new.items) v)) }
+        ensures less { IfOk result (λ token. IfSome token (λ _.
+            left_to_open self.now.tables (map (choice_of S.number) choices.now)
+            (map (sym_of S.number) pending.new.items)
+            < left_to_open self.now.tables (map (choice_of S.number) choices.now)
+            (map (sym_of S.number) pending.old.items))) }
+    {
+        let _rules = self.rules_len();
+        while let Some(symbol) = pending.pop() {
+            match symbol {
+                Symbol::Token(token) => return Ok(Some(token)),
+                Symbol::Rule(rule) => {
+                    if let Some((p, _)) = choices[usize::from(rule)] {
+                        push_turned(pending, self.symbols(p))?;
+                    }
+                }
+            }
+        }
+        Ok(None)
+    }
+
+    /// How what the choices make of two productions stands in a dictionary.
+    ///
+    /// # Errors
+    ///
+    /// Want of memory.
+    pub(crate) fn compare(
+        &self,
+        alloc: Global,
+        choices: &[Option<(PIdx<S>, u32)>],
+        one: PIdx<S>,
+        other: PIdx<S>,
+    ) -> Result<Ordering, AllocError>
+        requires choosing { AreMade self.now.tables (map (choice_of S.number) choices.now) }
+        requires place { S.number one.0 < length self.now.tables.grammar.productions }
+        requires other { S.number other.0 < length self.now.tables.grammar.productions }
+        requires given { (u : List ℕ)
+            × Gives self.now.tables (map (choice_of S.number) choices.now) (row self.now.tables (S.number one.0)) u }
+        requires also { (v : List ℕ)
+            × Gives self.now.tables (map (choice_of S.number) choices.now) (row self.now.tables (S.number other.0)) v }
+        ensures { IfOk result (λ ordering. (u v : List ℕ)
+            → Gives self.now.tables (map (choice_of S.number) choices.now) (row self.now.tables (S.number one.0)) u
+            → Gives self.now.tables (map (choice_of S.number) choices.now) (row self.now.tables (S.number other.0)) v
+            → ordering ≡ dictionary u v) }
+    {
+        let mut ones = self.pending(alloc, one)?;
+        let mut others = self.pending(alloc, other)?;
+        while let Some(token) = self.next_token(choices, &mut ones)? {
+            let ordering = Some(token).cmp(&self.next_token(choices, &mut others)?);
+            if ordering.is_ne() {
+                return Ok(ordering);
+            }
+        }
+        Ok(None.cmp(&self.next_token(choices, &mut others)?))
+    }
+}

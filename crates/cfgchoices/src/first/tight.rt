@@ -1,0 +1,226 @@
+//! What is known of the productions that cost just what their rules do.
+
+ghost use Rattle.std.specs.Prelude.{◌≡◌, ◌↔◌, ℕ, ◌^◌, ◌<◌, ◌≤◌, ◌⊎◌, All, Contains, IfOk, MatchOption, false, length};
+ghost use Rattle.std.specs.Prelude.{map, slice_index_or, true};
+ghost use Rattle.cfgtables.specs.Openings.{nth_production};
+ghost use Rattle.cfgtables.specs.Symbols.{sym_of};
+ghost use Rattle.cfgleast.specs.Generator.{IsGenerator, tables_of};
+ghost use Rattle.cfgchoices.specs.Inner.Kinds.{AreKinds, HasNoHeir, IsHeir, IsTight, places_of};
+ghost use Rattle.cfgchoices.specs.Inner.Offers.{AreHanding, HandsOn, IsCounted, IsKnown, is_alone, owner, row};
+ghost use Rattle.cfgchoices.specs.declared.kinds.Kind.TheVariants.{Slack};
+
+use crate::first::handing::Handing;
+use crate::kinds::Kind;
+use cfgleast::settle::Settled;
+use cfgtables::Tables;
+use cfgindex::{PIdx, RIdx, Storage, Symbol, to_storage};
+use std::alloc::{AllocError, Global};
+use std::marker::Model;
+
+/// Whether at most one of the productions costs just what its rule does.
+fn is_alone<S: Storage>(kinds: &[Kind<S>], productions: &[PIdx<S>]) -> bool
+    requires { All (λ p. p < length kinds.now) (places_of S.number productions.now) }
+    ensures { result ≡ true → (p q : ℕ) → Contains (places_of S.number productions.now) p
+        → Contains (places_of S.number productions.now) q → IsCounted kinds.now p → IsCounted kinds.now q → p ≡ q }
+{
+    let mut found = false;
+    for p in productions {
+        if !matches!(kinds[usize::from(*p)], Kind::Slack) {
+            if found {
+                return false;
+            }
+            found = true;
+        }
+    }
+    true
+}
+
+/// For each rule whether at most one of its productions costs just what it does.
+///
+/// # Errors
+///
+/// Want of memory.
+fn alone_rules<S: Storage, T: Tables<S>>(
+    alloc: Global,
+    tables: &T,
+    kinds: &[Kind<S>],
+) -> Result<Vec<bool>, AllocError>
+    requires { length kinds.now ≡ length (T.grammar tables.now).productions }
+    ensures flags { IfOk result (λ alone. length alone.items ≡ (T.grammar tables.now).rules) }
+    ensures alone { IfOk result (λ alone. (r : ℕ) → slice_index_or alone.items r false ≡ true
+        → (p q : ℕ) → IsCounted kinds.now p → IsCounted kinds.now q
+        → (nth_production (T.grammar tables.now) p).rule ≡ r → (nth_production (T.grammar tables.now) q).rule ≡ r
+        → p ≡ q) }
+{
+    let rules_len = tables.rules_len().0.to_usize();
+    let mut alone = Vec::new(alloc);
+    for number in 0..rules_len {
+        let rule = RIdx(to_storage(number));
+        alone.push(is_alone(kinds, tables.rule_to_prods(rule)))?;
+    }
+    Ok(alone)
+}
+
+/// For each rule the productions that hand on to it.
+///
+/// # Errors
+///
+/// Want of memory.
+fn handing<S: Storage>(
+    alloc: Global,
+    rules: usize,
+    kinds: &[Kind<S>],
+) -> Result<Handing<S>, AllocError>
+    requires fits { length kinds.now ≤ S.MAX }
+    requires rules { (p q : ℕ) → HandsOn S.number kinds.now p q → q < rules }
+    ensures { IfOk result (AreHanding S.number kinds.now (length kinds.now) rules) }
+{
+    let mut handing = Handing::new(alloc, rules)?;
+    for number in 0..kinds.len() {
+        if let Kind::HandsOn(rule) = kinds[number] {
+            handing.add(usize::from(rule), PIdx(to_storage(number)))?;
+        }
+    }
+    Ok(handing)
+}
+
+/// The productions that cost just what their rules do, with what is known of them.
+#[derive(Drop)]
+pub(crate) struct TightTables<'a, S: Storage, T: Tables<S>> {
+    tables: &'a T,
+    costs: &'a [u8],
+    settled: &'a Settled<S>,
+    kinds: &'a [Kind<S>],
+    alone: Vec<bool>,
+    handing: Handing<S>,
+}
+
+impl<'a, S: Storage, T: Tables<S>> Model for TightTables<'a, S, T> {
+    ghost use Rattle.cfgleast.specs.Generator.{tables_of};
+    ghost use Rattle.cfgchoices.specs.Inner.Kinds.{AreKinds};
+    ghost use Rattle.cfgchoices.specs.Inner.Offers.{IsKnown, Known};
+
+    ghost Value = { Known };
+
+    ghost view = { λ x. record {
+      tables = tables_of S.number (T.grammar x.tables.now) x.costs.now
+          x.settled.now.least.items x.settled.now.choices.items;
+      alone = x.alone.items;
+      handing = x.handing;
+    } };
+
+    ghost invariant = { λ x. IsKnown (record {
+      tables = tables_of S.number (T.grammar x.tables.now) x.costs.now
+          x.settled.now.least.items x.settled.now.choices.items;
+      alone = x.alone.items;
+      handing = x.handing;
+    })
+        x.settled.now.number
+        × AreKinds S.number (tables_of S.number (T.grammar x.tables.now) x.costs.now x.settled.now.least.items
+        x.settled.now.choices.items) x.kinds.now };
+}
+
+impl<'a, S: Storage, T: Tables<S>> TightTables<'a, S, T> {
+    /// What is known of the productions.
+    ///
+    /// # Errors
+    ///
+    /// Want of memory.
+    pub(crate) fn new(
+        alloc: Global,
+        tables: &'a T,
+        costs: &'a [u8],
+        settled: &'a Settled<S>,
+        kinds: &'a [Kind<S>],
+    ) -> Result<Self, AllocError>
+        requires generator { IsGenerator (tables_of S.number (T.grammar tables.now) costs.now settled.now.least.items
+            settled.now.choices.items) settled.now.number }
+        requires kinds { AreKinds S.number (tables_of S.number (T.grammar tables.now) costs.now
+            settled.now.least.items settled.now.choices.items) kinds.now }
+        ensures { IfOk result (λ x. x.tables ≡ tables_of S.number (T.grammar tables.now) costs.now
+            settled.now.least.items settled.now.choices.items) }
+    {
+        let _prods = tables.prods_len().0.to_usize();
+        let rules_len = usize::from(tables.rules_len());
+        let alone = alone_rules(alloc, tables, kinds)?;
+        let handing = handing(alloc, rules_len, kinds)?;
+        Ok(TightTables {
+            tables,
+            costs,
+            settled,
+            kinds,
+            alone,
+            handing,
+        })
+    }
+
+    /// How many rules there are.
+    pub(crate) fn rules_len(&self) -> usize
+        ensures value { result ≡ self.now.tables.grammar.rules }
+        ensures known { (n : ℕ) × IsKnown self.now n }
+    {
+        usize::from(self.tables.rules_len())
+    }
+
+    /// How many productions there are.
+    pub(crate) fn prods_len(&self) -> usize
+        ensures value { result ≡ length self.now.tables.grammar.productions }
+        ensures fits { result ≤ S.MAX }
+        ensures limit { S.MAX < 2 ^ 32 }
+        ensures kinds { (p : ℕ) → IsTight self.now.tables p
+            → HasNoHeir self.now.tables p ⊎ ((q : ℕ) × IsHeir self.now.tables p q) }
+    {
+        self.tables.prods_len().0.to_usize()
+    }
+
+    /// What the production costs, if it is its rule's own.
+    pub(crate) fn own_cost(&self, p: PIdx<S>) -> Option<u32>
+        requires { S.number p.0 < length self.now.tables.grammar.productions }
+        ensures { MatchOption result (HasNoHeir self.now.tables (S.number p.0) → ⊥)
+            (λ cost. (own : HasNoHeir self.now.tables (S.number p.0)) × (own.tight.cost ≡ cost)) }
+    {
+        let kinds = self.kinds;
+        match kinds[usize::from(p)] {
+            Kind::Own => self.settled.least[usize::from(self.rule_of(p))],
+            _ => None,
+        }
+    }
+
+    /// The rule of the production.
+    pub(crate) fn rule_of(&self, p: PIdx<S>) -> RIdx<S>
+        requires { S.number p.0 < length self.now.tables.grammar.productions }
+        ensures value { S.number result.0 ≡ owner self.now.tables (S.number p.0) }
+        ensures within { S.number result.0 < self.now.tables.grammar.rules }
+        ensures limit { self.now.tables.grammar.rules < 2 ^ 32 }
+    {
+        let _rules = self.tables.rules_len().0.to_usize();
+        self.tables.prod_to_rule(p)
+    }
+
+    /// The symbols of the production.
+    pub(crate) fn symbols(&self, p: PIdx<S>) -> &[Symbol<S>]
+        requires { S.number p.0 < length self.now.tables.grammar.productions }
+        ensures { map (sym_of S.number) result.now ≡ row self.now.tables (S.number p.0) }
+    {
+        self.tables.prod(p)
+    }
+
+    /// Whether no other production of the rule costs just what the rule does.
+    pub(crate) fn is_alone(&self, rule: RIdx<S>) -> bool
+        requires { S.number rule.0 < self.now.tables.grammar.rules }
+        ensures { result ≡ is_alone self.now (S.number rule.0) }
+    {
+        self.alone[usize::from(rule)]
+    }
+
+    /// The productions that hand on to the rule.
+    pub(crate) fn handing_to(&self, rule: RIdx<S>) -> &[PIdx<S>]
+        requires { S.number rule.0 < self.now.tables.grammar.rules }
+        ensures all { (p : ℕ) → Contains (places_of S.number result.now) p
+            ↔ IsHeir self.now.tables p (S.number rule.0) }
+        ensures short { length result.now ≤ length self.now.tables.grammar.productions }
+        ensures known { (n : ℕ) × IsKnown self.now n }
+    {
+        self.handing.to(usize::from(rule))
+    }
+}

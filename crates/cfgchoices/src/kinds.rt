@@ -1,0 +1,141 @@
+//! What productions are to their rules, where they cost just what these do: found once, for each production.
+
+ghost use Rattle.std.specs.Prelude.{◌≡◌, ℕ, ◌<◌, All, Contains, IfOk, MatchOption, Some, length, map, slice_index};
+ghost use Rattle.cfgtables.specs.Symbols.{sym_of};
+ghost use Rattle.derivation.specs.Grammar.{Rule};
+ghost use Rattle.cfgsums.specs.Lists.{IsListed, rule_cost};
+ghost use Rattle.cfgsums.specs.Sums.{symbol_cost};
+ghost use Rattle.cfgleast.specs.Generator.{IsGenerator, tables_of};
+ghost use Rattle.cfgchoices.specs.Inner.Kinds.{HasRulesAsHeirs};
+ghost use Rattle.cfgchoices.specs.Inner.Kinds.{AreKinds, IsKind, IsRowKind};
+
+use cfgleast::partial::Partial;
+use cfgleast::settle::Settled;
+use cfgleast::walk::{TOO_LARGE, walk};
+use cfgtables::Tables;
+use cfgindex::{PIdx, RIdx, Storage, Symbol, to_storage};
+use std::alloc::{AllocError, Global};
+
+/// What a production is to its rule.
+#[derive(Clone, Copy)]
+pub enum Kind<S> {
+    /// It costs more than its rule does, or that costs nothing, or has no cost that is answered.
+    Slack,
+    /// It costs just what its rule does, and each rule in it costs less.
+    Own,
+    /// It costs just what its rule does, and so does this rule in it.
+    HandsOn(RIdx<S>),
+}
+
+/// The symbol's rule, if it has this cost.
+fn rule_of_cost<S: Storage>(least: &[Option<u32>], symbol: Symbol<S>, cost: u32) -> Option<RIdx<S>>
+    requires { (tokens : ℕ) × IsListed (length least.now) tokens (sym_of S.number symbol) }
+    ensures { MatchOption result
+        ((q : ℕ) → sym_of S.number symbol ≡ Rule q → rule_cost least.now q ≡ Some cost → ⊥)
+        (λ r. (sym_of S.number symbol ≡ Rule (S.number r.0)) × (rule_cost least.now (S.number r.0) ≡ Some cost)) }
+{
+    match symbol {
+        Symbol::Rule(rule) if least[usize::from(rule)] == Some(cost) => Some(rule),
+        _ => None,
+    }
+}
+
+/// The first rule among the symbols that has this cost.
+fn first_of_cost<S: Storage>(
+    least: &[Option<u32>],
+    symbols: &[Symbol<S>],
+    cost: u32,
+) -> Option<RIdx<S>>
+    requires { (tokens : ℕ) × All (IsListed (length least.now) tokens) (map (sym_of S.number) symbols.now) }
+    ensures { MatchOption result
+        ((q : ℕ) → Contains (map (sym_of S.number) symbols.now) (Rule q) → rule_cost least.now q ≡ Some cost → ⊥)
+        (λ r. Contains (map (sym_of S.number) symbols.now) (Rule (S.number r.0))
+        × (rule_cost least.now (S.number r.0) ≡ Some cost)) }
+{
+    for symbol in symbols {
+        if let Some(rule) = rule_of_cost(least, *symbol, cost) {
+            return Some(rule);
+        }
+    }
+    None
+}
+
+/// What a production of these symbols is to its rule, which has this cost.
+fn row_kind<S: Storage>(
+    costs: &[u8],
+    least: &[Option<u32>],
+    symbols: &[Symbol<S>],
+    cost: u32,
+) -> Kind<S>
+    requires listed { All (IsListed (length least.now) (length costs.now)) (map (sym_of S.number) symbols.now) }
+    requires small { cost < 65536 }
+    ensures { IsRowKind S.number (slice_index costs.now) (rule_cost least.now) cost (map (sym_of S.number) symbols.now)
+        result }
+{
+    let start = Partial {
+        production: 0,
+        taken: 0,
+        sum: 0,
+    };
+    match walk(costs, least, symbols, start) {
+        Ok(sum) => {
+            if sum == cost {
+                match first_of_cost(least, symbols, cost) {
+                    Some(rule) => Kind::HandsOn(rule),
+                    None => Kind::Own,
+                }
+            } else {
+                Kind::Slack
+            }
+        }
+        Err(_) => Kind::Slack,
+    }
+}
+
+/// What the production is to its rule.
+fn kind_of<S: Storage, T: Tables<S>>(
+    tables: &T,
+    costs: &[u8],
+    settled: &Settled<S>,
+    p: PIdx<S>,
+) -> Kind<S>
+    requires generator { IsGenerator (tables_of S.number (T.grammar tables.now) costs.now settled.now.least.items
+        settled.now.choices.items) settled.now.number }
+    requires place { S.number p.0 < length (T.grammar tables.now).productions }
+    ensures { IsKind S.number (tables_of S.number (T.grammar tables.now) costs.now settled.now.least.items
+        settled.now.choices.items) (S.number p.0) result }
+{
+    let _rules = tables.rules_len();
+    let rule = usize::from(tables.prod_to_rule(p));
+    match settled.least[rule] {
+        Some(cost) if cost > 0 && cost < TOO_LARGE => {
+            row_kind(costs, &settled.least, tables.prod(p), cost)
+        }
+        _ => Kind::Slack,
+    }
+}
+
+/// What each production is to its rule.
+///
+/// # Errors
+///
+/// Want of memory.
+pub fn kinds<S: Storage, T: Tables<S>>(
+    alloc: Global,
+    tables: &T,
+    costs: &[u8],
+    settled: &Settled<S>,
+) -> Result<Vec<Kind<S>>, AllocError>
+    requires { IsGenerator (tables_of S.number (T.grammar tables.now) costs.now settled.now.least.items
+        settled.now.choices.items) settled.now.number }
+    ensures kinds { IfOk result (λ kinds. AreKinds S.number (tables_of S.number (T.grammar tables.now) costs.now
+        settled.now.least.items settled.now.choices.items) kinds.items) }
+    ensures heirs { IfOk result (λ kinds. HasRulesAsHeirs S.number (T.grammar tables.now) kinds.items) }
+{
+    let prods_len = tables.prods_len().0.to_usize();
+    let mut kinds = Vec::new(alloc);
+    for number in 0..prods_len {
+        kinds.push(kind_of(tables, costs, settled, PIdx(to_storage(number))))?;
+    }
+    Ok(kinds)
+}

@@ -1,6 +1,0 @@
-use Rattle.std.proofs.Common.{take, All}
-use Rattle.cfgcosts.specs.Certificate.{IsCoveredInRange}
-use Rattle.cfgcosts.proofs.certificate.check_least.Given as goal
-
-abbrev pub invariant-loop-number : goal.invariant-loop-number
-invariant-loop-number g l = All (IsCoveredInRange l.costs l.least) (take l.number (g.T.Tables.grammar l.grm).productions)

@@ -1,5 +1,0 @@
-use Rattle.cfgcosts.specs.Offers.{AreHanding}
-use Rattle.cfgcosts.proofs.first.tight.handing.Given as goal
-
-abbrev pub invariant-loop-number : goal.invariant-loop-number
-invariant-loop-number g l = AreHanding g.S.Storage.number l.kinds l.number l.rules l.handing

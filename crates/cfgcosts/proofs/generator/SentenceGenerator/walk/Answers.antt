@@ -1,0 +1,127 @@
+use Rattle.std.proofs.Common.{◌≡◌, ◌-◌, ◌+◌, ◌<◌, ◌≤◌, ◌++◌, [], ◌∷◌, None, Some, length, map, take, refl, sym, ap, subst, arith, ◌∙◌}
+use Rattle.std.proofs.lemmas.List.{length-map, map-append}
+use Rattle.std.proofs.lemmas.List.Elements.{All-get_or}
+use Rattle.derivation.specs.Grammar.{Grammar}
+use Rattle.cfgindex.specs.declared.idxnewtype.Symbol.TheVariants as symbols
+use Rattle.cfgtables.specs.Openings.{nth_production}
+use Rattle.cfgtables.specs.Symbols.{sym_of}
+use Rattle.cfgleast.specs.Certificate.{choice_of}
+use Rattle.cfgleast.specs.Generator.{CostTables, cost_answer, tables_of, token_cost}
+use Rattle.cfgcosts.specs.Inner.Walk.{HasStopped, HasWalked}
+use Rattle.cfgcosts.proofs.Walking.{IsOnTheWay, choice_at, after_free, after_opened, after_token, begins, chosen_next, countable, finished, last_shown, on_err, popped, rule_within, stopped}
+use Rattle.cfgcosts.proofs.Weights.{lighter_opened, weigh}
+use Rattle.cfgcosts.proofs.generator.SentenceGenerator.walk.Goals as goal
+
+pub loop-symbol-init : goal.loop-symbol-init
+loop-symbol-init g c =
+    let number = g.S.Storage.number in
+    let r = number c.args.rule.0 in
+    let x = tables_of number (g.T.Tables.grammar c.self.inside.tables.now) c.self.inside.costs.items c.self.inside.settled.least.items c.self.inside.firsts.items in
+    record {
+      same = c.requires.same ∙ sym (ap (λ (y : CostTables). y.grammar) c.self.view_is);
+      way = begins x r _ c.requires.cost.0 c.self.invariant.3 c.rules_len.ensures.content c.self.invariant.4 (subst (λ (y : CostTables). r < y.grammar.rules) (sym c.self.view_is) c.requires.rule)
+          (subst (λ (y : CostTables). cost_answer y r ≡ Some c.requires.cost.0) (sym c.self.view_is) c.requires.cost.1) c.requires.fresh _ _
+          (ap (map (sym_of number)) (c.in_ok-push.ensures.items ∙ ap (λ l. l ++ symbols.Rule c.args.rule ∷ []) c.new-pending.ensures.items))
+          (ap (map (λ t. number t.0)) c.new-sentence.ensures.items);
+    }
+
+pub loop-symbol-preserved-in-Continue-branch-2 : goal.loop-symbol-preserved-in-Continue-branch-2
+loop-symbol-preserved-in-Continue-branch-2 g c =
+    let number = g.S.Storage.number in
+    let x = tables_of number (g.T.Tables.grammar c.self.inside.tables.now) c.self.inside.costs.items c.self.inside.settled.least.items c.self.inside.firsts.items in
+    let way = popped number x _ _ _ _ c.in-Some.ensures.items c.in-Token.is c.loop-symbol.invariant.way in
+    record {
+      same = c.loop-symbol.invariant.same;
+      way = subst (IsOnTheWay _ _ _ _) (sym (ap (map (λ t. number t.0)) c.in_ok-push-in-Token.ensures.items ∙ map-append (λ t. number t.0) c.loop-symbol.sentence.items (c.in-Token.token ∷ [])))
+          (after_token x _ _ _ _ (number c.in-Token.token.0) way);
+    }
+
+pub index-requires : goal.index-requires
+index-requires g c =
+    let number = g.S.Storage.number in
+    let x = tables_of number (g.T.Tables.grammar c.self.inside.tables.now) c.self.inside.costs.items c.self.inside.settled.least.items c.self.inside.firsts.items in
+    let within = rule_within x _ _ _ _ (number c.in-Rule.rule.0) (popped number x _ _ _ _ c.in-Some.ensures.items c.in-Rule.is c.loop-symbol.invariant.way) in
+    let all = c.loop-symbol.invariant.way.leads.walks.listed in
+    let len = length-map c.self.inside.firsts.items (choice_of number) in
+    omega (arith, within, all, len, c.from.ensures, c.self.inside.firsts.ok.0)
+
+pub loop-symbol-preserved : goal.loop-symbol-preserved
+loop-symbol-preserved g c =
+    let number = g.S.Storage.number in
+    let x = tables_of number (g.T.Tables.grammar c.self.inside.tables.now) c.self.inside.costs.items c.self.inside.settled.least.items c.self.inside.firsts.items in
+    let q = number c.in-Rule.rule.0 in
+    let way = popped number x _ _ _ _ c.in-Some.ensures.items c.in-Rule.is c.loop-symbol.invariant.way in
+    let choice = choice_at x _ _ _ _ number c.self.inside.firsts.items q c.from.result c.index.result.now None refl c.from.ensures c.index.ensures c.in_default-index.is way in
+    record { same = c.loop-symbol.invariant.same; way = after_free x _ _ _ _ q choice way }
+
+pub open_onto-requires-clause-place : goal.open_onto-requires-clause-place
+open_onto-requires-clause-place g c =
+    let number = g.S.Storage.number in
+    let x = tables_of number (g.T.Tables.grammar c.self.inside.tables.now) c.self.inside.costs.items c.self.inside.settled.least.items c.self.inside.firsts.items in
+    let q = number c.in-Rule.rule.0 in
+    let way = popped number x _ _ _ _ c.in-Some.ensures.items c.in-Rule.is c.loop-symbol.invariant.way in
+    let choice = choice_at x _ _ _ _ number c.self.inside.firsts.items q c.from.result c.index.result.now _ refl c.from.ensures c.index.ensures c.in-Some-index.is way in
+    subst (λ (h : Grammar). number c.in-Some-index.p.0 < length h.productions) (sym c.loop-symbol.invariant.same)
+    (chosen_next x _ _ _ _ q (number c.in-Some-index.p.0) c.in-Some-index.field-0-1 choice way).opens.place
+
+pub open_onto-requires-clause-countable : goal.open_onto-requires-clause-countable
+open_onto-requires-clause-countable g c =
+    let cost = c.requires.cost.0 in
+    let answer = subst (λ (y : CostTables). cost_answer y (g.S.Storage.number c.args.rule.0) ≡ Some cost) (sym c.self.view_is) c.requires.cost.1 in
+    let rules = c.to_usize-rules.ensures.value ∙ c.rules_len.ensures.value in
+    countable _ _ _ _ _ c.loop-symbol.invariant.way cost answer (omega (arith, rules, c.to_usize-rules.ensures.range, c.to_usize-rules.ensures.limit))
+
+pub loop-symbol-preserved-in-Continue-branch-3 : goal.loop-symbol-preserved-in-Continue-branch-3
+loop-symbol-preserved-in-Continue-branch-3 g c =
+    let number = g.S.Storage.number in
+    let x = tables_of number (g.T.Tables.grammar c.self.inside.tables.now) c.self.inside.costs.items c.self.inside.settled.least.items c.self.inside.firsts.items in
+    let q = number c.in-Rule.rule.0 in
+    let p = number c.in-Some-index.p.0 in
+    let way = popped number x _ _ _ _ c.in-Some.ensures.items c.in-Rule.is c.loop-symbol.invariant.way in
+    let choice = choice_at x _ _ _ _ number c.self.inside.firsts.items q c.from.result c.index.result.now _ refl c.from.ensures c.index.ensures c.in-Some-index.is way in
+    let pending = c.in_ok-open_onto-in-Rule.ensures.symbols ∙ ap (λ (h : Grammar). map (sym_of number) c.pop.new.self.items ++ (nth_production h p).symbols) c.loop-symbol.invariant.same in
+    record {
+      same = c.open_onto.ensures.grammar ∙ c.loop-symbol.invariant.same;
+      way = after_opened x _ _ _ _ q p c.in-Some-index.field-0-1 choice way _ c.open_onto.ensures.opened _ pending;
+    }
+
+pub loop-symbol-smaller-in-Continue-branch-3 : goal.loop-symbol-smaller-in-Continue-branch-3
+loop-symbol-smaller-in-Continue-branch-3 g c =
+    let number = g.S.Storage.number in
+    let x = tables_of number (g.T.Tables.grammar c.self.inside.tables.now) c.self.inside.costs.items c.self.inside.settled.least.items c.self.inside.firsts.items in
+    let q = number c.in-Rule.rule.0 in
+    let p = number c.in-Some-index.p.0 in
+    let way = popped number x _ _ _ _ c.in-Some.ensures.items c.in-Rule.is c.loop-symbol.invariant.way in
+    let choice = choice_at x _ _ _ _ number c.self.inside.firsts.items q c.from.result c.index.result.now _ refl c.from.ensures c.index.ensures c.in-Some-index.is way in
+    let o = (chosen_next x _ _ _ _ q p c.in-Some-index.field-0-1 choice way).opens in
+    let many = g.S.Storage.MAX + 1 in
+    let fits = All-get_or (λ p. length p.symbols ≤ g.S.Storage.MAX) x.grammar.productions p (record { rule = 0; symbols = [] }) o.place c.rules_len.ensures.fits in
+    let pending = c.in_ok-open_onto-in-Rule.ensures.symbols ∙ ap (λ (h : Grammar). map (sym_of number) c.pop.new.self.items ++ (nth_production h p).symbols) c.loop-symbol.invariant.same in
+    let now = ap (weigh x many) pending in
+    let before = ap (weigh x many) (last_shown number c.loop-symbol.pending.items c.pop.new.self.items _ _ c.in-Some.ensures.items c.in-Rule.is) in
+    let less = lighter_opened x many (omega arith) c.self.invariant.3 (map (sym_of number) c.pop.new.self.items) q p c.in-Some-index.field-0-1 choice (omega (arith, fits)) in
+    omega (arith, now, before, less)
+
+pub returns-in_err-push-in-Token-clause-stopped : goal.returns-in_err-push-in-Token-clause-stopped
+returns-in_err-push-in-Token-clause-stopped g c =
+    on_err _ (subst (λ (y : CostTables). HasStopped y.grammar (token_cost y) (g.S.Storage.number c.args.rule.0) (g.O.Opener.has_opened c.loop-symbol.source)) c.self.view_is
+    (stopped _ _ _ _ _ c.loop-symbol.invariant.way))
+
+pub returns-in_err-open_onto-in-Rule-clause-stopped : goal.returns-in_err-open_onto-in-Rule-clause-stopped
+returns-in_err-open_onto-in-Rule-clause-stopped g c =
+    let number = g.S.Storage.number in
+    let x = tables_of number (g.T.Tables.grammar c.self.inside.tables.now) c.self.inside.costs.items c.self.inside.settled.least.items c.self.inside.firsts.items in
+    let q = number c.in-Rule.rule.0 in
+    let p = number c.in-Some-index.p.0 in
+    let way = popped number x _ _ _ _ c.in-Some.ensures.items c.in-Rule.is c.loop-symbol.invariant.way in
+    let choice = choice_at x _ _ _ _ number c.self.inside.firsts.items q c.from.result c.index.result.now _ refl c.from.ensures c.index.ensures c.in-Some-index.is way in
+    on_err _ (subst (λ (y : CostTables). HasStopped y.grammar (token_cost y) (number c.args.rule.0) (g.O.Opener.has_opened c.open_onto.new.source)) c.self.view_is
+    (stopped _ _ _ _ _ (after_opened x _ _ _ _ q p c.in-Some-index.field-0-1 choice way _ c.open_onto.ensures.opened _ refl)))
+
+pub returns-clause-walked : goal.returns-clause-walked
+returns-clause-walked g c =
+    let number = g.S.Storage.number in
+    let rest : c.pop.new.self.items ≡ [] = c.in_default.ensures.rest ∙ ap (λ n. take (n - 1) c.loop-symbol.pending.items) c.in_default.ensures.cases.0 in
+    let none = ap (map (sym_of number)) (c.in_default.ensures.items ∙ ap (λ l. l ++ []) rest) in
+    subst (λ (y : CostTables). HasWalked y.grammar (token_cost y) (number c.args.rule.0) (g.O.Opener.has_opened c.loop-symbol.source) (map (λ t. number t.0) c.reverse.new.self.items)) c.self.view_is
+    (finished _ _ _ (λ t. number t.0) c.loop-symbol.sentence.items c.reverse.new.self.items _ c.reverse.ensures.items none c.loop-symbol.invariant.way)

@@ -1,8 +1,0 @@
-use Rattle.std.proofs.Common.{◌≡◌, ℕ, Some, Contains, map, take}
-use Rattle.derivation.specs.Grammar.{Rule}
-use Rattle.cfganalysis.specs.Symbols.{sym_of}
-use Rattle.cfgsums.specs.Lists.{rule_cost}
-use Rattle.cfgcosts.proofs.kinds.first_of_cost.Given as goal
-
-abbrev pub invariant-loop-symbol : goal.invariant-loop-symbol
-invariant-loop-symbol g l = (q : ℕ) → Contains (take l.symbol-index (map (sym_of g.S.Storage.number) l.symbols)) (Rule q) → rule_cost l.least q ≡ Some l.cost → ⊥

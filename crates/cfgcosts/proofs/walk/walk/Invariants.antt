@@ -1,9 +1,0 @@
-use Rattle.std.proofs.Common.{map, take}
-use Rattle.std.specs.List.{slice_index}
-use Rattle.cfganalysis.specs.Symbols.{sym_of}
-use Rattle.cfgsums.specs.Lists.{rule_cost}
-use Rattle.cfgcosts.specs.Open.{IsCutSum}
-use Rattle.cfgcosts.proofs.walk.walk.Given as goal
-
-abbrev pub invariant-loop-place : goal.invariant-loop-place
-invariant-loop-place g l = IsCutSum (slice_index l.costs) (rule_cost l.least) (take l.place (map (sym_of g.S.Storage.number) l.symbols)) l.sum

@@ -1,0 +1,29 @@
+-- Rules that hand on to one rule alone, told by what productions are to their rules.
+use Rattle.std.specs.Prelude.{◌≡◌, ℕ, ◌<◌, ◌⊎◌, List, All, length, map, slice_index, slice_index_or}
+use Rattle.cfgindex.specs.declared.idxnewtype.RIdx.{RIdx}
+use Rattle.derivation.specs.Grammar.{Grammar}
+use Rattle.cfgtables.specs.Openings.{nth_production}
+use Rattle.cfgchoices.specs.Levels.{Along}
+use Rattle.cfgchoices.specs.declared.kinds.Kind.{Kind}
+use Rattle.cfgchoices.specs.declared.kinds.Kind.TheVariants.{Slack, HandsOn}
+
+-- the numbers of rules
+abbrev pub rules_of : {S : Type 0} → (S → ℕ) → List (RIdx S) → List ℕ
+rules_of number rules = map (λ r. number r.0) rules
+
+module _ {S : Type 0} (number : S → ℕ) (g : Grammar) (kinds : List (Kind S)) where
+  -- a production of the rule hands on to the other one, and its other productions cost more
+  pub record IsOnlyHeir (r q : ℕ) : Type 0 where
+    pub place : ℕ
+    pub within : place < length g.productions
+    pub owner : (nth_production g place).rule ≡ r
+    pub heir : RIdx S
+    pub kind : slice_index_or kinds place Slack ≡ HandsOn heir
+    pub is : number heir.0 ≡ q
+    pub others : (p : ℕ) → p < length g.productions → (nth_production g p).rule ≡ r → (p ≡ place) ⊎ (slice_index_or kinds p Slack ≡ Slack)
+
+  -- for each rule one to which it leads by only heirs
+  pub record AreHeirs (heirs : List ℕ) : Type 0 where
+    pub all : length heirs ≡ g.rules
+    pub within : All (λ heir. heir < g.rules) heirs
+    pub each : (r : ℕ) → r < length heirs → Along IsOnlyHeir r (slice_index heirs r)

@@ -1,0 +1,37 @@
+-- Walks by chosen productions from a rule, from the last token of its first minimal sentence to the first.
+use Rattle.std.specs.Prelude.{◌≡◌, ℕ, ◌+◌, ◌*◌, ◌<◌, ◌≤◌, List, [], ◌∷◌, All, length}
+use Rattle.derivation.specs.Grammar.{Grammar, Sym, Rule, HasProduction}
+use Rattle.derivation.specs.Sentence.{cost_of}
+use Rattle.derivation.specs.Costs.{Least}
+use Rattle.cfgchoices.specs.First.{FirstMinimal}
+use Rattle.cfgchoices.specs.Splits.{Split}
+use Rattle.cfgcosts.specs.DerivedBy.{DerivesBy, IsFree, OpensNoneFree, times}
+
+-- the first minimal sentence of a rule: it has at most as many tokens as it costs, and none is the end token
+pub record IsFirstSentence (g : Grammar) (cost : ℕ → ℕ) (r : ℕ) (w : List ℕ) : Type 0 where
+  pub first : FirstMinimal (HasProduction g) cost r w
+  pub short : length w ≤ cost_of cost w
+  pub within : All (λ t. t + 1 < g.tokens) w
+
+-- each production is counted as often as it stands among the opened ones
+pub record AreCountsOf (g : Grammar) (opened : ℕ → ℕ) (all : ℕ) (places : List ℕ) : Type 0 where
+  pub each : (p : ℕ) → p < length g.productions → opened p ≡ times p places
+  pub together : all ≡ length places
+
+-- how a walk from the rule has ended: with its first minimal sentence, which the opened productions derive
+pub record HasWalked (g : Grammar) (cost : ℕ → ℕ) (r : ℕ) (HasOpened : List ℕ → Type 0) (w : List ℕ) : Type 0 where
+  pub found : IsFirstSentence g cost r w
+  pub places : List ℕ
+  pub opened : HasOpened places
+  pub list : List Sym
+  pub derived : DerivesBy g places (Rule r ∷ []) list
+  pub tokens : Split (IsFree g cost) list w
+  pub few : length places ≤ 1 + length w * g.rules
+  pub free : OpensNoneFree g cost (λ p. times p places)
+
+-- or for want of memory
+pub record HasStopped (g : Grammar) (cost : ℕ → ℕ) (r : ℕ) (HasOpened : List ℕ → Type 0) : Type 0 where
+  pub places : List ℕ
+  pub opened : HasOpened places
+  pub few : (c : ℕ) → Least (HasProduction g) cost r c → length places ≤ 1 + c * g.rules
+  pub free : OpensNoneFree g cost (λ p. times p places)

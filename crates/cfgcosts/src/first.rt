@@ -1,9 +1,0 @@
-//! The production by which each rule's first minimal sentence is made, found level by level, by rising cost.
-
-mod compare;
-mod handing;
-mod levels;
-mod offers;
-mod tight;
-
-pub(crate) use levels::first_choices;

@@ -1,0 +1,12 @@
+pub mod TreeSums
+pub mod Bounds
+pub mod Cut
+pub mod Certified
+pub mod Gains
+pub mod Queued
+pub mod Opened
+pub mod Chosen
+pub mod Walked
+pub mod Settles
+pub mod Answered
+pub mod Generated

@@ -1,0 +1,59 @@
+-- What holds of the sums of productions holds of what sentences cost: a table that is closed under the productions is a
+-- bound, by induction on parse trees, and a well-founded choice of productions reaches the table, by induction on the
+-- numbers of the choice.
+use Rattle.std.proofs.Common.{◌≡◌, ℕ, zero, suc, ◌+◌, ◌<◌, List, [], ◌∷◌, Option, Some, All, arith, sym, ap, subst, ◌∙◌, append-nil}
+use Rattle.std.proofs.lemmas.List.Sums.{sum_by-append}
+use Rattle.derivation.specs.Grammar.{Sym, Rule, Token}
+use Rattle.derivation.specs.Sentence.{cost_of}
+use Rattle.derivation.specs.Tree.{Yields, empty, token, opened}
+use Rattle.cfgsums.specs.Sums.{plus, sum_of}
+use Rattle.cfgleast.specs.Inner.Numbers.{IsNumberedBelow}
+use Rattle.cfgsums.proofs.Made.{GoesOver, Made, cost_of-token, made_row}
+
+module _ (P : ℕ → List Sym → Type 0) (cost : ℕ → ℕ) (costs : Sym → Option ℕ) where
+  -- a relation of costs in the table and costs of words that goes over to sums, and from productions to their rules
+  pub record GoesUp (R : Option ℕ → ℕ → Type 0) : Type 0 where
+    pub none : R (Some 0) 0
+    pub both : (a b : Option ℕ) (m n : ℕ) → R a m → R b n → R (plus a b) (m + n)
+    pub token : (t : ℕ) → R (costs (Token t)) (cost t)
+    pub production : (r : ℕ) (symbols : List Sym) (n : ℕ) → P r symbols → R (sum_of costs symbols) n → R (costs (Rule r)) n
+
+  -- it holds of all that parse trees yield
+  pub sums_by_trees : (R : Option ℕ → ℕ → Type 0) → GoesUp R → {a : List Sym} {w : List ℕ} → Yields P a w → R (sum_of costs a) (cost_of cost w)
+  sums_by_trees R up empty = up.none
+  sums_by_trees R up (token {t = t} {a = a} {w = w} h) =
+      subst (R (plus (costs (Token t)) (sum_of costs a))) (sym (cost_of-token cost t w))
+      (up.both (costs (Token t)) (sum_of costs a) (cost t) (cost_of cost w) (up.token t) (sums_by_trees R up h))
+  sums_by_trees R up (opened {r = r} {symbols = symbols} {a = a} {u = u} {w = w} has h k e) =
+      subst (R (plus (costs (Rule r)) (sum_of costs a))) (sym (ap (cost_of cost) e ∙ sum_by-append cost u w))
+      (up.both (costs (Rule r)) (sum_of costs a) (cost_of cost u) (cost_of cost w)
+      (up.production r symbols (cost_of cost u) has (sums_by_trees R up h)) (sums_by_trees R up k))
+
+  -- a production that a rule's cost rests on: what its sum stands to, so does the cost, and its rules have lesser numbers
+  pub record Choice (R : ℕ → ℕ → Type 0) (number : ℕ → ℕ) (r c : ℕ) : Type 0 where
+    pub symbols : List Sym
+    pub sum : ℕ
+    pub has : P r symbols
+    pub sum_is : sum_of costs symbols ≡ Some sum
+    pub stands : (n : ℕ) → R sum n → R c n
+    pub below : All (IsNumberedBelow number (number r)) symbols
+
+  module _ (R : ℕ → ℕ → Type 0) (over : GoesOver cost costs R) where
+    made_rule : (number : ℕ → ℕ) (r c : ℕ) (choice : Choice R number r c) → Made P cost costs R choice.symbols choice.sum → Made P cost costs R (Rule r ∷ []) c
+    made_rule number r c choice h = record {
+      word = h.word;
+      tree = opened choice.has h.tree empty (sym (append-nil h.word));
+      stands = choice.stands (cost_of cost h.word) h.stands;
+    }
+
+    module _ (number : ℕ → ℕ) (chosen : (r c : ℕ) → costs (Rule r) ≡ Some c → Choice R number r c) where
+      made_below : (n r c : ℕ) → number r < n → costs (Rule r) ≡ Some c → Made P cost costs R (Rule r ∷ []) c
+      made_below zero r c below e = absurd (omega (arith, below))
+      made_below (suc n) r c below e =
+          let choice = chosen r c e in
+          made_rule number r c choice (made_row P cost costs R over (IsNumberedBelow number (number r))
+          (λ q d h. made_below n q d (omega (arith, below, h))) choice.symbols choice.sum choice.below choice.sum_is)
+
+      -- each cost that rests on a choice is that of a sentence
+      pub reached : (r c : ℕ) → costs (Rule r) ≡ Some c → Made P cost costs R (Rule r ∷ []) c
+      reached r c e = made_below (suc (number r)) r c (omega arith) e

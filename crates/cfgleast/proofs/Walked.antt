@@ -1,0 +1,136 @@
+-- Productions that go on: sums with one symbol more, and what moves on leaves.
+use Rattle.std.proofs.Common.{◌≡◌, ℕ, ◌+◌, ◌<◌, ◌≤◌, ◌⊎◌, inl, inr, ◌++◌, min, suc, List, [], ◌∷◌, length, take, drop, get_or, sum_by, Option, Some, All, Contains, arith, refl, sym, ap, subst, ◌∙◌, length-set, drop-cons, add-one}
+use Rattle.std.proofs.lemmas.Bool.{cases_lt}
+use Rattle.std.proofs.lemmas.List.{take_more, take_all, length_push, drop_all}
+use Rattle.std.proofs.lemmas.List.Sums.{sum_by-set}
+use Rattle.std.proofs.lemmas.List.Sorted.{length_permutation}
+use Rattle.std.proofs.lemmas.List.Elements.{All-get_or}
+use Rattle.derivation.specs.Grammar.{Sym, Rule, Grammar}
+use Rattle.cfgtables.specs.Openings.{nth_production}
+use Rattle.cfgleast.specs.declared.partial.Partial.{Partial}
+use Rattle.cfgsums.specs.Sums.{sum_of, symbol_cost}
+use Rattle.cfgsums.specs.Lists.{IsListed}
+use Rattle.cfgleast.specs.Inner.Open.{IsCutSum, StopsAt, IsPartial, WaitsFor, MovesOn, enters, waits, Phase, queued, held, past, moved, AreOpen, AreAllOpen, AreWaking, IsAmong, count_open, waiting_for}
+use Rattle.cfgsums.proofs.Sums.{sum_of-append, plus_both, plus_zero}
+use Rattle.cfgleast.proofs.Opened.{contained_cases, moved_on, woken_above}
+
+module _ (cost : ℕ → ℕ) (settled : ℕ → Option ℕ) where
+  pub cut_none : IsCutSum cost settled [] 0
+  cut_none = record { total = 0; is = refl; cut = refl }
+
+  -- one symbol more
+  pub cut_more : (a : List Sym) (i : ℕ) (s : Sym) (sum c new : ℕ) → i < length a → get_or a i s ≡ s → IsCutSum cost settled (take i a) sum
+      → symbol_cost cost settled s ≡ Some c → new ≡ min 65536 (sum + c) → IsCutSum cost settled (take (i + 1) a) new
+  cut_more a i s sum c new within at h e made = record {
+    total = h.total + c;
+    is = ap (sum_of (symbol_cost cost settled)) (take_more a i s within ∙ ap (λ x. take i a ++ x ∷ []) at)
+        ∙ sum_of-append (symbol_cost cost settled) (take i a) (s ∷ [])
+        ∙ plus_both _ _ h.total c h.is (plus_zero (symbol_cost cost settled s) ∙ e);
+    cut = let cut = h.cut in omega (arith, cut, made);
+  }
+
+  pub cut_all : (a : List Sym) (i sum : ℕ) → length a ≤ i → IsCutSum cost settled (take i a) sum → IsCutSum cost settled a sum
+  cut_all a i sum end h = subst (λ l. IsCutSum cost settled l sum) (take_all i a end) h
+
+  module _ (g : Grammar) where
+    -- a production of which nothing was summed
+    pub partial_none : (x : Partial) → x.production < length g.productions → x.taken ≡ 0 → x.sum ≡ 0 → IsPartial cost settled g x
+    partial_none x place taken sum = record {
+      place = place;
+      taken = omega (arith, taken);
+      sum = subst (λ n. IsCutSum cost settled (take n (nth_production g x.production).symbols) x.sum) (sym taken)
+          (subst (IsCutSum cost settled []) (sym sum) cut_none);
+    }
+
+    pub partial_waiting : (r : ℕ) (x : Partial) → WaitsFor cost settled g r x → IsPartial cost settled g x
+    partial_waiting r x h = record { place = h.place; taken = let t = h.taken in omega (arith, t); sum = h.sum }
+
+    -- the rule at which a walk stops is one of the grammar
+    pub stop_listed : (a : List Sym) (rules tokens r : ℕ) (x : Partial) → All (IsListed rules tokens) a → StopsAt cost settled a r x → r < rules
+    stop_listed a rules tokens r x all h = subst (IsListed rules tokens) h.symbol (All-get_or (IsListed rules tokens) a x.taken (Rule r) h.taken all)
+
+    pub stop_waits : (p r : ℕ) (x : Partial) → p < length g.productions → x.production ≡ p → StopsAt cost settled (nth_production g p).symbols r x
+        → WaitsFor cost settled g r x
+    stop_waits p r x place is h =
+        let there = subst (λ n. StopsAt cost settled (nth_production g n).symbols r x) (sym is) h in
+        record { place = subst (λ n. n < length g.productions) (sym is) place; taken = there.taken; symbol = there.symbol; sum = there.sum }
+
+    -- what moves on is one more
+    pub count_moved : (p : ℕ) (queue queue' : List (ℕ × ℕ)) (waiting waiting' : List (List Partial)) → MovesOn cost settled g p queue queue' waiting waiting'
+        → count_open queue' waiting' ≡ count_open queue waiting + 1
+    count_moved p queue queue' waiting waiting' (enters c sum into same) =
+        let longer = length_permutation ((c, p) ∷ queue) queue' into in
+        let lists = ap (sum_by length) same in
+        omega (arith, longer, lists)
+    count_moved p queue queue' waiting waiting' (waits r x is for unset within same put) =
+        let queues = ap length same in
+        let lists = ap (sum_by length) put in
+        let change = sum_by-set length waiting r (waiting_for waiting r ++ x ∷ []) [] within in
+        let longer = length_push (waiting_for waiting r) x in
+        omega (arith, queues, lists, change, longer)
+
+    pub lists_moved : (p : ℕ) (queue queue' : List (ℕ × ℕ)) (waiting waiting' : List (List Partial)) → MovesOn cost settled g p queue queue' waiting waiting'
+        → length waiting' ≡ length waiting
+    lists_moved p queue queue' waiting waiting' (enters c sum into same) = ap length same
+    lists_moved p queue queue' waiting waiting' (waits r x is for unset within same put) = ap length put ∙ length-set waiting r _
+
+    -- the productions from a number on are still to begin
+    pub start_more : (n p : ℕ) (queue queue' : List (ℕ × ℕ)) (waiting waiting' : List (List Partial)) → n < length g.productions → p ≡ n
+        → AreOpen cost settled g queue waiting (λ q. n ≤ q) 0 → MovesOn cost settled g p queue queue' waiting waiting'
+        → AreOpen cost settled g queue' waiting' (λ q. n + 1 ≤ q) 0
+    start_more n p queue queue' waiting waiting' within is state moves =
+        moved_on g cost settled 0 queue waiting (λ q. n ≤ q) (λ q. n + 1 ≤ q) p (λ q h. next q h)
+        (subst (λ m. m < length g.productions) (sym is) within) (λ c sum. omega arith) state queue' waiting' moves
+      where
+        next : (q : ℕ) → n ≤ q → (q ≡ p) ⊎ (n + 1 ≤ q)
+        next q h = elim (cases_lt n q) [ inl lt ↦ inr (omega (arith, lt)) | inr le ↦ inl (omega (arith, h, le, is)) ]
+
+    -- when none is left to move on
+    pub all_open : (queue : List (ℕ × ℕ)) (waiting : List (List Partial)) (moving : ℕ → Type 0) (floor : ℕ) → ((q : ℕ) → q < length g.productions → moving q → ⊥)
+        → AreOpen cost settled g queue waiting moving floor → AreAllOpen cost settled g queue waiting
+    all_open queue waiting moving floor none state = (
+      floor,
+      record {
+        queued_sum = state.queued_sum;
+        queued_place = state.queued_place;
+        queued_above = state.queued_above;
+        held_for = state.held_for;
+        phase = λ q h. go q h (state.phase q h);
+        settled_below = state.settled_below;
+        limit = state.limit;
+      },
+    )
+      where
+        go : (q : ℕ) → q < length g.productions → Phase cost settled g queue waiting moving q → Phase cost settled g queue waiting (λ p. ⊥) q
+        go q within (queued b h) = queued b h
+        go q within (held s y e h i) = held s y e h i
+        go q within (past b e f) = past b e f
+        go q within (moved m) = absurd (none q within m)
+
+    -- one more of those that waited has moved on
+    pub wake_more : (i : ℕ) (x : Partial) (woken : List Partial) (queue queue' : List (ℕ × ℕ)) (waiting waiting' : List (List Partial)) → i < length woken → x ≡ get_or woken i x
+        → AreWaking cost settled g queue waiting woken i → MovesOn cost settled g x.production queue queue' waiting waiting'
+        → AreWaking cost settled g queue' waiting' woken (i + 1)
+    wake_more i x woken queue queue' waiting waiting' within at waking moves = record {
+      rule = waking.rule;
+      floor = waking.floor;
+      now = waking.now;
+      for = waking.for;
+      state = moved_on g cost settled waking.floor queue waiting (IsAmong (drop i woken)) (IsAmong (drop (i + 1) woken)) x.production among for.place
+          (woken_above g cost settled waking.floor waking.rule x for waking.now waking.state.limit) waking.state queue' waiting' moves;
+    }
+      where
+        for : WaitsFor cost settled g waking.rule x
+        for = subst (WaitsFor cost settled g waking.rule) (sym at) (All-get_or (WaitsFor cost settled g waking.rule) woken i x within waking.for)
+
+        among : (q : ℕ) → IsAmong (drop i woken) q → (q ≡ x.production) ⊎ IsAmong (drop (i + 1) woken) q
+        among q h = elim (contained_cases x h.entry (drop (i + 1) woken)
+            (subst (λ l. Contains l h.entry) (drop-cons woken i x within ∙ ap (λ y. y ∷ drop (suc i) woken) (sym at) ∙ ap (λ n. x ∷ drop n woken) (sym (add-one i))) h.among)) [
+              | inl e ↦ inl (sym h.is ∙ ap (λ (y : Partial). y.production) (sym e))
+              | inr k ↦ inr (record { entry = h.entry; among = k; is = h.is })
+            ]
+
+    pub wake_all : (i : ℕ) (woken : List Partial) (queue : List (ℕ × ℕ)) (waiting : List (List Partial)) → length woken ≤ i
+        → AreWaking cost settled g queue waiting woken i → AreAllOpen cost settled g queue waiting
+    wake_all i woken queue waiting end waking = all_open queue waiting (IsAmong (drop i woken)) waking.floor
+        (λ q within h. let k = (subst (λ l. Contains l h.entry) (drop_all i woken end) h.among).1 in omega (arith, k)) waking.state

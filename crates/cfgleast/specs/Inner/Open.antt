@@ -1,0 +1,101 @@
+-- Productions on the way to their sums: they are queued when their rules are all settled, and till then wait for a rule.
+-- `settled` says which rules are settled, and at which cost.
+use Rattle.std.specs.Prelude.{◌≡◌, ℕ, ◌+◌, ◌<◌, ◌≤◌, ◌++◌, min, List, [], ◌∷◌, Option, Some, None, All, Contains, length, take, drop, sum_by, slice_index_or, slice_set}
+use Rattle.std.specs.Prelude.{Vec}
+use Rattle.std.specs.declared.alloc.Global.{Global}
+use Rattle.std.specs.List.Sorted.{IsPermutation}
+use Rattle.derivation.specs.Grammar.{Sym, Rule, Grammar, IsGrammar}
+use Rattle.cfgtables.specs.Openings.{nth_production}
+use Rattle.cfgleast.specs.declared.partial.Partial.{Partial}
+use Rattle.cfgsums.specs.Sums.{sum_of, symbol_cost}
+
+-- the elements of a list of the code
+abbrev pub partials_of : Vec Partial Global → List Partial
+partials_of list = list.items
+
+-- the productions that wait for a rule
+abbrev pub waiting_for : List (List Partial) → ℕ → List Partial
+waiting_for waiting r = slice_index_or waiting r []
+
+-- a production is one of these
+pub record IsAmong (list : List Partial) (p : ℕ) : Type 0 where
+  pub entry : Partial
+  pub among : Contains list entry
+  pub is : entry.production ≡ p
+
+module _ (cost : ℕ → ℕ) (settled : ℕ → Option ℕ) where
+  -- what the symbols cost together, cut down to 65536
+  pub record IsCutSum (symbols : List Sym) (sum : ℕ) : Type 0 where
+    pub total : ℕ
+    pub is : sum_of (symbol_cost cost settled) symbols ≡ Some total
+    pub cut : sum ≡ min total 65536
+
+  -- behind the symbols that were summed stands a rule that isn't settled
+  pub record StopsAt (symbols : List Sym) (r : ℕ) (x : Partial) : Type 0 where
+    pub taken : x.taken < length symbols
+    pub symbol : slice_index_or symbols x.taken (Rule r) ≡ Rule r
+    pub sum : IsCutSum (take x.taken symbols) x.sum
+    pub unset : settled r ≡ None
+
+  module _ (g : Grammar) where
+    -- the production is there, and its first symbols were summed
+    pub record IsPartial (x : Partial) : Type 0 where
+      pub place : x.production < length g.productions
+      pub taken : x.taken ≤ length (nth_production g x.production).symbols
+      pub sum : IsCutSum (take x.taken (nth_production g x.production).symbols) x.sum
+
+    -- the next symbol is this rule
+    pub record WaitsFor (r : ℕ) (x : Partial) : Type 0 where
+      pub place : x.production < length g.productions
+      pub taken : x.taken < length (nth_production g x.production).symbols
+      pub symbol : slice_index_or (nth_production g x.production).symbols x.taken (Rule r) ≡ Rule r
+      pub sum : IsCutSum (take x.taken (nth_production g x.production).symbols) x.sum
+
+    -- production p went into the queue with its sum, or waits for a rule that isn't settled
+    pub data MovesOn (p : ℕ) (queue queue' : List (ℕ × ℕ)) (waiting waiting' : List (List Partial)) : Type 0 where
+      enters : (c : ℕ) → IsCutSum (nth_production g p).symbols c → IsPermutation ((c, p) ∷ queue) queue' → waiting' ≡ waiting
+          → MovesOn p queue queue' waiting waiting'
+      waits : (r : ℕ) (x : Partial) → x.production ≡ p → WaitsFor r x → settled r ≡ None → r < length waiting → queue' ≡ queue
+          → waiting' ≡ slice_set waiting r (waiting_for waiting r ++ x ∷ []) → MovesOn p queue queue' waiting waiting'
+
+    module _ (queue : List (ℕ × ℕ)) (waiting : List (List Partial)) (moving : ℕ → Type 0) where
+      -- where a production is: in the queue, waiting for a rule that isn't settled, past both, or taken out of both
+      pub data Phase (p : ℕ) : Type 0 where
+        queued : (c : ℕ) → Contains queue (c, p) → Phase p
+        held : (r : ℕ) (x : Partial) → settled r ≡ None → Contains (waiting_for waiting r) x → x.production ≡ p → Phase p
+        past : (d : ℕ) → settled (nth_production g p).rule ≡ Some d
+            → ((n : ℕ) → sum_of (symbol_cost cost settled) (nth_production g p).symbols ≡ Some n → d ≤ min n 65536) → Phase p
+        moved : moving p → Phase p
+
+      -- each production is somewhere, and what is settled costs at most what is queued
+      pub record AreOpen (floor : ℕ) : Type 0 where
+        pub queued_sum : (c p : ℕ) → Contains queue (c, p) → IsCutSum (nth_production g p).symbols c
+        pub queued_place : (c p : ℕ) → Contains queue (c, p) → p < length g.productions
+        pub queued_above : (c p : ℕ) → Contains queue (c, p) → floor ≤ c
+        pub held_for : (r : ℕ) (x : Partial) → Contains (waiting_for waiting r) x → WaitsFor r x
+        pub phase : (p : ℕ) → p < length g.productions → Phase p
+        pub settled_below : (r c : ℕ) → settled r ≡ Some c → c ≤ floor
+        pub limit : floor ≤ 65536
+
+    -- each production is in the queue or waits, or is past both
+    abbrev pub AreAllOpen : List (ℕ × ℕ) → List (List Partial) → Type 0
+    AreAllOpen queue waiting = (floor : ℕ) × AreOpen queue waiting (λ p. ⊥) floor
+
+    -- of those that waited for a rule the first i have moved on, and the rule is settled at what the others cost at least
+    pub record AreWaking (queue : List (ℕ × ℕ)) (waiting : List (List Partial)) (woken : List Partial) (i : ℕ) : Type 0 where
+      pub rule : ℕ
+      pub floor : ℕ
+      pub now : settled rule ≡ Some floor
+      pub for : All (WaitsFor rule) woken
+      pub state : AreOpen queue waiting (IsAmong (drop i woken)) floor
+
+-- how many productions are in the queue or wait
+abbrev pub count_open : List (ℕ × ℕ) → List (List Partial) → ℕ
+count_open queue waiting = length queue + sum_by length waiting
+
+-- costs of tokens and of rules for a grammar, whose productions can be counted up to `most`
+pub record AreInput (g : Grammar) (most : ℕ) (costs : List ℕ) (least : List (Option ℕ)) : Type 0 where
+  pub grammar : IsGrammar g
+  pub places : length g.productions ≤ most
+  pub tokens : length costs ≡ g.tokens
+  pub rules : length least ≡ g.rules

@@ -1,0 +1,45 @@
+-- Rules that are settled at their least costs, and the productions by which they were.
+use Rattle.std.specs.Prelude.{◌≡◌, ℕ, ◌+◌, ◌<◌, ◌≤◌, min, List, ◌∷◌, Option, Some, None, All, length, sum_by}
+use Rattle.std.specs.List.Sorted.{IsPermutation}
+use Rattle.derivation.specs.Grammar.{Grammar}
+use Rattle.cfgtables.specs.Openings.{nth_production}
+use Rattle.cfgsums.specs.Sums.{sum_of, symbol_cost}
+use Rattle.cfgsums.specs.Lists.{rule_cost}
+use Rattle.cfgleast.specs.Certificate.{IsChosenBelow, rule_choice}
+use Rattle.cfgleast.specs.declared.partial.Partial.{Partial}
+use Rattle.cfgleast.specs.Inner.Open.{IsCutSum, AreAllOpen}
+
+-- one for a rule that isn't settled
+abbrev pub unsettled : Option ℕ → ℕ
+unsettled None = 1
+unsettled (Some c) = 0
+
+module _ (g : Grammar) (cost : ℕ → ℕ) (least : List (Option ℕ)) (choices : List (Option (ℕ × ℕ))) where
+  -- the rule was settled by a production of its own, when all rules of that were settled
+  pub record IsSettledBy (r c p n : ℕ) : Type 0 where
+    pub choice : rule_choice choices r ≡ Some (p, n)
+    pub place : p < length g.productions
+    pub owner : (nth_production g p).rule ≡ r
+    pub sum : IsCutSum cost (rule_cost least) (nth_production g p).symbols c
+    pub below : All (IsChosenBelow choices n) (nth_production g p).symbols
+
+  -- so many rules were settled, each by a production, and the others have no choice
+  pub record AreChosen (n : ℕ) : Type 0 where
+    pub costs : length least ≡ g.rules
+    pub listed : length choices ≡ g.rules
+    pub counted : n + sum_by unsettled least ≡ g.rules
+    pub chosen : (r c : ℕ) → rule_cost least r ≡ Some c → (p : ℕ) × (m : ℕ) × IsSettledBy r c p m × (m < n)
+    pub none : (r : ℕ) → rule_cost least r ≡ None → rule_choice choices r ≡ None
+
+  -- each rule with a sentence was settled at its least cost, cut down to 65536
+  pub record AreSettled (n : ℕ) : Type 0 where
+    pub chosen : AreChosen n
+    pub covered : (p m : ℕ) → p < length g.productions → sum_of (symbol_cost cost (rule_cost least)) (nth_production g p).symbols ≡ Some m
+        → (d : ℕ) × (rule_cost least (nth_production g p).rule ≡ Some d) × (d ≤ min m 65536)
+
+-- the least entry has left the queue
+pub record HasPopped (g : Grammar) (cost : ℕ → ℕ) (least : List (Option ℕ)) (top : ℕ × ℕ) (queue : List (ℕ × ℕ)) (waiting : List (List Partial)) : Type 0 where
+  pub before : List (ℕ × ℕ)
+  pub state : AreAllOpen cost (rule_cost least) g before waiting
+  pub out : IsPermutation before (top ∷ queue)
+  pub cheapest : All (λ (entry : ℕ × ℕ). top.0 ≤ entry.0) queue

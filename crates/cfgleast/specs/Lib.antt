@@ -1,0 +1,4 @@
+-- Who relies on the calls of this crate has to read these files; those in Inner have the words of private clauses.
+pub mod Certificate
+pub mod Generator
+pub mod Inner

@@ -1,0 +1,8 @@
+//! The least costs of a grammar's sentences: for each rule the cost, and a production that shows it.
+#![tactic(auto)]
+
+pub mod partial;
+pub mod queue;
+pub mod settle;
+mod waitlists;
+pub mod walk;

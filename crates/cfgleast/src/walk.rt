@@ -1,0 +1,170 @@
+//! Productions that go on towards their sums.
+
+ghost use Rattle.std.specs.Prelude.{◌≡◌, ◌+◌, ◌^◌, ◌<◌, ◌≤◌, [], All, IfErr, IfOk, None, OnOk};
+ghost use Rattle.std.specs.Prelude.{Some, length, map, replicate, slice_index, take};
+ghost use Rattle.derivation.specs.Grammar.{Rule};
+ghost use Rattle.cfgtables.specs.Symbols.{sym_of};
+ghost use Rattle.cfgsums.specs.Lists.{IsListed, rule_cost};
+ghost use Rattle.cfgleast.specs.Inner.Open.{AreInput, AreWaking, AreAllOpen, IsCutSum, IsPartial, MovesOn, StopsAt};
+ghost use Rattle.cfgleast.specs.Inner.Open.{count_open};
+ghost use Rattle.cfgsums.specs.Sums.{symbol_cost};
+
+use crate::partial::Partial;
+use crate::queue::Queue;
+use crate::waitlists::Waitlists;
+use cfgtables::Tables;
+use cfgindex::{PIdx, Storage, Symbol, to_storage};
+use std::alloc::AllocError;
+
+/// The first cost that no answer gives.
+pub const TOO_LARGE: u32 = 65536;
+
+/// What a symbol costs, or a rule that isn't settled.
+fn settled_cost<S: Storage>(
+    costs: &[u8],
+    least: &[Option<u32>],
+    symbol: Symbol<S>,
+) -> Result<u32, usize>
+    requires { IsListed (length least.now) (length costs.now) (sym_of S.number symbol) }
+    ensures cost { IfOk result (λ c.
+        symbol_cost (slice_index costs.now) (rule_cost least.now) (sym_of S.number symbol) ≡ Some c) }
+    ensures rule { IfErr result (λ r. sym_of S.number symbol ≡ Rule r) }
+    ensures unset { IfErr result (λ r. rule_cost least.now r ≡ None) }
+{
+    match symbol {
+        Symbol::Rule(rule) => least[usize::from(rule)].ok_or(usize::from(rule)),
+        Symbol::Token(token) => Ok(u32::from(costs[usize::from(token)])),
+    }
+}
+
+/// What the symbols cost together, cut down to `TOO_LARGE`, or a rule among them that isn't settled, and the sum of
+/// those before it. `partial` has the sum of the first ones.
+pub fn walk<S: Storage>(
+    costs: &[u8],
+    least: &[Option<u32>],
+    symbols: &[Symbol<S>],
+    partial: Partial,
+) -> Result<u32, (usize, Partial)>
+    requires listed { All (IsListed (length least.now) (length costs.now)) (map (sym_of S.number) symbols.now) }
+    requires taken { partial.taken ≤ length symbols.now }
+    requires sum { IsCutSum (slice_index costs.now) (rule_cost least.now)
+        (take partial.taken (map (sym_of S.number) symbols.now)) partial.sum }
+    ensures whole { IfOk result (λ c.
+        IsCutSum (slice_index costs.now) (rule_cost least.now) (map (sym_of S.number) symbols.now) c) }
+    ensures stop { IfErr result (λ stop.
+        StopsAt (slice_index costs.now) (rule_cost least.now) (map (sym_of S.number) symbols.now) stop.0 stop.1) }
+    ensures same { IfErr result (λ stop. stop.1.production ≡ partial.production) }
+{
+    let Partial {
+        production,
+        taken,
+        mut sum,
+    } = partial;
+    for place in taken..symbols.len() {
+        match settled_cost(costs, least, symbols[place]) {
+            Ok(cost) => sum = TOO_LARGE.min(sum.saturating_add(cost)),
+            Err(rule) => {
+                let taken = place;
+                return Err((
+                    rule,
+                    Partial {
+                        production,
+                        taken,
+                        sum,
+                    },
+                ));
+            }
+        }
+    }
+    Ok(sum)
+}
+
+/// Lets a production go on from what was summed: into the queue, or to those that wait for a rule.
+///
+/// # Errors
+///
+/// Want of memory.
+fn advance<S: Storage, T: Tables<S>>(
+    grm: &T,
+    costs: &[u8],
+    least: &[Option<u32>],
+    partial: Partial,
+    queue: &mut Queue,
+    waiting: &mut Waitlists,
+) -> Result<(), AllocError>
+    requires input { AreInput (T.grammar grm.now) S.MAX costs.now least.now }
+    requires lists { length waiting.old ≡ (T.grammar grm.now).rules }
+    requires partial { IsPartial (slice_index costs.now) (rule_cost least.now) (T.grammar grm.now) partial }
+    ensures { OnOk result (MovesOn (slice_index costs.now) (rule_cost least.now) (T.grammar grm.now) partial.production
+        queue.old queue.new waiting.old waiting.new) }
+{
+    let production = partial.production;
+    let symbols = grm.prod(PIdx(to_storage(production as usize)));
+    match walk(costs, least, symbols, partial) {
+        Ok(sum) => queue.push(sum, production),
+        Err((rule, partial)) => waiting.add(rule, partial),
+    }
+}
+
+/// Lets all productions begin, when no rule is settled.
+///
+/// # Errors
+///
+/// Want of memory.
+pub(crate) fn start<S: Storage, T: Tables<S>>(
+    grm: &T,
+    prods_len: usize,
+    costs: &[u8],
+    least: &[Option<u32>],
+    queue: &mut Queue,
+    waiting: &mut Waitlists,
+) -> Result<(), AllocError>
+    requires input { AreInput (T.grammar grm.now) S.MAX costs.now least.now }
+    requires prods { prods_len ≡ length (T.grammar grm.now).productions }
+    requires small { prods_len < 2 ^ 32 }
+    requires least { least.now ≡ replicate (T.grammar grm.now).rules None }
+    requires queue { queue.old ≡ [] }
+    requires waiting { waiting.old ≡ replicate (T.grammar grm.now).rules [] }
+    ensures state { OnOk result (AreAllOpen (slice_index costs.now) (rule_cost least.now) (T.grammar grm.now)
+        queue.new waiting.new) }
+    ensures lists { OnOk result (length waiting.new ≡ (T.grammar grm.now).rules) }
+{
+    for number in 0..prods_len {
+        let partial = Partial {
+            production: number as u32,
+            taken: 0,
+            sum: 0,
+        };
+        advance(grm, costs, least, partial, queue, waiting)?;
+    }
+    Ok(())
+}
+
+/// Lets the productions go on that waited for a rule, when it is settled.
+///
+/// # Errors
+///
+/// Want of memory.
+pub(crate) fn wake<S: Storage, T: Tables<S>>(
+    grm: &T,
+    costs: &[u8],
+    least: &[Option<u32>],
+    woken: &[Partial],
+    queue: &mut Queue,
+    waiting: &mut Waitlists,
+) -> Result<(), AllocError>
+    requires input { AreInput (T.grammar grm.now) S.MAX costs.now least.now }
+    requires lists { length waiting.old ≡ (T.grammar grm.now).rules }
+    requires woken { AreWaking (slice_index costs.now) (rule_cost least.now) (T.grammar grm.now)
+        queue.old waiting.old woken.now 0 }
+    ensures state { OnOk result (AreAllOpen (slice_index costs.now) (rule_cost least.now) (T.grammar grm.now)
+        queue.new waiting.new) }
+    ensures lists { OnOk result (length waiting.new ≡ (T.grammar grm.now).rules) }
+    ensures count { OnOk result (count_open queue.new waiting.new
+        ≡ count_open queue.old waiting.old + length woken.now) }
+{
+    for partial in woken {
+        advance(grm, costs, least, *partial, queue, waiting)?;
+    }
+    Ok(())
+}
