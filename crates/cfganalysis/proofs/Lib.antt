@@ -12,4 +12,3 @@ pub mod Gathering
 pub mod Fitting
 pub mod FollowBits
 pub mod References
-pub mod Searching

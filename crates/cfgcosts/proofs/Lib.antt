@@ -7,11 +7,9 @@ pub mod Weights
 pub mod Walking
 pub mod Opened
 pub mod Joins
-pub mod Keys
 pub mod Tables
 pub mod Inserted
 pub mod OnlyHeirs
-pub mod Searches
 pub mod OwnBelow
 pub mod AskedRules
 pub mod Filled

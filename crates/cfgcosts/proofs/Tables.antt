@@ -15,7 +15,7 @@ use Rattle.cfgchoices.proofs.Dictionary.{dictionary_same}
 use Rattle.cfgcosts.specs.Inner.Minimal.{Puts, sentences_of}
 use Rattle.cfgchoices.specs.First.{dictionary}
 use Rattle.lemmas.proofs.Contained.{contains_first, contains_later, contains_cases}
-use Rattle.cfgcosts.proofs.Keys.{itself_found, same_key}
+use Rattle.search.proofs.Keys.{itself_found, same_key}
 
 module _ (w : List ℕ) where
   pub record Inserts (words new : List (List ℕ)) : Type 0 where

@@ -4,5 +4,4 @@ mod all;
 mod asked;
 mod levels;
 mod products;
-mod search;
 mod table;
