@@ -1,94 +1,88 @@
--- Words that are joined from two lists, and words cut along a row with a symbol more at its end.
+-- Words that are joined from two lists, and those that a row of symbols stands for.
 use Rattle.std.proofs.Common.{◌≡◌, ◌↔◌, ℕ, inl, inr, List, [], ◌∷◌, ◌++◌, map, Contains, append-nil, append_assoc, refl, sym, ap, subst, ◌∙◌}
+use Rattle.std.specs.List.{flat_map, fold}
+use Rattle.std.proofs.lemmas.List.Concat.{flat_map-cons}
 use Rattle.std.proofs.lemmas.List.Elements.{Contains-append_left, Contains-append_right, Contains-append_cases}
 use Rattle.derivation.specs.Grammar.{Sym, Rule, Token}
 use Rattle.cfgchoices.specs.Splits.{Split, done, itself, part}
-use Rattle.cfgcosts.specs.Inner.Minimal.{HasSentence, IsJoined, words_of_symbol}
+use Rattle.cfgcosts.specs.Inner.Minimal.{HasSentence, joined, row_words, words_of_symbol}
 use Rattle.lemmas.proofs.Contained.{contains_first, contains_later, contains_none, contains_one, contains_cases, contains_mapped, contains_source}
 
--- a list of words holds just those that are joined
-abbrev pub AreJoined : List (List ℕ) → List (List ℕ) → List (List ℕ) → Type 0
-AreJoined words fronts backs = (w : List ℕ) → Contains words w ↔ IsJoined fronts backs w
+pub joined_none : (fronts : List (List ℕ)) → joined fronts [] ≡ []
+joined_none [] = refl
+joined_none (front ∷ fronts) = flat_map-cons (λ (front : List ℕ). map (λ back. front ++ back) []) front fronts ∙ joined_none fronts
 
--- no word is made where there is no back
-pub none_joined : (words fronts backs : List (List ℕ)) → words ≡ [] → backs ≡ [] → AreJoined words fronts backs
-none_joined words fronts backs e f w = (
-  (λ h. absurd (contains_none w (subst (λ l. Contains l w) e h))),
-  (λ j. absurd (contains_none j.back (subst (λ l. Contains l j.back) f j.second))),
-)
+module _ {A B : Type 0} (f : A → List B) where
+  pub flat_source : (xs : List A) (y : B) → Contains (flat_map f xs) y → (x : A) × Contains xs x × Contains (f x) y
+  flat_source [] y h = absurd (contains_none y h)
+  flat_source (x ∷ xs) y h = elim (Contains-append_cases (f x) (flat_map f xs) y (subst (λ l. Contains l y) (flat_map-cons f x xs) h)) [
+    | inl here ↦ (x, contains_first x xs, here)
+    | inr later ↦ let (z, among, k) = flat_source xs y later in (z, contains_later x z xs among, k)
+  ]
 
-joined_later : (front : List ℕ) (fronts backs : List (List ℕ)) (w : List ℕ) → IsJoined fronts backs w → IsJoined (front ∷ fronts) backs w
-joined_later front fronts backs w j = record { front = j.front; back = j.back; first = contains_later front j.front fronts j.first; second = j.second; whole = j.whole }
+  pub flat_contains : (xs : List A) (x : A) (y : B) → Contains xs x → Contains (f x) y → Contains (flat_map f xs) y
+  flat_contains [] x y h k = absurd (contains_none x h)
+  flat_contains (z ∷ xs) x y h k = subst (λ l. Contains l y) (sym (flat_map-cons f z xs)) (elim (contains_cases z x xs h) [
+    | inl same ↦ Contains-append_left (f z) (flat_map f xs) y (subst (λ a. Contains (f a) y) (sym same) k)
+    | inr later ↦ Contains-append_right (f z) (flat_map f xs) y (flat_contains xs x y later k)
+  ])
 
--- one front more
-pub joined_front : (words more : List (List ℕ)) (front : List ℕ) (fronts backs : List (List ℕ)) → AreJoined words fronts backs → more ≡ words ++ map (λ back. front ++ back) backs
-    → AreJoined more (front ∷ fronts) backs
-joined_front words more front fronts backs all e w = (
-  (λ h. elim (Contains-append_cases words (map (λ back. front ++ back) backs) w (subst (λ l. Contains l w) e h)) [
-    | inl old ↦ joined_later front fronts backs w ((all w).0 old)
-    | inr new ↦ let (back, among, is) = contains_source (λ back. front ++ back) backs w new in
-        record { front = front; back = back; first = contains_first front fronts; second = among; whole = sym is }
-  ]),
-  (λ j. subst (λ l. Contains l w) (sym e) (elim (contains_cases front j.front fronts j.first) [
-    | inl same ↦ Contains-append_right words (map (λ back. front ++ back) backs) w
-        (subst (Contains (map (λ back. front ++ back) backs)) (ap (λ l. l ++ j.back) same ∙ sym j.whole) (contains_mapped (λ back. front ++ back) backs j.back j.second))
-    | inr later ↦ Contains-append_left words (map (λ back. front ++ back) backs) w ((all w).1 (record { front = j.front; back = j.back; first = later; second = j.second; whole = j.whole }))
-  ])),
-)
-
--- a row with a symbol more
-module _ (table : List (ℕ × List (List ℕ))) where
-  abbrev Cut : List Sym → List ℕ → Type 0
-  Cut = Split (HasSentence table)
-
-  part_of : (s : Sym) (v : List ℕ) → Contains (words_of_symbol table s) v → Cut (s ∷ []) v
-  part_of (Token t) v h = subst (Cut (Token t ∷ [])) (contains_one (t ∷ []) v h) (itself done)
-  part_of (Rule r) v h = part h done (sym (append-nil v))
-
-  push_part : {a : List Sym} {u : List ℕ} (s : Sym) (v : List ℕ) → Cut a u → Cut (s ∷ []) v → Cut (a ++ s ∷ []) (u ++ v)
-  push_part s v done k = k
-  push_part s v (itself c) k = itself (push_part s v c k)
-  push_part s v (part {u = u} {w = w} h c e) k = part h (push_part s v c k) (ap (λ l. l ++ v) e ∙ append_assoc u w v)
-
-  word_of : (s : Sym) (v : List ℕ) → Cut (s ∷ []) v → Contains (words_of_symbol table s) v
-  word_of (Token t) _ (itself done) = contains_first (t ∷ []) []
-  word_of (Rule r) v (part {u = u} h done e) = subst (Contains (words_of_symbol table (Rule r))) (sym (e ∙ append-nil u)) h
-
-  record Parts (a : List Sym) (s : Sym) (w : List ℕ) : Type 0 where
+-- a word of one list, and behind it what a row stands for
+module _ (sentences : ℕ → List (List ℕ)) where
+  record Goes (fronts : List (List ℕ)) (row : List Sym) (w : List ℕ) : Type 0 where
     front : List ℕ
-    back : List ℕ
-    first : Cut a front
-    second : Contains (words_of_symbol table s) back
-    whole : w ≡ front ++ back
+    rest : List ℕ
+    among : Contains fronts front
+    cut : Split (HasSentence sentences) row rest
+    whole : w ≡ front ++ rest
 
-  last_part : (a : List Sym) (s : Sym) (w : List ℕ) → Cut (a ++ s ∷ []) w → Parts a s w
-  last_part [] s w c = record { front = []; back = w; first = done; second = word_of s w c; whole = refl }
-  last_part (Token t ∷ a) s _ (itself {w = w} c) = let p = last_part a s w c in
-      record { front = t ∷ p.front; back = p.back; first = itself p.first; second = p.second; whole = ap (λ l. t ∷ l) p.whole }
-  last_part (Rule r ∷ a) s v (part {u = u} {w = w} h c e) = let p = last_part a s w c in record {
-    front = u ++ p.front;
-    back = p.back;
-    first = part h p.first refl;
-    second = p.second;
-    whole = e ∙ ap (λ l. u ++ l) p.whole ∙ sym (append_assoc u p.front p.back);
-  }
+  abbrev step : List (List ℕ) → Sym → List (List ℕ)
+  step words s = joined words (words_of_symbol sentences s)
 
-  abbrev pub AreCut : List (List ℕ) → List Sym → Type 0
-  AreCut words a = (w : List ℕ) → Contains words w ↔ Cut a w
+  begun : (s : Sym) (row : List Sym) (back rest : List ℕ) → Contains (words_of_symbol sentences s) back → Split (HasSentence sentences) row rest → Split (HasSentence sentences) (s ∷ row) (back ++ rest)
+  begun (Token t) row back rest h cut = subst (λ l. Split (HasSentence sentences) (Token t ∷ row) (l ++ rest)) (contains_one (t ∷ []) back h) (itself cut)
+  begun (Rule r) row back rest h cut = part h cut refl
 
-  none_cut : (w : List ℕ) → Cut [] w → [] ≡ w
-  none_cut w done = refl
+  cut_first : (fronts : List (List ℕ)) (s : Sym) (row : List Sym) (w : List ℕ) → Goes fronts (s ∷ row) w → Goes (step fronts s) row w
+  cut_first fronts s row w g = go s g.rest g.cut g.whole
+    where
+      next : (s : Sym) (back rest : List ℕ) → Contains (words_of_symbol sentences s) back → Split (HasSentence sentences) row rest → w ≡ g.front ++ (back ++ rest) → Goes (step fronts s) row w
+      next s back rest h cut e = record {
+        front = g.front ++ back;
+        rest = rest;
+        among = flat_contains (λ front. map (λ back. front ++ back) (words_of_symbol sentences s)) fronts g.front (g.front ++ back) g.among (contains_mapped (λ back. g.front ++ back) (words_of_symbol sentences s) back h);
+        cut = cut;
+        whole = e ∙ sym (append_assoc g.front back rest);
+      }
 
-  pub cut_none : (words : List (List ℕ)) → words ≡ [] ∷ [] → AreCut words []
-  cut_none words e w = (
-    (λ h. subst (Cut []) (contains_one [] w (subst (λ l. Contains l w) e h)) done),
-    (λ c. subst (λ l. Contains l w) (sym e) (subst (Contains ([] ∷ [])) (none_cut w c) (contains_first [] []))),
-  )
+      go : (s : Sym) (rest : List ℕ) → Split (HasSentence sentences) (s ∷ row) rest → w ≡ g.front ++ rest → Goes (step fronts s) row w
+      go (Token t) _ (itself {w = rest} cut) e = next (Token t) (t ∷ []) rest (contains_first (t ∷ []) []) cut e
+      go (Rule r) _ (part {u = u} {w = rest} h cut f) e = next (Rule r) u rest h cut (e ∙ ap (λ l. g.front ++ l) f)
 
-  pub cut_more : (words longer : List (List ℕ)) (a : List Sym) (s : Sym) → AreCut words a → AreJoined longer words (words_of_symbol table s) → AreCut longer (a ++ s ∷ [])
-  cut_more words longer a s all new w = (
-    (λ h. let j = (new w).0 h in
-        subst (Cut (a ++ s ∷ [])) (sym j.whole) (push_part s j.back ((all j.front).0 j.first) (part_of s j.back j.second))),
-    (λ c. let p = last_part a s w c in
-        (new w).1 (record { front = p.front; back = p.back; first = (all p.front).1 p.first; second = p.second; whole = p.whole })),
+  from_row : (row : List Sym) (fronts : List (List ℕ)) (w : List ℕ) → Contains (fold step fronts row) w → Goes fronts row w
+  from_row [] fronts w h = record { front = w; rest = []; among = h; cut = done; whole = sym (append-nil w) }
+  from_row (s ∷ row) fronts w h =
+      let later = from_row row (step fronts s) w h in
+      let (front, among, here) = flat_source (λ front. map (λ back. front ++ back) (words_of_symbol sentences s)) fronts later.front later.among in
+      let (back, of, is) = contains_source (λ back. front ++ back) (words_of_symbol sentences s) later.front here in
+      record {
+        front = front;
+        rest = back ++ later.rest;
+        among = among;
+        cut = begun s row back later.rest of later.cut;
+        whole = later.whole ∙ ap (λ l. l ++ later.rest) (sym is) ∙ append_assoc front back later.rest;
+      }
+
+  to_row : (row : List Sym) (fronts : List (List ℕ)) (w : List ℕ) → Goes fronts row w → Contains (fold step fronts row) w
+  to_row [] fronts w g = ends g.rest g.cut g.whole
+    where
+      ends : (rest : List ℕ) → Split (HasSentence sentences) [] rest → w ≡ g.front ++ rest → Contains fronts w
+      ends _ done e = subst (Contains fronts) (sym (e ∙ append-nil g.front)) g.among
+  to_row (s ∷ row) fronts w g = to_row row (step fronts s) w (cut_first fronts s row w g)
+
+  pub row_cut : (row : List Sym) (w : List ℕ) → Contains (row_words sentences row) w ↔ Split (HasSentence sentences) row w
+  row_cut row w = (
+    (λ h. let g = from_row row ([] ∷ []) w h in
+        subst (Split (HasSentence sentences) row) (ap (λ l. l ++ g.rest) (contains_one [] g.front g.among) ∙ sym g.whole) g.cut),
+    (λ cut. to_row row ([] ∷ []) w (record { front = []; rest = w; among = contains_first [] []; cut = cut; whole = refl })),
   )

@@ -7,8 +7,7 @@ pub mod Weights
 pub mod Walking
 pub mod Opened
 pub mod Joins
-pub mod Tables
-pub mod Inserted
+pub mod Sorted
 pub mod OnlyHeirs
 pub mod OwnBelow
 pub mod AskedRules

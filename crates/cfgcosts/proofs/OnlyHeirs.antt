@@ -4,7 +4,7 @@ use Rattle.std.specs.Prelude.{IfSome, MatchOption}
 use Rattle.std.proofs.lemmas.Bool.{cases_lt}
 use Rattle.std.specs.Option.{is_some, unwrap_or}
 use Rattle.std.proofs.Math.Seq.{get_or-append_seam}
-use Rattle.std.proofs.lemmas.List.{get_or_append_left, get_or_past, length-map, map-set, take_all, take_more}
+use Rattle.std.proofs.lemmas.List.{get_or_append_left, length-map, map-set, take_all, take_more}
 use Rattle.std.proofs.lemmas.List.Elements.{All-get_or, All-set, Contains-append_left, Contains-push, Contains-push_cases}
 use Rattle.lemmas.proofs.Elements.{get_or-set}
 use Rattle.cfgindex.specs.declared.idxnewtype.RIdx.{RIdx}
@@ -21,7 +21,7 @@ use Rattle.cfgchoices.specs.Inner.Kinds.{IsMinimal, IsOwnBelow}
 use Rattle.cfgchoices.specs.declared.kinds.Kind.{Kind}
 use Rattle.cfgchoices.specs.declared.kinds.Kind.TheVariants.{Slack, HandsOn}
 use Rattle.lemmas.proofs.Contained.{contains_none}
-use Rattle.cfgchoices.proofs.Tight.{answered_within, minimal_made, one_heir, own_makes}
+use Rattle.cfgchoices.proofs.Tight.{minimal_made, one_heir, own_makes}
 
 pub none_is : {X : Type 0} (o : Option X) → is_some o ≡ false → o ≡ None
 none_is None e = refl

@@ -5,21 +5,19 @@ ghost use Rattle.std.specs.List.Sorted.{IsStrictlySortedBy};
 ghost use Rattle.derivation.specs.Grammar.{HasProduction};
 ghost use Rattle.derivation.specs.Costs.{Minimal};
 ghost use Rattle.cfgleast.specs.Generator.{HasNone, IsTooDear, cost_answer, token_cost};
-ghost use Rattle.cfgcosts.specs.Inner.Minimal.{HasMinimal, IsMadeBy, IsReadyFor};
+ghost use Rattle.cfgcosts.specs.Inner.Minimal.{AreMinimal, IsMadeBy, IsReadyFor, sentences_in, words_of};
 ghost use Rattle.cfgchoices.specs.Inner.Kinds.{IsMinimal};
 ghost use Rattle.cfgchoices.specs.First.{dictionary};
 ghost use Rattle.cfgcosts.specs.Sentences.{numbers_of};
 ghost use Rattle.cfgchoices.specs.Inner.Kinds.{places_of};
-ghost use Rattle.cfgcosts.specs.Inner.Minimal.{set_of};
 
 use crate::errors::SentenceError;
 use crate::generator::SentenceGenerator;
-use crate::minimal::products::row_words;
-use crate::minimal::table::{SentenceTable, add_all};
+use crate::minimal::products::{SentenceTable, made_by_row};
 use cfgindex::{PIdx, RIdx, Storage, TIdx, to_storage};
 use cfgtables::Tables;
 use std::alloc::{AllocError, Global};
-use std::collections::BTreeSet;
+use std::collections::BTreeMap;
 
 impl<'a, S: Storage, T: Tables<S>> SentenceGenerator<'a, S, T> {
     /// A rule of the same minimal sentences: the rule itself, or where it hands on to one rule alone, the last of a row
@@ -35,7 +33,7 @@ impl<'a, S: Storage, T: Tables<S>> SentenceGenerator<'a, S, T> {
         self.last_heirs[usize::from(rule)]
     }
 
-    /// What the productions make of the table's sentences.
+    /// What the productions make of the table's sentences, each word once, in the order of a dictionary.
     ///
     /// # Errors
     ///
@@ -45,16 +43,19 @@ impl<'a, S: Storage, T: Tables<S>> SentenceGenerator<'a, S, T> {
         alloc: Global,
         own: &[PIdx<S>],
         table: &SentenceTable<S>,
-    ) -> Result<BTreeSet<Vec<TIdx<S>>>, AllocError>
+    ) -> Result<Vec<Vec<TIdx<S>>>, AllocError>
         requires { All (λ p. p < length self.now.grammar.productions) (places_of S.number own.now) }
-        ensures { IfOk result (λ words. (w : List ℕ) → Contains (set_of S.number words) w
-            ↔ IsMadeBy self.now.grammar table.now (places_of S.number own.now) w) }
+        ensures all { IfOk result (λ words. (w : List ℕ) → Contains (words_of S.number words) w
+            ↔ IsMadeBy self.now.grammar (sentences_in S.number table.now) (places_of S.number own.now) w) }
+        ensures order { IfOk result (λ words. IsStrictlySortedBy dictionary (words_of S.number words)) }
     {
-        let mut words = BTreeSet::new(alloc);
+        let mut words = Vec::new(alloc);
         for p in own {
-            let made = row_words(alloc, table, self.tables.prod(*p))?;
-            add_all(&mut words, made)?;
+            let mut made = made_by_row(alloc, table, self.tables.prod(*p))?;
+            words.append(&mut made)?;
         }
+        words.sort_unstable();
+        words.dedup();
         Ok(words)
     }
 
@@ -68,42 +69,42 @@ impl<'a, S: Storage, T: Tables<S>> SentenceGenerator<'a, S, T> {
         alloc: Global,
         rule: RIdx<S>,
         table: &SentenceTable<S>,
-    ) -> Result<BTreeSet<Vec<TIdx<S>>>, AllocError>
+    ) -> Result<Vec<Vec<TIdx<S>>>, AllocError>
         requires rule { S.number rule.0 < self.now.grammar.rules }
         requires known { (c : ℕ) × (cost_answer self.now (S.number rule.0) ≡ Some c) }
-        requires ready { IsReadyFor self.now table.now (S.number rule.0) }
-        ensures { IfOk result (λ words. (w : List ℕ) → Contains (set_of S.number words) w
-            ↔ IsMinimal self.now (S.number rule.0) w) }
+        requires ready { IsReadyFor self.now (sentences_in S.number table.now) (S.number rule.0) }
+        ensures { IfOk result (λ words. AreMinimal self.now (S.number rule.0) (words_of S.number words)) }
     {
         let _rules = self.tables.rules_len();
         if self.is_free(rule) {
-            let mut words = BTreeSet::new(alloc);
-            words.insert(Vec::new(alloc))?;
+            let mut words = Vec::new(alloc);
+            words.push(Vec::new(alloc))?;
             return Ok(words);
         }
         let own = self.own_productions(alloc, rule)?;
         self.made_words(alloc, &own, table)
     }
 
-    /// A table that has all minimal sentences of the rule.
+    /// All minimal sentences of the rule, from a table that is filled by rising costs.
     ///
     /// # Errors
     ///
     /// Want of memory.
-    fn full_table(&self, alloc: Global, rule: RIdx<S>) -> Result<SentenceTable<S>, AllocError>
+    fn all_sentences(&self, alloc: Global, rule: RIdx<S>) -> Result<Vec<Vec<TIdx<S>>>, AllocError>
         requires rule { S.number rule.0 < self.now.grammar.rules }
         requires known { (c : ℕ) × (cost_answer self.now (S.number rule.0) ≡ Some c) }
-        ensures { IfOk result (λ table. HasMinimal self.now table (S.number rule.0)) }
+        ensures { IfOk result (λ words. AreMinimal self.now (S.number rule.0) (words_of S.number words)) }
     {
         let _rules = self.tables.rules_len().0.to_usize();
-        let mut table = SentenceTable::new(alloc);
+        let mut table = BTreeMap::new(alloc);
         let mut asked = self.asked_rules(alloc, rule)?;
         while let Some((_, number)) = asked.pop() {
             let level = RIdx(to_storage(number as usize));
             let sentences = self.level_sentences(alloc, level, &table)?;
-            table.put(number as usize, sentences)?;
+            drop(table.insert(number as usize, sentences)?);
         }
-        Ok(table)
+        let all = table.remove(&usize::from(rule));
+        Ok(all.unwrap_or(Vec::new(alloc)))
     }
 
     /// All sentences of the rule that no other of its sentences costs less than, each once, in the order of a
@@ -130,9 +131,7 @@ impl<'a, S: Storage, T: Tables<S>> SentenceGenerator<'a, S, T> {
             ↔ IsTooDear (HasProduction self.now.grammar) (token_cost self.now) (S.number rule.0) }
     {
         self.min_sentence_cost(rule)?;
-        let last = self.last_heir(rule);
-        let table = self.full_table(alloc, last)?;
-        let sentences = table.take(alloc, usize::from(last))?;
+        let sentences = self.all_sentences(alloc, self.last_heir(rule))?;
         Ok(sentences)
     }
 }

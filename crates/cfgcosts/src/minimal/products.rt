@@ -1,22 +1,24 @@
-//! What rows of symbols derive by the sentences of a table.
+//! What rows of symbols derive by sentences of their rules.
 
-ghost use Rattle.std.specs.Prelude.{◌≡◌, ◌↔◌, ◌++◌, ◌∷◌, [], ℕ, List, Contains, IfOk, OnOk, map};
+ghost use Rattle.std.specs.Prelude.{◌≡◌, ◌++◌, IfOk, OnOk, map};
 ghost use Rattle.cfgtables.specs.Symbols.{sym_of};
-ghost use Rattle.cfgcosts.specs.Inner.Minimal.{HasSentence, IsJoined, words_of_symbol};
 ghost use Rattle.cfgcosts.specs.Sentences.{numbers_of};
-ghost use Rattle.cfgchoices.specs.Splits.{Split};
+ghost use Rattle.cfgcosts.specs.Inner.Minimal.{joined, row_words, sentences_in, words_of, words_of_symbol};
 
-use crate::minimal::table::SentenceTable;
 use cfgindex::{Storage, Symbol, TIdx};
 use std::alloc::{AllocError, Global};
-use std::collections::BTreeSet;
+use std::collections::BTreeMap;
+use std::slice::from_ref;
+
+/// Some rules with sentences of theirs.
+pub(crate) type SentenceTable<S> = BTreeMap<usize, Vec<Vec<TIdx<S>>>>;
 
 /// Two words joined.
 ///
 /// # Errors
 ///
 /// Want of memory.
-fn joined<S: Storage>(
+fn join<S: Storage>(
     alloc: Global,
     front: &[TIdx<S>],
     back: &[TIdx<S>],
@@ -36,16 +38,21 @@ fn joined<S: Storage>(
 /// Want of memory.
 fn join_each<S: Storage>(
     alloc: Global,
-    front: &[TIdx<S>],
-    backs: &BTreeSet<Vec<TIdx<S>>>,
+    mut front: Vec<TIdx<S>>,
+    backs: &[Vec<TIdx<S>>],
     words: &mut Vec<Vec<TIdx<S>>>,
 ) -> Result<(), AllocError>
     ensures { OnOk result (map (numbers_of S.number) words.new.items ≡ map (numbers_of S.number) words.old.items
-        ++ map (λ back. map (λ t. S.number t.0) front.now ++ numbers_of S.number back) backs.now.keys) }
+        ++ map (λ back. numbers_of S.number front ++ back) (map (numbers_of S.number) backs.now)) }
 {
-    for back in backs {
-        words.push(joined(alloc, front, back)?)?;
+    let Some((last, others)) = backs.split_last() else {
+        return Ok(());
+    };
+    for back in others {
+        words.push(join(alloc, &front, back)?)?;
     }
+    front.extend_from_slice(last)?;
+    words.push(front)?;
     Ok(())
 }
 
@@ -56,38 +63,17 @@ fn join_each<S: Storage>(
 /// Want of memory.
 fn join_all<S: Storage>(
     alloc: Global,
-    mut fronts: Vec<Vec<TIdx<S>>>,
-    backs: &BTreeSet<Vec<TIdx<S>>>,
+    fronts: Vec<Vec<TIdx<S>>>,
+    backs: &[Vec<TIdx<S>>],
 ) -> Result<Vec<Vec<TIdx<S>>>, AllocError>
-    ensures { IfOk result (λ words. (w : List ℕ) → Contains (map (numbers_of S.number) words.items) w
-        ↔ IsJoined (map (numbers_of S.number) fronts.items) (map (numbers_of S.number) backs.now.keys) w) }
+    ensures { IfOk result (λ words.
+        words_of S.number words ≡ joined (words_of S.number fronts) (map (numbers_of S.number) backs.now)) }
 {
     let mut words = Vec::new(alloc);
-    while let Some(front) = fronts.pop() {
-        join_each(alloc, &front, backs, &mut words)?;
+    for front in fronts {
+        join_each(alloc, front, backs, &mut words)?;
     }
     Ok(words)
-}
-
-/// The words, each with the token behind it.
-///
-/// # Errors
-///
-/// Want of memory.
-fn push_token<S: Storage>(
-    alloc: Global,
-    mut words: Vec<Vec<TIdx<S>>>,
-    token: TIdx<S>,
-) -> Result<Vec<Vec<TIdx<S>>>, AllocError>
-    ensures { IfOk result (λ longer. (w : List ℕ) → Contains (map (numbers_of S.number) longer.items) w
-        ↔ IsJoined (map (numbers_of S.number) words.items) ((S.number token.0 ∷ []) ∷ []) w) }
-{
-    let mut longer = Vec::new(alloc);
-    while let Some(mut word) = words.pop() {
-        word.push(token)?;
-        longer.push(word)?;
-    }
-    Ok(longer)
 }
 
 /// The words, each with what the symbol stands for behind it.
@@ -101,15 +87,19 @@ fn push_symbol<S: Storage>(
     words: Vec<Vec<TIdx<S>>>,
     symbol: Symbol<S>,
 ) -> Result<Vec<Vec<TIdx<S>>>, AllocError>
-    ensures { IfOk result (λ longer. (w : List ℕ) → Contains (map (numbers_of S.number) longer.items) w
-        ↔ IsJoined (map (numbers_of S.number) words.items) (words_of_symbol table.now (sym_of S.number symbol)) w) }
+    ensures { IfOk result (λ longer. words_of S.number longer
+        ≡ joined (words_of S.number words) (words_of_symbol (sentences_in S.number table.now) (sym_of S.number symbol))) }
 {
     match symbol {
-        Symbol::Rule(rule) => match table.sentences(usize::from(rule)) {
+        Symbol::Rule(rule) => match table.get(&usize::from(rule)) {
             Some(backs) => join_all(alloc, words, backs),
             None => Ok(Vec::new(alloc)),
         },
-        Symbol::Token(token) => push_token(alloc, words, token),
+        Symbol::Token(token) => {
+            let mut word = Vec::new(alloc);
+            word.push(token)?;
+            join_all(alloc, words, from_ref(&word))
+        }
     }
 }
 
@@ -118,13 +108,13 @@ fn push_symbol<S: Storage>(
 /// # Errors
 ///
 /// Want of memory.
-pub(crate) fn row_words<S: Storage>(
+pub(crate) fn made_by_row<S: Storage>(
     alloc: Global,
     table: &SentenceTable<S>,
     symbols: &[Symbol<S>],
 ) -> Result<Vec<Vec<TIdx<S>>>, AllocError>
-    ensures { IfOk result (λ words. (w : List ℕ) → Contains (map (numbers_of S.number) words.items) w
-        ↔ Split (HasSentence table.now) (map (sym_of S.number) symbols.now) w) }
+    ensures { IfOk result (λ words.
+        words_of S.number words ≡ row_words (sentences_in S.number table.now) (map (sym_of S.number) symbols.now)) }
 {
     let mut words = Vec::new(alloc);
     words.push(Vec::new(alloc))?;

@@ -1,21 +1,23 @@
-use Rattle.std.proofs.Common.{◌≡◌, ◌↔◌, ◌<◌, ℕ, List, ◌∷◌, Contains, Some, sym, ap, subst, arith}
+use Rattle.std.proofs.Common.{◌≡◌, ◌<◌, ℕ, ◌∷◌, Some, sym, ap, subst, arith, ◌∙◌}
 use Rattle.std.proofs.lemmas.List.Sorted.{length_permutation}
 use Rattle.derivation.specs.Grammar.{IsGrammar}
 use Rattle.cfgleast.specs.Generator.{CostTables, IsGenerator, cost_answer}
-use Rattle.cfgcosts.specs.Inner.Minimal.{IsReadyFor, set_of}
-use Rattle.cfgchoices.specs.Inner.Kinds.{IsMinimal}
-use Rattle.cfgcosts.proofs.Filled.{Filling, filling_begins, filling_goes_on, filling_ends, popped_answer, popped_ready}
+use Rattle.cfgcosts.specs.Inner.Minimal.{AreMinimal, IsReadyFor, sentences_in, words_of}
+use Rattle.cfgcosts.proofs.Filled.{Filling, filling_begins, filling_goes_on, filling_ends, popped_answer, popped_ready, puts, taken}
 use Rattle.cfgchoices.proofs.Tight.{answered_within}
-use Rattle.cfgcosts.proofs.generator.SentenceGenerator.full_table.Goals as goal
+use Rattle.cfgcosts.proofs.generator.SentenceGenerator.all_sentences.Goals as goal
 
 pub loop-number-init : goal.loop-number-init
-loop-number-init g c = (c.in_ok-asked.asked, c.in_ok-asked.ensures, filling_begins c.args.self.now c.in_ok-asked.asked c.new-table.result)
+loop-number-init g c = (c.in_ok-asked.asked, c.in_ok-asked.ensures, filling_begins c.args.self.now c.in_ok-asked.asked (sentences_in g.S.Storage.number c.new-table.result))
 
 pub returns : goal.returns
 returns g c =
+    let number = g.S.Storage.number in
     let (all, asked, filling) = c.loop-number.invariant in
-    filling_ends c.args.self.now (g.S.Storage.number c.args.rule.0) all c.loop-number.table asked
-    (subst (λ l. Filling c.args.self.now all l c.loop-number.table) c.in_default.ensures.none filling)
+    let full = filling_ends c.args.self.now (number c.args.rule.0) all (sentences_in number c.loop-number.table) asked
+    (subst (λ l. Filling c.args.self.now all l (sentences_in number c.loop-number.table)) c.in_default.ensures.none filling) in
+    subst (AreMinimal c.args.self.now (number c.args.rule.0)) (sym (ap (words_of number) c.unwrap_or.ensures ∙ taken number c.loop-number.table c.from.result (number c.args.rule.0) c.remove-all.result c.new.result
+    c.from.ensures c.remove-all.ensures.value c.new.ensures.items)) full
 
 pub to_storage-requires : goal.to_storage-requires
 to_storage-requires g c =
@@ -23,7 +25,7 @@ to_storage-requires g c =
     let n = c.self.inside.settled.number in
     let is = subst (λ (x : CostTables). IsGenerator x n) c.self.view_is c.self.invariant.0 in
     let within = answered_within c.args.self.now n is c.in-Some.number c.in-Some.field-0-0
-    (popped_answer c.args.self.now (g.S.Storage.number c.args.rule.0) all c.loop-number.asked c.pop.new.self (c.in-Some.field-0-0, c.in-Some.number) c.loop-number.table asked filling
+    (popped_answer c.args.self.now (g.S.Storage.number c.args.rule.0) all c.loop-number.asked c.pop.new.self (c.in-Some.field-0-0, c.in-Some.number) (sentences_in g.S.Storage.number c.loop-number.table) asked filling
     c.in-Some.ensures.out c.in-Some.ensures.least) in
     let rules = ap (λ (x : CostTables). x.grammar.rules) c.self.view_is in
     let counted = c.rules_len.ensures.value in
@@ -37,7 +39,7 @@ level_sentences-requires-clause-rule g c =
     let n = c.self.inside.settled.number in
     let is = subst (λ (x : CostTables). IsGenerator x n) c.self.view_is c.self.invariant.0 in
     subst (λ m. m < c.args.self.now.grammar.rules) (sym c.to_storage.ensures) (answered_within c.args.self.now n is c.in-Some.number c.in-Some.field-0-0
-    (popped_answer c.args.self.now (g.S.Storage.number c.args.rule.0) all c.loop-number.asked c.pop.new.self (c.in-Some.field-0-0, c.in-Some.number) c.loop-number.table asked filling
+    (popped_answer c.args.self.now (g.S.Storage.number c.args.rule.0) all c.loop-number.asked c.pop.new.self (c.in-Some.field-0-0, c.in-Some.number) (sentences_in g.S.Storage.number c.loop-number.table) asked filling
     c.in-Some.ensures.out c.in-Some.ensures.least))
 
 pub level_sentences-requires-clause-known : goal.level_sentences-requires-clause-known
@@ -45,7 +47,7 @@ level_sentences-requires-clause-known g c =
     let (all, asked, filling) = c.loop-number.invariant in
     subst (λ m. (d : ℕ) × (cost_answer c.args.self.now m ≡ Some d)) (sym c.to_storage.ensures) (
       c.in-Some.field-0-0,
-      popped_answer c.args.self.now (g.S.Storage.number c.args.rule.0) all c.loop-number.asked c.pop.new.self (c.in-Some.field-0-0, c.in-Some.number) c.loop-number.table asked filling
+      popped_answer c.args.self.now (g.S.Storage.number c.args.rule.0) all c.loop-number.asked c.pop.new.self (c.in-Some.field-0-0, c.in-Some.number) (sentences_in g.S.Storage.number c.loop-number.table) asked filling
           c.in-Some.ensures.out c.in-Some.ensures.least,
     )
 
@@ -55,19 +57,20 @@ level_sentences-requires-clause-ready g c =
     let n = c.self.inside.settled.number in
     let is = subst (λ (x : CostTables). IsGenerator x n) c.self.view_is c.self.invariant.0 in
     let grammar = subst (λ (x : CostTables). IsGrammar x.grammar) c.self.view_is c.rules_len.ensures.content in
-    subst (IsReadyFor c.args.self.now c.loop-number.table) (sym c.to_storage.ensures)
-    (popped_ready c.args.self.now (g.S.Storage.number c.args.rule.0) all c.loop-number.asked c.pop.new.self (c.in-Some.field-0-0, c.in-Some.number) c.loop-number.table asked filling
+    subst (IsReadyFor c.args.self.now (sentences_in g.S.Storage.number c.loop-number.table)) (sym c.to_storage.ensures)
+    (popped_ready c.args.self.now (g.S.Storage.number c.args.rule.0) all c.loop-number.asked c.pop.new.self (c.in-Some.field-0-0, c.in-Some.number) (sentences_in g.S.Storage.number c.loop-number.table) asked filling
     c.in-Some.ensures.out c.in-Some.ensures.least n is grammar)
 
 pub loop-number-preserved : goal.loop-number-preserved
 loop-number-preserved g c =
+    let number = g.S.Storage.number in
     let (all, asked, filling) = c.loop-number.invariant in
-    let words = set_of g.S.Storage.number c.in_ok-sentences.sentences in
-    let minimal = subst (λ r. (w : List ℕ) → Contains words w ↔ IsMinimal c.args.self.now r w) c.to_storage.ensures c.in_ok-sentences.ensures in (
+    let words = words_of number c.in_ok-sentences.sentences in
+    let minimal = subst (λ r. AreMinimal c.args.self.now r words) c.to_storage.ensures c.in_ok-sentences.ensures in (
       all,
       asked,
-      filling_goes_on c.args.self.now (g.S.Storage.number c.args.rule.0) all c.loop-number.asked c.pop.new.self (c.in-Some.field-0-0, c.in-Some.number) c.loop-number.table asked filling
-          c.in-Some.ensures.out c.in-Some.ensures.least c.put.new.self words c.in_ok-put.ensures minimal,
+      filling_goes_on c.args.self.now (number c.args.rule.0) all c.loop-number.asked c.pop.new.self (c.in-Some.field-0-0, c.in-Some.number) (sentences_in number c.loop-number.table) asked filling
+          c.in-Some.ensures.out c.in-Some.ensures.least _ words (puts number c.loop-number.table c.insert.new.self _ _ c.in_ok-insert.ensures.updates.0) minimal,
     )
 
 pub loop-number-smaller : goal.loop-number-smaller

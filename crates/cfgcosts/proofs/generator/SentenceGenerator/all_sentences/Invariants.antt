@@ -1,0 +1,10 @@
+use Rattle.std.proofs.Common.{ℕ, List, length}
+use Rattle.cfgcosts.specs.Inner.Minimal.{AreAsked, sentences_in}
+use Rattle.cfgcosts.proofs.Filled.{Filling}
+use Rattle.cfgcosts.proofs.generator.SentenceGenerator.all_sentences.Given as goal
+
+abbrev pub invariant-loop-number : goal.invariant-loop-number
+invariant-loop-number g l = (all : List (ℕ × ℕ)) × AreAsked l.self (g.S.Storage.number l.fn.rule.0) all × Filling l.self all l.asked (sentences_in g.S.Storage.number l.table)
+
+abbrev pub decreases-loop-number : goal.decreases-loop-number
+decreases-loop-number g l = length l.asked
