@@ -13,7 +13,8 @@ use Rattle.cfganalysis.specs.Inner.Growth.{TakesIn}
 use Rattle.cfganalysis.specs.Inner.Waiting.{Waits, NoneWaits}
 use Rattle.cfganalysis.proofs.Noting.{put_waits, put_there}
 use Rattle.lemmas.proofs.Passes.{grown}
-use Rattle.cfganalysis.proofs.OneBit.{bits_on-set, bits_on-fewer, count_of-fewer}
+use Rattle.search.proofs.Bits.{bits_on-fewer, bits_on-set}
+use Rattle.cfganalysis.proofs.OneBit.{count_of-fewer}
 use Rattle.cfganalysis.proofs.Fronts.{begins_front, begins_past, vanishes_among, begins_among, vanishes_alone, stays_alone}
 use Rattle.cfganalysis.proofs.FirstBits.{say_first, say_epsilon}
 use Rattle.cfgtables.proofs.Placed.{owner}

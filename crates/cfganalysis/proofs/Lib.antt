@@ -11,4 +11,4 @@ pub mod FollowVisits
 pub mod Gathering
 pub mod Fitting
 pub mod FollowBits
-pub mod Searching
+pub mod References

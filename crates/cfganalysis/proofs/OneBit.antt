@@ -1,9 +1,10 @@
 -- Tables of bits: what one bit more changes.
-use Rattle.std.proofs.Common.{◌≡◌, ℕ, zero, suc, ◌+◌, ◌<◌, ◌≤◌, ◌⊎◌, inl, inr, Bool, true, false, cond, List, [], ◌∷◌, sum_by, length, get_or, slice_set, arith, refl, sym, ap, ◌∙◌, subst, true≢false, length-set}
+use Rattle.std.proofs.Common.{◌≡◌, ℕ, zero, suc, ◌+◌, ◌<◌, ◌≤◌, ◌⊎◌, inl, inr, Bool, true, false, List, [], ◌∷◌, sum_by, length, get_or, slice_set, arith, refl, sym, ap, ◌∙◌, subst, true≢false, length-set}
 use Rattle.std.proofs.lemmas.List.Sums.{sum_by-set, sum_by-cons}
 use Rattle.std.proofs.lemmas.List.Elements.{All-get_or, All-set, All-replicate}
 use Rattle.std.proofs.lemmas.List.{length-replicate}
 use Rattle.lemmas.proofs.Elements.{within_from_get_or, get_or-replicate_default, get_or-set}
+use Rattle.search.proofs.Bits.{bits_on-fewer, bits_on-set}
 use Rattle.cfganalysis.specs.Table.{Table, IsTable, row_of, bit, no_bits, bits_on, count_of, with_bit}
 
 pub row_wide : (rows columns : ℕ) (x : Table) → IsTable rows columns x → (r : ℕ) → r < rows → length (row_of x r) ≡ columns
@@ -32,12 +33,6 @@ IsTable-with_bit rows columns x r c h is = record {
   all_wide = All-set (λ row. length row ≡ columns) x.rows r _ (length-set (row_of x r) c true ∙ row_wide rows columns x is r h) is.all_wide;
 }
 
-pub bits_on-set : (l : List Bool) (c : ℕ) → c < length l → get_or l c false ≡ false → bits_on (slice_set l c true) ≡ bits_on l + 1
-bits_on-set l c h off =
-    let e = sum_by-set (λ (b : Bool). cond b 1 0) l c true false h in
-    let z : ◌≡◌ {A = ℕ} (cond (get_or l c false) 1 0) 0 = ap (λ b. cond b 1 0) off in
-    omega (arith, e, z)
-
 pub count_of-with_bit : (rows columns : ℕ) (x : Table) (r c : ℕ) → IsTable rows columns x → r < rows → c < columns → bit x r c ≡ false → count_of (with_bit x r c) ≡ count_of x + 1
 count_of-with_bit rows columns x r c is h k off =
     let row = bits_on-set (row_of x r) c (subst (λ n. c < n) (sym (row_wide rows columns x is r h)) k) off in
@@ -56,24 +51,6 @@ IsTable-no_bits rows columns = record {
   height = length-replicate rows _;
   all_wide = All-replicate (λ row. length row ≡ columns) rows _ (length-replicate columns false);
 }
-
--- where each bit that is on is on in the other list too, no more are on
-pub bits_on-fewer : (a b : List Bool) → ((k : ℕ) → get_or a k false ≡ true → get_or b k false ≡ true) → bits_on a ≤ bits_on b
-bits_on-fewer [] b f = omega arith
-bits_on-fewer (true ∷ a) [] f = absurd (true≢false (sym (f 0 refl)))
-bits_on-fewer (false ∷ a) [] f =
-    let h = bits_on-fewer a [] (λ k on. f (suc k) on) in
-    omega (arith, h, sum_by-cons (λ (b : Bool). cond b 1 0) false a)
-bits_on-fewer (true ∷ a) (true ∷ b) f =
-    let h = bits_on-fewer a b (λ k on. f (suc k) on) in
-    omega (arith, h, sum_by-cons (λ (b : Bool). cond b 1 0) true a, sum_by-cons (λ (b : Bool). cond b 1 0) true b)
-bits_on-fewer (true ∷ a) (false ∷ b) f = absurd (true≢false (sym (f 0 refl)))
-bits_on-fewer (false ∷ a) (true ∷ b) f =
-    let h = bits_on-fewer a b (λ k on. f (suc k) on) in
-    omega (arith, h, sum_by-cons (λ (b : Bool). cond b 1 0) false a, sum_by-cons (λ (b : Bool). cond b 1 0) true b)
-bits_on-fewer (false ∷ a) (false ∷ b) f =
-    let h = bits_on-fewer a b (λ k on. f (suc k) on) in
-    omega (arith, h, sum_by-cons (λ (b : Bool). cond b 1 0) false a, sum_by-cons (λ (b : Bool). cond b 1 0) false b)
 
 rows-fewer : (xs ys : List (List Bool)) → ((r k : ℕ) → get_or (get_or xs r []) k false ≡ true → get_or (get_or ys r []) k false ≡ true)
     → sum_by bits_on xs ≤ sum_by bits_on ys

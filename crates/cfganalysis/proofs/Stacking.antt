@@ -7,7 +7,7 @@ use Rattle.std.proofs.lemmas.Option.{get_or_from_slice_get}
 use Rattle.lemmas.proofs.Elements.{get_or-replicate_default, within_from_get_or, set-slice_get}
 use Rattle.cfganalysis.specs.Table.{bits_on}
 use Rattle.cfganalysis.specs.Inner.Waiting.{waits, Waits, NoneWaits, IsStack}
-use Rattle.cfganalysis.proofs.OneBit.{bits_on-set}
+use Rattle.search.proofs.Bits.{bits_on-set}
 
 -- one bit fewer
 pub bits_on-clear : (l : List Bool) (n : ℕ) → n < length l → get_or l n false ≡ true → bits_on (slice_set l n false) + 1 ≡ bits_on l

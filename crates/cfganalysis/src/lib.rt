@@ -15,4 +15,4 @@ pub use bits::BitTable;
 pub use cfgtables::{CountedTables, Productions, Tables};
 pub use firsts::{YaccFirsts, firsts_over};
 pub use follows::{YaccFollows, follows_over};
-pub use paths::{Search, has_path};
+pub use paths::{has_path, reach_held};

@@ -1,5 +1,5 @@
 -- What is found among rules and tokens by a name, and at a place.
-use Rattle.std.proofs.Common.{◌≡◌, ℕ, ◌==◌, Option, List, length, refl, arith, map, position, slice_get, String, Global, string_bytes, string_eq, false, [], ◌∷◌, Some, None, sym, ap, ◌∙◌}
+use Rattle.std.proofs.Common.{◌≡◌, ℕ, ◌==◌, Option, List, length, refl, arith, map, position, String, Global, string_bytes, string_eq, false, [], ◌∷◌, Some, None, sym, ap, ◌∙◌}
 use Rattle.std.specs.List.{IsDistinct, AllByRecursion, list_any}
 use Rattle.std.specs.Option.{option_map_or}
 use Rattle.std.specs.Map.{keys_of}
@@ -10,7 +10,6 @@ use Rattle.cfgast.specs.Syntax.{Syntax, entry_name}
 use Rattle.cfgast.specs.Building.{is_declared}
 use Rattle.cfgast.specs.View.{rule_entry}
 use Rattle.cfgast.specs.declared.rule.Rule as source
-use Rattle.cfgast.proofs.Marking.{found_at}
 use Rattle.cfgast.proofs.Views.{is_key}
 
 -- rules are looked up among their keys
@@ -20,14 +19,6 @@ rule_names es = map-map entry_name rule_entry es ∙ sym (map-map string_bytes (
 pub rule_position : (name : List ℕ) (es : List (String Global × source.Rule))
     → position (bytes_eq name) (map entry_name (map rule_entry es)) ≡ position (is_key name) (keys_of es)
 rule_position name es = ap (position (bytes_eq name)) (rule_names es) ∙ position-map (bytes_eq name) string_bytes (keys_of es)
-
-pub rule_found : (name : List ℕ) (es : List (String Global × source.Rule)) (i : ℕ) → Some i ≡ position (is_key name) (keys_of es)
-    → slice_get (map entry_name (map rule_entry es)) i ≡ Some name
-rule_found name es i found = found_at _ name i (found ∙ sym (rule_position name es))
-
-pub token_found : (name : List ℕ) (keys : List (String Global)) (i : ℕ) → Some i ≡ position (is_key name) keys
-    → slice_get (map string_bytes keys) i ≡ Some name
-token_found name keys i found = found_at _ name i (found ∙ sym (position-map (bytes_eq name) string_bytes keys))
 
 -- keys that differ as keys differ in their bytes
 pub names_differ : (keys : List (String Global)) → IsDistinct string_eq keys → IsDistinct bytes_eq (map string_bytes keys)

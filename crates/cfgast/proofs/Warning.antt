@@ -1,96 +1,129 @@
--- The warnings of a list, an element at a time.
-use Rattle.std.proofs.Common.{◌≡◌, ◌<◌, ⊎_elim, arith, ℕ, zero, suc, ◌+◌, List, [], ◌∷◌, ◌++◌, take, slice_get, Option, Some, None, refl, sym, ap, ◌∙◌, subst, append_assoc, append-nil, ◌≤◌, length}
-use Rattle.std.proofs.lemmas.Bool.{cases_lt}
-use Rattle.std.proofs.lemmas.List.{take_all, take_more}
-use Rattle.std.proofs.lemmas.Option.{slice_get_within, get_or_from_slice_get}
-use Rattle.lemmas.proofs.Elements.{element_at}
+-- The warnings of the first nodes, and of one more.
+use Rattle.std.proofs.Common.{◌≡◌, ℕ, zero, suc, ◌+◌, ◌-◌, ◌<◌, ◌≤◌, inl, inr, List, [], ◌∷◌, ◌++◌, map, take, length, get_or, false, true≢false, slice_get, option_map, Option, Some, None, arith, refl, sym, ap, ◌∙◌, subst}
 use Rattle.std.specs.List.{zip}
-use Rattle.cfgwarnings.specs.Warnings.{GrammarWarning}
-use Rattle.cfgast.specs.Unused.{Warned, none, taken, left}
+use Rattle.std.proofs.lemmas.List.{length-map, take_all, take_more}
+use Rattle.std.proofs.lemmas.Option.{slice_get_within, get_or_from_slice_get, slice_get-map}
+use Rattle.std.proofs.lemmas.Bool.{cases_lt}
+use Rattle.lemmas.proofs.Elements.{element_at}
+use Rattle.cfgbase.specs.declared.span.Span.{Span}
+use Rattle.cfgwarnings.specs.Warnings.{GrammarWarning, warning_at}
+use Rattle.cfgwarnings.specs.declared.warning.YaccGrammarWarningKind.TheVariants.{UnusedToken}
+use Rattle.cfgast.specs.Syntax.{Syntax, Rule}
+use Rattle.cfgast.specs.Unused.{Name, RuleName, TokenName, IsUnused, Warned, none, taken, left, possible_warnings, rule_warning, token_warning}
+use Rattle.search.specs.Reached.{IsReachedIn, SearchState}
+use Rattle.cfgast.specs.Inner.Nodes.{nodes, Knows}
 
-pub take_one : {A : Type 0} (xs : List A) (i : ℕ) (x : A) → slice_get xs i ≡ Some x → take (i + 1) xs ≡ take i xs ++ x ∷ []
-take_one xs i x at = take_more xs i x (slice_get_within xs i x at) ∙ ap (λ y. take i xs ++ y ∷ []) (get_or_from_slice_get xs i x x at)
+-- what would be warned of at a node stands there
+pub named_there : (rules : List (List ℕ × Rule)) (tokens : List (List ℕ)) (spans : List Span) (i : ℕ) (e : Name × GrammarWarning)
+    → slice_get (map rule_warning rules ++ map token_warning (zip tokens spans)) i ≡ Some e
+    → slice_get (map (λ rule. RuleName rule.0) rules ++ map TokenName tokens) i ≡ Some e.0
+named_there [] [] spans i e at = cc
+named_there [] (token ∷ tokens) [] i e at = cc
+named_there [] (token ∷ tokens) (span ∷ spans) zero e at = ap (option_map (λ named. named.0)) at
+named_there [] (token ∷ tokens) (span ∷ spans) (suc i) e at = named_there [] tokens spans i e at
+named_there (rule ∷ rules) tokens spans zero e at = ap (option_map (λ named. named.0)) at
+named_there (rule ∷ rules) tokens spans (suc i) e at = named_there rules tokens spans i e at
 
-pub take_past : {A : Type 0} (xs : List A) (i : ℕ) → slice_get xs i ≡ None → take (i + 1) xs ≡ take i xs
-take_past xs i past = ⊎_elim
-    (λ within. let (x, at) = element_at xs i within in let no : None ≡ Some x = sym past ∙ at in cc)
-    (λ all. take_all (i + 1) xs (omega (arith, all)) ∙ sym (take_all i xs all))
-    (cases_lt i (length xs))
+zip_get : {A B : Type 0} (xs : List A) (ys : List B) (i : ℕ) → i < length xs → option_map (λ p. p.1) (slice_get (zip xs ys) i) ≡ slice_get ys i
+zip_get [] ys i lt = absurd (omega (arith, lt))
+zip_get (x ∷ xs) [] i lt = refl
+zip_get (x ∷ xs) (y ∷ ys) zero lt = refl
+zip_get (x ∷ xs) (y ∷ ys) (suc i) lt = zip_get xs ys i (omega (arith, lt))
 
-pub zip_at : {A B : Type 0} (xs : List A) (ys : List B) (i : ℕ) (x : A) (y : B) → slice_get xs i ≡ Some x → slice_get ys i ≡ Some y
-    → slice_get (zip xs ys) i ≡ Some (x, y)
-zip_at [] ys i x y at there = cc
-zip_at (a ∷ xs) [] i x y at there = cc
-zip_at (a ∷ xs) (b ∷ ys) zero x y at there = let one : a ≡ x = cc in let other : b ≡ y = cc in λ k. Some (one k, other k)
-zip_at (a ∷ xs) (b ∷ ys) (suc i) x y at there = zip_at xs ys i x y at there
-
-pub zip_past : {A B : Type 0} (xs : List A) (ys : List B) (i : ℕ) → slice_get ys i ≡ None → slice_get (zip xs ys) i ≡ None
-zip_past [] ys i past = refl
-zip_past (a ∷ xs) [] i past = refl
-zip_past (a ∷ xs) (b ∷ ys) zero past = cc
-zip_past (a ∷ xs) (b ∷ ys) (suc i) past = zip_past xs ys i past
-
-pub zip_short : {A B : Type 0} (xs : List A) (ys : List B) (n : ℕ) → length xs ≤ n → length (zip xs ys) ≤ n
-zip_short [] ys n short = omega arith
-zip_short (a ∷ xs) [] n short = omega arith
-zip_short (a ∷ xs) (b ∷ ys) zero short = absurd (omega (arith, short))
-zip_short (a ∷ xs) (b ∷ ys) (suc n) short = let rest = zip_short xs ys n (omega (arith, short)) in omega (arith, rest)
-
-module _ {A : Type 0} (Holds : A → Type 0) (warning : A → GrammarWarning) where
-  with_one : (xs : List A) (told : List GrammarWarning) (x : A) → Warned Holds warning xs told → Holds x
-      → Warned Holds warning (xs ++ x ∷ []) (told ++ warning x ∷ [])
-  with_one _ _ x none h = taken h none
-  with_one _ _ x (taken {xs = xs} {warnings = told} k w) h = taken k (with_one xs told x w h)
-  with_one _ told x (left {xs = xs} k w) h = left k (with_one xs told x w h)
-
-  without_one : (xs : List A) (told : List GrammarWarning) (x : A) → Warned Holds warning xs told → (Holds x → ⊥)
-      → Warned Holds warning (xs ++ x ∷ []) told
-  without_one _ _ x none h = left h none
-  without_one _ _ x (taken {xs = xs} {warnings = told} k w) h = taken k (without_one xs told x w h)
-  without_one _ told x (left {xs = xs} k w) h = left k (without_one xs told x w h)
-
-  -- the warnings of the first elements are told behind those that there were
-  pub record WarnedFront (xs : List A) (i : ℕ) (old new : List GrammarWarning) : Type 0 where
-    pub told : List GrammarWarning
-    pub warned : Warned Holds warning (take i xs) told
-    pub behind : new ≡ old ++ told
-
-  pub warned_none : (xs : List A) (old : List GrammarWarning) → WarnedFront xs 0 old old
-  warned_none xs old = record { told = []; warned = none; behind = sym (append-nil old) }
-
-  pub warned_more : (xs : List A) (i : ℕ) (x : A) (old mid new : List GrammarWarning) → WarnedFront xs i old mid → slice_get xs i ≡ Some x
-      → Holds x → new ≡ mid ++ warning x ∷ [] → WarnedFront xs (i + 1) old new
-  warned_more xs i x old mid new w at h put = record {
-    told = w.told ++ warning x ∷ [];
-    warned = subst (λ l. Warned Holds warning l (w.told ++ warning x ∷ [])) (sym (take_one xs i x at)) (with_one (take i xs) w.told x w.warned h);
-    behind = put ∙ ap (λ l. l ++ warning x ∷ []) w.behind ∙ append_assoc old w.told (warning x ∷ []);
-  }
-
-  pub warned_left : (xs : List A) (i : ℕ) (x : A) (old new : List GrammarWarning) → WarnedFront xs i old new → slice_get xs i ≡ Some x
-      → (Holds x → ⊥) → WarnedFront xs (i + 1) old new
-  warned_left xs i x old new w at h = record {
-    told = w.told;
-    warned = subst (λ l. Warned Holds warning l w.told) (sym (take_one xs i x at)) (without_one (take i xs) w.told x w.warned h);
-    behind = w.behind;
-  }
-
-  pub warned_all : (xs : List A) (i : ℕ) (old new : List GrammarWarning) → length xs ≤ i → WarnedFront xs i old new
-      → (told : List GrammarWarning) × Warned Holds warning xs told × (new ≡ old ++ told)
-  warned_all xs i old new all w = (w.told, subst (λ l. Warned Holds warning l w.told) (take_all i xs all) w.warned, w.behind)
-
-  pub warned_past : (xs : List A) (i : ℕ) (old new : List GrammarWarning) → WarnedFront xs i old new → slice_get xs i ≡ None → WarnedFront xs (i + 1) old new
-  warned_past xs i old new w past = record {
-    told = w.told;
-    warned = subst (λ l. Warned Holds warning l w.told) (sym (take_past xs i past)) w.warned;
-    behind = w.behind;
-  }
-
--- of pairs, where one is told of by its first part
-pub warned_left_pair : {A B : Type 0} (Holds : A × B → Type 0) (warning : A × B → GrammarWarning) (xs : List A) (ys : List B) (i : ℕ) (x : A)
-    (old new : List GrammarWarning) → WarnedFront Holds warning (zip xs ys) i old new → slice_get xs i ≡ Some x
-    → ((y : B) → Holds (x, y) → ⊥) → WarnedFront Holds warning (zip xs ys) (i + 1) old new
-warned_left_pair {A} {B} Holds warning xs ys i x old new w at never = go (slice_get ys i) refl
+-- what would be warned of at a rule, and behind all rules
+pub rule_there : (s : Syntax) (i : ℕ) (rule : List ℕ × Rule) → slice_get s.rules i ≡ Some rule
+    → Some (rule_warning rule).1 ≡ option_map (λ named. named.1) (slice_get (possible_warnings s) i)
+rule_there s i rule at = go s.rules i at
   where
-    go : (o : Option B) → slice_get ys i ≡ o → WarnedFront Holds warning (zip xs ys) (i + 1) old new
-    go None past = warned_past Holds warning (zip xs ys) i old new w (zip_past xs ys i past)
-    go (Some y) there = warned_left Holds warning (zip xs ys) i (x, y) old new w (zip_at xs ys i x y at there) (never y)
+    go : (rules : List (List ℕ × Rule)) (i : ℕ) → slice_get rules i ≡ Some rule
+        → Some (rule_warning rule).1 ≡ option_map (λ named. named.1) (slice_get (map rule_warning rules ++ map token_warning (zip s.tokens s.spans)) i)
+    go [] i at = cc
+    go (x ∷ rules) zero at = ap (option_map (λ (rule : List ℕ × Rule). (rule_warning rule).1)) (sym at)
+    go (x ∷ rules) (suc i) at = go rules i at
+
+pub token_there : (s : Syntax) (i : ℕ) → i < length (nodes s) → slice_get s.rules i ≡ None
+    → option_map (λ span. warning_at UnusedToken span) (slice_get s.spans (i - length s.rules)) ≡ option_map (λ named. named.1) (slice_get (possible_warnings s) i)
+token_there s i lt past = go s.rules i (i - length s.rules) lt past refl
+  where
+    go : (rules : List (List ℕ × Rule)) (i k : ℕ) → i < length (map (λ rule. RuleName rule.0) rules ++ map TokenName s.tokens) → slice_get rules i ≡ None → i - length rules ≡ k
+        → option_map (λ span. warning_at UnusedToken span) (slice_get s.spans k)
+        ≡ option_map (λ named. named.1) (slice_get (map rule_warning rules ++ map token_warning (zip s.tokens s.spans)) i)
+    go [] i k lt past e =
+        let within : i < length s.tokens = subst (λ n. i < n) (length-map s.tokens TokenName) lt in
+        let same : i ≡ k = omega (arith, e) in
+        ap (λ k. option_map (λ span. warning_at UnusedToken span) (slice_get s.spans k)) (sym same)
+        ∙ ap (option_map (λ span. warning_at UnusedToken span)) (sym (zip_get s.tokens s.spans i within))
+        ∙ shown (slice_get (zip s.tokens s.spans) i) ∙ ap (option_map (λ named. named.1)) (sym (slice_get-map token_warning (zip s.tokens s.spans) i))
+      where
+        shown : (o : Option (List ℕ × Span)) → option_map (λ span. warning_at UnusedToken span) (option_map (λ p. p.1) o) ≡ option_map (λ named. named.1) (option_map token_warning o)
+        shown None = refl
+        shown (Some pair) = refl
+    go (x ∷ rules) zero k lt past e = cc
+    go (x ∷ rules) (suc i) k lt past e = go rules i k (omega (arith, lt)) past (omega (arith, e))
+
+module _ (s : Syntax) where
+  with_one : (xs : List (Name × GrammarWarning)) (told : List GrammarWarning) (e : Name × GrammarWarning) → Warned s xs told → IsUnused s e.0
+      → Warned s (xs ++ e ∷ []) (told ++ e.1 ∷ [])
+  with_one _ _ e none h = taken h none
+  with_one _ _ e (taken {rest = xs} {warnings = told} k w) h = taken k (with_one xs told e w h)
+  with_one _ told e (left {rest = xs} k w) h = left k (with_one xs told e w h)
+
+  without_one : (xs : List (Name × GrammarWarning)) (told : List GrammarWarning) (e : Name × GrammarWarning) → Warned s xs told → (IsUnused s e.0 → ⊥)
+      → Warned s (xs ++ e ∷ []) told
+  without_one _ _ e none h = left h none
+  without_one _ _ e (taken {rest = xs} {warnings = told} k w) h = taken k (without_one xs told e w h)
+  without_one _ told e (left {rest = xs} k w) h = left k (without_one xs told e w h)
+
+  pub unused : (x : SearchState) → Knows s x → (i : ℕ) → get_or x.reached i false ≡ false → (name : Name) → slice_get (nodes s) i ≡ Some name → IsUnused s name
+  unused x knows i off name at = (
+    (λ h. true≢false (sym ((knows.each i name at).1 (inl h)) ∙ off)),
+    (λ h. true≢false (sym ((knows.each i name at).1 (inr h)) ∙ off)),
+  )
+
+  longer : (i : ℕ) (e : Name × GrammarWarning) → slice_get (possible_warnings s) i ≡ Some e
+      → take (i + 1) (possible_warnings s) ≡ take i (possible_warnings s) ++ e ∷ []
+  longer i e at = take_more (possible_warnings s) i e (slice_get_within (possible_warnings s) i e at)
+      ∙ ap (λ y. take i (possible_warnings s) ++ y ∷ []) (get_or_from_slice_get (possible_warnings s) i e e at)
+
+  module _ (i : ℕ) (told : List GrammarWarning) (w : Warned s (take i (possible_warnings s)) told) where
+    pub warned_more : (warning pushed : GrammarWarning) (now : List GrammarWarning) → Some warning ≡ option_map (λ named. named.1) (slice_get (possible_warnings s) i)
+        → ((name : Name) → slice_get (nodes s) i ≡ Some name → IsUnused s name) → pushed ≡ warning → now ≡ told ++ pushed ∷ []
+        → Warned s (take (i + 1) (possible_warnings s)) now
+    warned_more warning pushed now found unused same put = go (slice_get (possible_warnings s) i) refl found
+      where
+        go : (o : Option (Name × GrammarWarning)) → slice_get (possible_warnings s) i ≡ o → Some warning ≡ option_map (λ named. named.1) o
+            → Warned s (take (i + 1) (possible_warnings s)) now
+        go None at e = cc
+        go (Some named) at e =
+            let is : pushed ≡ named.1 = cc in
+            subst (λ l. Warned s l now) (sym (longer i named at))
+            (subst (Warned s (take i (possible_warnings s) ++ named ∷ [])) (sym (put ∙ ap (λ y. told ++ y ∷ []) is))
+            (with_one (take i (possible_warnings s)) told named w (unused named.0 (named_there s.rules s.tokens s.spans i named at))))
+
+    -- there is nothing, or it isn't unused
+    warned_left : ((e : Name × GrammarWarning) → slice_get (possible_warnings s) i ≡ Some e → IsUnused s e.0 → ⊥) → Warned s (take (i + 1) (possible_warnings s)) told
+    warned_left used = elim (cases_lt i (length (possible_warnings s))) [
+      | inl within ↦ let (e, at) = element_at (possible_warnings s) i within in
+          subst (λ l. Warned s l told) (sym (longer i e at)) (without_one (take i (possible_warnings s)) told e w (used e at))
+      | inr past ↦ subst (λ l. Warned s l told) (take_all i (possible_warnings s) past ∙ sym (take_all (i + 1) (possible_warnings s) (omega (arith, past)))) w
+    ]
+
+    pub warned_known : (x : SearchState) → Knows s x → IsReachedIn x i → Warned s (take (i + 1) (possible_warnings s)) told
+    warned_known x knows on = warned_left (λ e at unused.
+        elim ((knows.each i e.0 (named_there s.rules s.tokens s.spans i e at)).0 on) [ inl h ↦ unused.0 h | inr h ↦ unused.1 h ])
+
+    pub warned_past : None ≡ option_map (λ named. named.1) (slice_get (possible_warnings s) i) → Warned s (take (i + 1) (possible_warnings s)) told
+    warned_past nothing = warned_left (λ e at unused. let no : None ≡ Some e.1 = nothing ∙ ap (option_map (λ named. named.1)) at in cc)
+
+    pub warned_all : length (nodes s) ≤ i → Warned s (possible_warnings s) told
+    warned_all all = subst (λ l. Warned s l told) (take_all i (possible_warnings s) (fewer s.rules s.tokens s.spans i all)) w
+      where
+        fewer : (rules : List (List ℕ × Rule)) (tokens : List (List ℕ)) (spans : List Span) (n : ℕ)
+            → length (map (λ rule. RuleName rule.0) rules ++ map TokenName tokens) ≤ n
+            → length (map rule_warning rules ++ map token_warning (zip tokens spans)) ≤ n
+        fewer [] [] spans n h = h
+        fewer [] (token ∷ tokens) [] n h = omega arith
+        fewer [] (token ∷ tokens) (span ∷ spans) zero h = absurd (omega (arith, h))
+        fewer [] (token ∷ tokens) (span ∷ spans) (suc n) h = let rest = fewer [] tokens spans n (omega (arith, h)) in omega (arith, rest)
+        fewer (rule ∷ rules) tokens spans zero h = absurd (omega (arith, h))
+        fewer (rule ∷ rules) tokens spans (suc n) h = let rest = fewer rules tokens spans n (omega (arith, h)) in omega (arith, rest)

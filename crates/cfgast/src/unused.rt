@@ -1,10 +1,12 @@
 //! Rules and tokens that nothing reaches.
 
-ghost use Rattle.std.specs.Prelude.{◌≡◌, ◌++◌, [], List, map, Contains, IfOk, OnOk};
-ghost use Rattle.cfgwarnings.specs.Warnings.{GrammarWarning};
-ghost use Rattle.cfgast.specs.Unused.{RuleName, TokenName, name_of, entry_token, Reached, Expected, AreRuleWarnings};
-ghost use Rattle.cfgast.specs.Unused.{AreTokenWarnings, AreWarnings};
-ghost use Rattle.cfgast.specs.Inner.Marks.{AreMarksOf, IsOfStart, Marked, MarksMore, HeldAt, IsKnown};
+ghost use Rattle.std.specs.Prelude.{◌≡◌, ◌<◌, ◌+◌, ◌↔◌, ℕ, Some, Contains, length, map, option_map, slice_get};
+ghost use Rattle.std.specs.Prelude.{IfOk, IfSome, OnOk};
+ghost use Rattle.cfgwarnings.specs.Warnings.{warning_at};
+ghost use Rattle.search.specs.Reached.{FoundBy, Reaches};
+ghost use Rattle.cfgast.specs.Inner.Nodes.{nodes, node_of, HeldAt, IsNodeOf, Knows};
+ghost use Rattle.cfgast.specs.Unused.{RuleName, TokenName, name_of, entry_token, Expected, IsStart, AreWarnings};
+ghost use Rattle.cfgast.specs.Unused.{Name, possible_warnings};
 ghost use Rattle.cfgast.specs.View.{syntax, symbol_view, span_entry};
 
 use crate::ast::GrammarAST;
@@ -13,8 +15,10 @@ use cfgbase::Span;
 use cfghash::NameHashes;
 use cfgwarnings::{YaccGrammarWarning, YaccGrammarWarningKind, warning_at};
 use indexmap::IndexMap;
+use search::{Edges, Search};
 use std::alloc::{AllocError, Global};
 
+#[tactic(auto, unfolding(crate::specs::View::syntax))]
 impl GrammarAST {
     /// The rules, then the tokens, that no row of productions reaches from the start rule and that aren't expected to
     /// be unused: each as a warning, in order, at the place of its name. Without a start rule nothing is reached.
@@ -26,185 +30,173 @@ impl GrammarAST {
     pub fn warnings(&self, alloc: Global) -> Result<Vec<YaccGrammarWarning>, AllocError>
         ensures { IfOk result (λ warnings. AreWarnings (syntax self.now) warnings.items) }
     {
-        let mut marks = Marks::of_reached(alloc, self)?;
-        marks.mark_expected(self)?;
+        let known = self.known(alloc)?;
         let mut warnings = Vec::new(alloc);
-        marks.warn_of_rules(alloc, self, &mut warnings)?;
-        marks.warn_of_tokens(alloc, self, &mut warnings)?;
+        for node in 0..self.rules.len() + self.tokens.len() {
+            if !known.is_reached(node) {
+                if let Some((kind, span)) = self.kind_and_span(node) {
+                    warnings.push(warning_at(alloc, kind, span)?)?;
+                }
+            }
+        }
         Ok(warnings)
     }
-}
 
-// A mark for each rule and for each token. A rule that is marked waits once, till its productions are gone through.
-#[derive(Drop)]
-pub struct Marks {
-    rules: Vec<bool>,
-    tokens: Vec<bool>,
-    waiting: Vec<usize>,
-}
-
-impl Marks {
-    // Marks on what is reached from the start rule.
-    fn of_reached(alloc: Global, ast: &GrammarAST) -> Result<Self, AllocError>
-        ensures { IfOk result (λ marks. Marked (syntax ast.now) (Reached (syntax ast.now)) marks) }
+    // What would be warned of at this node: the rules are nodes, and behind them the tokens.
+    fn kind_and_span(&self, node: usize) -> Option<(YaccGrammarWarningKind, Span)>
+        requires { node < length (nodes (syntax self.now)) }
+        ensures { option_map (λ found. warning_at found.0 found.1) result
+            ≡ option_map (λ named. named.1) (slice_get (possible_warnings (syntax self.now)) node) }
     {
-        let mut marks = Marks::of_start(alloc, ast)?;
-        while let Some(place) = marks.waiting.pop() {
-            marks.mark_held(ast, place)?;
+        if let Some((_, rule)) = self.rules.get_index(node) {
+            return Some((YaccGrammarWarningKind::UnusedRule, rule.name.1));
         }
-        Ok(marks)
+        let span = self.spans.get(node - self.rules.len())?;
+        Some((YaccGrammarWarningKind::UnusedToken, *span))
     }
 
-    // A mark on the start rule, if there is one.
-    fn of_start(alloc: Global, ast: &GrammarAST) -> Result<Self, AllocError>
-        ensures { IfOk result (λ marks. IsOfStart (syntax ast.now) marks) }
+    // A search that has reached what is reached from the start rule, and what is expected to be unused.
+    fn known(&self, alloc: Global) -> Result<Search, AllocError>
+        ensures { IfOk result (Knows (syntax self.now)) }
     {
-        let mut marks = Marks {
-            rules: vec![in alloc; false; ast.rules.len()]?,
-            tokens: vec![in alloc; false; ast.tokens.len()]?,
-            waiting: Vec::new(alloc),
-        };
-        if let Some((name, _)) = &ast.start {
-            marks.mark_rule(ast, name)?;
-        }
-        Ok(marks)
+        let mut search = Search::through(alloc, self.rules.len() + self.tokens.len())?;
+        reach_one(&mut search, self.start_node())?;
+        search.go_on(self)?;
+        self.reach_expected(&mut search)?;
+        Ok(search)
     }
 
-    // Marks what is expected to be unused.
-    fn mark_expected(&mut self, ast: &GrammarAST) -> Result<(), AllocError>
-        requires { AreMarksOf (syntax ast.now) self.old }
-        ensures { OnOk result (MarksMore (syntax ast.now) (Expected (syntax ast.now)) self.old self.new) }
+    // Reaches what is expected to be unused.
+    fn reach_expected(&self, search: &mut Search) -> Result<(), AllocError>
+        requires { length search.old.reached ≡ length (nodes (syntax self.now)) }
+        ensures { OnOk result (Reaches
+            (λ node. (name : Name) × Expected (syntax self.now) name × IsNodeOf (syntax self.now) name node)
+            search.old search.new) }
     {
-        self.mark_all(ast, &ast.expect_unused)?;
-        if let Some(implicit) = &ast.tables.implicit_tokens {
-            self.mark_tokens(ast, implicit);
+        self.reach_symbols(search, &self.expect_unused)?;
+        match &self.tables.implicit_tokens {
+            Some(table) => self.reach_tokens(search, table),
+            None => Ok(()),
         }
-        Ok(())
     }
 
-    // Marks the tokens of the table.
-    fn mark_tokens(&mut self, ast: &GrammarAST, table: &IndexMap<String, Span, NameHashes>)
-        requires { AreMarksOf (syntax ast.now) self.old }
-        ensures { MarksMore (syntax ast.now) (Contains (map entry_token (map span_entry table.now.entries)))
-            self.old self.new }
+    // Reaches the tokens of the table.
+    fn reach_tokens(
+        &self,
+        search: &mut Search,
+        table: &IndexMap<String, Span, NameHashes>,
+    ) -> Result<(), AllocError>
+        requires { length search.old.reached ≡ length (nodes (syntax self.now)) }
+        ensures { OnOk result (Reaches (FoundBy (IsNodeOf (syntax self.now))
+            (map entry_token (map span_entry table.now.entries))) search.old search.new) }
     {
         for place in 0..table.len() {
             if let Some((name, _)) = table.get_index(place) {
-                self.mark_token(ast, name);
-            }
-        }
-    }
-
-    // Marks what the productions of the rule at this place hold.
-    fn mark_held(&mut self, ast: &GrammarAST, place: usize) -> Result<(), AllocError>
-        requires { AreMarksOf (syntax ast.now) self.old }
-        ensures { OnOk result (MarksMore (syntax ast.now) (HeldAt (syntax ast.now) place) self.old self.new) }
-    {
-        let Some((_, rule)) = ast.rules.get_index(place) else {
-            return Ok(());
-        };
-        for production in &rule.pidxs {
-            if let Some(production) = ast.prods.get(*production) {
-                self.mark_all(ast, &production.symbols)?;
+                reach_one(search, self.token_node(name))?;
             }
         }
         Ok(())
     }
 
-    // Marks the symbols.
-    fn mark_all(&mut self, ast: &GrammarAST, symbols: &[Symbol]) -> Result<(), AllocError>
-        requires { AreMarksOf (syntax ast.now) self.old }
-        ensures { OnOk result (MarksMore (syntax ast.now)
-            (Contains (map name_of (map symbol_view symbols.now))) self.old self.new) }
+    // Reaches what the productions hold.
+    fn reach_all_held(&self, search: &mut Search, productions: &[usize]) -> Result<(), AllocError>
+        requires { length search.old.reached ≡ length (nodes (syntax self.now)) }
+        ensures { OnOk result (Reaches (FoundBy (HeldAt (syntax self.now)) productions.now) search.old search.new) }
+    {
+        for production in productions {
+            self.reach_held(search, *production)?;
+        }
+        Ok(())
+    }
+
+    // Reaches what a production holds.
+    fn reach_held(&self, search: &mut Search, production: usize) -> Result<(), AllocError>
+        requires { length search.old.reached ≡ length (nodes (syntax self.now)) }
+        ensures { OnOk result (Reaches (HeldAt (syntax self.now) production) search.old search.new) }
+    {
+        match self.prods.get(production) {
+            Some(production) => self.reach_symbols(search, &production.symbols),
+            None => Ok(()),
+        }
+    }
+
+    // Reaches the symbols.
+    fn reach_symbols(&self, search: &mut Search, symbols: &[Symbol]) -> Result<(), AllocError>
+        requires { length search.old.reached ≡ length (nodes (syntax self.now)) }
+        ensures { OnOk result (Reaches (FoundBy (IsNodeOf (syntax self.now))
+            (map name_of (map symbol_view symbols.now))) search.old search.new) }
     {
         for symbol in symbols {
-            self.mark(ast, symbol)?;
+            reach_one(search, self.symbol_node(symbol))?;
         }
         Ok(())
     }
 
-    // Marks the symbol.
-    fn mark(&mut self, ast: &GrammarAST, symbol: &Symbol) -> Result<(), AllocError>
-        requires { AreMarksOf (syntax ast.now) self.old }
-        ensures { OnOk result (MarksMore (syntax ast.now) (λ name. name ≡ name_of (symbol_view symbol.now))
-            self.old self.new) }
+    // The node of the start rule, if there is one.
+    fn start_node(&self) -> Option<usize>
+        ensures within { IfSome result (λ node. node < length (nodes (syntax self.now))) }
+        ensures node { (node : ℕ) → (result ≡ Some node)
+            ↔ ((name : Name) × IsStart (syntax self.now) name × IsNodeOf (syntax self.now) name node) }
+    {
+        let (name, _) = self.start.as_ref()?;
+        self.rule_node(name)
+    }
+
+    // The node of the symbol, if the tree has its name.
+    fn symbol_node(&self, symbol: &Symbol) -> Option<usize>
+        ensures within { IfSome result (λ node. node < length (nodes (syntax self.now))) }
+        ensures node { result ≡ node_of (syntax self.now) (name_of (symbol_view symbol.now)) }
     {
         match symbol {
-            Symbol::Rule(name, _) => self.mark_rule(ast, name),
-            Symbol::Token(name, _) => {
-                self.mark_token(ast, name);
-                Ok(())
-            }
+            Symbol::Rule(name, _) => self.rule_node(name),
+            Symbol::Token(name, _) => self.token_node(name),
         }
     }
 
-    // Marks the rule of this name, if there is one.
-    fn mark_rule(&mut self, ast: &GrammarAST, name: &str) -> Result<(), AllocError>
-        requires { AreMarksOf (syntax ast.now) self.old }
-        ensures { OnOk result (MarksMore (syntax ast.now) (λ other. other ≡ RuleName name.now) self.old self.new) }
+    // The node of the rule of this name, if there is one.
+    fn rule_node(&self, name: &str) -> Option<usize>
+        ensures within { IfSome result (λ node. node < length (nodes (syntax self.now))) }
+        ensures node { result ≡ node_of (syntax self.now) (RuleName name.now) }
     {
-        if let Some(place) = ast.rules.get_index_of(name) {
-            if !self.rules[place] {
-                self.rules[place] = true;
-                self.waiting.push(place)?;
-            }
-        }
-        Ok(())
+        self.rules.get_index_of(name)
     }
 
-    // Marks the token of this name, if there is one.
-    fn mark_token(&mut self, ast: &GrammarAST, name: &str)
-        requires { AreMarksOf (syntax ast.now) self.old }
-        ensures { MarksMore (syntax ast.now) (λ other. other ≡ TokenName name.now) self.old self.new }
+    // The node of the token of this name, if there is one.
+    fn token_node(&self, name: &str) -> Option<usize>
+        ensures within { IfSome result (λ node. node < length (nodes (syntax self.now))) }
+        ensures node { result ≡ node_of (syntax self.now) (TokenName name.now) }
     {
-        if let Some(place) = ast.tokens.get_index_of(name) {
-            self.tokens[place] = true;
+        let _tokens = self.tokens.len();
+        let place = self.tokens.get_index_of(name)?;
+        Some(self.rules.len() + place)
+    }
+}
+
+// Rules lead to what their productions hold, and tokens to nothing.
+impl Edges for GrammarAST {
+    ghost use Rattle.std.specs.Prelude.{length};
+    ghost use Rattle.cfgast.specs.Inner.Nodes.{nodes, LeadsTo};
+    ghost use Rattle.cfgast.specs.View.{syntax};
+
+    ghost nodes = { λ tree. length (nodes (syntax tree)) };
+
+    ghost leads = { λ tree. LeadsTo (syntax tree) };
+
+    fn reach_from(&self, node: usize, search: &mut Search) -> Result<(), AllocError> {
+        match self.rules.get_index(node) {
+            Some((_, rule)) => self.reach_all_held(search, &rule.pidxs),
+            None => Ok(()),
         }
     }
+}
 
-    // Warns of the rules that aren't marked, in order.
-    fn warn_of_rules(
-        &self,
-        alloc: Global,
-        ast: &GrammarAST,
-        warnings: &mut Vec<YaccGrammarWarning>,
-    ) -> Result<(), AllocError>
-        requires { Marked (syntax ast.now) (IsKnown (syntax ast.now)) self.now }
-        ensures { OnOk result ((told : List GrammarWarning) × AreRuleWarnings (syntax ast.now) told
-            × (warnings.new.items ≡ warnings.old.items ++ told)) }
-    {
-        for place in 0..self.rules.len() {
-            if !self.rules[place] {
-                if let Some((_, rule)) = ast.rules.get_index(place) {
-                    warnings.push(warning_at(
-                        alloc,
-                        YaccGrammarWarningKind::UnusedRule,
-                        rule.name.1,
-                    )?)?;
-                }
-            }
-        }
-        Ok(())
-    }
-
-    // Warns of the tokens that aren't marked, in order.
-    fn warn_of_tokens(
-        &self,
-        alloc: Global,
-        ast: &GrammarAST,
-        warnings: &mut Vec<YaccGrammarWarning>,
-    ) -> Result<(), AllocError>
-        requires { Marked (syntax ast.now) (IsKnown (syntax ast.now)) self.now }
-        ensures { OnOk result ((told : List GrammarWarning) × AreTokenWarnings (syntax ast.now) told
-            × (warnings.new.items ≡ warnings.old.items ++ told)) }
-    {
-        for place in 0..self.tokens.len() {
-            if !self.tokens[place] {
-                if let Some(span) = ast.spans.get(place) {
-                    warnings.push(warning_at(alloc, YaccGrammarWarningKind::UnusedToken, *span)?)?;
-                }
-            }
-        }
-        Ok(())
+// Reaches the node, if there is one.
+fn reach_one(search: &mut Search, node: Option<usize>) -> Result<(), AllocError>
+    requires { IfSome node (λ n. n < length search.old.reached) }
+    ensures { OnOk result (Reaches (λ n. node ≡ Some n) search.old search.new) }
+{
+    match node {
+        Some(node) => search.reach(node),
+        None => Ok(()),
     }
 }

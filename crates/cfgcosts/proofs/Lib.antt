@@ -7,10 +7,8 @@ pub mod Weights
 pub mod Walking
 pub mod Opened
 pub mod Joins
-pub mod Keys
 pub mod Sorted
 pub mod OnlyHeirs
-pub mod Searches
 pub mod OwnBelow
 pub mod AskedRules
 pub mod Filled

@@ -1,5 +1,4 @@
 -- Words of clauses inside the crate, of its loops and helpers. No call that users make rests on them.
 pub mod Heirs
-pub mod Marks
 pub mod Minimal
 pub mod Walk

@@ -4,4 +4,3 @@ mod all;
 mod asked;
 mod levels;
 mod products;
-mod search;

@@ -15,12 +15,6 @@ use Rattle.cfgchoices.specs.Splits.{Split}
 use Rattle.cfgchoices.specs.Inner.Kinds.{IsMinimal, IsOwnBelow}
 use Rattle.cfgcosts.specs.Sentences.{numbers_of}
 
--- one of these productions has the link
-pub record IsLinked (Link : ℕ → ℕ → Type 0) (places : List ℕ) (q : ℕ) : Type 0 where
-  pub place : ℕ
-  pub among : Contains places place
-  pub link : Link place q
-
 -- what was listed, and what is so, are listed now
 abbrev pub Lists : (ℕ → Type 0) → List ℕ → List ℕ → Type 0
 Lists Is old new = (p : ℕ) → Contains new p ↔ (Contains old p ⊎ Is p)

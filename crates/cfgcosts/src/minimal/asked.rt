@@ -5,10 +5,11 @@ ghost use Rattle.cfgleast.specs.Generator.{cost_answer};
 ghost use Rattle.cfgcosts.specs.Inner.Minimal.{AreAsked};
 
 use crate::generator::SentenceGenerator;
-use crate::minimal::search::Search;
-use cfgindex::{RIdx, Storage};
+use cfganalysis::reach_held;
+use cfgindex::{RIdx, Storage, to_storage};
 use cfgleast::queue::Queue;
 use cfgtables::Tables;
+use search::Search;
 use std::alloc::{AllocError, Global};
 
 impl<'a, S: Storage, T: Tables<S>> SentenceGenerator<'a, S, T> {
@@ -36,11 +37,12 @@ impl<'a, S: Storage, T: Tables<S>> SentenceGenerator<'a, S, T> {
         ensures { IfOk result (AreAsked self.now (S.number rule.0)) }
     {
         let mut asked = Queue::new(alloc);
-        let mut search = Search::new(alloc, usize::from(self.tables.rules_len()));
-        search.reach(rule)?;
-        while let Some(reached) = search.next() {
+        let mut search = Search::through_few(alloc, self.tables.rules_len().0.to_usize());
+        search.reach(usize::from(rule))?;
+        while let Some(node) = search.next() {
+            let reached = RIdx(to_storage(node));
             let own = self.own_productions(alloc, reached)?;
-            search.reach_held(self.tables, &own)?;
+            reach_held(&mut search, self.tables, &own)?;
             asked.push(self.known_cost(reached), reached.0.to_usize() as u32)?;
         }
         Ok(asked)

@@ -2,16 +2,16 @@
 
 ghost use Rattle.std.specs.Prelude.{◌≡◌, ◌↔◌, ℕ, ◌<◌, Contains, IfOk, OnOk, length};
 ghost use Rattle.cfgtables.specs.Openings.{nth_production};
-ghost use Rattle.cfganalysis.specs.Paths.{Reaches};
+ghost use Rattle.search.specs.Reached.{Reaches};
 ghost use Rattle.cfgchoices.specs.Inner.Kinds.{HasHeir, HasNoHeir, IsHeir, places_of};
 ghost use Rattle.cfgcosts.specs.Inner.Minimal.{Lists};
 ghost use Rattle.cfgchoices.specs.Inner.Kinds.{IsOwnBelow};
 
 use crate::generator::SentenceGenerator;
-use crate::minimal::search::Search;
 use cfgchoices::kinds::Kind;
-use cfgindex::{PIdx, RIdx, Storage};
+use cfgindex::{PIdx, RIdx, Storage, to_storage};
 use cfgtables::Tables;
+use search::Search;
 use std::alloc::{AllocError, Global};
 
 impl<'a, S: Storage, T: Tables<S>> SentenceGenerator<'a, S, T> {
@@ -23,11 +23,11 @@ impl<'a, S: Storage, T: Tables<S>> SentenceGenerator<'a, S, T> {
     fn take_in(
         &self,
         p: PIdx<S>,
-        search: &mut Search<S>,
+        search: &mut Search,
         own: &mut Vec<PIdx<S>>,
     ) -> Result<(), AllocError>
         requires place { S.number p.0 < length self.now.grammar.productions }
-        requires rules { length search.old.rules ≡ self.now.grammar.rules }
+        requires rules { length search.old.reached ≡ self.now.grammar.rules }
         ensures heir { OnOk result (Reaches (IsHeir self.now (S.number p.0)) search.old search.new) }
         ensures own { OnOk result (Lists (λ q. (q ≡ S.number p.0) × HasNoHeir self.now q)
             (places_of S.number own.old.items) (places_of S.number own.new.items)) }
@@ -39,7 +39,7 @@ impl<'a, S: Storage, T: Tables<S>> SentenceGenerator<'a, S, T> {
                 Ok(())
             }
             Kind::HandsOn(rule) => {
-                search.reach(rule)?;
+                search.reach(usize::from(rule))?;
                 Ok(())
             }
         }
@@ -53,11 +53,11 @@ impl<'a, S: Storage, T: Tables<S>> SentenceGenerator<'a, S, T> {
     fn go_through(
         &self,
         rule: RIdx<S>,
-        search: &mut Search<S>,
+        search: &mut Search,
         own: &mut Vec<PIdx<S>>,
     ) -> Result<(), AllocError>
         requires rule { S.number rule.0 < self.now.grammar.rules }
-        requires rules { length search.old.rules ≡ self.now.grammar.rules }
+        requires rules { length search.old.reached ≡ self.now.grammar.rules }
         ensures heirs { OnOk result (Reaches (HasHeir self.now (S.number rule.0)) search.old search.new) }
         ensures own { OnOk result (Lists
             (λ p. ((nth_production self.now.grammar p).rule ≡ S.number rule.0) × HasNoHeir self.now p)
@@ -84,10 +84,10 @@ impl<'a, S: Storage, T: Tables<S>> SentenceGenerator<'a, S, T> {
             ↔ IsOwnBelow self.now (S.number rule.0) p) }
     {
         let mut own = Vec::new(alloc);
-        let mut search = Search::new(alloc, usize::from(self.tables.rules_len()));
-        search.reach(rule)?;
-        while let Some(reached) = search.next() {
-            self.go_through(reached, &mut search, &mut own)?;
+        let mut search = Search::through_few(alloc, self.tables.rules_len().0.to_usize());
+        search.reach(usize::from(rule))?;
+        while let Some(node) = search.next() {
+            self.go_through(RIdx(to_storage(node)), &mut search, &mut own)?;
         }
         Ok(own)
     }

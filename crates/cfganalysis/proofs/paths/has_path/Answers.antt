@@ -1,28 +1,31 @@
-use Rattle.std.proofs.Common.{◌≡◌, ℕ, Bool, false, List, get_or, sym, ap, ◌∙◌, subst, Contains}
-use Rattle.std.proofs.lemmas.List.Elements.{Contains-push}
-use Rattle.cfganalysis.proofs.Searching.{search_begins, waiting_within, search_goes_on, less_to_do, search_ends}
+use Rattle.std.proofs.Common.{◌∙◌, false, get_or, length, sym, ap, subst}
+use Rattle.std.proofs.lemmas.List.{length-replicate}
+use Rattle.derivation.specs.Grammar.{HasProduction}
+use Rattle.derivation.specs.Path.{Holds}
+use Rattle.search.specs.Reached.{Reaches, SearchState}
+use Rattle.search.proofs.Reaching.{begun}
+use Rattle.cfganalysis.proofs.References.{path_to_reached, reached_by_path}
 use Rattle.cfganalysis.proofs.paths.has_path.Goals as goal
 
-pub loop-rule-init : goal.loop-rule-init
-loop-rule-init g c = search_begins _ _ c.from.result _ _ (c.from.ensures ∙ c.rules_len.ensures.value) c.in_ok-search.ensures c.in_ok-reach_from.ensures
+pub reach_from-requires-clause-nodes : goal.reach_from-requires-clause-nodes
+reach_from-requires-clause-nodes g c =
+    ap (λ (x : SearchState). length x.reached) c.in_ok-search.ensures ∙ length-replicate c.from.result false ∙ c.from.ensures ∙ c.rules_len.ensures.value
 
-pub reach_from-requires-in-Some-clause-rule : goal.reach_from-requires-in-Some-clause-rule
-reach_from-requires-in-Some-clause-rule g c =
-    waiting_within _ _ _ (g.S.Storage.number c.in-Some.rule.0) c.loop-rule.invariant
-    (subst (λ l. Contains l (g.S.Storage.number c.in-Some.rule.0)) (sym c.in-Some.ensures.waiting) (Contains-push _ _))
+pub go_on-requires-clause-nodes : goal.go_on-requires-clause-nodes
+go_on-requires-clause-nodes g c =
+    (begun _ _ _ _ c.in_ok-search.ensures c.in_ok-reach_from.ensures).shape ∙ c.from.ensures ∙ c.rules_len.ensures.value
 
-pub loop-rule-preserved : goal.loop-rule-preserved
-loop-rule-preserved g c = search_goes_on _ _ _ _ _ _ c.loop-rule.invariant c.in-Some.ensures.rules c.in-Some.ensures.waiting c.in_ok-reach_from-2.ensures
-
-pub loop-rule-smaller : goal.loop-rule-smaller
-loop-rule-smaller g c = less_to_do (g.T.Tables.grammar c.args.tables.now) (g.S.Storage.number c.args.from.0) _ _ _ _ _ c.in-Some.ensures.rules c.in-Some.ensures.waiting c.in_ok-reach_from-2.ensures
-
--- the answer is the bit
-is_bit : {b : Bool} {old new : List Bool} (n : ℕ) → b ≡ get_or new n false → new ≡ old → b ≡ get_or old n false
-is_bit n e h = e ∙ ap (λ l. get_or l n false) h
+pub go_on-requires-clause-all_wait : goal.go_on-requires-clause-all_wait
+go_on-requires-clause-all_wait g c = (begun _ _ _ _ c.in_ok-search.ensures c.in_ok-reach_from.ensures).all_wait
 
 pub returns : goal.returns
-returns g c = let e = is_bit _ c.is_reached.ensures c.in_default.ensures.rules in (
-  (λ h. c.loop-rule.invariant.sound _ (sym e ∙ h)),
-  (λ h. e ∙ search_ends _ _ _ _ c.loop-rule.invariant c.in_default.ensures.waiting h),
-)
+returns g c =
+    let P = HasProduction (g.T.Tables.grammar c.args.tables.now) in
+    let from = g.S.Storage.number c.args.from.0 in
+    let start = subst (λ a. Reaches (Holds P a) c.in_ok-search.search c.reach_from.new.search) c.from-2.ensures c.in_ok-reach_from.ensures in
+    let b = begun c.from.result (Holds P from) _ _ c.in_ok-search.ensures start in
+    let bit = c.is_reached.ensures ∙ ap (λ n. get_or c.go_on.new.self.reached n false) c.from-3.ensures in
+    let reached = c.in_ok-go_on.ensures.reached (g.S.Storage.number c.args.to.0) in (
+      (λ h. path_to_reached P from _ (λ q k. (b.seeds q).0 k) (reached.0 (sym bit ∙ h))),
+      (λ h. bit ∙ reached.1 (reached_by_path P from _ (λ q k. (b.seeds q).1 k) h)),
+    )

@@ -1,10 +1,11 @@
 use Rattle.std.proofs.Common.{◌<◌, length, sym, subst, ◌∙◌, arith}
 use Rattle.std.proofs.lemmas.List.{length-map}
+use Rattle.search.proofs.Each.{each_none, each_more, each_all, found_mapped}
 use Rattle.cfgtables.specs.Openings.{ArePlacesOf}
 use Rattle.cfgtables.proofs.Slices.{mapped_within, mapped_at, mapped_all}
 use Rattle.cfgleast.specs.Generator.{CostTables}
 use Rattle.cfgchoices.specs.Inner.Kinds.{IsHeir, places_of}
-use Rattle.cfgcosts.proofs.OwnBelow.{links_begin, links_more, heirs_end, owns_begin, owns_more, owns_end}
+use Rattle.cfgcosts.proofs.OwnBelow.{heirs_end, owns_begin, owns_more, owns_end}
 use Rattle.cfgcosts.proofs.generator.SentenceGenerator.go_through.Goals as goal
 
 pub rule_to_prods-p-items-requires : goal.rule_to_prods-p-items-requires
@@ -13,7 +14,7 @@ rule_to_prods-p-items-requires g c = subst (λ (x : CostTables). g.S.Storage.num
 pub loop-p-init : goal.loop-p-init
 loop-p-init g c =
     let places = places_of g.S.Storage.number c.rule_to_prods-p-items.result.now in
-    record { heirs = links_begin (IsHeir c.args.self.now) places c.args.search.now; own = owns_begin c.args.self.now places (places_of g.S.Storage.number c.args.own.now.items) }
+    record { heirs = each_none _ _; own = owns_begin c.args.self.now places (places_of g.S.Storage.number c.args.own.now.items) }
 
 pub take_in-requires-clause-place : goal.take_in-requires-clause-place
 take_in-requires-clause-place g c = subst (λ (x : CostTables). g.S.Storage.number c.p-item.result.0 < length x.grammar.productions) c.self.view_is
@@ -31,7 +32,7 @@ loop-p-preserved g c =
     let within = mapped_within (λ p. g.S.Storage.number p.0) _ _ _ c.p-item.is lt in
     let at = mapped_at (λ p. g.S.Storage.number p.0) _ _ _ c.p-item.is lt in
     record {
-      heirs = links_more (IsHeir x) places c.loop-p.p-index (g.S.Storage.number c.p-item.result.0) within at _ _ _ c.loop-p.invariant.heirs c.in_ok-take_in.ensures.heir;
+      heirs = each_more _ _ _ _ _ _ _ lt c.p-item.is c.loop-p.invariant.heirs c.in_ok-take_in.ensures.heir;
       own = owns_more x places c.loop-p.p-index (g.S.Storage.number c.p-item.result.0) within at _ _ _ c.loop-p.invariant.own c.in_ok-take_in.ensures.own;
     }
 
@@ -39,12 +40,13 @@ pub returns-clause-heirs : goal.returns-clause-heirs
 returns-clause-heirs g c =
     let are = subst (λ (x : CostTables). ArePlacesOf x.grammar (g.S.Storage.number c.args.rule.0) (places_of g.S.Storage.number c.rule_to_prods-p-items.result.now)) c.self.view_is
     c.rule_to_prods-p-items.ensures in
-    heirs_end c.args.self.now (places_of g.S.Storage.number c.rule_to_prods-p-items.result.now) c.loop-p.p-index (g.S.Storage.number c.args.rule.0)
-    (simp length-map (omega (arith, c.loop-p-test.false, c.loop-p.auto.p-index-end))) are c.args.search.now c.loop-p.search c.loop-p.invariant.heirs
+    heirs_end c.args.self.now (places_of g.S.Storage.number c.rule_to_prods-p-items.result.now) (g.S.Storage.number c.args.rule.0) are _ _
+    (found_mapped (λ p. g.S.Storage.number p.0) (IsHeir c.args.self.now) c.rule_to_prods-p-items.result.now _ _
+    (each_all _ _ _ _ _ (omega (arith, c.loop-p-test.false, c.loop-p.auto.p-index-end)) c.loop-p.invariant.heirs))
 
 pub returns-clause-own : goal.returns-clause-own
 returns-clause-own g c =
     let are = subst (λ (x : CostTables). ArePlacesOf x.grammar (g.S.Storage.number c.args.rule.0) (places_of g.S.Storage.number c.rule_to_prods-p-items.result.now)) c.self.view_is
     c.rule_to_prods-p-items.ensures in
-    owns_end c.args.self.now (places_of g.S.Storage.number c.rule_to_prods-p-items.result.now) c.loop-p.p-index (g.S.Storage.number c.args.rule.0)
-    (simp length-map (omega (arith, c.loop-p-test.false, c.loop-p.auto.p-index-end))) are _ _ c.loop-p.invariant.own
+    owns_end c.args.self.now (places_of g.S.Storage.number c.rule_to_prods-p-items.result.now) (g.S.Storage.number c.args.rule.0) are c.loop-p.p-index
+    (simp length-map (omega (arith, c.loop-p-test.false, c.loop-p.auto.p-index-end))) _ _ c.loop-p.invariant.own

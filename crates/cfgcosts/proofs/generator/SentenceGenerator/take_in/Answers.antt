@@ -1,5 +1,6 @@
-use Rattle.std.proofs.Common.{◌<◌, sym, ap, subst, ◌∙◌}
+use Rattle.std.proofs.Common.{◌≡◌, length, ◌<◌, sym, ap, subst, ◌∙◌}
 use Rattle.std.proofs.lemmas.List.{map-append}
+use Rattle.search.specs.Reached.{Reaches}
 use Rattle.cfgleast.specs.Generator.{CostTables, IsGenerator}
 use Rattle.cfgchoices.specs.Inner.Kinds.{AreKinds, IsKind, places_of}
 use Rattle.cfgcosts.proofs.OwnBelow.{heir_lists, heir_reaches, own_lists, own_reaches, slack_lists, slack_reaches}
@@ -14,7 +15,8 @@ reach-requires g c =
     let kind = kind_read number x c.self.inside.kinds.items (number c.args.p.0) c.from.result c.index.result.now are c.from.ensures c.requires.place c.index.ensures in
     let heir = subst (IsKind number x (number c.args.p.0)) c.in-HandsOn.is kind in
     let is = subst (λ (x : CostTables). IsGenerator x c.self.inside.settled.number) c.self.view_is c.self.invariant.0 in
-    subst (λ m. number c.in-HandsOn.rule.0 < m) (sym c.requires.rules) (answered_within x _ is (number c.in-HandsOn.rule.0) heir.tight.cost heir.same)
+    subst (λ n. n < length c.args.search.now.reached) (sym c.from-in-HandsOn.ensures)
+    (subst (λ m. number c.in-HandsOn.rule.0 < m) (sym c.requires.rules) (answered_within x _ is (number c.in-HandsOn.rule.0) heir.tight.cost heir.same))
 
 pub returns-in-Slack-clause-heir : goal.returns-in-Slack-clause-heir
 returns-in-Slack-clause-heir g c =
@@ -55,7 +57,8 @@ returns-in_ok-reach-in-HandsOn-clause-heir g c =
     let number = g.S.Storage.number in
     let are = subst (λ (x : CostTables). AreKinds number x c.self.inside.kinds.items) c.self.view_is c.self.invariant.2 in
     let kind = kind_read number x c.self.inside.kinds.items (number c.args.p.0) c.from.result c.index.result.now are c.from.ensures c.requires.place c.index.ensures in
-    heir_reaches x (number c.args.p.0) (number c.in-HandsOn.rule.0) _ _ (subst (IsKind number x (number c.args.p.0)) c.in-HandsOn.is kind) c.in_ok-reach-in-HandsOn.ensures
+    heir_reaches x (number c.args.p.0) (number c.in-HandsOn.rule.0) _ _ (subst (IsKind number x (number c.args.p.0)) c.in-HandsOn.is kind)
+    (subst (λ r. Reaches (λ q. q ≡ r) c.args.search.now c.reach.new.self) c.from-in-HandsOn.ensures c.in_ok-reach-in-HandsOn.ensures)
 
 pub returns-in_ok-reach-in-HandsOn-clause-own : goal.returns-in_ok-reach-in-HandsOn-clause-own
 returns-in_ok-reach-in-HandsOn-clause-own g c =

@@ -1,0 +1,74 @@
+-- Rules are reached by references as paths lead to them.
+use Rattle.std.proofs.Common.{◌≡◌, ℕ, ◌<◌, List, Contains, All, length, refl, sym, ap, ◌∙◌, subst}
+use Rattle.std.proofs.lemmas.List.{get_or_default}
+use Rattle.std.proofs.lemmas.List.Elements.{All-get_or, Contains-get_or}
+use Rattle.derivation.specs.Grammar.{Sym, Rule, Token, Grammar, Production, IsGrammar, IsSymbolOf, HasProduction}
+use Rattle.derivation.specs.Path.{Holds, Path, one, more}
+use Rattle.search.specs.Reached.{FoundBy, Reached, Reaches, SearchState, led, seed}
+use Rattle.search.proofs.Reaching.{reaches_as, reaches_known}
+use Rattle.cfgtables.specs.Openings.{nth_production}
+use Rattle.cfgtables.specs.Openings.{ArePlacesOf}
+use Rattle.cfganalysis.specs.Paths.{HeldIn}
+
+pub reaches_no_token : (u : ℕ) (x : SearchState) → Reaches (λ r. Rule r ≡ Token u) x x
+reaches_no_token u x = reaches_known _ x (λ r e. absurd (not_token r e))
+  where
+    not_token : (r : ℕ) → Rule r ≡ Token u → ⊥
+    not_token r e = cc
+
+pub reaches_the_rule : (q : ℕ) (old new : SearchState) → Reaches (λ r. r ≡ q) old new → Reaches (λ r. Rule r ≡ Rule q) old new
+reaches_the_rule q old new w = reaches_as _ _ old new (λ r e. ap Rule e) (λ r e. cc) w
+
+-- the symbols of a production are symbols of the grammar
+pub symbols_there : (g : Grammar) (p : ℕ) (symbols : List Sym) → IsGrammar g → p < length g.productions
+    → symbols ≡ (nth_production g p).symbols → All (IsSymbolOf g) symbols
+symbols_there g p symbols is lt e = subst (λ l. All (IsSymbolOf g) l) (sym e) (is.symbols p _ lt)
+
+-- the rules among symbols
+pub found_rules : (symbols : List Sym) (old new : SearchState) → Reaches (FoundBy (λ s r. Rule r ≡ s) symbols) old new
+    → Reaches (λ r. Contains symbols (Rule r)) old new
+found_rules symbols old new w = reaches_as _ _ old new
+    (λ r h. subst (Contains symbols) (sym h.finds) h.among)
+    (λ r h. record { thing = Rule r; among = h; finds = refl })
+    w
+
+module _ (g : Grammar) (rule : ℕ) (places : List ℕ) (are : ArePlacesOf g rule places) where
+  -- what a rule's productions hold is what the rule does
+  pub held_by_rule : (old new : SearchState) → Reaches (FoundBy (HeldIn g) places) old new → Reaches (Holds (HasProduction g) rule) old new
+  held_by_rule old new w = reaches_as _ _ old new (λ r h. to r h) (λ r h. from r h) w
+    where
+      to : (r : ℕ) → FoundBy (HeldIn g) places r → Holds (HasProduction g) rule r
+      to r h = let lt = All-get_or (λ p. p < length g.productions) places h.among.0 h.thing h.among.1 are.within in
+          let within = subst (λ p. p < length g.productions) h.among.2 lt in
+          record {
+            symbols = (nth_production g h.thing).symbols;
+            has = subst (λ n. HasProduction g n (nth_production g h.thing).symbols) ((are.listed h.thing within).0 h.among)
+                (Contains-get_or g.productions h.thing _ within);
+            holds = h.finds;
+          }
+
+      from : (r : ℕ) → Holds (HasProduction g) rule r → FoundBy (HeldIn g) places r
+      from r h =
+          let at : nth_production g h.has.0 ≡ record { rule = rule; symbols = h.symbols } = get_or_default g.productions h.has.0 _ _ h.has.1 ∙ h.has.2 in
+          record {
+            thing = h.has.0;
+            among = (are.listed h.has.0 h.has.1).1 (ap (λ p. p.rule) at);
+            finds = subst (λ (p : Production). Contains p.symbols (Rule r)) (sym at) h.holds;
+          }
+
+module _ (P : ℕ → List Sym → Type 0) (a : ℕ) (Seed : ℕ → Type 0) where
+  pub path_to_reached : ((b : ℕ) → Seed b → Holds P a b) → {b : ℕ} → Reached Seed (Holds P) b → Path P a b
+  path_to_reached holds (seed {a = b} h) = one (holds b h)
+  path_to_reached holds (led r h) = path_more (path_to_reached holds r) h
+    where
+      path_more : {a b c : ℕ} → Path P a b → Holds P b c → Path P a c
+      path_more (one h) k = more h (one k)
+      path_more (more h p) k = more h (path_more p k)
+
+  pub reached_by_path : ((b : ℕ) → Holds P a b → Seed b) → {b : ℕ} → Path P a b → Reached Seed (Holds P) b
+  reached_by_path seeds (one {b = b} h) = seed (seeds b h)
+  reached_by_path seeds (more {b = b} h p) = along (seed (seeds b h)) p
+    where
+      along : {b c : ℕ} → Reached Seed (Holds P) b → Path P b c → Reached Seed (Holds P) c
+      along r (one h) = led r h
+      along r (more h p) = along (led r h) p

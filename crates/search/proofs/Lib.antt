@@ -1,0 +1,4 @@
+pub mod Bits
+pub mod Keys
+pub mod Reaching
+pub mod Each

@@ -1,0 +1,205 @@
+-- What is reached step by step, and a search from its seeds to its end.
+use Rattle.std.proofs.Common.{◌≡◌, ℕ, ◌+◌, ◌-◌, ◌<◌, ◌⊎◌, ◌↔◌, inl, inr, Bool, true, false, List, [], ◌∷◌, ◌++◌, Contains, get_or, slice_get, slice_set, length, Some, IsTrue, arith, refl, sym, ap, ◌∙◌, subst, true≢false, length-set, get_or-set_same}
+use Rattle.std.proofs.lemmas.List.{length-replicate, length_push}
+use Rattle.std.proofs.lemmas.List.Elements.{Contains-append_left, Contains-push, Contains-push_cases}
+use Rattle.std.proofs.lemmas.List.Sums.{count_by-le-length}
+use Rattle.std.proofs.lemmas.Option.{get_or_from_slice_get}
+use Rattle.lemmas.proofs.Elements.{get_or-set, get_or-replicate_default, set-slice_get, within_from_get_or}
+use Rattle.search.specs.Reached.{SearchState, IsReachedIn, Reached, Reaches, count_reached, led, seed, unsearched}
+use Rattle.search.proofs.Bits.{bits_on-fewer, bits_on-set}
+
+-- what is found was reached before
+pub reaches_known : (Found : ℕ → Type 0) (x : SearchState) → ((n : ℕ) → Found n → IsReachedIn x n) → Reaches Found x x
+reaches_known Found x known = record {
+  shape = refl;
+  reached = λ n. (λ h. inl h, λ h. elim h [ inl i ↦ i | inr i ↦ known n i ]);
+  fresh = λ n h. inl h;
+  still = λ n h. h;
+  waits = λ n h. inl h;
+  once = refl;
+}
+
+pub reaches_as : (Found Found' : ℕ → Type 0) (old new : SearchState) → ((n : ℕ) → Found n → Found' n) → ((n : ℕ) → Found' n → Found n)
+    → Reaches Found old new → Reaches Found' old new
+reaches_as Found Found' old new to from w = record {
+  shape = w.shape;
+  reached = λ n. (
+    (λ h. elim ((w.reached n).0 h) [ inl i ↦ inl i | inr i ↦ inr (to n i) ]),
+    (λ h. (w.reached n).1 (elim h [ inl i ↦ inl i | inr i ↦ inr (from n i) ])),
+  );
+  fresh = w.fresh;
+  still = w.still;
+  waits = w.waits;
+  once = w.once;
+}
+
+pub reaches_then : (Found Found' : ℕ → Type 0) (old mid new : SearchState) → Reaches Found old mid → Reaches Found' mid new
+    → Reaches (λ n. Found n ⊎ Found' n) old new
+reaches_then Found Found' old mid new w v = record {
+  shape = v.shape ∙ w.shape;
+  reached = λ n. (
+    (λ h. elim ((v.reached n).0 h) [
+      | inl i ↦ elim ((w.reached n).0 i) [ inl j ↦ inl j | inr j ↦ inr (inl j) ]
+      | inr i ↦ inr (inr i)
+    ]),
+    (λ h. (v.reached n).1 (elim h [
+      | inl i ↦ inl ((w.reached n).1 (inl i))
+      | inr i ↦ elim i [ inl j ↦ inl ((w.reached n).1 (inr j)) | inr j ↦ inr j ]
+    ])),
+  );
+  fresh = λ n h. elim (v.fresh n h) [
+    | inl i ↦ elim (w.fresh n i) [ inl j ↦ inl j | inr j ↦ inr (v.still n j) ]
+    | inr i ↦ inr i
+  ];
+  still = λ n h. v.still n (w.still n h);
+  waits = λ n h. elim (v.waits n h) [
+    | inl i ↦ elim (w.waits n i) [ inl j ↦ inl j | inr j ↦ inr ((v.reached n).1 (inl j)) ]
+    | inr i ↦ inr i
+  ];
+  once = let a = w.once in let b = v.once in omega (arith, a, b);
+}
+
+-- one node: its bit was turned on, and it waits if that was off
+module _ (x : SearchState) (node : ℕ) (within : node < length x.reached) (bits : List Bool) (put : bits ≡ slice_set x.reached node true) where
+  pub reaches_new : (waiting : List ℕ) → slice_get x.reached node ≡ Some false → waiting ≡ x.waiting ++ node ∷ []
+      → Reaches (λ n. n ≡ node) x (record { reached = bits; waiting = waiting })
+  reaches_new waiting off push = record {
+    shape = ap length put ∙ length-set x.reached node true;
+    reached = λ n. (only n, λ h. elim h [ inl i ↦ before n i | inr e ↦ itself n e ]);
+    fresh = λ n h. elim (only n h) [
+      | inl i ↦ inl i
+      | inr e ↦ inr (subst (λ l. Contains l n) (sym push) (subst (Contains (x.waiting ++ node ∷ [])) (sym e) (Contains-push x.waiting node)))
+    ];
+    still = λ n h. subst (λ l. Contains l n) (sym push) (Contains-append_left x.waiting (node ∷ []) n h);
+    waits = λ n h. elim (Contains-push_cases x.waiting node n (subst (λ l. Contains l n) push h)) [ inl i ↦ inl i | inr e ↦ inr (itself n (sym e)) ];
+    once = let one = ap (λ l. count_reached (record { reached = l; waiting = waiting })) put
+        ∙ bits_on-set x.reached node within (get_or_from_slice_get x.reached node false false off) in
+        let long = ap length push ∙ length_push x.waiting node in omega (arith, one, long);
+  }
+    where
+      now : (n : ℕ) → IsTrue (get_or (slice_set x.reached node true) n false) → IsTrue (get_or bits n false)
+      now n h = subst (λ l. IsTrue (get_or l n false)) (sym put) h
+
+      before : (n : ℕ) → IsReachedIn x n → IsTrue (get_or bits n false)
+      before n h = now n (elim (get_or-set x.reached node n true false) [ inl e ↦ e ∙ h | inr e ↦ e.1 ])
+
+      itself : (n : ℕ) → n ≡ node → IsTrue (get_or bits n false)
+      itself n e = now n (ap (λ q. get_or (slice_set x.reached node true) q false) e ∙ get_or-set_same x.reached node true false within)
+
+      only : (n : ℕ) → IsTrue (get_or bits n false) → IsReachedIn x n ⊎ (n ≡ node)
+      only n h = elim (get_or-set x.reached node n true false) [
+        | inl e ↦ inl (sym e ∙ subst (λ l. IsTrue (get_or l n false)) put h)
+        | inr e ↦ inr e.0
+      ]
+
+  pub reaches_again : (waiting : List ℕ) → slice_get x.reached node ≡ Some true → waiting ≡ x.waiting → Reaches (λ n. n ≡ node) x (record { reached = bits; waiting = waiting })
+  reaches_again waiting on same = subst (Reaches (λ n. n ≡ node) x) back
+      (reaches_known _ x (λ n e. ap (λ q. get_or x.reached q false) e ∙ get_or_from_slice_get x.reached node true false on))
+    where
+      back : x ≡ record { reached = bits; waiting = waiting }
+      back = ap (λ l. record { reached = l; waiting = x.waiting }) (sym (put ∙ set-slice_get x.reached node true on))
+          ∙ ap (λ l. record { reached = bits; waiting = l }) (sym same)
+
+-- what was reached first, of so many nodes, waits
+pub record Begun (nodes : ℕ) (Seed : ℕ → Type 0) (x : SearchState) : Type 0 where
+  pub shape : length x.reached ≡ nodes
+  pub seeds : (n : ℕ) → (IsReachedIn x n ↔ Seed n)
+  pub all_wait : (n : ℕ) → (IsReachedIn x n ↔ Contains x.waiting n)
+
+pub begun : (nodes : ℕ) (Seed : ℕ → Type 0) (old new : SearchState) → old ≡ unsearched nodes → Reaches Seed old new → Begun nodes Seed new
+begun nodes Seed old new e v = record {
+  shape = w.shape ∙ length-replicate nodes false;
+  seeds = λ n. ((λ h. elim ((w.reached n).0 h) [ inl i ↦ absurd (none n i) | inr i ↦ i ]), (λ h. (w.reached n).1 (inr h)));
+  all_wait = λ n. (
+    (λ h. elim (w.fresh n h) [ inl i ↦ absurd (none n i) | inr i ↦ i ]),
+    (λ h. elim (w.waits n h) [ inl i ↦ absurd (omega (arith, i.1)) | inr i ↦ i ]),
+  );
+}
+  where
+    w : Reaches Seed (unsearched nodes) new
+    w = subst (λ x. Reaches Seed x new) e v
+
+    none : (n : ℕ) → IsReachedIn (unsearched nodes) n → ⊥
+    none n h = true≢false (sym h ∙ get_or-replicate_default nodes n false)
+
+-- how much there is to do: each node that wasn't reached waits once
+abbrev pub left_to_do : SearchState → ℕ
+left_to_do x = (length x.reached - count_reached x) + (length x.reached - count_reached x) + length x.waiting
+
+pub less_to_do : (Found : ℕ → Type 0) (node : ℕ) (old mid new : SearchState) → mid.reached ≡ old.reached → old.waiting ≡ mid.waiting ++ node ∷ []
+    → Reaches Found mid new → left_to_do new < left_to_do old
+less_to_do Found node old mid new same popped v =
+    let length_reached : length mid.reached ≡ length old.reached = ap length same in
+    let count : count_reached mid ≡ count_reached old = ap (λ l. count_reached (record { reached = l; waiting = [] })) same in
+    let length_waiting : length old.waiting ≡ length mid.waiting + 1 = ap length popped ∙ length_push mid.waiting node in
+    let grows = bits_on-fewer mid.reached new.reached (λ n h. (v.reached n).1 (inl h)) in
+    let most = count_by-le-length (λ (b : Bool). b) new.reached in
+    omega (arith, length_reached, count, length_waiting, grows, most, v.shape, v.once)
+
+module _ (nodes : ℕ) (Seed : ℕ → Type 0) (Leads : ℕ → ℕ → Type 0) where
+  -- What was reached is reached from the seeds. It waits, or it is Done, and what it leads to was reached.
+  pub record Searching (Done : ℕ → Type 0) (x : SearchState) : Type 0 where
+    pub shape : length x.reached ≡ nodes
+    pub begins : (n : ℕ) → Seed n → IsReachedIn x n
+    pub sound : (n : ℕ) → IsReachedIn x n → Reached Seed Leads n
+    pub waits : (n : ℕ) → Contains x.waiting n → IsReachedIn x n
+    pub closed : (n : ℕ) → IsReachedIn x n → Contains x.waiting n ⊎ (Done n × ((m : ℕ) → Leads n m → IsReachedIn x m))
+
+  pub search_begins : (Done : ℕ → Type 0) (x : SearchState) → Begun nodes Seed x → Searching Done x
+  search_begins Done x b = record {
+    shape = b.shape;
+    begins = λ n h. (b.seeds n).1 h;
+    sound = λ n h. seed ((b.seeds n).0 h);
+    waits = λ n h. (b.all_wait n).1 h;
+    closed = λ n h. inl ((b.all_wait n).0 h);
+  }
+
+  module _ (Done : ℕ → Type 0) (node : ℕ) (old mid : SearchState) (w : Searching Done old) (popped : old.waiting ≡ mid.waiting ++ node ∷ []) where
+    -- a node that waited was reached
+    pub popped_reached : IsReachedIn old node
+    popped_reached = w.waits node (subst (λ l. Contains l node) (sym popped) (Contains-push mid.waiting node))
+
+    pub popped_within : node < nodes
+    popped_within = subst (λ m. node < m) w.shape (within_from_get_or old.reached node false (λ e. true≢false (sym popped_reached ∙ e)))
+
+    -- it waits no longer, and was gone through
+    pub search_goes_on : (new : SearchState) (Done' : ℕ → Type 0) → ((n : ℕ) → Done n → Done' n) → Done' node → mid.reached ≡ old.reached → Reaches (Leads node) mid new → Searching Done' new
+    search_goes_on new Done' more done same v = record {
+      shape = v.shape ∙ ap length same ∙ w.shape;
+      begins = λ n h. forth n (w.begins n h);
+      sound = λ n h. elim ((v.reached n).0 h) [ inl i ↦ w.sound n (back n i) | inr i ↦ led (w.sound node popped_reached) i ];
+      waits = λ n h. elim (v.waits n h) [
+        | inl i ↦ forth n (w.waits n (subst (λ l. Contains l n) (sym popped) (Contains-append_left mid.waiting (node ∷ []) n i)))
+        | inr i ↦ i
+      ];
+      closed = λ n h. elim (v.fresh n h) [
+        | inl i ↦ elim (w.closed n (back n i)) [
+          | inl j ↦ elim (Contains-push_cases mid.waiting node n (subst (λ l. Contains l n) popped j)) [
+            | inl k ↦ inl (v.still n k)
+            | inr e ↦ inr (subst Done' e done, λ m k. (v.reached m).1 (inr (subst (λ q. Leads q m) (sym e) k)))
+          ]
+          | inr j ↦ inr (more n j.0, λ m k. forth m (j.1 m k))
+        ]
+        | inr i ↦ inl i
+      ];
+    }
+      where
+        back : (n : ℕ) → IsReachedIn mid n → IsReachedIn old n
+        back n h = subst (λ l. IsTrue (get_or l n false)) same h
+
+        forth : (n : ℕ) → IsReachedIn old n → IsReachedIn new n
+        forth n h = (v.reached n).1 (inl (subst (λ l. IsTrue (get_or l n false)) (sym same) h))
+
+  -- where nothing waits, all that is reached was reached, and is done
+  pub search_ends : (Done : ℕ → Type 0) (x : SearchState) → Searching Done x → x.waiting ≡ [] → {n : ℕ} → Reached Seed Leads n → IsReachedIn x n × Done n
+  search_ends Done x w none h = (reached h, (closed _ (reached h)).0)
+    where
+      nothing : (n : ℕ) → Contains [] n → ⊥
+      nothing n h = omega (arith, h.1)
+
+      closed : (n : ℕ) → IsReachedIn x n → Done n × ((m : ℕ) → Leads n m → IsReachedIn x m)
+      closed n h = elim (w.closed n h) [ inl i ↦ absurd (nothing n (subst (λ l. Contains l n) none i)) | inr i ↦ i ]
+
+      reached : {n : ℕ} → Reached Seed Leads n → IsReachedIn x n
+      reached {n = n} (seed h) = w.begins n h
+      reached {n = n} (led {a = a} h k) = (closed a (reached h)).1 n k

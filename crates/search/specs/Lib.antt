@@ -1,0 +1,3 @@
+-- Who relies on the calls of this crate has to read Reached.
+pub mod Reached
+pub mod Marks

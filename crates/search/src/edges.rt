@@ -1,0 +1,26 @@
+//! What a search goes along.
+
+ghost use Rattle.std.specs.Prelude.{◌≡◌, ℕ, ◌<◌, length, OnOk};
+ghost use Rattle.search.specs.Reached.{Reaches};
+
+use crate::searching::Search;
+use std::alloc::AllocError;
+
+/// Nodes, each of which leads to some.
+pub trait Edges {
+    // How many nodes there are.
+    ghost nodes: { Self → ℕ };
+
+    // To which nodes a node leads.
+    ghost leads: { Self → ℕ → ℕ → Type 0 };
+
+    /// Reaches all that the node leads to.
+    ///
+    /// # Errors
+    ///
+    /// Want of memory.
+    fn reach_from(&self, node: usize, search: &mut Search) -> Result<(), AllocError>
+        requires node { node < nodes self.now }
+        requires nodes { length search.old.reached ≡ nodes self.now }
+        ensures { OnOk result (Reaches (leads self.now node) search.old search.new) };
+}

@@ -1,0 +1,9 @@
+//! Which nodes are reached from some of them, where nodes are numbers and lead to others.
+#![tactic(auto)]
+
+mod edges;
+mod marks;
+mod searching;
+
+pub use edges::Edges;
+pub use searching::Search;

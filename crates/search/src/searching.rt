@@ -1,0 +1,104 @@
+//! A search along edges.
+
+ghost use Rattle.std.specs.Prelude.{◌≡◌, ◌↔◌, ℕ, ◌<◌, ◌++◌, ◌∷◌, [], Contains, false, length, slice_index_or};
+ghost use Rattle.std.specs.Prelude.{IfOk, MatchOption, OnOk};
+ghost use Rattle.search.specs.Reached.{IsReachedIn, Reached, Reaches, unsearched};
+
+use crate::edges::Edges;
+use crate::marks::Marks;
+use cfgindex::Vob;
+use std::alloc::{AllocError, Global};
+use std::collections::BTreeSet;
+use std::marker::Model;
+
+/// A search through the numbers below a bound, its nodes. A node that was reached waits once, till it is gone through.
+#[derive(Drop)]
+pub struct Search {
+    reached: Marks,
+    waiting: Vec<usize>,
+}
+
+impl Model for Search {
+    ghost use Rattle.search.specs.Reached.{SearchState};
+
+    ghost Value = { SearchState };
+
+    ghost use Rattle.search.specs.Marks.{bits_of};
+
+    ghost view = { λ x. record { reached = bits_of x.reached; waiting = x.waiting.items } };
+}
+
+impl Search {
+    /// A search that has reached nothing. It takes a bit for each node.
+    ///
+    /// # Errors
+    ///
+    /// Want of memory.
+    pub fn through(alloc: Global, nodes: usize) -> Result<Self, AllocError>
+        ensures { IfOk result (λ x. x ≡ unsearched nodes) }
+    {
+        Ok(Search {
+            reached: Marks::Bits(Vob::from_elem(alloc, false, nodes)?),
+            waiting: Vec::new(alloc),
+        })
+    }
+
+    /// A search that has reached nothing. It takes memory for the nodes that it reaches alone, however many there are.
+    pub fn through_few(alloc: Global, nodes: usize) -> Self
+        ensures { result ≡ unsearched nodes }
+    {
+        Search {
+            reached: Marks::Few(nodes, BTreeSet::new(alloc)),
+            waiting: Vec::new(alloc),
+        }
+    }
+
+    /// Whether the node was reached.
+    pub fn is_reached(&self, node: usize) -> bool
+        ensures { result ≡ slice_index_or self.now.reached node false }
+    {
+        self.reached.is_marked(node)
+    }
+
+    /// Reaches a node, which waits if it was not reached before.
+    ///
+    /// # Errors
+    ///
+    /// Want of memory.
+    pub fn reach(&mut self, node: usize) -> Result<(), AllocError>
+        requires { node < length self.old.reached }
+        ensures { OnOk result (Reaches (λ n. n ≡ node) self.old self.new) }
+    {
+        if self.reached.mark(node)? {
+            self.waiting.push(node)?;
+        }
+        Ok(())
+    }
+
+    /// A node that waits, which then waits no longer.
+    pub fn next(&mut self) -> Option<usize>
+        ensures reached { self.new.reached ≡ self.old.reached }
+        ensures waiting { MatchOption result (self.old.waiting ≡ [])
+            (λ node. self.old.waiting ≡ self.new.waiting ++ node ∷ []) }
+    {
+        self.waiting.pop()
+    }
+
+    /// Goes through each node that waits, till none does.
+    ///
+    /// # Errors
+    ///
+    /// Want of memory.
+    pub fn go_on<E: Edges>(&mut self, edges: &E) -> Result<(), AllocError>
+        requires nodes { length self.old.reached ≡ E.nodes edges.now }
+        requires all_wait { (n : ℕ) → IsReachedIn self.old n ↔ Contains self.old.waiting n }
+        ensures nodes { OnOk result (length self.new.reached ≡ length self.old.reached) }
+        ensures reached { OnOk result ((n : ℕ) → IsReachedIn self.new n
+            ↔ Reached (IsReachedIn self.old) (E.leads edges.now) n) }
+    {
+        while let Some(node) = self.next() {
+            edges.reach_from(node, self)?;
+        }
+        Ok(())
+    }
+}
