@@ -6,8 +6,7 @@ use Rattle.derivation.specs.Grammar.{Sym, Rule, Token, Grammar, Production, IsGr
 use Rattle.derivation.specs.Path.{Holds, Path, one, more}
 use Rattle.search.specs.Reached.{FoundBy, Reached, Reaches, SearchState, led, seed}
 use Rattle.search.proofs.Reaching.{reaches_as, reaches_known}
-use Rattle.cfgtables.specs.Openings.{nth_production}
-use Rattle.cfgtables.specs.Openings.{ArePlacesOf}
+use Rattle.cfgtables.specs.Openings.{nth_production, ArePlacesOf}
 use Rattle.cfganalysis.specs.Paths.{HeldIn}
 
 pub reaches_no_token : (u : ℕ) (x : SearchState) → Reaches (λ r. Rule r ≡ Token u) x x

@@ -15,8 +15,7 @@ use Rattle.search.specs.Reached.{FoundBy, IsReachedIn, Reached, Reaches, SearchS
 use Rattle.search.proofs.Reaching.{reaches_as, reaches_known, reaches_then}
 use Rattle.cfgbase.specs.declared.span.Span.{Span}
 use Rattle.cfgast.specs.Syntax.{Syntax, Rule, entry_name}
-use Rattle.cfgast.specs.Unused.{Name, RuleName, TokenName, Holds, IsReached, IsStart, Leads, Expected, implicit, name_of, entry_token}
-use Rattle.cfgast.specs.Unused.{named as expected_name}
+use Rattle.cfgast.specs.Unused.{Name, RuleName, TokenName, Holds, IsReached, IsStart, Leads, Expected, implicit, name_of, entry_token, named as expected_name}
 use Rattle.cfgast.specs.Inner.Nodes.{nodes, IsNodeOf, HeldAt, Knows, LeadsTo}
 
 -- the elements of the second of two lists

@@ -1,9 +1,8 @@
 -- A map of which one value is written: what its entries show changes for the one key that the test finds.
 use Rattle.std.proofs.Common.{◌≡◌, Bool, true, false, cond, List, [], ◌∷◌, map, Some, None, refl, sym, ap, ◌∙◌}
-use Rattle.std.specs.List.{AllByRecursion}
+use Rattle.std.specs.List.{AllByRecursion, IsDistinct}
 use Rattle.std.specs.Map.{lookup, set_value, keys_of}
 use Rattle.std.proofs.lemmas.Map.Keys.{IsDistinct-head, IsDistinct-tail}
-use Rattle.std.specs.List.{IsDistinct}
 
 -- own: the keys that pass are those that are equal to one that does
 module _ {K V D : Type 0} (eq : K → K → Bool) (test : K → Bool) (own : (x y : K) → test x ≡ true → test y ≡ eq x y)

@@ -9,15 +9,12 @@ use Rattle.std.proofs.lemmas.List.Elements.{All-get_or, All-set, Contains-append
 use Rattle.lemmas.proofs.Elements.{get_or-set}
 use Rattle.cfgindex.specs.declared.idxnewtype.RIdx.{RIdx}
 use Rattle.derivation.specs.Grammar.{Grammar, IsGrammar}
-use Rattle.cfgtables.specs.Openings.{nth_production}
-use Rattle.cfgtables.specs.Openings.{ArePlacesOf}
+use Rattle.cfgtables.specs.Openings.{nth_production, ArePlacesOf}
 use Rattle.cfgleast.specs.Generator.{CostTables, IsGenerator, cost_answer}
 use Rattle.cfgsums.proofs.Rows.{item_shown}
 use Rattle.cfgcosts.specs.Inner.Heirs.{AreHeirs, IsOnlyHeir, rules_of}
-use Rattle.cfgchoices.specs.Inner.Kinds.{HasRulesAsHeirs}
+use Rattle.cfgchoices.specs.Inner.Kinds.{HasRulesAsHeirs, AreKinds, HasHeir, IsHeir, IsKind, IsTight, IsMinimal, IsOwnBelow}
 use Rattle.cfgchoices.specs.Levels.{Along, here, next}
-use Rattle.cfgchoices.specs.Inner.Kinds.{AreKinds, HasHeir, IsHeir, IsKind, IsTight}
-use Rattle.cfgchoices.specs.Inner.Kinds.{IsMinimal, IsOwnBelow}
 use Rattle.cfgchoices.specs.declared.kinds.Kind.{Kind}
 use Rattle.cfgchoices.specs.declared.kinds.Kind.TheVariants.{Slack, HandsOn}
 use Rattle.lemmas.proofs.Contained.{contains_none}

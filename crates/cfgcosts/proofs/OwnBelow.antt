@@ -2,15 +2,13 @@
 use Rattle.std.proofs.Common.{◌≡◌, ◌↔◌, ℕ, ◌+◌, ◌<◌, ◌≤◌, ◌⊎◌, inl, inr, false, List, [], ◌∷◌, ◌++◌, Contains, get_or, length, take, replicate, refl, sym, ap, subst, ◌∙◌}
 use Rattle.std.proofs.lemmas.List.{take_all, take_more}
 use Rattle.std.proofs.lemmas.List.Elements.{Contains-append_left, Contains-push, Contains-push_cases}
-use Rattle.cfgtables.specs.Openings.{nth_production}
+use Rattle.cfgtables.specs.Openings.{nth_production, ArePlacesOf}
 use Rattle.search.specs.Reached.{FoundBy, Reached, Reaches, SearchState, led, seed}
 use Rattle.search.proofs.Reaching.{Begun, Searching, popped_reached, reaches_as, reaches_known, search_begins, search_ends, search_goes_on}
-use Rattle.cfgtables.specs.Openings.{ArePlacesOf}
 use Rattle.cfgleast.specs.Generator.{CostTables}
 use Rattle.cfgchoices.specs.Levels.{Along, here, next}
-use Rattle.cfgchoices.specs.Inner.Kinds.{HasHeir, HasNoHeir, IsHeir, IsTight}
+use Rattle.cfgchoices.specs.Inner.Kinds.{HasHeir, HasNoHeir, IsHeir, IsTight, IsOwnBelow}
 use Rattle.cfgcosts.specs.Inner.Minimal.{Lists}
-use Rattle.cfgchoices.specs.Inner.Kinds.{IsOwnBelow}
 use Rattle.lemmas.proofs.Contained.{contains_none}
 use Rattle.cfgchoices.proofs.Tight.{one_heir}
 

@@ -15,7 +15,7 @@ use Rattle.cfganalysis.specs.Inner.Waiting.{NoneWaits, Waits}
 use Rattle.cfganalysis.specs.Table.{bits_on}
 use Rattle.cfgtables.proofs.Placed.{owner}
 use Rattle.cfganalysis.proofs.Noting.{put_there, put_waits}
-use Rattle.cfganalysis.proofs.OneBit.{bits_on-set}
+use Rattle.search.proofs.Bits.{bits_on-set}
 use Rattle.cfggreatest.specs.Inner.AtLeast.{HasWord}
 use Rattle.cfggreatest.specs.Inner.Live.{AreLive, HaveLive, HaveSentences, IsNoMoreLive, SayLive, is_live, is_live_symbol}
 
