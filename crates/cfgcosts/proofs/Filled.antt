@@ -20,7 +20,7 @@ use Rattle.cfgcosts.specs.Sentences.{numbers_of}
 use Rattle.cfgchoices.specs.Splits.{Split, done, itself, part}
 use Rattle.lemmas.proofs.Contained.{contains_cases, contains_first, contains_later, contains_none, contains_one}
 use Rattle.cfgcosts.proofs.Joins.{flat_contains, flat_source, row_cut}
-use Rattle.cfgcosts.proofs.Keys.{itself_found, same_key}
+use Rattle.search.proofs.Keys.{itself_found, same_key}
 use Rattle.cfgchoices.proofs.Tight.{free_minimal, minimal_free, minimal_made, own_less, own_makes}
 
 -- a word cut otherwise, as the rules of the row allow
