@@ -1,8 +1,8 @@
 -- FIRST sets: what their bits say, one bit more, and when they are complete.
-use Rattle.std.proofs.Common.{◌≡◌, ℕ, ◌<◌, inl, inr, Bool, true, false, List, All, Contains, get_or, length, sym, ap, ◌∙◌, subst, true≢false, length-set}
+use Rattle.std.proofs.Common.{◌≡◌, ℕ, inl, inr, Bool, true, false, List, get_or, length, sym, ap, ◌∙◌, subst, true≢false, length-set}
 use Rattle.std.proofs.lemmas.List.{get_or_default, length-replicate}
 use Rattle.lemmas.proofs.Elements.{get_or-set, get_or-replicate_default}
-use Rattle.derivation.specs.Grammar.{Sym, Grammar, Production, IsGrammar, IsSymbolOf, HasProduction}
+use Rattle.derivation.specs.Grammar.{Sym, Grammar, Production, HasProduction}
 use Rattle.derivation.specs.First.{First, Empty}
 use Rattle.derivation.specs.FirstSets.{Covers, IsClosed}
 use Rattle.derivation.proofs.Firsts.{vanishes_map, begins_map, closed_first, closed_empty, derived_closed}

@@ -15,13 +15,12 @@ ghost use Rattle.cfganalysis.specs.Inner.Waiting.{NoneWaits, Waits};
 ghost use Rattle.cfganalysis.specs.Inner.Work.{Notes};
 
 use crate::bits::BitTable;
-use cfgtables::{CountedTables, Tables};
 use crate::growth::Analysis;
-use cfgtables::Productions;
 use crate::visits::visit_all;
 use crate::waiting::Waiting;
 use crate::work::Users;
 use cfgindex::{RIdx, Storage, Symbol, TIdx, Vob};
+use cfgtables::{CountedTables, Productions, Tables};
 use std::alloc::{AllocError, Global};
 use std::marker::{Model, PhantomData};
 

@@ -9,9 +9,9 @@ ghost use Rattle.cfgtables.specs.Openings.{OpensOne, most_openings, most_opening
 ghost use Rattle.cfganalysis.specs.Inner.Waiting.{NoneWaits};
 
 use crate::growth::{Analysis, take_in};
-use cfgtables::Productions;
 use crate::work::Work;
 use cfgindex::{PIdx, Storage, to_storage};
+use cfgtables::Productions;
 use std::alloc::{AllocError, Global};
 
 /// Opens a production for the first time: notes it with the rules that it rests on, and takes it in.

@@ -1,5 +1,5 @@
 -- The rules whose sentences those of a rule are made of are found by a search along own productions.
-use Rattle.std.proofs.Common.{◌≡◌, ◌↔◌, ℕ, inl, inr, false, List, [], ◌∷◌, ◌++◌, Some, Contains, replicate, refl, sym, ap, subst}
+use Rattle.std.proofs.Common.{◌≡◌, ◌↔◌, ℕ, inl, inr, List, [], ◌∷◌, ◌++◌, Some, Contains, refl, sym, ap, subst}
 use Rattle.std.specs.List.Sorted.{IsPermutation}
 use Rattle.std.proofs.lemmas.List.Sorted.{Contains-permutation, IsPermutation-sym}
 use Rattle.derivation.specs.Grammar.{Rule, IsGrammar}
