@@ -47,6 +47,29 @@ module _ (g : Grammar) where
             (λ r among. lives r (rule_of r among) (subst (IsLiveSymbol known) among.2 (live among.0 (Rule r) among.1))) cost n h);
       }
 
+-- a walk whose rules and path stay as they were
+pub regrouped : (g : Grammar) (old new : Walk) → IsWalk g old → new.known ≡ old.known → new.path ≡ old.path → AreGroups (IsAbove (HasProduction g)) new.path.items new.starts.items
+    → All (IsEdge g) new.edges.items → IsWalk g new
+regrouped g old new walk known path groups edges = subst (IsWalk g) same (record {
+  grammar = walk.grammar;
+  rules = walk.rules;
+  lives = walk.lives;
+  dead = walk.dead;
+  places = walk.places;
+  path = walk.path;
+  groups = subst (λ v. AreGroups (IsAbove (HasProduction g)) v.items new.starts.items) path groups;
+  edges = edges;
+})
+  where
+    same : record old { starts = new.starts; edges = new.edges } ≡ new
+    same = ap (λ k. record old { starts = new.starts; edges = new.edges; known = k }) (sym known)
+        ∙ ap (λ p. record old { starts = new.starts; edges = new.edges; known = new.known; path = p }) (sym path)
+
+pub edges_less : (g : Grammar) (old new : Walk) → IsWalk g old → new.known ≡ old.known → new.path ≡ old.path → new.starts ≡ old.starts
+    → All (IsEdge g) new.edges.items → IsWalk g new
+edges_less g old new walk known path starts edges = regrouped g old new walk known path
+    (subst (λ v. AreGroups (IsAbove (HasProduction g)) new.path.items v.items) (sym starts) (subst (λ v. AreGroups (IsAbove (HasProduction g)) v.items old.starts.items) (sym path) walk.groups)) edges
+
 -- groups of the path are joined, till none begins behind the place
 pub record JoinsGroups (place : ℕ) (old new : Walk) : Type 0 where
   pub known : new.known ≡ old.known
@@ -81,18 +104,7 @@ joins_more place old mid new j start last before known path edges starts = recor
 pub joined : (g : Grammar) (place rule : ℕ) (old new : Walk) → IsWalk g old → IsWayOut g old rule → known_of old.known.items rule ≡ Open place → JoinsGroups place old new
     → ((start : ℕ) → IsLast new.starts.items start → start ≤ place) → GoesOn g old new
 joined g place rule old new walk out e j no_more = record {
-  walk = record {
-    grammar = walk.grammar;
-    rules = subst (λ v. length v.items ≡ g.rules) (sym j.known) walk.rules;
-    lives = subst (λ v. (r : ℕ) → r < g.rules → is_dead (known_of v.items r) ≡ false → HasWord (HasProduction g) (Rule r ∷ [])) (sym j.known) walk.lives;
-    dead = subst (λ v. (r : ℕ) → is_dead (known_of v.items r) ≡ true → IsDead (HasProduction g) (Rule r ∷ [])) (sym j.known) walk.dead;
-    places = subst (λ v. (r p : ℕ) → known_of v.items r ≡ Open p → (p < length new.path.items) × (get_or new.path.items p 0 ≡ r)) (sym j.known)
-        (subst (λ v. (r p : ℕ) → known_of old.known.items r ≡ Open p → (p < length v.items) × (get_or v.items p 0 ≡ r)) (sym j.path) walk.places);
-    path = subst (λ v. (i : ℕ) → i < length new.path.items → (get_or new.path.items i 0 < g.rules) × (known_of v.items (get_or new.path.items i 0) ≡ Open i)) (sym j.known)
-        (subst (λ v. (i : ℕ) → i < length v.items → (get_or v.items i 0 < g.rules) × (known_of old.known.items (get_or v.items i 0) ≡ Open i)) (sym j.path) walk.path);
-    groups = j.groups g rule walk out e;
-    edges = subst (λ v. All (IsEdge g) v.items) (sym j.edges) walk.edges;
-  };
+  walk = regrouped g old new walk j.known j.path (j.groups g rule walk out e) (subst (λ v. All (IsEdge g) v.items) (sym j.edges) walk.edges);
   told = λ r answer told. ap (λ v. known_of v.items r) (sym j.known) ∙ told;
   less = elim j.fewer [
     | inr fewer ↦ omega (arith, fewer, ap (λ v. sum_by count_new v.items) j.known)
@@ -437,24 +449,6 @@ told_walk g cost start place answer old mid new walk last can t past known edges
       | inl e ↦ inl (ap (λ l. known_of l r) all ∙ e)
       | inr h ↦ inr (ap (λ l. known_of l r) all ∙ h.0, h.1, h.2, (let lt = h.3 in omega (arith, lt, past)), h.4)
     ]
-
--- where edges alone changed, the walk goes on as before
-pub edges_less : (g : Grammar) (old new : Walk) → IsWalk g old → new.known ≡ old.known → new.path ≡ old.path → new.starts ≡ old.starts
-    → All (IsEdge g) new.edges.items → IsWalk g new
-edges_less g old new walk known path starts edges = subst (IsWalk g) same (record {
-  grammar = walk.grammar;
-  rules = walk.rules;
-  lives = walk.lives;
-  dead = walk.dead;
-  places = walk.places;
-  path = walk.path;
-  groups = walk.groups;
-  edges = edges;
-})
-  where
-    same : record old { edges = new.edges } ≡ new
-    same = ap (λ k. record old { edges = new.edges; known = k }) (sym known) ∙ ap (λ p. record old { edges = new.edges; known = new.known; path = p }) (sym path)
-        ∙ ap (λ s. record old { edges = new.edges; known = new.known; path = new.path; starts = s }) (sym starts)
 
 -- a step from there
 pub steps_on : (g : Grammar) (cost : ℕ → ℕ) (old mid new : Walk) → AreTrue g cost old.known.items → mid.known ≡ old.known → mid.starts ≡ old.starts
