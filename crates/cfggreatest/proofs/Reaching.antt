@@ -139,8 +139,7 @@ module _ (g : Grammar) (is : IsGrammar g) (cost : ℕ → ℕ) (known : List Kno
   -- a production of a rule of the group, whose rules have sentences
   module _ (i : ℕ) (le : start ≤ i) (lt : i < length path) (a : List Sym) (has : HasProduction g (get_or path i 0) a) (live : All (IsLiveSymbol known) a) where
     words : (r : ℕ) → Contains a (Rule r) → HasWord (HasProduction g) (Rule r ∷ [])
-    words r among = group.lives r
-        (subst (IsSymbolOf g) among.2 (all_symbols g _ is has among.0 (Rule r) among.1)) (subst (IsLiveSymbol known) among.2 (live among.0 (Rule r) among.1))
+    words r among = group.lives r (subst (IsLiveSymbol known) among.2 (live among.0 (Rule r) among.1))
 
     costs_all : (n : ℕ) → AtLeast (HasProduction g) cost a n → CostAtLeast (HasProduction g) cost path start n
     costs_all n h j le' lt' = group.above j i le' lt' le lt cost n (at_least_rule (HasProduction g) cost (get_or path i 0) a n has h)

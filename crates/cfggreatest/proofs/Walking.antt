@@ -13,7 +13,7 @@ use Rattle.cfgsums.specs.declared.errors.CostError.TheVariants.{NoSentence, Cost
 use Rattle.cfggreatest.specs.Words.{Means}
 use Rattle.cfggreatest.specs.Inner.AtLeast.{HasWord, IsAbove, IsDead}
 use Rattle.cfggreatest.specs.Inner.Groups.{AreGroups, IsLast}
-use Rattle.cfggreatest.specs.Inner.Known.{AreTrue, IsLiveSymbol, count_new, is_dead, is_inside, is_outside, known_of}
+use Rattle.cfggreatest.specs.Inner.Known.{AreTrue, IsLiveSymbol, count_new, is_dead, is_inside, is_outside, known_of, no_rule}
 use Rattle.cfggreatest.specs.Inner.Live.{HaveSentences, is_live}
 use Rattle.cfggreatest.specs.Inner.Sums.{IsGroup}
 use Rattle.cfggreatest.specs.Inner.Walk.{CanTell, GoesOn, IsEdge, IsEdgeTo, IsLedOut, IsWalk, IsWayOut, Steps, TellsNoMore, first_known, left_to_do}
@@ -31,21 +31,41 @@ module _ (g : Grammar) where
   above_then a b c h k cost n i = h cost n (k cost n i)
 
   -- edges lead from a rule to those of a production, if these all may have sentences
-  pub edges_from : (is : IsGrammar g) (known : List Known) → ((r : ℕ) → r < g.rules → is_dead (known_of known r) ≡ false → HasWord (HasProduction g) (Rule r ∷ []))
+  pub edges_from : (is : IsGrammar g) (known : List Known) → ((r : ℕ) → is_dead (known_of known r) ≡ false → HasWord (HasProduction g) (Rule r ∷ []))
       → (rule : ℕ) → rule < g.rules → (a : List Sym) → HasProduction g rule a → All (IsLiveSymbol known) a → All (IsEdgeTo g rule) a
   edges_from is known lives rule within a has live k d lt = by (get_or a k d) (all_symbols g _ is has k d lt) (λ r e. (k, lt, get_or_default a k (Rule r) d lt ∙ e))
     where
-      rule_of : (r : ℕ) → Contains a (Rule r) → r < g.rules
-      rule_of r among = subst (IsSymbolOf g) among.2 (all_symbols g _ is has among.0 (Rule r) among.1)
-
       by : (s : Sym) → IsSymbolOf g s → ((r : ℕ) → s ≡ Rule r → Contains a (Rule r)) → IsEdgeTo g rule s
       by (Token t) within' at = tt
       by (Rule x) within' at = record {
         from = within;
         to = within';
         above = λ cost n h. at_least_rule (HasProduction g) cost rule a n has (row_above (HasProduction g) a x (at x refl)
-            (λ r among. lives r (rule_of r among) (subst (IsLiveSymbol known) among.2 (live among.0 (Rule r) among.1))) cost n h);
+            (λ r among. lives r (subst (IsLiveSymbol known) among.2 (live among.0 (Rule r) among.1))) cost n h);
       }
+
+-- a walk whose rules and path stay as they were
+pub regrouped : (g : Grammar) (old new : Walk) → IsWalk g old → new.known ≡ old.known → new.path ≡ old.path → AreGroups (IsAbove (HasProduction g)) new.path.items new.starts.items
+    → All (IsEdge g) new.edges.items → IsWalk g new
+regrouped g old new walk known path groups edges = subst (IsWalk g) same (record {
+  grammar = walk.grammar;
+  rules = walk.rules;
+  lives = walk.lives;
+  dead = walk.dead;
+  places = walk.places;
+  path = walk.path;
+  groups = subst (λ v. AreGroups (IsAbove (HasProduction g)) v.items new.starts.items) path groups;
+  edges = edges;
+})
+  where
+    same : record old { starts = new.starts; edges = new.edges } ≡ new
+    same = ap (λ k. record old { starts = new.starts; edges = new.edges; known = k }) (sym known)
+        ∙ ap (λ p. record old { starts = new.starts; edges = new.edges; known = new.known; path = p }) (sym path)
+
+pub edges_less : (g : Grammar) (old new : Walk) → IsWalk g old → new.known ≡ old.known → new.path ≡ old.path → new.starts ≡ old.starts
+    → All (IsEdge g) new.edges.items → IsWalk g new
+edges_less g old new walk known path starts edges = regrouped g old new walk known path
+    (subst (λ v. AreGroups (IsAbove (HasProduction g)) new.path.items v.items) (sym starts) (subst (λ v. AreGroups (IsAbove (HasProduction g)) v.items old.starts.items) (sym path) walk.groups)) edges
 
 -- groups of the path are joined, till none begins behind the place
 pub record JoinsGroups (place : ℕ) (old new : Walk) : Type 0 where
@@ -81,18 +101,7 @@ joins_more place old mid new j start last before known path edges starts = recor
 pub joined : (g : Grammar) (place rule : ℕ) (old new : Walk) → IsWalk g old → IsWayOut g old rule → known_of old.known.items rule ≡ Open place → JoinsGroups place old new
     → ((start : ℕ) → IsLast new.starts.items start → start ≤ place) → GoesOn g old new
 joined g place rule old new walk out e j no_more = record {
-  walk = record {
-    grammar = walk.grammar;
-    rules = subst (λ v. length v.items ≡ g.rules) (sym j.known) walk.rules;
-    lives = subst (λ v. (r : ℕ) → r < g.rules → is_dead (known_of v.items r) ≡ false → HasWord (HasProduction g) (Rule r ∷ [])) (sym j.known) walk.lives;
-    dead = subst (λ v. (r : ℕ) → is_dead (known_of v.items r) ≡ true → IsDead (HasProduction g) (Rule r ∷ [])) (sym j.known) walk.dead;
-    places = subst (λ v. (r p : ℕ) → known_of v.items r ≡ Open p → (p < length new.path.items) × (get_or new.path.items p 0 ≡ r)) (sym j.known)
-        (subst (λ v. (r p : ℕ) → known_of old.known.items r ≡ Open p → (p < length v.items) × (get_or v.items p 0 ≡ r)) (sym j.path) walk.places);
-    path = subst (λ v. (i : ℕ) → i < length new.path.items → (get_or new.path.items i 0 < g.rules) × (known_of v.items (get_or new.path.items i 0) ≡ Open i)) (sym j.known)
-        (subst (λ v. (i : ℕ) → i < length v.items → (get_or v.items i 0 < g.rules) × (known_of old.known.items (get_or v.items i 0) ≡ Open i)) (sym j.path) walk.path);
-    groups = j.groups g rule walk out e;
-    edges = subst (λ v. All (IsEdge g) v.items) (sym j.edges) walk.edges;
-  };
+  walk = regrouped g old new walk j.known j.path (j.groups g rule walk out e) (subst (λ v. All (IsEdge g) v.items) (sym j.edges) walk.edges);
   told = λ r answer told. ap (λ v. known_of v.items r) (sym j.known) ∙ told;
   less = elim j.fewer [
     | inr fewer ↦ omega (arith, fewer, ap (λ v. sum_by count_new v.items) j.known)
@@ -113,55 +122,39 @@ first_walk g bits rules x is e have len each path starts edges = (
   record {
     grammar = is;
     rules = len ∙ e;
-    lives = λ r lt alive. elim (at r) [
-      | inl h ↦ have.say.lives r h.0
-      | inr h ↦ elim h [
-        | inl k ↦ absurd (true≢false (sym (ap is_dead k.1) ∙ alive))
-        | inr past ↦ absurd (omega (arith, lt, past, e))
-      ]
-    ];
-    dead = λ r gone. elim (at r) [
-      | inl h ↦ absurd (true≢false (sym gone ∙ ap is_dead h.1))
-      | inr h ↦ elim h [
-        | inl k ↦ have.none r k.0
-        | inr past ↦ absurd (true≢false (sym gone ∙ ap is_dead (beyond r past)))
-      ]
-    ];
-    places = λ r place e. absurd (closed r place e);
+    lives = λ r alive. have.say.lives r (is_on (is_live bits r) (ap is_dead (sym (at r)) ∙ alive));
+    dead = λ r gone. have.none r (is_off (is_live bits r) (ap is_dead (sym (at r)) ∙ gone));
+    places = λ r place here. absurd (is_closed place (is_live bits r) (sym (at r) ∙ here));
     path = λ i lt. absurd (omega (arith, lt, ap length path));
     groups = subst (λ l. AreGroups (IsAbove (HasProduction g)) l x.starts.items) (sym path) (subst (AreGroups (IsAbove (HasProduction g)) []) (sym starts) (no_groups (IsAbove (HasProduction g))));
     edges = subst (All (IsEdge g)) (sym edges) (All-nil (IsEdge g));
   },
-  λ cost r answer told. elim (at r) [
-    | inl h ↦ let no : New ≡ Told answer = sym h.1 ∙ told in absurd (cc)
-    | inr h ↦ elim h [
-      | inl k ↦ let both : Told (Err NoSentence) ≡ Told answer = sym k.1 ∙ told in let same : Err NoSentence ≡ answer = cc in
-          subst (Means (HasProduction g) cost r) same (λ w s. have.none r k.0 w (trees_from_derivation (HasProduction g) (Rule r ∷ []) w s))
-      | inr past ↦ let no : New ≡ Told answer = sym (beyond r past) ∙ told in absurd (cc)
-    ]
-  ],
+  λ cost r answer told. let h = is_told answer (is_live bits r) (sym (at r) ∙ told) in
+      subst (Means (HasProduction g) cost r) h.1 (λ w s. have.none r h.0 w (trees_from_derivation (HasProduction g) (Rule r ∷ []) w s)),
 )
   where
-    beyond : (r : ℕ) → rules ≤ r → known_of x.known.items r ≡ New
-    beyond r past = get_or_past x.known.items r New (omega (arith, past, len))
-
-    at : (r : ℕ) → ((is_live bits r ≡ true) × (known_of x.known.items r ≡ New)) ⊎ (((is_live bits r ≡ false) × (known_of x.known.items r ≡ Told (Err NoSentence))) ⊎ (rules ≤ r))
+    at : (r : ℕ) → known_of x.known.items r ≡ first_known (is_live bits r)
     at r = elim (cases_lt r rules) [
-      | inl lt ↦ elim (cases_Bool (is_live bits r)) [
-        | inl on ↦ inl (on, each r lt ∙ ap first_known on)
-        | inr off ↦ inr (inl (off, each r lt ∙ ap first_known off))
-      ]
-      | inr past ↦ inr (inr past)
+      | inl lt ↦ each r lt
+      | inr past ↦ get_or_past x.known.items r no_rule (omega (arith, past, len))
+          ∙ ap first_known (sym (get_or_past bits r false (let all = have.say.rules in omega (arith, past, all, e))))
     ]
 
-    closed : (r place : ℕ) → known_of x.known.items r ≡ Open place → ⊥
-    closed r place here = elim (at r) [
-      | inl h ↦ let no : New ≡ Open place = sym h.1 ∙ here in absurd (cc)
-      | inr h ↦ elim h [
-        | inl k ↦ let no : Told (Err NoSentence) ≡ Open place = sym k.1 ∙ here in absurd (cc)
-        | inr past ↦ let no : New ≡ Open place = sym (beyond r past) ∙ here in absurd (cc)
-      ]
-    ]
+    is_on : (b : Bool) → is_dead (first_known b) ≡ false → b ≡ true
+    is_on true alive = refl
+    is_on false alive = absurd (true≢false alive)
+
+    is_off : (b : Bool) → is_dead (first_known b) ≡ true → b ≡ false
+    is_off true gone = absurd (true≢false (sym gone))
+    is_off false gone = refl
+
+    is_closed : (place : ℕ) (b : Bool) → first_known b ≡ Open place → ⊥
+    is_closed place true here = cc
+    is_closed place false here = cc
+
+    is_told : (answer : Result (Option ℕ) CostError) (b : Bool) → first_known b ≡ Told answer → (b ≡ false) × (Err NoSentence ≡ answer)
+    is_told answer true told = absurd (cc)
+    is_told answer false told = (refl, (cc))
 
 -- this is told of rules behind the start, up to a place
 pub record TellsSome (start place : ℕ) (answer : Result (Option ℕ) CostError) (old new : Walk) : Type 0 where
@@ -183,8 +176,8 @@ entered g rule old new walk out fresh known path starts edges = record {
   walk = record {
     grammar = walk.grammar;
     rules = ap length known ∙ length-set old.known.items rule (Open place) ∙ walk.rules;
-    lives = λ r lt alive. elim (at r) [
-      | inl e ↦ walk.lives r lt (ap is_dead (sym e) ∙ alive)
+    lives = λ r alive. elim (at r) [
+      | inl e ↦ walk.lives r (ap is_dead (sym e) ∙ alive)
       | inr h ↦ subst (λ q. HasWord (HasProduction g) (Rule q ∷ [])) (sym h.0) out.word
     ];
     dead = λ r gone. elim (at r) [
@@ -224,7 +217,7 @@ entered g rule old new walk out fresh known path starts edges = record {
     | inr h ↦ let no : Open place ≡ Told answer = sym h.1 ∙ told in absurd (cc)
   ];
   less =
-      let sum = sum_by-set count_new old.known.items rule (Open place) New within in
+      let sum = sum_by-set count_new old.known.items rule (Open place) no_rule within in
       let was : count_new (known_of old.known.items rule) ≡ 1 = ap count_new fresh in
       omega (arith, sum, was, ap (sum_by count_new) known, ap length starts, length_push old.starts.items place);
 }
@@ -236,10 +229,10 @@ entered g rule old new walk out fresh known path starts edges = record {
     within = let lt = out.rule in let rules = walk.rules in omega (arith, lt, rules)
 
     put : known_of new.known.items rule ≡ Open (length old.path.items)
-    put = ap (λ l. known_of l rule) known ∙ get_or-set_same old.known.items rule (Open (length old.path.items)) New within
+    put = ap (λ l. known_of l rule) known ∙ get_or-set_same old.known.items rule (Open (length old.path.items)) no_rule within
 
     at : (r : ℕ) → (known_of new.known.items r ≡ known_of old.known.items r) ⊎ ((r ≡ rule) × (known_of new.known.items r ≡ Open (length old.path.items)))
-    at r = elim (get_or-set old.known.items rule r (Open (length old.path.items)) New) [
+    at r = elim (get_or-set old.known.items rule r (Open (length old.path.items)) no_rule) [
       | inl e ↦ inl (ap (λ l. known_of l r) known ∙ e)
       | inr h ↦ inr (h.0, ap (λ l. known_of l r) known ∙ h.1)
     ]
@@ -256,7 +249,7 @@ pub way_out : (g : Grammar) (x : Walk) (start place r : ℕ) → IsWalk g x → 
 way_out g x start place r walk last le lt within outside above =
     let h = outside_untold start (known_of x.known.items r) outside in record {
       rule = within;
-      word = walk.lives r within h.0;
+      word = walk.lives r h.0;
       above = above_all (IsAbove (HasProduction g)) x.path.items x.starts.items walk.groups (above_then g) start last place r le lt above;
       before = λ p s e last'. let at = last.at in let at' = last'.at in let below = h.1 p e in omega (arith, at, at', below);
       untold = h.2;
@@ -278,7 +271,7 @@ pub root_out : (g : Grammar) (x : Walk) (r : ℕ) → IsWalk g x → length x.st
     → ((answer : Result (Option ℕ) CostError) → known_of x.known.items r ≡ Told answer → ⊥) → IsWayOut g x r
 root_out g x r walk none within untold = record {
   rule = within;
-  word = walk.lives r within (alive (known_of x.known.items r) refl);
+  word = walk.lives r (alive (known_of x.known.items r) refl);
   above = λ i lt. let some = walk.groups.some (omega (arith, lt)) in absurd (omega (arith, some, none));
   before = λ p s e last. let some = last.some in absurd (omega (arith, some, none));
   untold = untold;
@@ -297,7 +290,7 @@ last_group g cost x start walk so last = record {
   lives = walk.lives;
   dead = walk.dead;
   places = walk.places;
-  members = λ i le lt. let h = walk.path i lt in (h.1, walk.lives _ h.0 (ap is_dead h.1));
+  members = λ i le lt. let h = walk.path i lt in (h.1, walk.lives _ (ap is_dead h.1));
   above = λ i j le lt le' lt'. walk.groups.chain i j lt lt' (λ k among _. let below = below_last (IsAbove (HasProduction g)) x.path.items x.starts.items walk.groups start last k among in omega (arith, below, le'));
 }
 
@@ -341,17 +334,17 @@ tells_more start place answer old mid new le t rule at within path starts edges 
       | inr past ↦
           let same : i ≡ place = omega (arith, past, lt) in
           let here : get_or old.path.items i 0 ≡ rule = ap (λ n. get_or old.path.items n 0) same ∙ sym at in
-          ap (known_of new.known.items) here ∙ ap (λ l. known_of l rule) known ∙ get_or-set_same mid.known.items rule (Told answer) New within
+          ap (known_of new.known.items) here ∙ ap (λ l. known_of l rule) known ∙ get_or-set_same mid.known.items rule (Told answer) no_rule within
     ]
   ];
   fewer =
-      let sum = sum_by-set count_new mid.known.items rule (Told answer) New within in
+      let sum = sum_by-set count_new mid.known.items rule (Told answer) no_rule within in
       let fewer = t.fewer in
       omega (arith, sum, fewer, ap (sum_by count_new) known);
 }
   where
     now : (r : ℕ) → (known_of new.known.items r ≡ known_of mid.known.items r) ⊎ ((r ≡ rule) × (known_of new.known.items r ≡ Told answer))
-    now r = elim (get_or-set mid.known.items rule r (Told answer) New) [
+    now r = elim (get_or-set mid.known.items rule r (Told answer) no_rule) [
       | inl e ↦ inl (ap (λ l. known_of l r) known ∙ e)
       | inr h ↦ inr (h.0, ap (λ l. known_of l r) known ∙ h.1)
     ]
@@ -365,9 +358,9 @@ told_walk g cost start place answer old mid new walk last can t past known edges
   walk = record {
     grammar = walk.grammar;
     rules = ap length all ∙ t.len ∙ walk.rules;
-    lives = λ r lt alive. elim (now r) [
-      | inl e ↦ walk.lives r lt (ap is_dead (sym e) ∙ alive)
-      | inr h ↦ let m = walk.path h.1 (h.3) in subst (λ q. HasWord (HasProduction g) (Rule q ∷ [])) h.4 (walk.lives _ m.0 (ap is_dead m.1))
+    lives = λ r alive. elim (now r) [
+      | inl e ↦ walk.lives r (ap is_dead (sym e) ∙ alive)
+      | inr h ↦ let m = walk.path h.1 (h.3) in subst (λ q. HasWord (HasProduction g) (Rule q ∷ [])) h.4 (walk.lives _ (ap is_dead m.1))
     ];
     dead = λ r gone. elim (now r) [
       | inl e ↦ walk.dead r (ap is_dead (sym e) ∙ gone)
@@ -437,24 +430,6 @@ told_walk g cost start place answer old mid new walk last can t past known edges
       | inl e ↦ inl (ap (λ l. known_of l r) all ∙ e)
       | inr h ↦ inr (ap (λ l. known_of l r) all ∙ h.0, h.1, h.2, (let lt = h.3 in omega (arith, lt, past)), h.4)
     ]
-
--- where edges alone changed, the walk goes on as before
-pub edges_less : (g : Grammar) (old new : Walk) → IsWalk g old → new.known ≡ old.known → new.path ≡ old.path → new.starts ≡ old.starts
-    → All (IsEdge g) new.edges.items → IsWalk g new
-edges_less g old new walk known path starts edges = subst (IsWalk g) same (record {
-  grammar = walk.grammar;
-  rules = walk.rules;
-  lives = walk.lives;
-  dead = walk.dead;
-  places = walk.places;
-  path = walk.path;
-  groups = walk.groups;
-  edges = edges;
-})
-  where
-    same : record old { edges = new.edges } ≡ new
-    same = ap (λ k. record old { edges = new.edges; known = k }) (sym known) ∙ ap (λ p. record old { edges = new.edges; known = new.known; path = p }) (sym path)
-        ∙ ap (λ s. record old { edges = new.edges; known = new.known; path = new.path; starts = s }) (sym starts)
 
 -- a step from there
 pub steps_on : (g : Grammar) (cost : ℕ → ℕ) (old mid new : Walk) → AreTrue g cost old.known.items → mid.known ≡ old.known → mid.starts ≡ old.starts

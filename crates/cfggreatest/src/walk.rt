@@ -78,8 +78,7 @@ fn push_edges<S: Storage, T: Tables<S>>(
     edges: &mut Vec<(usize, usize)>,
 ) -> Result<(), AllocError>
     requires known { length known.now ≡ (T.grammar grm.now).rules }
-    requires lives { (r : ℕ) → r < (T.grammar grm.now).rules → is_dead (known_of known.now r) ≡ false
-        → HasWord (HasProduction (T.grammar grm.now)) (Rule r ∷ []) }
+    requires lives { (r : ℕ) → is_dead (known_of known.now r) ≡ false → HasWord (HasProduction (T.grammar grm.now)) (Rule r ∷ []) }
     requires rule { rule < (T.grammar grm.now).rules }
     requires edges { All (IsEdge (T.grammar grm.now)) edges.old.items }
     ensures { OnOk result (All (IsEdge (T.grammar grm.now)) edges.new.items) }

@@ -9,8 +9,12 @@ use Rattle.cfggreatest.specs.declared.sums.Known.TheVariants.{New, Open, Told}
 use Rattle.cfggreatest.specs.declared.sums.Stop.{Stop}
 use Rattle.cfggreatest.specs.declared.sums.Stop.TheVariants.{Leads, Grows}
 
+-- a number that is no rule's has no sentence
+abbrev pub no_rule : Known
+no_rule = Told (Err NoSentence)
+
 abbrev pub known_of : List Known → ℕ → Known
-known_of known r = slice_index_or known r New
+known_of known r = slice_index_or known r no_rule
 
 -- 1 for a rule that was not entered
 abbrev pub count_new : Known → ℕ

@@ -26,7 +26,7 @@ IsEdgeTo g from (Token t) = Unit {0}
 pub record IsWalk (g : Grammar) (x : Walk) : Type 0 where
   pub grammar : IsGrammar g
   pub rules : length x.known.items ≡ g.rules
-  pub lives : (r : ℕ) → r < g.rules → is_dead (known_of x.known.items r) ≡ false → HasWord (HasProduction g) (Rule r ∷ [])
+  pub lives : (r : ℕ) → is_dead (known_of x.known.items r) ≡ false → HasWord (HasProduction g) (Rule r ∷ [])
   pub dead : (r : ℕ) → is_dead (known_of x.known.items r) ≡ true → IsDead (HasProduction g) (Rule r ∷ [])
   pub places : (r place : ℕ) → known_of x.known.items r ≡ Open place → (place < length x.path.items) × (slice_index x.path.items place ≡ r)
   pub path : (i : ℕ) → i < length x.path.items → (slice_index x.path.items i < g.rules) × (known_of x.known.items (slice_index x.path.items i) ≡ Open i)
