@@ -65,7 +65,7 @@ fn alone_rules<S: Storage, T: Tables<S>>(
 #[derive(Drop)]
 pub(crate) struct TightTables<'a, S: Storage, T: Tables<S>> {
     tables: &'a T,
-    costs: &'a [u8],
+    pub(crate) costs: &'a [u8],
     settled: &'a Settled<S>,
     alone: Vec<bool>,
     lists: Lists<S>,
