@@ -1,95 +1,92 @@
--- Whether a rule has one production at most that costs just what it does.
-use Rattle.std.proofs.Common.{◌≡◌, ℕ, ◌+◌, ◌<◌, ◌≤◌, ◌⊎◌, inl, inr, Bool, true, false, List, [], ◌∷◌, ◌++◌, take, get_or, length, Contains, arith, sym, ap, subst, ◌∙◌, true≢false}
+-- Whether rules have one production at most that costs just what they do, as it is found going through the productions.
+use Rattle.std.proofs.Common.{◌≡◌, ℕ, ◌+◌, ◌<◌, ◌⊎◌, inl, inr, Bool, true, false, List, get_or, length, replicate, slice_set, arith, sym, ap, ◌∙◌, subst, true≢false}
 use Rattle.std.proofs.lemmas.Bool.{cases_lt}
-use Rattle.std.proofs.lemmas.List.{get_or_append_left, get_or_default, get_or_past, get_or_push, length-map, length_push, take_all, take_more}
-use Rattle.std.proofs.lemmas.List.Elements.{Contains-push_cases}
+use Rattle.std.proofs.lemmas.List.{get_or_default, get_or-set_same, length-replicate, length-set}
+use Rattle.lemmas.proofs.Elements.{get_or-set}
 use Rattle.derivation.specs.Grammar.{Grammar}
 use Rattle.cfgtables.specs.Openings.{nth_production}
-use Rattle.cfgtables.specs.Openings.{ArePlacesOf}
-use Rattle.cfgindex.specs.declared.idxnewtype.PIdx.{PIdx}
-use Rattle.cfgsums.proofs.Rows.{shown_at, shown_within}
-use Rattle.cfgchoices.specs.Inner.Kinds.{places_of}
 use Rattle.cfgchoices.specs.Inner.Offers.{IsCounted}
 use Rattle.cfgchoices.specs.declared.kinds.Kind.{Kind}
-use Rattle.cfgchoices.specs.declared.kinds.Kind.TheVariants.{Slack}
-use Rattle.lemmas.proofs.Contained.{contains_none}
 
-module _ {S : Type 0} (kinds : List (Kind S)) (places : List ℕ) where
-  -- none of the first i counts, or one
-  pub record Found (i : ℕ) (found : Bool) : Type 0 where
-    pub none : found ≡ false → (p : ℕ) → Contains (take i places) p → IsCounted kinds p → ⊥
-    pub one : (p q : ℕ) → Contains (take i places) p → Contains (take i places) q → IsCounted kinds p → IsCounted kinds q → p ≡ q
+module _ {S : Type 0} (kinds : List (Kind S)) (g : Grammar) where
+  abbrev rule_of : ℕ → ℕ
+  rule_of p = (nth_production g p).rule
 
-  pub found_begins : Found 0 false
-  found_begins = record { none = λ _ p h k. contains_none p h; one = λ p q h k i j. absurd (contains_none p h) }
+  -- of the first n productions: which rules have one that counts, and which have two
+  pub record AloneSoFar (n : ℕ) (alone seen : List Bool) : Type 0 where
+    pub flags : length alone ≡ g.rules
+    pub rules : length seen ≡ g.rules
+    pub none : (r : ℕ) → get_or seen r false ≡ false → (p : ℕ) → p < n → IsCounted kinds p → (nth_production g p).rule ≡ r → ⊥
+    pub one : (r : ℕ) → get_or alone r false ≡ true → (p q : ℕ) → p < n → q < n → IsCounted kinds p → IsCounted kinds q
+        → (nth_production g p).rule ≡ r → (nth_production g q).rule ≡ r → p ≡ q
 
-  module _ (i p : ℕ) (found : Bool) (lt : i < length places) (is : p ≡ get_or places i p) (f : Found i found) where
-    cases : (q : ℕ) → Contains (take (i + 1) places) q → Contains (take i places) q ⊎ (p ≡ q)
-    cases q h = Contains-push_cases (take i places) p q (subst (λ l. Contains l q) (take_more places i p lt ∙ ap (λ r. take i places ++ (r ∷ [])) (sym is)) h)
+  pub alone_begins : (alone seen : List Bool) → length alone ≡ g.rules → seen ≡ replicate g.rules false → AloneSoFar 0 alone seen
+  alone_begins alone seen flags none = record {
+    flags = flags;
+    rules = ap length none ∙ length-replicate g.rules false;
+    none = λ r e p lt. absurd (omega (arith, lt));
+    one = λ r e p q lt. absurd (omega (arith, lt));
+  }
 
-    pub found_slack : (IsCounted kinds p → ⊥) → Found (i + 1) found
-    found_slack slack =
-        let back = λ (q : ℕ) (h : Contains (take (i + 1) places) q) (k : IsCounted kinds q).
-        elim (cases q h) as (λ _. Contains (take i places) q) [ inl old ↦ old | inr same ↦ absurd (slack (subst (IsCounted kinds) (sym same) k)) ] in record {
-          none = λ e q h k. f.none e q (back q h k) k;
-          one = λ q r h k i j. f.one q r (back q h i) (back r k j) i j;
-        }
+  module _ (n : ℕ) (alone seen : List Bool) (a : AloneSoFar n alone seen) where
+    old_or_new : (p : ℕ) → p < n + 1 → (p < n) ⊎ (p ≡ n)
+    old_or_new p lt = elim (cases_lt p n) [ inl less ↦ inl less | inr ge ↦ inr (omega (arith, lt, ge)) ]
 
-    pub found_now : found ≡ false → Found (i + 1) true
-    found_now e =
-        let only = λ (q : ℕ) (h : Contains (take (i + 1) places) q) (k : IsCounted kinds q).
-        elim (cases q h) as (λ _. p ≡ q) [ inl old ↦ absurd (f.none e q old k) | inr same ↦ same ] in record {
-          none = λ t q h k. absurd (true≢false t);
-          one = λ q r h k i j. sym (only q h i) ∙ only r k j;
-        }
+    -- the new one isn't of the rule, or doesn't count
+    other : (r p : ℕ) → (IsCounted kinds n → rule_of n ≡ r → ⊥) → p < n + 1 → IsCounted kinds p → rule_of p ≡ r → p < n
+    other r p not lt counts is = elim (old_or_new p lt) [ inl less ↦ less | inr same ↦ absurd (not (subst (IsCounted kinds) same counts) (ap rule_of (sym same) ∙ is)) ]
 
--- for each of the first n rules whether one production at most counts
-pub record AloneSoFar {S : Type 0} (kinds : List (Kind S)) (x : Grammar) (n : ℕ) (alone : List Bool) : Type 0 where
-  pub len : length alone ≡ n
-  pub each : (r : ℕ) → get_or alone r false ≡ true → (p q : ℕ) → IsCounted kinds p → IsCounted kinds q → (nth_production x p).rule ≡ r → (nth_production x q).rule ≡ r → p ≡ q
+    one_other : (r : ℕ) → (IsCounted kinds n → rule_of n ≡ r → ⊥) → get_or alone r false ≡ true → (p q : ℕ) → p < n + 1 → q < n + 1 → IsCounted kinds p → IsCounted kinds q
+        → rule_of p ≡ r → rule_of q ≡ r → p ≡ q
+    one_other r not e p q lt lt' i j h k = a.one r e p q (other r p not lt i h) (other r q not lt' j k) i j h k
 
-module _ {S : Type 0} (number : S → ℕ) (kinds : List (Kind S)) (productions : List (PIdx S)) (i : ℕ) (found : Bool) (f : Found kinds (places_of number productions) i found) where
-  module _ (p : PIdx S) (lt : i < length productions) (is : p ≡ get_or productions i p) (j : ℕ) (at : j ≡ number p.0) (d : Kind S) where
-    place : number p.0 ≡ get_or (places_of number productions) i (number p.0)
-    place = sym (shown_at (λ p. number p.0) productions i p lt is)
+    pub alone_slack : (IsCounted kinds n → ⊥) → AloneSoFar (n + 1) alone seen
+    alone_slack slack = record {
+      flags = a.flags;
+      rules = a.rules;
+      none = λ r e p lt i h. a.none r e p (other r p (λ c _. slack c) lt i h) i h;
+      one = λ r e. one_other r (λ c _. slack c) e;
+    }
 
-    within : i < length (places_of number productions)
-    within = shown_within (λ p. number p.0) productions i p lt is
+    module _ (i : ℕ) (at : i ≡ rule_of n) (within : i < g.rules) (b : Bool) (read : b ≡ get_or seen i b) where
+      was : get_or seen (rule_of n) false ≡ b
+      was = ap (λ r. get_or seen r false) (sym at) ∙ get_or_default seen i false b (subst (λ m. i < m) (sym a.rules) within) ∙ sym read
 
-    pub slack_at : get_or kinds j d ≡ Slack → Found kinds (places_of number productions) (i + 1) found
-    slack_at e = found_slack kinds (places_of number productions) i (number p.0) found within place f
-        (λ h. h.1 (get_or_default kinds (number p.0) Slack d h.0 ∙ ap (λ n. get_or kinds n d) (sym at) ∙ e))
+      -- the rule has another one
+      pub alone_second : b ≡ true → AloneSoFar (n + 1) (slice_set alone i false) seen
+      alone_second e = record {
+        flags = length-set alone i false ∙ a.flags;
+        rules = a.rules;
+        none = λ r none p lt c h. a.none r none p (other r p (λ _ is. true≢false (sym (was ∙ e) ∙ ap (λ m. get_or seen m false) is ∙ none)) lt c h) c h;
+        one = λ r t. elim (get_or-set alone i r false false) [
+          | inl same ↦ one_other r (λ _ is. true≢false (sym t ∙ ap (λ m. get_or (slice_set alone i false) m false) (sym is ∙ sym at) ∙ cleared)) (sym same ∙ t)
+          | inr now ↦ absurd (true≢false (sym t ∙ now.1))
+        ];
+      }
+        where
+          cleared : get_or (slice_set alone i false) i false ≡ false
+          cleared = get_or-set_same alone i false false (subst (λ m. i < m) (sym a.flags) within)
 
-    pub counted_at : found ≡ false → Found kinds (places_of number productions) (i + 1) true
-    counted_at none = found_now kinds (places_of number productions) i (number p.0) found within place f none
-
-  pub found_ends : length productions ≤ i → (p q : ℕ) → Contains (places_of number productions) p → Contains (places_of number productions) q → IsCounted kinds p → IsCounted kinds q → p ≡ q
-  found_ends past p q h k =
-      let len = length-map productions (λ (p : PIdx S). number p.0) in
-      let short : length (places_of number productions) ≤ i = omega (arith, len, past) in
-      let all = take_all i (places_of number productions) short in
-      f.one p q (subst (λ l. Contains l p) (sym all) h) (subst (λ l. Contains l q) (sym all) k)
-
--- one more rule
-pub alone_more : {S : Type 0} (kinds : List (Kind S)) (x : Grammar) (n : ℕ) (alone alone' : List Bool) (b : Bool) (places : List ℕ) → length kinds ≡ length x.productions → AloneSoFar kinds x n alone
-    → alone' ≡ alone ++ b ∷ [] → ArePlacesOf x n places
-    → (b ≡ true → (p q : ℕ) → Contains places p → Contains places q → IsCounted kinds p → IsCounted kinds q → p ≡ q) → AloneSoFar kinds x (n + 1) alone'
-alone_more {S} kinds x n alone alone' b places all before e are only = record {
-  len = ap length e ∙ length_push alone b ∙ ap (λ m. m + 1) before.len;
-  each = λ r t p q i j hp hq.
-      let t' : get_or (alone ++ b ∷ []) r false ≡ true = subst (λ l. get_or l r false ≡ true) e t in
-      elim (cases_lt r (length alone)) [
-        | inl lt ↦ before.each r (sym (get_or_append_left alone (b ∷ []) false r lt) ∙ t') p q i j hp hq
-        | inr ge ↦ elim (cases_lt (length alone) r) [
-          | inl gt ↦ let long = length_push alone b in let past : length (alone ++ b ∷ []) ≤ r = omega (arith, long, gt) in
-              absurd (true≢false (sym t' ∙ get_or_past (alone ++ b ∷ []) r false past))
-          | inr le ↦
-              let len = before.len in
-              let here : length alone ≡ r = omega (arith, ge, le) in
-              let rule : r ≡ n = omega (arith, here, len) in
-              let in_p : p < length x.productions = subst (λ m. p < m) all i.0 in
-              let in_q : q < length x.productions = subst (λ m. q < m) all j.0 in
-              only (sym (get_or_push alone b false r here) ∙ t') p q ((are.listed p in_p).1 (hp ∙ rule)) ((are.listed q in_q).1 (hq ∙ rule)) i j
-        ]
-      ];
-}
+      -- it has none yet
+      pub alone_first : b ≡ false → AloneSoFar (n + 1) alone (slice_set seen i true)
+      alone_first e = record {
+        flags = a.flags;
+        rules = length-set seen i true ∙ a.rules;
+        none = λ r none. elim (get_or-set seen i r true false) [
+          | inl same ↦ λ p lt c h. a.none r (sym same ∙ none) p (other r p (λ _ is. true≢false (sym set ∙ ap (λ m. get_or (slice_set seen i true) m false) (at ∙ is) ∙ none)) lt c h) c h
+          | inr now ↦ absurd (true≢false (sym now.1 ∙ none))
+        ];
+        one = λ r t p q lt lt' c d h k. elim (old_or_new p lt) [
+          | inl less ↦ elim (old_or_new q lt') [
+            | inl less' ↦ a.one r t p q less less' c d h k
+            | inr new ↦ absurd (a.none (rule_of n) (was ∙ e) p less c (h ∙ sym k ∙ ap rule_of new))
+          ]
+          | inr new ↦ elim (old_or_new q lt') [
+            | inl less' ↦ absurd (a.none (rule_of n) (was ∙ e) q less' d (k ∙ sym h ∙ ap rule_of new))
+            | inr new' ↦ new ∙ sym new'
+          ]
+        ];
+      }
+        where
+          set : get_or (slice_set seen i true) i false ≡ true
+          set = get_or-set_same seen i true false (subst (λ m. i < m) (sym a.rules) within)

@@ -108,11 +108,10 @@ impl<S: Storage> Firsts<S> {
             return Ok(true);
         }
         match self.foremost[rule] {
-            Some(foremost) => Ok(
-                tight
-                    .compare(self.alloc, &self.choices, foremost, p)?
-                    .is_le(),
-            ),
+            Some(foremost) => {
+                let ordering = tight.compare(self.alloc, &self.choices, foremost, p)?;
+                Ok(ordering.is_le())
+            }
             None => Ok(false),
         }
     }

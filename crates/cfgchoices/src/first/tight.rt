@@ -17,24 +17,6 @@ use cfgtables::Tables;
 use std::alloc::{AllocError, Global};
 use std::marker::Model;
 
-/// Whether at most one of the productions costs just what its rule does.
-fn is_alone<S: Storage>(kinds: &[Kind<S>], productions: &[PIdx<S>]) -> bool
-    requires { All (λ p. p < length kinds.now) (places_of S.number productions.now) }
-    ensures { result ≡ true → (p q : ℕ) → Contains (places_of S.number productions.now) p
-        → Contains (places_of S.number productions.now) q → IsCounted kinds.now p → IsCounted kinds.now q → p ≡ q }
-{
-    let mut found = false;
-    for p in productions {
-        if !matches!(kinds[usize::from(*p)], Kind::Slack) {
-            if found {
-                return false;
-            }
-            found = true;
-        }
-    }
-    true
-}
-
 /// For each rule whether at most one of its productions costs just what it does.
 ///
 /// # Errors
@@ -52,11 +34,20 @@ fn alone_rules<S: Storage, T: Tables<S>>(
         → (nth_production (T.grammar tables.now) p).rule ≡ r → (nth_production (T.grammar tables.now) q).rule ≡ r
         → p ≡ q) }
 {
-    let rules_len = tables.rules_len().0.to_usize();
-    let mut alone = Vec::new(alloc);
-    for number in 0..rules_len {
-        let rule = RIdx(to_storage(number));
-        alone.push(is_alone(kinds, tables.rule_to_prods(rule)))?;
+    let _prods = tables.prods_len().0.to_usize();
+    let rules_len = usize::from(tables.rules_len());
+    let mut alone = vec![in alloc; true; rules_len]?;
+    let mut seen = vec![in alloc; false; rules_len]?;
+    for number in 0..kinds.len() {
+        if let Kind::Slack = kinds[number] {
+            continue;
+        }
+        let rule = usize::from(tables.prod_to_rule(PIdx(to_storage(number))));
+        if seen[rule] {
+            alone[rule] = false;
+            continue;
+        }
+        seen[rule] = true;
     }
     Ok(alone)
 }
@@ -65,7 +56,7 @@ fn alone_rules<S: Storage, T: Tables<S>>(
 #[derive(Drop)]
 pub(crate) struct TightTables<'a, S: Storage, T: Tables<S>> {
     tables: &'a T,
-    costs: &'a [u8],
+    pub(crate) costs: &'a [u8],
     settled: &'a Settled<S>,
     alone: Vec<bool>,
     lists: Lists<S>,

@@ -65,16 +65,16 @@ compare-requires-clause-also g c =
     subst (λ l. IsGiven c.args.tight.now.tables (map (choice_of number) l) (row c.args.tight.now.tables p)) (sym c.deref.ensures.value)
     (offered_given c.args.tight.now f.choices f.number c.requires.offering.level.choosing f.cost p c.requires.offered)
 
-pub returns-in_ok-compare-in-Some : goal.returns-in_ok-compare-in-Some
-returns-in_ok-compare-in-Some g c =
+pub returns-in_ok-ordering-in-Some : goal.returns-in_ok-ordering-in-Some
+returns-in_ok-ordering-in-Some g c =
     let number = g.S.Storage.number in
     let x = c.args.tight.now.tables in
     let f = offers_of number c.args.self.now in
     let p = number c.args.p.0 in
     let q = number c.in-Some.foremost.0 in
-    let some = (goal.at.returns-in_ok-compare-in-Some g c).In-Some in
+    let some = (goal.at.returns-in_ok-ordering-in-Some g c).In-Some in
     λ e. foremost_handled c.args.tight.now f c.requires.offering p c.requires.offered q (foremost g some) (not_chosen g some)
-    (not_after_le x f.choices (row x q) (row x p) c.in_ok-compare-in-Some.field-0
-    (subst (λ l. (u v : List ℕ) → Gives x (map (choice_of number) l) (row x q) u → Gives x (map (choice_of number) l) (row x p) v → c.in_ok-compare-in-Some.field-0 ≡ dictionary u v)
-    c.deref.ensures.value c.in_ok-compare-in-Some.ensures)
+    (not_after_le x f.choices (row x q) (row x p) c.in_ok-ordering-in-Some.ordering
+    (subst (λ l. (u v : List ℕ) → Gives x (map (choice_of number) l) (row x q) u → Gives x (map (choice_of number) l) (row x p) v → c.in_ok-ordering-in-Some.ordering ≡ dictionary u v)
+    c.deref.ensures.value c.in_ok-ordering-in-Some.ensures)
     (sym c.is_le.ensures ∙ e))
