@@ -105,11 +105,13 @@ impl<'a, S: Storage, T: Tables<S>> SentenceGenerator<'a, S, T> {
     {
         let tokens_len = tables.tokens_len().0.to_usize();
         let costs = token_costs(alloc, tokens_len, cost)?;
-        let settled = settle(alloc, tables, &costs)?;
-        let kinds = kinds(alloc, tables, &costs, &settled)?;
-        let firsts = first_choices(alloc, tables, &costs, &settled, &kinds)?;
-        let last_heirs = last_heirs(alloc, tables, &kinds)?;
-        let greatest = greatest_costs(alloc, tables, &costs)?;
+        let by_token = costs.as_slice();
+        let settled = settle(alloc, tables, by_token)?;
+        let kinds = kinds(alloc, tables, by_token, &settled)?;
+        let by_production = kinds.as_slice();
+        let firsts = first_choices(alloc, tables, by_token, &settled, by_production)?;
+        let last_heirs = last_heirs(alloc, tables, by_production)?;
+        let greatest = greatest_costs(alloc, tables, by_token)?;
         Ok(SentenceGenerator {
             tables,
             costs,
