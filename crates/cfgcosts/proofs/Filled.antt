@@ -107,7 +107,7 @@ module _ (x : CostTables) where
   pub filling_begins : (asked : List (ℕ × ℕ)) (sentences : ℕ → List (List ℕ)) → Filling asked asked sentences
   filling_begins asked sentences = record { among = λ c q h. h; filled = λ c q h. inl h }
 
-  module _ (r : ℕ) (asked left rest : List (ℕ × ℕ)) (top : ℕ × ℕ) (sentences : ℕ → List (List ℕ)) (all : AreAsked x r asked) (f : Filling asked left sentences)
+  module _ {r : ℕ} {asked left : List (ℕ × ℕ)} {sentences : ℕ → List (List ℕ)} (rest : List (ℕ × ℕ)) (top : ℕ × ℕ) (all : AreAsked x r asked) (f : Filling asked left sentences)
       (out : IsPermutation left (top ∷ rest)) (least : All (λ entry. top.0 ≤ entry.0) rest) where
     inside : (e : ℕ × ℕ) → Contains (top ∷ rest) e → Contains left e
     inside e h = Contains-permutation (top ∷ rest) left e (IsPermutation-sym left (top ∷ rest) out) h

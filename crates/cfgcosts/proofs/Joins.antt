@@ -2,6 +2,7 @@
 use Rattle.std.proofs.Common.{◌≡◌, ◌↔◌, ℕ, inl, inr, List, [], ◌∷◌, ◌++◌, map, Contains, append-nil, append_assoc, refl, sym, ap, subst, ◌∙◌}
 use Rattle.std.specs.List.{flat_map, fold}
 use Rattle.std.proofs.lemmas.List.Concat.{flat_map-cons}
+use Rattle.std.proofs.lemmas.List.Sums.{fold-append}
 use Rattle.std.proofs.lemmas.List.Elements.{Contains-append_left, Contains-append_right, Contains-append_cases}
 use Rattle.derivation.specs.Grammar.{Sym, Rule, Token}
 use Rattle.cfgchoices.specs.Splits.{Split, done, itself, part}
@@ -38,6 +39,10 @@ module _ (sentences : ℕ → List (List ℕ)) where
 
   abbrev step : List (List ℕ) → Sym → List (List ℕ)
   step words s = joined words (words_of_symbol sentences s)
+
+  -- a row with a symbol more
+  pub row_more : (row : List Sym) (s : Sym) → row_words sentences (row ++ s ∷ []) ≡ joined (row_words sentences row) (words_of_symbol sentences s)
+  row_more row s = fold-append step ([] ∷ []) row (s ∷ [])
 
   begun : (s : Sym) (row : List Sym) (back rest : List ℕ) → Contains (words_of_symbol sentences s) back → Split (HasSentence sentences) row rest → Split (HasSentence sentences) (s ∷ row) (back ++ rest)
   begun (Token t) row back rest h cut = subst (λ l. Split (HasSentence sentences) (Token t ∷ row) (l ++ rest)) (contains_one (t ∷ []) back h) (itself cut)

@@ -12,7 +12,7 @@ use Rattle.derivation.specs.Grammar.{Grammar, IsGrammar}
 use Rattle.cfgtables.specs.Openings.{nth_production, ArePlacesOf}
 use Rattle.cfgleast.specs.Generator.{CostTables, IsGenerator, cost_answer}
 use Rattle.cfgsums.proofs.Rows.{item_shown}
-use Rattle.cfgcosts.specs.Inner.Heirs.{AreHeirs, IsOnlyHeir, rules_of}
+use Rattle.cfgcosts.specs.Inner.Heirs.{AreHeirs, HasSameSentences, IsOnlyHeir, rules_of}
 use Rattle.cfgchoices.specs.Inner.Kinds.{HasRulesAsHeirs, AreKinds, HasHeir, IsHeir, IsKind, IsTight, IsMinimal, IsOwnBelow}
 use Rattle.cfgchoices.specs.Levels.{Along, here, next}
 use Rattle.cfgchoices.specs.declared.kinds.Kind.{Kind}
@@ -137,24 +137,17 @@ module _ {S : Type 0} (number : S → ℕ) (heirs : List (RIdx S)) (r i : ℕ) (
   first : get_or (rules_of number heirs) r 0 ≡ number heir.0
   first = item_shown (λ (h : RIdx S). number h.0) heirs (rules_of number heirs) r heir 0 refl placed at
 
-  pub heir_within : (rules : ℕ) → All (λ h. h < rules) (rules_of number heirs) → i < rules
-  heir_within rules all = subst (λ m. m < rules) (first ∙ sym is) (All-get_or (λ h. h < rules) (rules_of number heirs) r 0 placed all)
+  module _ (g : Grammar) (kinds : List (Kind S)) (are : AreHeirs number g kinds (rules_of number heirs)) where
+    pub heir_within : i < length heirs
+    heir_within = subst (λ m. m < length heirs) (first ∙ sym is) (subst (λ n. get_or (rules_of number heirs) r 0 < n) (sym are.all ∙ length-map heirs (λ (h : RIdx S). number h.0))
+        (All-get_or (λ h. h < g.rules) (rules_of number heirs) r 0 placed are.within))
 
-  module _ (after : RIdx S) (within : i < length heirs) (then : after ≡ get_or heirs i after) where
-    second : get_or (rules_of number heirs) (number heir.0) 0 ≡ number after.0
-    second = subst (λ m. get_or (rules_of number heirs) m 0 ≡ number after.0) is
-        (item_shown (λ (h : RIdx S). number h.0) heirs (rules_of number heirs) i after 0 refl (subst (λ m. i < m) (sym (length-map heirs (λ (h : RIdx S). number h.0))) within) then)
-
-    put : slice_set (rules_of number heirs) r (number after.0) ≡ rules_of number (slice_set heirs r after)
-    put = sym (map-set (λ (h : RIdx S). number h.0) heirs r after)
-
-    pub all_within : (rules : ℕ) → length heirs ≡ rules → All (λ h. h < rules) (rules_of number heirs) → All (λ h. h < rules) (rules_of number (slice_set heirs r after))
-    all_within rules len all = subst (All (λ h. h < rules)) put (All-set (λ h. h < rules) (rules_of number heirs) r (number after.0)
-        (subst (λ m. m < rules) (ap (λ m. get_or (rules_of number heirs) m 0) is ∙ second)
-        (All-get_or (λ h. h < rules) (rules_of number heirs) i 0 (subst (λ m. i < m) (sym (length-map heirs (λ (h : RIdx S). number h.0))) within) all)) all)
-
-    pub gone_on : (g : Grammar) (kinds : List (Kind S)) → AreHeirs number g kinds (rules_of number heirs) → AreHeirs number g kinds (rules_of number (slice_set heirs r after))
-    gone_on g kinds are = subst (AreHeirs number g kinds) put (heirs_gone_on number g kinds (rules_of number heirs) r (number heir.0) (number after.0) placed (sym first) (sym second) are)
+    pub gone_on : (after : RIdx S) → after ≡ get_or heirs i after → AreHeirs number g kinds (rules_of number (slice_set heirs r after))
+    gone_on after then =
+        let second = subst (λ m. get_or (rules_of number heirs) m 0 ≡ number after.0) is
+        (item_shown (λ (h : RIdx S). number h.0) heirs (rules_of number heirs) i after 0 refl (subst (λ m. i < m) (sym (length-map heirs (λ (h : RIdx S). number h.0))) heir_within) then) in
+        subst (AreHeirs number g kinds) (sym (map-set (λ (h : RIdx S). number h.0) heirs r after))
+        (heirs_gone_on number g kinds (rules_of number heirs) r (number heir.0) (number after.0) placed (sym first) (sym second) are)
 
 module _ {S : Type 0} (number : S → ℕ) (x : CostTables) (kinds : List (Kind S)) (are : AreKinds number x kinds) where
   kind_is : (p : ℕ) (kind : Kind S) → p < length x.grammar.productions → get_or kinds p Slack ≡ kind → IsKind number x p kind
@@ -196,13 +189,21 @@ module _ {S : Type 0} (number : S → ℕ) (x : CostTables) (kinds : List (Kind 
         )
 
     -- so have rules that are led to by only heirs
-    pub last_same : {r q : ℕ} → Along (IsOnlyHeir number x.grammar kinds) r q → (w : List ℕ) → IsMinimal x q w ↔ IsMinimal x r w
+    last_same : {r q : ℕ} → Along (IsOnlyHeir number x.grammar kinds) r q → (w : List ℕ) → IsMinimal x q w ↔ IsMinimal x r w
     last_same here w = (λ m. m, λ m. m)
     last_same (next {a = a} {b = b} h k) w =
         let rest = last_same k w in
         let one = only_same a b h w in
         (λ m. one.0 (rest.0 m), λ m. rest.1 (one.1 m))
 
-  pub last_cost : {r q : ℕ} → Along (IsOnlyHeir number x.grammar kinds) r q → cost_answer x q ≡ cost_answer x r
+  last_cost : {r q : ℕ} → Along (IsOnlyHeir number x.grammar kinds) r q → cost_answer x q ≡ cost_answer x r
   last_cost here = refl
   last_cost (next {a = a} {b = b} h k) = last_cost k ∙ (only_heir a b h).same ∙ sym (only_cost a b h)
+
+  pub heir_same : (n : ℕ) → IsGenerator x n → IsGrammar x.grammar → (heirs : List ℕ) (r : ℕ) → AreHeirs number x.grammar kinds heirs → r < length heirs
+      → HasSameSentences x r (get_or heirs r 0)
+  heir_same n is grammar heirs r heirs_are lt = record {
+    rule = All-get_or (λ h. h < x.grammar.rules) heirs r 0 lt heirs_are.within;
+    cost = last_cost (heirs_are.each r lt);
+    same = last_same n is grammar (heirs_are.each r lt);
+  }

@@ -105,11 +105,13 @@ impl<'a, S: Storage, T: Tables<S>> SentenceGenerator<'a, S, T> {
     {
         let tokens_len = tables.tokens_len().0.to_usize();
         let costs = token_costs(alloc, tokens_len, cost)?;
-        let settled = settle(alloc, tables, &costs)?;
-        let kinds = kinds(alloc, tables, &costs, &settled)?;
-        let firsts = first_choices(alloc, tables, &costs, &settled, &kinds)?;
-        let last_heirs = last_heirs(alloc, tables, &kinds)?;
-        let greatest = greatest_costs(alloc, tables, &costs)?;
+        let by_token = costs.as_slice();
+        let settled = settle(alloc, tables, by_token)?;
+        let kinds = kinds(alloc, tables, by_token, &settled)?;
+        let by_production = kinds.as_slice();
+        let firsts = first_choices(alloc, tables, by_token, &settled, by_production)?;
+        let last_heirs = last_heirs(alloc, tables, by_production)?;
+        let greatest = greatest_costs(alloc, tables, by_token)?;
         Ok(SentenceGenerator {
             tables,
             costs,
@@ -147,16 +149,16 @@ impl<'a, S: Storage, T: Tables<S>> SentenceGenerator<'a, S, T> {
             ↔ IsTooDear (HasProduction self.now.grammar) (token_cost self.now) (S.number rule.0) }
         ensures answer { result_ok result ≡ cost_answer self.now (S.number rule.0) }
     {
-        self.settled_cost(usize::from(rule))
+        self.settled_cost(rule)
     }
 
-    /// The least cost of the rule of this number.
-    fn settled_cost(&self, rule: usize) -> Result<u16, CostError>
-        requires { rule < self.now.grammar.rules }
-        ensures least { AnswersLeast (HasProduction self.now.grammar) (token_cost self.now) rule result }
-        ensures answer { result_ok result ≡ cost_answer self.now rule }
+    /// The least cost of the rule, all that is said of it in one.
+    fn settled_cost(&self, rule: RIdx<S>) -> Result<u16, CostError>
+        requires { S.number rule.0 < self.now.grammar.rules }
+        ensures least { AnswersLeast (HasProduction self.now.grammar) (token_cost self.now) (S.number rule.0) result }
+        ensures answer { result_ok result ≡ cost_answer self.now (S.number rule.0) }
     {
-        match self.settled.least[rule] {
+        match self.settled.least[usize::from(rule)] {
             Some(cost) if cost < TOO_LARGE => Ok(cost as u16),
             Some(_) => Err(CostError::CostTooLarge),
             None => Err(CostError::NoSentence),
@@ -205,7 +207,7 @@ impl<'a, S: Storage, T: Tables<S>> SentenceGenerator<'a, S, T> {
             ⊎ IsTooDear (HasProduction self.now.grammar) (token_cost self.now) (S.number rule.0)) }
         ensures answer { choice_of S.number result ≡ choice_answer self.now (S.number rule.0) }
     {
-        match self.settled_cost(usize::from(rule)) {
+        match self.settled_cost(rule) {
             Ok(_) => self.settled.choices[usize::from(rule)],
             Err(_) => None,
         }

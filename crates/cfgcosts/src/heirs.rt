@@ -1,7 +1,7 @@
 //! Rules that hand on to one rule alone: they have the minimal sentences of that one, and so of the last of a row of
 //! such rules.
 
-ghost use Rattle.std.specs.Prelude.{◌≡◌, ◌<◌, List, All, IfOk, IfSome, length};
+ghost use Rattle.std.specs.Prelude.{◌≡◌, ◌<◌, List, IfOk, IfSome, length};
 ghost use Rattle.derivation.specs.Grammar.{Grammar};
 ghost use Rattle.cfgcosts.specs.Inner.Heirs.{AreHeirs, IsOnlyHeir, rules_of};
 ghost use Rattle.cfgchoices.specs.Inner.Kinds.{HasRulesAsHeirs};
@@ -61,7 +61,7 @@ fn only_heirs<S: Storage, T: Tables<S>>(
 
 /// Puts the heir of each heir in its place, and answers whether any is another one now.
 fn go_on<S: Storage>(heirs: &mut Vec<RIdx<S>>) -> bool
-    requires { All (λ heir. heir < length heirs.old.items) (rules_of S.number heirs.old.items) }
+    requires { (g : Grammar) × (kinds : List (Kind S)) × AreHeirs S.number g kinds (rules_of S.number heirs.old.items) }
     ensures { (g : Grammar) (kinds : List (Kind S)) → AreHeirs S.number g kinds (rules_of S.number heirs.old.items)
         → AreHeirs S.number g kinds (rules_of S.number heirs.new.items) }
 {

@@ -1,9 +1,11 @@
 -- Rules that hand on to one rule alone, told by what productions are to their rules.
-use Rattle.std.specs.Prelude.{◌≡◌, ℕ, ◌<◌, ◌⊎◌, List, All, length, map, slice_index, slice_index_or}
+use Rattle.std.specs.Prelude.{◌≡◌, ◌↔◌, ℕ, ◌<◌, ◌⊎◌, List, All, length, map, slice_index, slice_index_or}
 use Rattle.cfgindex.specs.declared.idxnewtype.RIdx.{RIdx}
 use Rattle.derivation.specs.Grammar.{Grammar}
 use Rattle.cfgtables.specs.Openings.{nth_production}
+use Rattle.cfgleast.specs.Generator.{CostTables, cost_answer}
 use Rattle.cfgchoices.specs.Levels.{Along}
+use Rattle.cfgchoices.specs.Inner.Kinds.{IsMinimal}
 use Rattle.cfgchoices.specs.declared.kinds.Kind.{Kind}
 use Rattle.cfgchoices.specs.declared.kinds.Kind.TheVariants.{Slack, HandsOn}
 
@@ -27,3 +29,9 @@ module _ {S : Type 0} (number : S → ℕ) (g : Grammar) (kinds : List (Kind S))
     pub all : length heirs ≡ g.rules
     pub within : All (λ heir. heir < g.rules) heirs
     pub each : (r : ℕ) → r < length heirs → Along IsOnlyHeir r (slice_index heirs r)
+
+-- a rule of the same cost and the same minimal sentences
+pub record HasSameSentences (x : CostTables) (r q : ℕ) : Type 0 where
+  pub rule : q < x.grammar.rules
+  pub cost : cost_answer x q ≡ cost_answer x r
+  pub same : (w : List ℕ) → IsMinimal x q w ↔ IsMinimal x r w

@@ -5,8 +5,8 @@ ghost use Rattle.std.specs.List.Sorted.{IsStrictlySortedBy};
 ghost use Rattle.derivation.specs.Grammar.{HasProduction};
 ghost use Rattle.derivation.specs.Costs.{Minimal};
 ghost use Rattle.cfgleast.specs.Generator.{HasNone, IsTooDear, cost_answer, token_cost};
+ghost use Rattle.cfgcosts.specs.Inner.Heirs.{HasSameSentences};
 ghost use Rattle.cfgcosts.specs.Inner.Minimal.{AreMinimal, IsMadeBy, IsReadyFor, sentences_in, words_of};
-ghost use Rattle.cfgchoices.specs.Inner.Kinds.{IsMinimal};
 ghost use Rattle.cfgchoices.specs.First.{dictionary};
 ghost use Rattle.cfgcosts.specs.Sentences.{numbers_of};
 ghost use Rattle.cfgchoices.specs.Inner.Kinds.{places_of};
@@ -24,10 +24,7 @@ impl<'a, S: Storage, T: Tables<S>> SentenceGenerator<'a, S, T> {
     /// of such rules.
     fn last_heir(&self, rule: RIdx<S>) -> RIdx<S>
         requires { S.number rule.0 < self.now.grammar.rules }
-        ensures rule { S.number result.0 < self.now.grammar.rules }
-        ensures cost { cost_answer self.now (S.number result.0) ≡ cost_answer self.now (S.number rule.0) }
-        ensures same { (w : List ℕ)
-            → IsMinimal self.now (S.number result.0) w ↔ IsMinimal self.now (S.number rule.0) w }
+        ensures { HasSameSentences self.now (S.number rule.0) (S.number result.0) }
     {
         let _rules = self.tables.rules_len();
         self.last_heirs[usize::from(rule)]

@@ -12,3 +12,12 @@ loop-number-preserved g c = record {
   costs = costs_more g.S.Storage.number g.met.S.Storage.same (λ t v. goal.F-post g c.args.cost t v) c.loop-number.costs.items c.push.new.self.items c.loop-number.number
       (record { 0 = c.to_storage.result }) c.cost.result c.loop-number.invariant.len c.in_ok-push.ensures.items c.to_storage.ensures c.cost.ensures c.loop-number.invariant.costs;
 }
+
+pub returns-clause-positive : goal.returns-clause-positive
+returns-clause-positive g c = c.loop-number.invariant.positive
+
+pub returns-clause-len : goal.returns-clause-len
+returns-clause-len g c = omega (arith, c.loop-number.invariant.len, c.loop-number-test.false, c.loop-number.auto.number-end)
+
+pub returns-clause-costs : goal.returns-clause-costs
+returns-clause-costs g c = λ t within. c.loop-number.invariant.costs t (omega (arith, within, c.loop-number-test.false))

@@ -25,8 +25,7 @@ to_storage-requires g c =
     let n = c.self.inside.settled.number in
     let is = subst (λ (x : CostTables). IsGenerator x n) c.self.view_is c.self.invariant.0 in
     let within = answered_within c.args.self.now n is c.in-Some.number c.in-Some.field-0-0
-    (popped_answer c.args.self.now (g.S.Storage.number c.args.rule.0) all c.loop-number.asked c.pop.new.self (c.in-Some.field-0-0, c.in-Some.number) (sentences_in g.S.Storage.number c.loop-number.table) asked filling
-    c.in-Some.ensures.out c.in-Some.ensures.least) in
+    (popped_answer c.args.self.now c.pop.new.self (c.in-Some.field-0-0, c.in-Some.number) asked filling c.in-Some.ensures.out c.in-Some.ensures.least) in
     let rules = ap (λ (x : CostTables). x.grammar.rules) c.self.view_is in
     let counted = c.rules_len.ensures.value in
     let value = c.to_usize-rules.ensures.value in
@@ -39,16 +38,14 @@ level_sentences-requires-clause-rule g c =
     let n = c.self.inside.settled.number in
     let is = subst (λ (x : CostTables). IsGenerator x n) c.self.view_is c.self.invariant.0 in
     subst (λ m. m < c.args.self.now.grammar.rules) (sym c.to_storage.ensures) (answered_within c.args.self.now n is c.in-Some.number c.in-Some.field-0-0
-    (popped_answer c.args.self.now (g.S.Storage.number c.args.rule.0) all c.loop-number.asked c.pop.new.self (c.in-Some.field-0-0, c.in-Some.number) (sentences_in g.S.Storage.number c.loop-number.table) asked filling
-    c.in-Some.ensures.out c.in-Some.ensures.least))
+    (popped_answer c.args.self.now c.pop.new.self (c.in-Some.field-0-0, c.in-Some.number) asked filling c.in-Some.ensures.out c.in-Some.ensures.least))
 
 pub level_sentences-requires-clause-known : goal.level_sentences-requires-clause-known
 level_sentences-requires-clause-known g c =
     let (all, asked, filling) = c.loop-number.invariant in
     subst (λ m. (d : ℕ) × (cost_answer c.args.self.now m ≡ Some d)) (sym c.to_storage.ensures) (
       c.in-Some.field-0-0,
-      popped_answer c.args.self.now (g.S.Storage.number c.args.rule.0) all c.loop-number.asked c.pop.new.self (c.in-Some.field-0-0, c.in-Some.number) (sentences_in g.S.Storage.number c.loop-number.table) asked filling
-          c.in-Some.ensures.out c.in-Some.ensures.least,
+      popped_answer c.args.self.now c.pop.new.self (c.in-Some.field-0-0, c.in-Some.number) asked filling c.in-Some.ensures.out c.in-Some.ensures.least,
     )
 
 pub level_sentences-requires-clause-ready : goal.level_sentences-requires-clause-ready
@@ -58,8 +55,7 @@ level_sentences-requires-clause-ready g c =
     let is = subst (λ (x : CostTables). IsGenerator x n) c.self.view_is c.self.invariant.0 in
     let grammar = subst (λ (x : CostTables). IsGrammar x.grammar) c.self.view_is c.rules_len.ensures.content in
     subst (IsReadyFor c.args.self.now (sentences_in g.S.Storage.number c.loop-number.table)) (sym c.to_storage.ensures)
-    (popped_ready c.args.self.now (g.S.Storage.number c.args.rule.0) all c.loop-number.asked c.pop.new.self (c.in-Some.field-0-0, c.in-Some.number) (sentences_in g.S.Storage.number c.loop-number.table) asked filling
-    c.in-Some.ensures.out c.in-Some.ensures.least n is grammar)
+    (popped_ready c.args.self.now c.pop.new.self (c.in-Some.field-0-0, c.in-Some.number) asked filling c.in-Some.ensures.out c.in-Some.ensures.least n is grammar)
 
 pub loop-number-preserved : goal.loop-number-preserved
 loop-number-preserved g c =
@@ -69,8 +65,7 @@ loop-number-preserved g c =
     let minimal = subst (λ r. AreMinimal c.args.self.now r words) c.to_storage.ensures c.in_ok-sentences.ensures in (
       all,
       asked,
-      filling_goes_on c.args.self.now (number c.args.rule.0) all c.loop-number.asked c.pop.new.self (c.in-Some.field-0-0, c.in-Some.number) (sentences_in number c.loop-number.table) asked filling
-          c.in-Some.ensures.out c.in-Some.ensures.least _ words (puts number c.loop-number.table c.insert.new.self _ _ c.in_ok-insert.ensures.updates.0) minimal,
+      filling_goes_on c.args.self.now c.pop.new.self (c.in-Some.field-0-0, c.in-Some.number) asked filling c.in-Some.ensures.out c.in-Some.ensures.least _ words (puts number c.loop-number.table c.insert.new.self _ _ c.in_ok-insert.ensures.updates.0) minimal,
     )
 
 pub loop-number-smaller : goal.loop-number-smaller

@@ -10,19 +10,17 @@ returns-in-Ok-clause-production g c =
     let number = c.self.inside.settled.number in
     let is = subst (λ (x : CostTables). IsGenerator x number) c.self.view_is c.self.invariant.0 in
     let shown = ap (λ (x : CostTables). x.choices) c.self.view_is in
-    let answer = subst (λ (r : ℕ). Some c.in-Ok.field-0 ≡ cost_answer c.args.self.now r) c.from.ensures c.in-Ok.ensures.answer in
-    choice_read c.args.self.now number is g.S.Storage.number c.self.inside.settled.choices.items (g.S.Storage.number c.args.rule.0) c.from-in-Ok.result c.in-Ok.field-0 c.index.result.now
-    shown c.requires c.from-in-Ok.ensures c.index.ensures answer
+    choice_read c.args.self.now number is g.S.Storage.number c.self.inside.settled.choices.items (g.S.Storage.number c.args.rule.0) c.from.result c.in-Ok.field-0 c.index.result.now
+    shown c.requires c.from.ensures c.index.ensures c.in-Ok.ensures.answer
 
 pub returns-in-Ok-clause-none : goal.returns-in-Ok-clause-none
 returns-in-Ok-clause-none g c =
     let number = c.self.inside.settled.number in
     let is = subst (λ (x : CostTables). IsGenerator x number) c.self.view_is c.self.invariant.0 in
     let shown = ap (λ (x : CostTables). x.choices) c.self.view_is in
-    let answer = subst (λ (r : ℕ). Some c.in-Ok.field-0 ≡ cost_answer c.args.self.now r) c.from.ensures c.in-Ok.ensures.answer in
-    choice_none c.args.self.now number is g.S.Storage.number (g.S.Storage.number c.args.rule.0) c.in-Ok.field-0 c.index.result.now answer
-    (choice_shown c.args.self.now number is g.S.Storage.number c.self.inside.settled.choices.items (g.S.Storage.number c.args.rule.0) c.from-in-Ok.result
-    c.index.result.now shown c.requires c.from-in-Ok.ensures c.index.ensures)
+    choice_none c.args.self.now number is g.S.Storage.number (g.S.Storage.number c.args.rule.0) c.in-Ok.field-0 c.index.result.now c.in-Ok.ensures.answer
+    (choice_shown c.args.self.now number is g.S.Storage.number c.self.inside.settled.choices.items (g.S.Storage.number c.args.rule.0) c.from.result
+    c.index.result.now shown c.requires c.from.ensures c.index.ensures)
 
 pub returns-in-Ok-clause-answer : goal.returns-in-Ok-clause-answer
 returns-in-Ok-clause-answer g c =
@@ -30,17 +28,13 @@ returns-in-Ok-clause-answer g c =
     let is = subst (λ (x : CostTables). IsGenerator x number) c.self.view_is c.self.invariant.0 in
     let shown = ap (λ (x : CostTables). x.choices) c.self.view_is in
     let r = g.S.Storage.number c.args.rule.0 in
-    let answer = subst (λ (r : ℕ). Some c.in-Ok.field-0 ≡ cost_answer c.args.self.now r) c.from.ensures c.in-Ok.ensures.answer in
-    sym (choice_shown c.args.self.now number is g.S.Storage.number c.self.inside.settled.choices.items r c.from-in-Ok.result
-    c.index.result.now shown c.requires c.from-in-Ok.ensures c.index.ensures)
-    ∙ ap (λ o. where_some o (rule_choice c.args.self.now.choices r)) answer
+    sym (choice_shown c.args.self.now number is g.S.Storage.number c.self.inside.settled.choices.items r c.from.result
+    c.index.result.now shown c.requires c.from.ensures c.index.ensures)
+    ∙ ap (λ o. where_some o (rule_choice c.args.self.now.choices r)) c.in-Ok.ensures.answer
 
 pub returns-in-Err-clause-none : goal.returns-in-Err-clause-none
 returns-in-Err-clause-none g c =
-    let least = subst (λ (r : ℕ). AnswersLeast (HasProduction c.args.self.now.grammar) (token_cost c.args.self.now) r (Err c.in-Err.field-0)) c.from.ensures c.in-Err.ensures.least in
-    ((λ _. refused (HasProduction c.args.self.now.grammar) (token_cost c.args.self.now) (g.S.Storage.number c.args.rule.0) c.in-Err.field-0 least), (λ _. refl))
+    ((λ _. refused (HasProduction c.args.self.now.grammar) (token_cost c.args.self.now) (g.S.Storage.number c.args.rule.0) c.in-Err.field-0 c.in-Err.ensures.least), (λ _. refl))
 
 pub returns-in-Err-clause-answer : goal.returns-in-Err-clause-answer
-returns-in-Err-clause-answer g c =
-    let none = subst (λ (r : ℕ). ◌≡◌ {A = Option ℕ} None (cost_answer c.args.self.now r)) c.from.ensures c.in-Err.ensures.answer in
-    ap (λ o. where_some o (rule_choice c.args.self.now.choices (g.S.Storage.number c.args.rule.0))) none
+returns-in-Err-clause-answer g c = ap (λ o. where_some o (rule_choice c.args.self.now.choices (g.S.Storage.number c.args.rule.0))) c.in-Err.ensures.answer

@@ -42,3 +42,9 @@ returns-clause-none g c = known_sentence c.in_ok-sentence.sentence c.in_ok-min_s
 
 pub returns-clause-dear : goal.returns-clause-dear
 returns-clause-dear g c = known_sentence c.in_ok-sentence.sentence c.in_ok-min_sentence_cost.field-0 CostTooLarge refl c.in_ok-min_sentence_cost.ensures.dear
+
+pub returns-clause-walked : goal.returns-clause-walked
+returns-clause-walked g c = c.in_ok-sentence.ensures.walked
+
+pub returns-clause-stopped : goal.returns-clause-stopped
+returns-clause-stopped g c = λ e. let no = e in absurd (cc)

@@ -1,13 +1,54 @@
-use Rattle.std.proofs.Common.{List, ℕ, map, arith, subst, ◌∙◌}
+use Rattle.std.proofs.Common.{◌≡◌, ◌<◌, List, ℕ, All, length, map, arith, sym, subst, ◌∙◌}
 use Rattle.std.specs.Prelude.{slice_index}
 use Rattle.cfggreatest.specs.Words.{AreTold}
 use Rattle.cfgleast.specs.Certificate.{choice_of}
-use Rattle.cfgchoices.specs.Inner.FirstChoices.{AreFirst, Walks}
 use Rattle.cfgleast.specs.Generator.{tables_of}
-use Rattle.cfgcosts.specs.Inner.Heirs.{AreHeirs, rules_of}
-use Rattle.cfgchoices.specs.Inner.Kinds.{AreKinds}
 use Rattle.cfgleast.specs.Inner.Settled.{AreSettled}
+use Rattle.cfgchoices.specs.Inner.FirstChoices.{AreFirst, Walks}
+use Rattle.cfgchoices.specs.Inner.Kinds.{AreKinds, HasRulesAsHeirs}
+use Rattle.cfgcosts.specs.Inner.Heirs.{AreHeirs, rules_of}
 use Rattle.cfgcosts.proofs.generator.SentenceGenerator.new.Goals as goal
+
+pub settle-requires : goal.settle-requires
+settle-requires g c = subst (λ (costs : List ℕ). length costs ≡ (g.T.Tables.grammar c.args.tables.now).tokens) (sym c.as_slice-by_token.ensures.value)
+    (c.in_ok-costs.ensures.len ∙ c.to_usize-tokens_len.ensures.value ∙ c.tokens_len.ensures)
+
+pub kinds-requires : goal.kinds-requires
+kinds-requires g c = record {
+  tokens = subst (λ (costs : List ℕ). length costs ≡ (g.T.Tables.grammar c.args.tables.now).tokens) (sym c.as_slice-by_token.ensures.value)
+      (c.in_ok-costs.ensures.len ∙ c.to_usize-tokens_len.ensures.value ∙ c.tokens_len.ensures);
+  positive = subst (All (λ c. 0 < c)) (sym c.as_slice-by_token.ensures.value) c.in_ok-costs.ensures.positive;
+  settled = c.in_ok-settled.ensures;
+}
+
+pub first_choices-requires-clause-generator : goal.first_choices-requires-clause-generator
+first_choices-requires-clause-generator g c = record {
+  tokens = subst (λ (costs : List ℕ). length costs ≡ (g.T.Tables.grammar c.args.tables.now).tokens) (sym c.as_slice-by_token.ensures.value)
+      (c.in_ok-costs.ensures.len ∙ c.to_usize-tokens_len.ensures.value ∙ c.tokens_len.ensures);
+  positive = subst (All (λ c. 0 < c)) (sym c.as_slice-by_token.ensures.value) c.in_ok-costs.ensures.positive;
+  settled = c.in_ok-settled.ensures;
+}
+
+pub first_choices-requires-clause-kinds : goal.first_choices-requires-clause-kinds
+first_choices-requires-clause-kinds g c =
+    let settled = c.in_ok-settled.settled in
+    subst (AreKinds g.S.Storage.number (tables_of g.S.Storage.number (g.T.Tables.grammar c.args.tables.now) c.as_slice-by_token.result.now settled.least.items settled.choices.items))
+    (sym c.as_slice-by_production.ensures.value) c.in_ok-kinds.ensures.kinds
+
+pub last_heirs-requires-clause-kinds : goal.last_heirs-requires-clause-kinds
+last_heirs-requires-clause-kinds g c =
+    subst (λ l. length l ≡ length (g.T.Tables.grammar c.args.tables.now).productions) (sym c.as_slice-by_production.ensures.value) c.in_ok-kinds.ensures.kinds.all
+
+pub last_heirs-requires-clause-heirs : goal.last_heirs-requires-clause-heirs
+last_heirs-requires-clause-heirs g c =
+    subst (HasRulesAsHeirs g.S.Storage.number (g.T.Tables.grammar c.args.tables.now)) (sym c.as_slice-by_production.ensures.value) c.in_ok-kinds.ensures.heirs
+
+pub greatest_costs-requires-clause-costs : goal.greatest_costs-requires-clause-costs
+greatest_costs-requires-clause-costs g c = subst (λ (costs : List ℕ). length costs ≡ (g.T.Tables.grammar c.args.tables.now).tokens) (sym c.as_slice-by_token.ensures.value)
+    (c.in_ok-costs.ensures.len ∙ c.to_usize-tokens_len.ensures.value ∙ c.tokens_len.ensures)
+
+pub greatest_costs-requires-clause-positive : goal.greatest_costs-requires-clause-positive
+greatest_costs-requires-clause-positive g c = subst (All (λ c. 0 < c)) (sym c.as_slice-by_token.ensures.value) c.in_ok-costs.ensures.positive
 
 pub invariant_of-result : goal.invariant_of-result
 invariant_of-result g c =
@@ -20,13 +61,13 @@ invariant_of-result g c =
         tokens = c.in_ok-costs.ensures.len ∙ c.to_usize-tokens_len.ensures.value ∙ c.tokens_len.ensures;
         positive = c.in_ok-costs.ensures.positive;
         settled = subst (λ (costs : List ℕ). AreSettled grammar (slice_index costs) least (map (choice_of number) settled.choices.items) settled.number)
-            c.deref.ensures.value c.in_ok-settled.ensures;
+            c.as_slice-by_token.ensures.value c.in_ok-settled.ensures;
       },
-      subst (λ (costs : List ℕ). AreTold grammar (slice_index costs) c.in_ok-greatest.greatest.items) c.deref-6.ensures.value c.in_ok-greatest.ensures,
-      subst (λ (costs : List ℕ). AreKinds number (tables_of number grammar costs least settled.choices.items) c.in_ok-kinds.kinds.items) c.deref-2.ensures.value c.in_ok-kinds.ensures.kinds,
-      subst (λ (costs : List ℕ). Walks (tables_of number grammar costs least firsts)) c.deref-3.ensures.value c.in_ok-firsts.ensures.walks,
-      subst (λ (costs : List ℕ). AreFirst (tables_of number grammar costs least firsts)) c.deref-3.ensures.value c.in_ok-firsts.ensures.first,
-      subst (λ kinds. AreHeirs number grammar kinds (rules_of number c.in_ok-last_heirs.last_heirs.items)) c.deref-5.ensures.value c.in_ok-last_heirs.ensures,
+      subst (λ (costs : List ℕ). AreTold grammar (slice_index costs) c.in_ok-greatest.greatest.items) c.as_slice-by_token.ensures.value c.in_ok-greatest.ensures,
+      subst (λ (costs : List ℕ). AreKinds number (tables_of number grammar costs least settled.choices.items) c.in_ok-kinds.kinds.items) c.as_slice-by_token.ensures.value c.in_ok-kinds.ensures.kinds,
+      subst (λ (costs : List ℕ). Walks (tables_of number grammar costs least firsts)) c.as_slice-by_token.ensures.value c.in_ok-firsts.ensures.walks,
+      subst (λ (costs : List ℕ). AreFirst (tables_of number grammar costs least firsts)) c.as_slice-by_token.ensures.value c.in_ok-firsts.ensures.first,
+      subst (λ kinds. AreHeirs number grammar kinds (rules_of number c.in_ok-last_heirs.last_heirs.items)) c.as_slice-by_production.ensures.value c.in_ok-last_heirs.ensures,
     )
 
 pub returns-clause-costs : goal.returns-clause-costs

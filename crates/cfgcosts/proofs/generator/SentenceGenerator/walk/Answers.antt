@@ -9,7 +9,7 @@ use Rattle.cfgleast.specs.Certificate.{choice_of}
 use Rattle.cfgleast.specs.Generator.{CostTables, cost_answer, tables_of, token_cost}
 use Rattle.cfgcosts.specs.Inner.Walk.{HasStopped, HasWalked}
 use Rattle.cfgcosts.proofs.Walking.{IsOnTheWay, choice_at, after_free, after_opened, after_token, begins, chosen_next, countable, finished, last_shown, on_err, popped, rule_within, stopped}
-use Rattle.cfgcosts.proofs.Weights.{lighter_opened, weigh}
+use Rattle.cfgcosts.proofs.Weights.{lighter_opened, popped_lighter, weigh}
 use Rattle.cfgcosts.proofs.generator.SentenceGenerator.walk.Goals as goal
 
 pub loop-symbol-init : goal.loop-symbol-init
@@ -35,6 +35,18 @@ loop-symbol-preserved-in-Continue-branch-2 g c =
       way = subst (IsOnTheWay _ _ _ _) (sym (ap (map (λ t. number t.0)) c.in_ok-push-in-Token.ensures.items ∙ map-append (λ t. number t.0) c.loop-symbol.sentence.items (c.in-Token.token ∷ [])))
           (after_token x _ _ _ _ (number c.in-Token.token.0) way);
     }
+
+pub loop-symbol-smaller-in-Continue-branch-2 : goal.loop-symbol-smaller-in-Continue-branch-2
+loop-symbol-smaller-in-Continue-branch-2 g c =
+    let number = g.S.Storage.number in
+    let x = tables_of number (g.T.Tables.grammar c.self.inside.tables.now) c.self.inside.costs.items c.self.inside.settled.least.items c.self.inside.firsts.items in
+    popped_lighter x (g.S.Storage.MAX + 1) (omega arith) number c.loop-symbol.pending.items c.pop.new.self.items c.in-Some.symbol c.in-Some.ensures.items
+
+pub loop-symbol-smaller : goal.loop-symbol-smaller
+loop-symbol-smaller g c =
+    let number = g.S.Storage.number in
+    let x = tables_of number (g.T.Tables.grammar c.self.inside.tables.now) c.self.inside.costs.items c.self.inside.settled.least.items c.self.inside.firsts.items in
+    popped_lighter x (g.S.Storage.MAX + 1) (omega arith) number c.loop-symbol.pending.items c.pop.new.self.items c.in-Some.symbol c.in-Some.ensures.items
 
 pub index-requires : goal.index-requires
 index-requires g c =
