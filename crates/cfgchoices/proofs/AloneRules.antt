@@ -1,7 +1,7 @@
 -- Whether rules have one production at most that costs just what they do, as it is found going through the productions.
-use Rattle.std.proofs.Common.{◌≡◌, ℕ, ◌+◌, ◌<◌, ◌⊎◌, inl, inr, Bool, true, false, List, get_or, length, replicate, slice_set, arith, sym, ap, ◌∙◌, subst, true≢false}
+use Rattle.std.proofs.Common.{◌≡◌, ℕ, ◌+◌, ◌<◌, ◌⊎◌, inl, inr, Bool, true, false, List, get_or, length, slice_set, arith, sym, ap, ◌∙◌, subst, true≢false}
 use Rattle.std.proofs.lemmas.Bool.{cases_lt}
-use Rattle.std.proofs.lemmas.List.{get_or_default, get_or-set_same, length-replicate, length-set}
+use Rattle.std.proofs.lemmas.List.{get_or_default, get_or-set_same, length-set}
 use Rattle.lemmas.proofs.Elements.{get_or-set}
 use Rattle.derivation.specs.Grammar.{Grammar}
 use Rattle.cfgtables.specs.Openings.{nth_production}
@@ -19,14 +19,6 @@ module _ {S : Type 0} (kinds : List (Kind S)) (g : Grammar) where
     pub none : (r : ℕ) → get_or seen r false ≡ false → (p : ℕ) → p < n → IsCounted kinds p → (nth_production g p).rule ≡ r → ⊥
     pub one : (r : ℕ) → get_or alone r false ≡ true → (p q : ℕ) → p < n → q < n → IsCounted kinds p → IsCounted kinds q
         → (nth_production g p).rule ≡ r → (nth_production g q).rule ≡ r → p ≡ q
-
-  pub alone_begins : (alone seen : List Bool) → length alone ≡ g.rules → seen ≡ replicate g.rules false → AloneSoFar 0 alone seen
-  alone_begins alone seen flags none = record {
-    flags = flags;
-    rules = ap length none ∙ length-replicate g.rules false;
-    none = λ r e p lt. absurd (omega (arith, lt));
-    one = λ r e p q lt. absurd (omega (arith, lt));
-  }
 
   module _ (n : ℕ) (alone seen : List Bool) (a : AloneSoFar n alone seen) where
     old_or_new : (p : ℕ) → p < n + 1 → (p < n) ⊎ (p ≡ n)
