@@ -12,9 +12,9 @@ ghost use Rattle.cfgleast.specs.Certificate.{IsChosenBelow, IsCovered, IsReached
 ghost use Rattle.cfgleast.specs.Certificate.{rule_choice};
 ghost use Rattle.cfgsums.specs.Sums.{symbol_cost};
 
+use cfgindex::{PIdx, RIdx, Storage, Symbol, to_storage};
 use cfgleast::walk::TOO_LARGE;
 use cfgtables::Tables;
-use cfgindex::{PIdx, RIdx, Storage, Symbol, to_storage};
 
 /// The cost of a rule in the list.
 fn least_cost(least: &[Option<u16>], rule: usize) -> Option<u16>

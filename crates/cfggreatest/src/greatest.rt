@@ -5,9 +5,9 @@ ghost use Rattle.cfggreatest.specs.Words.{AreTold};
 
 use crate::live::Live;
 use crate::walk::Walk;
-use cfgtables::Tables;
 use cfgindex::Storage;
 use cfgsums::CostError;
+use cfgtables::Tables;
 use std::alloc::{AllocError, Global};
 
 /// For each rule the greatest cost of its sentences, where a sentence costs what its tokens cost together: `None` where

@@ -16,8 +16,8 @@ use cfganalysis::growth::Analysis;
 use cfganalysis::visits::visit_all;
 use cfganalysis::waiting::Waiting;
 use cfganalysis::work::Users;
-use cfgtables::{CountedTables, Productions, Tables};
 use cfgindex::{RIdx, Storage, Symbol, Vob};
+use cfgtables::{CountedTables, Productions, Tables};
 use std::alloc::{AllocError, Global};
 use std::marker::Model;
 

@@ -12,9 +12,9 @@ ghost use Rattle.cfggreatest.specs.Inner.Known.{read_known, read_symbol};
 ghost use Rattle.cfggreatest.specs.Inner.Sums.{AreNoLess, AreReached, AreUnder, IsGroup, IsStopped, IsSum, StopsAt};
 ghost use Rattle.cfggreatest.specs.Inner.Sums.{StopsRow, TakesRow};
 
-use cfgtables::Tables;
 use cfgindex::{RIdx, Storage, Symbol, to_storage};
 use cfgsums::CostError;
+use cfgtables::Tables;
 
 /// What no answer of a greatest cost is above.
 const TOO_LARGE: u32 = 65536;

@@ -12,8 +12,8 @@ ghost use Rattle.cfgleast.specs.Inner.Settled.{AreChosen, AreSettled, HasPopped}
 use crate::queue::Queue;
 use crate::waitlists::Waitlists;
 use crate::walk::{start, wake};
-use cfgtables::Tables;
 use cfgindex::{PIdx, Storage, to_storage};
+use cfgtables::Tables;
 use std::alloc::{AllocError, Global};
 
 /// The rules that are settled.

@@ -12,8 +12,8 @@ ghost use Rattle.cfgsums.specs.Sums.{symbol_cost};
 use crate::partial::Partial;
 use crate::queue::Queue;
 use crate::waitlists::Waitlists;
-use cfgtables::Tables;
 use cfgindex::{PIdx, Storage, Symbol, to_storage};
+use cfgtables::Tables;
 use std::alloc::AllocError;
 
 /// The first cost that no answer gives.
