@@ -9,7 +9,7 @@ use Rattle.std.proofs.lemmas.List.{get_or-set_other, length-replicate}
 use Rattle.std.proofs.lemmas.List.FromFn.{fill_by_all, get_or-map-range_with_len, length-map-range_with_len}
 use Rattle.std.proofs.lemmas.Option.{slice_get-get_or}
 use Rattle.lemmas.proofs.Elements.{get_or-replicate_default}
-use Rattle.search.specs.Marks.{bits_at}
+use Rattle.search.specs.Inner.Marks.{bits_at}
 
 -- a key is the one that is looked for, or isn't
 pub same_key : (k q : ℕ) → ((is_at (nat_cmp k) q ≡ true) × (k ≡ q)) ⊎ ((is_at (nat_cmp k) q ≡ false) × (k ≡ q → ⊥))

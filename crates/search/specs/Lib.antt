@@ -1,3 +1,3 @@
--- Who relies on the calls of this crate has to read Reached.
+-- Who relies on the calls of this crate has to read these files; those in Inner have the words of private clauses.
 pub mod Reached
-pub mod Marks
+pub mod Inner

@@ -2,7 +2,7 @@
 
 ghost use Rattle.std.specs.Prelude.{◌≡◌, ◌<◌, Some, false, length, not, slice_get, slice_index_or, slice_set, true};
 ghost use Rattle.std.specs.Prelude.{IfOk, OnOk};
-ghost use Rattle.search.specs.Marks.{bits_of};
+ghost use Rattle.search.specs.Inner.Marks.{bits_of};
 
 use cfgindex::Vob;
 use std::alloc::AllocError;

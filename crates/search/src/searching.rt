@@ -23,7 +23,7 @@ impl Model for Search {
 
     ghost Value = { SearchState };
 
-    ghost use Rattle.search.specs.Marks.{bits_of};
+    ghost use Rattle.search.specs.Inner.Marks.{bits_of};
 
     ghost view = { λ x. record { reached = bits_of x.reached; waiting = x.waiting.items } };
 }

@@ -3,7 +3,7 @@ use Rattle.std.specs.Option.{unwrap_or}
 use Rattle.std.proofs.lemmas.Bool.Decides.{nat_tests}
 use Rattle.std.proofs.lemmas.List.{get_or_past}
 use Rattle.std.proofs.lemmas.Option.{unwrap_or-slice_get}
-use Rattle.search.specs.Marks.{bits_at, bits_of}
+use Rattle.search.specs.Inner.Marks.{bits_at, bits_of}
 use Rattle.search.proofs.Keys.{bit_at, bits_length}
 use Rattle.search.proofs.marks.Marks.is_marked.Goals as goal
 

@@ -1,5 +1,5 @@
 use Rattle.std.proofs.Common.{◌∙◌, ◌<◌, ap, sym, subst, length, slice_get, slice_set, true}
-use Rattle.search.specs.Marks.{bits_of}
+use Rattle.search.specs.Inner.Marks.{bits_of}
 use Rattle.search.proofs.Keys.{bit_on, bit_was, bits_length}
 use Rattle.search.proofs.marks.Marks.mark.Goals as goal
 

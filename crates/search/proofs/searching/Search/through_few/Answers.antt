@@ -1,5 +1,5 @@
 use Rattle.std.proofs.Common.{[], ap, ◌∙◌}
-use Rattle.search.specs.Marks.{bits_at}
+use Rattle.search.specs.Inner.Marks.{bits_at}
 use Rattle.search.proofs.Keys.{no_bits}
 use Rattle.search.proofs.searching.Search.through_few.Goals as goal
 
