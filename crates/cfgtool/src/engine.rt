@@ -125,7 +125,7 @@ fn report_as(
         IsReport (AreAskedLines request.entry text.now) text.now found told.0 (string_bytes told.1)) }
 {
     let parsed = ASTWithValidityInfo::new(alloc, kind, text)?;
-    report_parsed(alloc, request, text, &parsed)
+    report_made(alloc, request, text, parsed)
 }
 
 /// The report of a text as a file of the kind that it names.
@@ -138,13 +138,28 @@ fn report_itself(
         IsReport (AreAskedLines request.entry text.now) text.now found told.0 (string_bytes told.1)) }
 {
     match ASTWithValidityInfo::from_str(alloc, text) {
-        Ok(parsed) => report_parsed(alloc, request, text, &parsed),
+        Ok(parsed) => report_made(alloc, request, text, parsed),
         Err(YaccFault::Errors(errors)) => {
             let lines = error_lines(alloc, text, &errors)?;
             Ok((Outcome::Refused, lines))
         }
         Err(YaccFault::OutOfMemory) => Err(AllocError),
     }
+}
+
+/// The report of a text of which this was made, and is used no more: a function that also makes it drops it on each way
+/// out, which costs its proof many times as much.
+fn report_made(
+    alloc: Global,
+    request: Request<'_>,
+    text: &str,
+    parsed: ASTWithValidityInfo,
+) -> Result<(Outcome, String), AllocError>
+    requires { EachParsedSpan (IsPiece text.now) (IsWithin text.now) parsed }
+    ensures { IfOk result (λ told. IsReport (AreAskedLines request.entry text.now) text.now (WasRead parsed)
+        told.0 (string_bytes told.1)) }
+{
+    report_parsed(alloc, request, text, &parsed)
 }
 
 /// The report of a text that was read.

@@ -12,4 +12,4 @@ returns-in_err-parsed c =
 pub returns : goal.returns
 returns c =
     let parsed = c.in_ok-parsed.ensures in
-    (WasRead c.in_ok-parsed.parsed, record { one = parsed.one; kind_is = parsed.kind; syntax = parsed.syntax; errors = parsed.errors }, c.report_parsed.ensures)
+    (WasRead c.in_ok-parsed.parsed, record { one = parsed.one; kind_is = parsed.kind; syntax = parsed.syntax; errors = parsed.errors }, c.report_made.ensures)

@@ -19,7 +19,7 @@ error_lines-requires c =
 pub returns-in-Ok : goal.returns-in-Ok
 returns-in-Ok c =
     let parsed = c.in-Ok.ensures in
-    (WasRead c.in-Ok.parsed, parsed_itself c.args.text.now parsed.one c.in-Ok.parsed parsed.answer, c.report_parsed.ensures)
+    (WasRead c.in-Ok.parsed, parsed_itself c.args.text.now parsed.one c.in-Ok.parsed parsed.answer, c.report_made.ensures)
 
 pub returns-in_err-lines-in-Err-Errors : goal.returns-in_err-lines-in-Err-Errors
 returns-in_err-lines-in-Err-Errors c =
