@@ -39,8 +39,9 @@ pub record IsStart (s : Syntax) (name : Name) : Type 0 where
   pub given : s.start ≡ Some word
   pub is : RuleName word.name ≡ name
 
-abbrev pub IsReached : Syntax → Name → Type 0
-IsReached s = Reached (IsStart s) (Leads s)
+-- the start rule, and whatever its rules lead to
+abbrev pub IsUsed : Syntax → Name → Type 0
+IsUsed s = Reached (IsStart s) (Leads s)
 
 abbrev pub entry_token : List ℕ × Span → Name
 entry_token entry = TokenName entry.0
@@ -53,7 +54,7 @@ pub data Expected (s : Syntax) : Name → Type 0 where
 
 -- neither reached nor expected to be unused
 abbrev pub IsUnused : Syntax → Name → Type 0
-IsUnused s name = (IsReached s name → ⊥) × (Expected s name → ⊥)
+IsUnused s name = (IsUsed s name → ⊥) × (Expected s name → ⊥)
 
 abbrev pub rule_warning : List ℕ × Rule → Name × GrammarWarning
 rule_warning rule = (RuleName rule.0, warning_at UnusedRule rule.1.name.span)

@@ -2,7 +2,7 @@
 use Rattle.std.specs.Prelude.{◌≡◌, ◌↔◌, ◌⊎◌, ℕ, ◌+◌, List, ◌++◌, map, length, Option, Some, option_map, position, slice_get, bytes_eq}
 use Rattle.search.specs.Reached.{FoundBy, IsReachedIn, SearchState}
 use Rattle.cfgast.specs.Syntax.{Syntax, Production, entry_name}
-use Rattle.cfgast.specs.Unused.{Name, RuleName, TokenName, name_of, Leads, IsReached, Expected}
+use Rattle.cfgast.specs.Unused.{Name, RuleName, TokenName, name_of, Leads, IsUsed, Expected}
 
 -- the rules, and behind them the tokens
 abbrev pub nodes : Syntax → List Name
@@ -33,4 +33,4 @@ pub record LeadsTo (s : Syntax) (node other : ℕ) : Type 0 where
 -- exactly what is reached, or expected to be unused, was reached
 pub record Knows (s : Syntax) (x : SearchState) : Type 0 where
   pub shape : length x.reached ≡ length (nodes s)
-  pub each : (node : ℕ) (name : Name) → slice_get (nodes s) node ≡ Some name → (IsReachedIn x node ↔ (IsReached s name ⊎ Expected s name))
+  pub each : (node : ℕ) (name : Name) → slice_get (nodes s) node ≡ Some name → (IsReachedIn x node ↔ (IsUsed s name ⊎ Expected s name))
