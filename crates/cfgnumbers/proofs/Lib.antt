@@ -1,9 +1,11 @@
 pub mod Added
+pub mod Beside
 pub mod DistinctNames
 pub mod LastTokens
 pub mod Lengths
 pub mod Listed
 pub mod ListedPlaces
+pub mod ListsBetween
 pub mod Lookups
 pub mod Marks
 pub mod NewKeys

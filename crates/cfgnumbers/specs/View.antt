@@ -4,6 +4,7 @@ use Rattle.std.specs.Option.{option_map_or}
 use Rattle.std.specs.declared.alloc.Global.{Global}
 use Rattle.cfgindex.specs.declared.idxnewtype.PIdx.{PIdx}
 use Rattle.cfgindex.specs.declared.idxnewtype.RIdx.{RIdx}
+use Rattle.cfgindex.specs.declared.idxnewtype.Symbol.{Symbol}
 use Rattle.cfgast.specs.declared.settings.Settings.{Settings}
 use Rattle.cfgast.specs.Syntax.{Syntax}
 use Rattle.cfgast.specs.View.{settings_view, syntax}
@@ -33,14 +34,15 @@ rule_view number entry = record {
   action_type = option_map string_bytes entry.1.actiont;
 }
 
-abbrev pub production_view : {S : Type 0} → (S → ℕ) → ProductionRow S → NumberedProduction
-production_view number row = record {
-  rule = number row.rule.0;
-  symbols = map (sym_of number) row.symbols.items;
-  span = row.span;
-  precedence = row.precedence;
-  action = option_map string_bytes row.action;
-  action_span = row.action_span;
+-- a production is its rule, its symbols and its row
+abbrev pub production_view : {S : Type 0} → (S → ℕ) → RIdx S × (List (Symbol S) × ProductionRow) → NumberedProduction
+production_view number parts = record {
+  rule = number parts.0.0;
+  symbols = map (sym_of number) parts.1.0;
+  span = parts.1.1.span;
+  precedence = parts.1.1.precedence;
+  action = option_map string_bytes parts.1.1.action;
+  action_span = parts.1.1.action_span;
 }
 
 -- a token without a printed form of its own prints its name
@@ -53,11 +55,11 @@ token_view entry = record {
   avoid_insert = entry.1.avoid_insert;
 }
 
-unfoldable pub tables : {S : Type 0} → (S → ℕ) → List (String Global × RuleRow S) → List (ProductionRow S) → List (String Global × TokenRow) → PIdx S → Option (RIdx S) → Settings → Numbered
+unfoldable pub tables : {S : Type 0} → (S → ℕ) → List (String Global × RuleRow S) → List NumberedProduction → List (String Global × TokenRow) → PIdx S → Option (RIdx S) → Settings → Numbered
 tables number rules productions tokens start_production implicit_rule settings = record {
   rules = map (rule_view number) rules;
   tokens = map token_view tokens ++ end_token ∷ [];
-  productions = map (production_view number) productions;
+  productions = productions;
   start_production = number start_production.0;
   implicit_rule = option_map (λ rule. number rule.0) implicit_rule;
   settings = settings_view settings;

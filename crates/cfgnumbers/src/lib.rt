@@ -2,10 +2,13 @@
 //! them.
 #![tactic(auto)]
 
+mod lists;
 mod names;
 pub mod numbering;
+mod production_rows;
 pub mod rows;
 
 pub use names::tokens_by_name;
 pub use numbering::Numbering;
+pub use production_rows::ProductionRows;
 pub use rows::{ProductionRow, RuleRow, TokenRow};

@@ -2,7 +2,7 @@
 
 use cfgast::Precedence;
 use cfgbase::Span;
-use cfgindex::{PIdx, RIdx, Symbol};
+use cfgindex::PIdx;
 
 /// A rule, which stands under its name.
 #[derive(Drop)]
@@ -12,11 +12,9 @@ pub struct RuleRow<S> {
     pub actiont: Option<String>,
 }
 
-/// A production.
+/// A production, beside its rule and its symbols.
 #[derive(Drop)]
-pub struct ProductionRow<S> {
-    pub rule: RIdx<S>,
-    pub symbols: Vec<Symbol<S>>,
+pub struct ProductionRow {
     pub span: Span,
     pub precedence: Option<Precedence>,
     pub action: Option<String>,

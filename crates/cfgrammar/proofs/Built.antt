@@ -14,11 +14,10 @@ use Rattle.cfgerrors.specs.declared.error.YaccFault.TheVariants as faults
 use Rattle.cfgsyntax.specs.Parsed.{Parsed}
 use Rattle.cfgrammar.specs.Answer.{WasRead, IsAnswer, IsGrammar, IsReadRefused, IsTooSmall, in_numbers}
 use Rattle.cfgnumbers.specs.Fits.{LeavesRoom}
-use Rattle.cfgnumbers.specs.Numbered.{Numbered, numbered, numbered_by, implicit_of, added_rules, file_rule, added_productions, file_production, file_token, end_token}
-use Rattle.cfgnumbers.specs.View.{tables, rule_view, production_view, token_view}
+use Rattle.cfgnumbers.specs.Numbered.{Numbered, NumberedProduction, numbered, numbered_by, implicit_of, added_rules, file_rule, added_productions, file_production, file_token, end_token}
+use Rattle.cfgnumbers.specs.View.{tables, rule_view, token_view}
 use Rattle.cfgnumbers.specs.WellNumbered.{IsWellNumbered}
 use Rattle.cfgnumbers.specs.declared.rows.RuleRow.{RuleRow}
-use Rattle.cfgnumbers.specs.declared.rows.ProductionRow.{ProductionRow}
 use Rattle.cfgnumbers.specs.declared.rows.TokenRow.{TokenRow}
 use Rattle.cfgnumbers.proofs.Listed.{listed_once}
 use Rattle.cfgnumbers.proofs.DistinctNames.{distinct_names}
@@ -31,12 +30,11 @@ pub of_both : (P : Syntax → Option (List (List ℕ)) → Type 0) (s t : Syntax
 of_both P s t implicit other same same_implicit holds = subst (P s) (sym same_implicit) (subst (λ x. P x other) (sym same) holds)
 
 module _ {S : Type 0} (number : S → ℕ) (kind : YaccKind) (s : Syntax)
-    (rules : List (String Global × RuleRow S)) (productions : List (ProductionRow S)) (tokens : List (String Global × TokenRow)) (start : PIdx S)
+    (rules : List (String Global × RuleRow S)) (productions : List NumberedProduction) (tokens : List (String Global × TokenRow)) (start : PIdx S)
     (implicit_rule : Option (RIdx S)) (settings : Settings) where
   -- tables of these rows are the syntax numbered
   pub built : map (rule_view number) rules ≡ added_rules (implicit_of kind s) (length s.productions) ++ map file_rule s.rules
-      → map (production_view number) productions
-      ≡ map (file_production (implicit_of kind s) s) (zip s.production_rules s.productions) ++ added_productions (implicit_of kind s) s
+      → productions ≡ map (file_production (implicit_of kind s) s) (zip s.production_rules s.productions) ++ added_productions (implicit_of kind s) s
       → map token_view tokens ≡ map (file_token s) (zip s.tokens s.spans) → number start.0 ≡ length s.productions
       → option_map (λ rule. number rule.0) implicit_rule ≡ option_map (λ names. 1) (implicit_of kind s) → settings_view settings ≡ s.settings
       → tables number rules productions tokens start implicit_rule settings ≡ numbered kind s

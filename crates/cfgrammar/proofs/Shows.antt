@@ -1,10 +1,9 @@
 -- What accessors read in the tables.
-use Rattle.std.proofs.Common.{◌≡◌, ℕ, zero, suc, ◌<◌, ◌≤◌, List, [], ◌∷◌, ◌++◌, codes, length, map, get_or, slice_get, Option, Some, None, option_map, unwrap_or, String, Global, sym, ap, subst, ◌∙◌, arith}
+use Rattle.std.proofs.Common.{◌≡◌, ℕ, zero, suc, ◌<◌, ◌≤◌, List, [], ◌∷◌, ◌++◌, codes, length, map, slice_get, Option, Some, None, option_map, unwrap_or, String, Global, refl, sym, ap, subst, ◌∙◌, arith}
 use Rattle.std.specs.List.{concat}
 use Rattle.std.specs.Map.{values_of}
 use Rattle.std.specs.Option.{option_map_or}
-use Rattle.std.proofs.lemmas.List.{get_or-map, length-map}
-use Rattle.std.proofs.lemmas.Option.{slice_get-get_or}
+use Rattle.std.proofs.lemmas.Option.{get_or_from_slice_get, slice_get_within}
 use Rattle.cfgindex.specs.declared.idxnewtype.PIdx.{PIdx}
 use Rattle.cfgindex.specs.declared.idxnewtype.RIdx.{RIdx}
 use Rattle.cfgast.specs.declared.settings.Settings.{Settings}
@@ -12,10 +11,8 @@ use Rattle.derivation.specs.Grammar.{Rule, Sym, Token}
 use Rattle.cfgnumbers.specs.Numbered.{Numbered, NumberedRule, NumberedToken, NumberedProduction}
 use Rattle.cfgnumbers.specs.Fits.{Fits}
 use Rattle.cfgnumbers.specs.Shown.{rule_part, token_part, production_part, production_text, sym_name, sym_text}
-use Rattle.cfgnumbers.specs.View.{rule_view, production_view, tables}
-use Rattle.cfgtables.specs.Symbols.{sym_of}
+use Rattle.cfgnumbers.specs.View.{rule_view, tables}
 use Rattle.cfgnumbers.specs.declared.rows.RuleRow.{RuleRow}
-use Rattle.cfgnumbers.specs.declared.rows.ProductionRow.{ProductionRow}
 use Rattle.cfgnumbers.specs.declared.rows.TokenRow.{TokenRow}
 
 -- the name of a symbol is that of its rule or token
@@ -53,35 +50,38 @@ module _ {S A : Type 0} (number : S → ℕ) (part : NumberedRule → A) (row : 
   row_shown (e ∷ es) (suc i) at = row_shown es i at
 
   -- a part of a rule that its row shows
-  pub rule_shown : (rules : List (String Global × RuleRow S)) (productions : List (ProductionRow S)) (tokens : List (String Global × TokenRow)) (start : PIdx S) (implicit : Option (RIdx S)) (settings : Settings) (g : Numbered)
+  pub rule_shown : (rules : List (String Global × RuleRow S)) (productions : List NumberedProduction) (tokens : List (String Global × TokenRow)) (start : PIdx S) (implicit : Option (RIdx S)) (settings : Settings) (g : Numbered)
       → tables number rules productions tokens start implicit settings ≡ g → (i r : ℕ) → i ≡ r → slice_get (values_of rules) i ≡ Some row → rule_part part g r ≡ Some x
   unfolding tables
   rule_shown rules productions tokens start implicit settings g view_is i r same at =
       ap (λ (t : Numbered). rule_part part t r) (sym view_is) ∙ ap (λ k. option_map part (slice_get (map (rule_view number) rules) k)) (sym same) ∙ row_shown rules i at
 
-module _ {S : Type 0} (number : S → ℕ) (rules : List (String Global × RuleRow S)) (productions : List (ProductionRow S)) (tokens : List (String Global × TokenRow)) (start : PIdx S) (implicit : Option (RIdx S)) (settings : Settings) (g : Numbered)
-    (view_is : tables number rules productions tokens start implicit settings ≡ g) where
-  -- a place is that of a row
-  pub row_within : (r : ℕ) → r < length g.productions → r < length productions
-  unfolding tables
-  row_within r within = omega (arith, within, ap (λ (t : Numbered). length t.productions) view_is, length-map productions (production_view number))
+-- what is read of a production, of those that stand in the tables
+module _ (productions : List NumberedProduction) (g : Numbered) (listed : productions ≡ g.productions) (i p : ℕ) (same : i ≡ p) where
+  pub production_there : p < length g.productions → i < length productions
+  production_there within = omega (arith, within, same, ap length listed)
 
-  -- a part of a production
-  pub production_shown : {A : Type 0} (part : NumberedProduction → A) (row : ProductionRow S) (i r : ℕ) → i ≡ r → r < length g.productions → row ≡ get_or productions i row
-      → production_part part g r ≡ Some (part (production_view number row))
-  unfolding tables
-  production_shown part row i r same within is =
-      ap (λ (t : Numbered). production_part part t r) (sym view_is)
-      ∙ ap (option_map part) (slice_get-get_or (map (production_view number) productions) r (production_view number row) (omega (arith, row_within r within, length-map productions (production_view number))))
-      ∙ ap (λ p. Some (part p)) (get_or-map (production_view number) productions r row (production_view number row) (row_within r within) ∙ ap (production_view number) (sym (is ∙ ap (λ k. get_or productions k row) same)))
+  pub production_shown : {A : Type 0} (part : NumberedProduction → A) (x : A) → option_map part (slice_get productions i) ≡ Some x → production_part part g p ≡ Some x
+  production_shown part x at = ap (λ k. option_map part (slice_get g.productions k)) (sym same) ∙ ap (λ l. option_map part (slice_get l i)) (sym listed) ∙ at
 
-  -- its symbols can be counted
-  pub symbols_counted : (max : ℕ) → Fits max (tables number rules productions tokens start implicit settings) → (row : ProductionRow S) (i r : ℕ) → i ≡ r → r < length g.productions → row ≡ get_or productions i row → length row.symbols.items ≤ max
-  unfolding tables
-  symbols_counted max fits row i r same within is =
-      let there = row_within r within in
-      let shown = production_view number row in
-      let read : get_or (map (production_view number) productions) r shown ≡ shown =
-      get_or-map (production_view number) productions r row shown there ∙ ap (production_view number) (sym (is ∙ ap (λ k. get_or productions k row) same)) in
-      let fit = subst (λ p. length p.symbols ≤ max) read (fits.symbols r shown (omega (arith, there, length-map productions (production_view number)))) in
-      omega (arith, fit, length-map row.symbols.items (sym_of number))
+-- the symbols of a production can be counted
+pub symbols_counted : (max : ℕ) (g : Numbered) → Fits max g → (p : ℕ) (symbols : List Sym) → production_part (λ production. production.symbols) g p ≡ Some symbols → length symbols ≤ max
+symbols_counted max g fits p symbols held = go (slice_get g.productions p) refl held
+  where
+    go : (o : Option NumberedProduction) → slice_get g.productions p ≡ o → option_map (λ production. production.symbols) o ≡ Some symbols → length symbols ≤ max
+    go None is held = let no : None ≡ Some symbols = held in cc
+    go (Some production) is held =
+        let same : production.symbols ≡ symbols = cc in
+        subst (λ l. length l ≤ max) same
+        (subst (λ (q : NumberedProduction). length q.symbols ≤ max) (get_or_from_slice_get g.productions p production production is)
+        (fits.symbols p production (slice_get_within g.productions p production is)))
+
+pub symbols_long : (g : Numbered) (p : ℕ) (symbols : List Sym) → production_part (λ production. production.symbols) g p ≡ Some symbols
+    → production_part (λ production. length production.symbols) g p ≡ Some (length symbols)
+symbols_long g p symbols held = go (slice_get g.productions p) held
+  where
+    go : (o : Option NumberedProduction) → option_map (λ production. production.symbols) o ≡ Some symbols → option_map (λ production. length production.symbols) o ≡ Some (length symbols)
+    go None held = let no : None ≡ Some symbols = held in cc
+    go (Some production) held =
+        let same : production.symbols ≡ symbols = cc in
+        ap (λ l. Some (length l)) same

@@ -1,13 +1,12 @@
 -- What accessors of tokens read in the tables.
-use Rattle.std.proofs.Common.{◌≡◌, ℕ, zero, suc, ◌+◌, ◌<◌, List, [], ◌∷◌, ◌++◌, length, map, slice_get, Option, Some, None, option_map, String, Global, refl, sym, ap, ◌∙◌, arith}
+use Rattle.std.proofs.Common.{◌≡◌, ℕ, zero, suc, ◌<◌, List, [], ◌∷◌, ◌++◌, length, map, slice_get, Option, Some, None, option_map, String, Global, refl, sym, ap, ◌∙◌, arith}
 use Rattle.cfgindex.specs.declared.idxnewtype.PIdx.{PIdx}
 use Rattle.cfgindex.specs.declared.idxnewtype.RIdx.{RIdx}
 use Rattle.cfgast.specs.declared.settings.Settings.{Settings}
-use Rattle.cfgnumbers.specs.Numbered.{Numbered, NumberedToken, end_token}
+use Rattle.cfgnumbers.specs.Numbered.{Numbered, NumberedProduction, NumberedToken, end_token}
 use Rattle.cfgnumbers.specs.Shown.{token_part}
 use Rattle.cfgnumbers.specs.View.{token_view, tables}
 use Rattle.cfgnumbers.specs.declared.rows.RuleRow.{RuleRow}
-use Rattle.cfgnumbers.specs.declared.rows.ProductionRow.{ProductionRow}
 use Rattle.cfgnumbers.specs.declared.rows.TokenRow.{TokenRow}
 
 -- the tokens of rows, and the end token
@@ -25,7 +24,7 @@ behind_entries [] (suc i) none within = absurd (omega (arith, within))
 behind_entries (x ∷ es) zero none within = let no : Some x ≡ None = none in cc
 behind_entries (x ∷ es) (suc i) none within = behind_entries es i none (omega (arith, within))
 
-module _ {S : Type 0} (number : S → ℕ) (rules : List (String Global × RuleRow S)) (productions : List (ProductionRow S)) (tokens : List (String Global × TokenRow)) (start : PIdx S) (implicit : Option (RIdx S)) (settings : Settings) (g : Numbered)
+module _ {S : Type 0} (number : S → ℕ) (rules : List (String Global × RuleRow S)) (productions : List NumberedProduction) (tokens : List (String Global × TokenRow)) (start : PIdx S) (implicit : Option (RIdx S)) (settings : Settings) (g : Numbered)
     (view_is : tables number rules productions tokens start implicit settings ≡ g) {A : Type 0} (part : NumberedToken → A) (i t : ℕ) (same : i ≡ t) where
   -- a part of a token that has a row
   pub token_shown : (e : String Global × TokenRow) → Some e ≡ slice_get tokens i → token_part part g t ≡ Some (part (token_view e))

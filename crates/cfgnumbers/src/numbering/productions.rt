@@ -11,11 +11,12 @@ ghost use Rattle.cfgcheck.specs.Sound.{IsSound};
 ghost use Rattle.cfgnumbers.specs.Fits.{LeavesRoom};
 ghost use Rattle.cfgnumbers.specs.Numbered.{added_production, added_productions, file_production, token_index};
 ghost use Rattle.cfgnumbers.specs.Inner.Resolved.{AreTokens, IsResolved, Resolves};
-ghost use Rattle.cfgnumbers.specs.View.{names, file_of, implicit_in, production_view};
+ghost use Rattle.cfgnumbers.specs.View.{names, file_of, implicit_in};
 ghost use Rattle.cfgtables.specs.Symbols.{sym_of};
 
 use super::Numbering;
 use super::marks::precedence_of;
+use crate::production_rows::ProductionRows;
 use crate::rows::ProductionRow;
 use cfgast::Production;
 use cfgbase::Span;
@@ -33,17 +34,18 @@ impl Numbering<'_> {
     pub fn production_rows<S: Storage>(
         &self,
         alloc: Global,
-    ) -> Result<Vec<ProductionRow<S>>, AllocError>
+    ) -> Result<ProductionRows<S>, AllocError>
         requires sound { IsSound (file_of self.now) [] }
         requires resolved { IsResolved (file_of self.now) }
         requires implicit { AreTokens (file_of self.now) (implicit_in self.now) }
         requires room { LeavesRoom S.MAX (implicit_in self.now) (file_of self.now) }
-        ensures { IfOk result (λ rows. map (production_view S.number) rows.items
+        ensures { IfOk result (λ rows. rows
             ≡ map (file_production (implicit_in self.now) (file_of self.now))
             (zip (file_of self.now).production_rules (file_of self.now).productions)
             ++ added_productions (implicit_in self.now) (file_of self.now)) }
     {
-        let mut rows = Vec::new(alloc);
+        let of_file = self.ast.prods().len();
+        let mut rows = ProductionRows::with_capacity(alloc, of_file.saturating_add(1))?;
         self.push_file_rows(alloc, &mut rows)?;
         self.push_added(alloc, &mut rows)?;
         Ok(rows)
@@ -53,59 +55,60 @@ impl Numbering<'_> {
     fn push_file_rows<S: Storage>(
         &self,
         alloc: Global,
-        rows: &mut Vec<ProductionRow<S>>,
+        rows: &mut ProductionRows<S>,
     ) -> Result<(), AllocError>
-        requires empty { rows.old.items ≡ [] }
+        requires empty { rows.old ≡ [] }
         requires sound { IsSound (file_of self.now) [] }
         requires resolved { IsResolved (file_of self.now) }
         requires room { LeavesRoom S.MAX (implicit_in self.now) (file_of self.now) }
-        ensures { OnOk result (map (production_view S.number) rows.new.items
+        ensures { OnOk result (rows.new
             ≡ map (file_production (implicit_in self.now) (file_of self.now))
             (zip (file_of self.now).production_rules (file_of self.now).productions)) }
     {
+        let mut symbols = Vec::new(alloc);
         for (rule, production) in self.ast.prods_rules().iter().zip(self.ast.prods()) {
-            rows.push(self.production_row(alloc, *rule, production)?)?;
+            self.push_file_row(rows, &mut symbols, *rule, production)?;
         }
         Ok(())
     }
 
-    /// A production of the file, of the rule at this place.
-    fn production_row<S: Storage>(
+    /// Puts a production of the file, of the rule at this place, behind the rows. Its symbols are numbered in
+    /// `symbols`.
+    fn push_file_row<S: Storage>(
         &self,
-        alloc: Global,
+        rows: &mut ProductionRows<S>,
+        symbols: &mut Vec<Symbol<S>>,
         rule: usize,
         production: &Production,
-    ) -> Result<ProductionRow<S>, AllocError>
+    ) -> Result<(), AllocError>
         requires rule { rule < length (file_of self.now).rules }
         requires resolved { Resolves (file_of self.now) (plain_production production.now) }
         requires room { LeavesRoom S.MAX (implicit_in self.now) (file_of self.now) }
-        ensures { IfOk result (λ row. production_view S.number row
-            ≡ file_production (implicit_in self.now) (file_of self.now) (rule, plain_production production.now)) }
+        ensures { OnOk result (rows.new ≡ rows.old
+            ++ file_production (implicit_in self.now) (file_of self.now) (rule, plain_production production.now) ∷ []) }
     {
-        let symbols = self.numbered_symbols(alloc, &production.symbols)?;
+        self.number_symbols(symbols, &production.symbols)?;
         let (action, action_span) = action_parts(production)?;
-        Ok(ProductionRow {
-            rule: self.rule_at(rule),
-            symbols,
+        let row = ProductionRow {
             span: production.prod_span,
             precedence: precedence_of(self.ast, production),
             action,
             action_span,
-        })
+        };
+        rows.push(self.rule_at(rule), symbols.as_slice(), row)
     }
 
     /// Puts the productions that are added behind the rows.
     fn push_added<S: Storage>(
         &self,
         alloc: Global,
-        rows: &mut Vec<ProductionRow<S>>,
+        rows: &mut ProductionRows<S>,
     ) -> Result<(), AllocError>
         requires resolved { IsResolved (file_of self.now) }
         requires implicit { AreTokens (file_of self.now) (implicit_in self.now) }
         requires room { LeavesRoom S.MAX (implicit_in self.now) (file_of self.now) }
-        ensures { OnOk result (map (production_view S.number) rows.new.items
-            ≡ map (production_view S.number) rows.old.items
-            ++ added_productions (implicit_in self.now) (file_of self.now)) }
+        ensures { OnOk result (rows.new
+            ≡ rows.old ++ added_productions (implicit_in self.now) (file_of self.now)) }
     {
         match self.implicit {
             Some(tokens) => self.push_for_implicit(alloc, rows, tokens),
@@ -117,16 +120,15 @@ impl Numbering<'_> {
     fn push_for_implicit<S: Storage>(
         &self,
         alloc: Global,
-        rows: &mut Vec<ProductionRow<S>>,
+        rows: &mut ProductionRows<S>,
         tokens: &IndexMap<String, Span, NameHashes>,
     ) -> Result<(), AllocError>
         requires own { implicit_in self.now ≡ Some (names tokens.now.entries) }
         requires resolved { IsResolved (file_of self.now) }
         requires implicit { All (λ name. has_name name (file_of self.now).tokens ≡ true) (names tokens.now.entries) }
         requires room { LeavesRoom S.MAX (Some (names tokens.now.entries)) (file_of self.now) }
-        ensures { OnOk result (map (production_view S.number) rows.new.items
-            ≡ map (production_view S.number) rows.old.items
-            ++ added_productions (Some (names tokens.now.entries)) (file_of self.now)) }
+        ensures { OnOk result (rows.new
+            ≡ rows.old ++ added_productions (Some (names tokens.now.entries)) (file_of self.now)) }
     {
         let implicit = Symbol::Rule(RIdx(to_storage(1)));
         let implicit_start = Symbol::Rule(RIdx(to_storage(2)));
@@ -141,15 +143,14 @@ impl Numbering<'_> {
     fn push_implicit<S: Storage>(
         &self,
         alloc: Global,
-        rows: &mut Vec<ProductionRow<S>>,
+        rows: &mut ProductionRows<S>,
         tokens: &IndexMap<String, Span, NameHashes>,
     ) -> Result<(), AllocError>
         requires implicit { All (λ name. has_name name (file_of self.now).tokens ≡ true) (names tokens.now.entries) }
         requires rule { 1 ≤ S.MAX }
         requires room { LeavesRoom S.MAX (implicit_in self.now) (file_of self.now) }
-        ensures { OnOk result (map (production_view S.number) rows.new.items
-            ≡ map (production_view S.number) rows.old.items
-            ++ map (λ name. added_production 1 (Token (token_index (file_of self.now) name) ∷ Rule 1 ∷ []))
+        ensures { OnOk result (rows.new
+            ≡ rows.old ++ map (λ name. added_production 1 (Token (token_index (file_of self.now) name) ∷ Rule 1 ∷ []))
             (names tokens.now.entries)) }
     {
         for (name, _) in tokens {
@@ -164,32 +165,41 @@ impl Numbering<'_> {
 /// Puts a production that the file doesn't have behind the rows. It has these symbols, two at most.
 fn push_added_row<S: Storage>(
     alloc: Global,
-    rows: &mut Vec<ProductionRow<S>>,
+    rows: &mut ProductionRows<S>,
     rule: usize,
     first: Option<Symbol<S>>,
     second: Option<Symbol<S>>,
 ) -> Result<(), AllocError>
     requires { rule ≤ S.MAX }
-    ensures { OnOk result (map (production_view S.number) rows.new.items
-        ≡ map (production_view S.number) rows.old.items
+    ensures { OnOk result (rows.new ≡ rows.old
         ++ added_production rule (map (sym_of S.number) (option_to_list first ++ option_to_list second)) ∷ []) }
 {
-    let mut symbols = Vec::new(alloc);
-    if let Some(symbol) = first {
-        symbols.push(symbol)?;
-    }
-    if let Some(symbol) = second {
-        symbols.push(symbol)?;
-    }
-    rows.push(ProductionRow {
-        rule: RIdx(to_storage(rule)),
-        symbols,
+    let symbols = in_order(alloc, first, second)?;
+    let row = ProductionRow {
         span: Span::new(0, 0),
         precedence: None,
         action: None,
         action_span: None,
-    })?;
-    Ok(())
+    };
+    rows.push(RIdx(to_storage(rule)), &symbols, row)
+}
+
+/// Those of the two that are there.
+fn in_order<T: Drop>(
+    alloc: Global,
+    first: Option<T>,
+    second: Option<T>,
+) -> Result<Vec<T>, AllocError>
+    ensures { IfOk result (λ both. both.items ≡ option_to_list first ++ option_to_list second) }
+{
+    let mut both = Vec::new(alloc);
+    if let Some(first) = first {
+        both.push(first)?;
+    }
+    if let Some(second) = second {
+        both.push(second)?;
+    }
+    Ok(both)
 }
 
 /// The text of a production's action, and its place.

@@ -1,7 +1,6 @@
 //! The symbols of productions, by their indices.
 
-ghost use Rattle.std.specs.Prelude.{◌≡◌, ◌+◌, ◌≤◌, ◌++◌, ◌∷◌, [], true, All, None, map, IfOk};
-ghost use Rattle.std.specs.Prelude.{OnOk};
+ghost use Rattle.std.specs.Prelude.{◌≡◌, ◌+◌, ◌≤◌, ◌++◌, ◌∷◌, [], true, All, None, map, OnOk};
 ghost use Rattle.cfgast.specs.Building.{has_name, has_rule};
 ghost use Rattle.cfgast.specs.View.{symbol_view};
 ghost use Rattle.cfgcheck.specs.Check.{symbol_error};
@@ -14,27 +13,27 @@ ghost use Rattle.cfgtables.specs.Symbols.{sym_of};
 
 use super::Numbering;
 use cfgindex::{RIdx, Storage, Symbol, TIdx, to_storage};
-use std::alloc::{AllocError, Global};
+use std::alloc::AllocError;
 
 impl Numbering<'_> {
-    /// The symbols of a production of the file. Behind each token stands the rule for implicit tokens, where there are
-    /// some.
-    pub(super) fn numbered_symbols<S: Storage>(
+    /// Makes `numbered` be the symbols of a production of the file. Behind each token stands the rule for implicit
+    /// tokens, where there are some.
+    pub(super) fn number_symbols<S: Storage>(
         &self,
-        alloc: Global,
+        numbered: &mut Vec<Symbol<S>>,
         symbols: &[cfgast::Symbol],
-    ) -> Result<Vec<Symbol<S>>, AllocError>
+    ) -> Result<(), AllocError>
         requires known { All (λ symbol. symbol_error (file_of self.now) symbol ≡ None)
             (map symbol_view symbols.now) }
         requires room { LeavesRoom S.MAX (implicit_in self.now) (file_of self.now) }
-        ensures { IfOk result (λ numbered. map (sym_of S.number) numbered.items
+        ensures { OnOk result (map (sym_of S.number) numbered.new.items
             ≡ file_symbols (implicit_in self.now) (file_of self.now) (map symbol_view symbols.now)) }
     {
-        let mut numbered = Vec::with_capacity(alloc, symbols.len())?;
+        numbered.clear();
         for symbol in symbols {
-            self.push_symbol(&mut numbered, symbol)?;
+            self.push_symbol(numbered, symbol)?;
         }
-        Ok(numbered)
+        Ok(())
     }
 
     /// Puts a symbol of the file behind those that are numbered.

@@ -28,7 +28,7 @@ use cfgast::{Precedence, Settings};
 use cfgbase::Span;
 use cfghash::NameHashes;
 use cfgindex::{PIdx, RIdx, SIdx, Storage, Symbol, TIdx, to_storage};
-use cfgnumbers::{Numbering, ProductionRow, RuleRow, TokenRow, tokens_by_name};
+use cfgnumbers::{Numbering, ProductionRows, RuleRow, TokenRow, tokens_by_name};
 use cfgsyntax::yacc::YaccKind;
 use cfgsyntax::yacc::ast::{ASTWithValidityInfo, GrammarAST};
 use cfgsyntax::yacc::parser::{YaccFault, YaccGrammarResult};
@@ -49,7 +49,7 @@ use std::marker::Model;
 #[derive(Drop)]
 pub struct YaccGrammar<S: Storage> {
     rules: IndexMap<String, RuleRow<S>, NameHashes>,
-    prods: Vec<ProductionRow<S>>,
+    prods: ProductionRows<S>,
     tokens: IndexMap<String, TokenRow, NameHashes>,
     start_prod: PIdx<S>,
     implicit_rule: Option<RIdx<S>>,
@@ -63,11 +63,11 @@ impl<S: Storage> Model for YaccGrammar<S> {
 
     ghost Value = { Numbered };
 
-    ghost view = { λ x. tables S.number x.rules.entries x.prods.items x.tokens.entries x.start_prod x.implicit_rule
+    ghost view = { λ x. tables S.number x.rules.entries x.prods x.tokens.entries x.start_prod x.implicit_rule
         x.settings };
 
     ghost invariant = { λ x. IsWellNumbered S.MAX
-        (tables S.number x.rules.entries x.prods.items x.tokens.entries x.start_prod x.implicit_rule x.settings) };
+        (tables S.number x.rules.entries x.prods x.tokens.entries x.start_prod x.implicit_rule x.settings) };
 }
 
 impl YaccGrammar<u32> {
@@ -222,7 +222,7 @@ impl<S: Storage> YaccGrammar<S> {
             ≡ Some (map (sym_of S.number) result.now) }
         ensures within { All (IsSymbolWithin S.number self.now) result.now }
     {
-        self.prods[usize::from(pidx)].symbols.as_slice()
+        self.prods.symbols(usize::from(pidx))
     }
 
     /// How many symbols a production has.
@@ -230,7 +230,7 @@ impl<S: Storage> YaccGrammar<S> {
         requires { S.number pidx.0 < length self.now.productions }
         ensures { production_part (λ x. length x.symbols) self.now (S.number pidx.0) ≡ Some (S.number result.0) }
     {
-        SIdx(to_storage(self.prods[usize::from(pidx)].symbols.len()))
+        SIdx(to_storage(self.prods.symbols(usize::from(pidx)).len()))
     }
 
     /// The rule that a production belongs to.
@@ -239,7 +239,7 @@ impl<S: Storage> YaccGrammar<S> {
         ensures value { production_part (λ x. x.rule) self.now (S.number pidx.0) ≡ Some (S.number result.0) }
         ensures within { S.number result.0 < length self.now.rules }
     {
-        self.prods[usize::from(pidx)].rule
+        self.prods.rule(usize::from(pidx))
     }
 
     /// The precedence of a production: that of the token behind its `%prec`, else of its last token (POSIX yacc). One
@@ -248,7 +248,7 @@ impl<S: Storage> YaccGrammar<S> {
         requires { S.number pidx.0 < length self.now.productions }
         ensures { production_part (λ x. x.precedence) self.now (S.number pidx.0) ≡ Some result }
     {
-        self.prods[usize::from(pidx)].precedence
+        self.prods.row(usize::from(pidx)).precedence
     }
 
     /// The place of a production in the file, (0,0) for one that the file does not have.
@@ -256,7 +256,7 @@ impl<S: Storage> YaccGrammar<S> {
         requires { S.number pidx.0 < length self.now.productions }
         ensures { production_part (λ x. x.span) self.now (S.number pidx.0) ≡ Some result }
     {
-        self.prods[usize::from(pidx)].span
+        self.prods.row(usize::from(pidx)).span
     }
 
     /// The text of a production's action.
@@ -265,7 +265,7 @@ impl<S: Storage> YaccGrammar<S> {
         ensures { production_part (λ x. x.action) self.now (S.number pidx.0)
             ≡ Some (option_map string_bytes result.now) }
     {
-        &self.prods[usize::from(pidx)].action
+        &self.prods.row(usize::from(pidx)).action
     }
 
     /// The place of a production's action in the file.
@@ -273,7 +273,7 @@ impl<S: Storage> YaccGrammar<S> {
         requires { S.number pidx.0 < length self.now.productions }
         ensures { production_part (λ x. x.action_span) self.now (S.number pidx.0) ≡ Some result }
     {
-        self.prods[usize::from(pidx)].action_span
+        self.prods.row(usize::from(pidx)).action_span
     }
 
     /// The production of the start rule.

@@ -9,7 +9,7 @@ returns g c =
     ∙ ap (λ rows. rows ++ added_productions (implicit_in c.args.self.now) (file_of c.args.self.now)) c.in_ok-push_file_rows.ensures
 
 pub push_file_rows-requires-clause-empty : goal.push_file_rows-requires-clause-empty
-push_file_rows-requires-clause-empty g c = c.new-rows.ensures.items
+push_file_rows-requires-clause-empty g c = c.in_ok-rows.ensures
 
 pub push_file_rows-requires-clause-sound : goal.push_file_rows-requires-clause-sound
 push_file_rows-requires-clause-sound g c = c.requires.sound

@@ -1,7 +1,7 @@
-use Rattle.std.proofs.Common.{◌≡◌, ◌++◌, ◌∷◌, [], map, option_map, sym, subst, ap, ◌∙◌}
+use Rattle.std.proofs.Common.{◌≡◌, ◌++◌, ◌∷◌, [], option_map, sym, subst, ap, ◌∙◌}
 use Rattle.std.specs.Result.{OnOk}
 use Rattle.cfgnumbers.specs.Numbered.{added_production, added_productions, start_symbols}
-use Rattle.cfgnumbers.specs.View.{names, file_of, production_view}
+use Rattle.cfgnumbers.specs.View.{names, file_of}
 use Rattle.cfgnumbers.proofs.numbering.Numbering.push_added.Goals as goal
 
 pub returns-in-Some : goal.returns-in-Some
@@ -11,7 +11,7 @@ pub returns-in-None : goal.returns-in-None
 returns-in-None g c =
     let s = file_of c.args.self.now in
     let symbols = sym c.start_symbol.ensures ∙ ap (λ table. start_symbols (option_map (λ table. names table.now.entries) table) s) c.in-None.is in
-    subst (λ table. OnOk c.push_added_row.result (map (production_view g.S.Storage.number) c.push_added_row.new.rows.items
-    ≡ map (production_view g.S.Storage.number) c.args.rows.now.items ++ added_productions (option_map (λ table. names table.now.entries) table) s)) (sym c.in-None.is)
-    (subst (λ symbols. OnOk c.push_added_row.result (map (production_view g.S.Storage.number) c.push_added_row.new.rows.items
-    ≡ map (production_view g.S.Storage.number) c.args.rows.now.items ++ added_production 0 symbols ∷ [])) symbols c.push_added_row.ensures)
+    subst (λ table. OnOk c.push_added_row.result (c.push_added_row.new.rows
+    ≡ c.args.rows.now ++ added_productions (option_map (λ table. names table.now.entries) table) s)) (sym c.in-None.is)
+    (subst (λ symbols. OnOk c.push_added_row.result (c.push_added_row.new.rows
+    ≡ c.args.rows.now ++ added_production 0 symbols ∷ [])) symbols c.push_added_row.ensures)

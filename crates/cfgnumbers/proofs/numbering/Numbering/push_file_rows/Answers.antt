@@ -1,18 +1,19 @@
-use Rattle.std.proofs.Common.{ℕ, ◌<◌, ◌∷◌, ◌++◌, [], length, map, ap, ◌∙◌}
+use Rattle.std.proofs.Common.{ℕ, ◌<◌, ◌∷◌, ◌++◌, [], length, map, Bor, ap, ◌∙◌}
 use Rattle.std.specs.Iterator.Adapters.{zip_first, zip_second}
 use Rattle.std.specs.Slice.Iter.{iter_rest}
 use Rattle.std.proofs.lemmas.Iterator.Consumers.{YieldsList-end}
 use Rattle.cfgast.specs.Syntax.{Production}
+use Rattle.cfgast.specs.declared.production.Production as source
 use Rattle.cfgnumbers.specs.Numbered.{file_production}
 use Rattle.cfgnumbers.specs.Inner.Resolved.{Resolves}
-use Rattle.cfgnumbers.specs.View.{file_of, implicit_in, production_view}
-use Rattle.lemmas.proofs.Roads.{item_holds, more_shown, pushed_shown}
+use Rattle.cfgnumbers.specs.View.{file_of, implicit_in}
+use Rattle.lemmas.proofs.Roads.{item_holds, more_shown}
 use Rattle.cfgnumbers.proofs.RowLemmas.{production_seen, productions_road}
 use Rattle.lemmas.proofs.Zips.{All-zip}
 use Rattle.cfgnumbers.proofs.numbering.Numbering.push_file_rows.Goals as goal
 
-pub production_row-requires : goal.production_row-requires
-production_row-requires g c =
+pub push_file_row-requires : goal.push_file_row-requires
+push_file_row-requires g c =
     let s = file_of c.args.self.now in
     let from = c.into_iter-rule-iterator.ensures.into_iter_gives in
     let road = productions_road s c.into_iter-rule-iterator.result c.prods.result.now c.prods.ensures
@@ -25,9 +26,10 @@ production_row-requires g c =
 
 pub loop-rule-preserved : goal.loop-rule-preserved
 loop-rule-preserved g c =
-    pushed_shown (production_view g.S.Storage.number) c.loop-rule.rows.items c.push.new.self.items c.in_ok-production_row.field-0 c.in_ok-push.ensures.items
-    ∙ (λ i. c.loop-rule.invariant i ++ c.in_ok-production_row.ensures i ∷ [])
-    ∙ more_shown (file_production (implicit_in c.args.self.now) (file_of c.args.self.now)) production_seen c.loop-rule.yielded (c.in-Some.rule, c.in-Some.production)
+    let item : Bor ℕ × Bor source.Production = (c.in-Some.rule, c.in-Some.production) in
+    let numbered = file_production (implicit_in c.args.self.now) (file_of c.args.self.now) in
+    c.in_ok-push_file_row.ensures ∙ ap (λ rows. rows ++ numbered (production_seen item) ∷ []) c.loop-rule.invariant
+    ∙ more_shown numbered production_seen c.loop-rule.yielded item
 
 pub returns : goal.returns
 returns g c =

@@ -1,9 +1,8 @@
 use Rattle.std.proofs.Common.{◌≡◌, ◌++◌, map}
-use Rattle.cfgnumbers.specs.View.{file_of, production_view}
+use Rattle.cfgnumbers.specs.View.{file_of}
 use Rattle.cfgnumbers.proofs.RowLemmas.{implicit_row, name_seen}
 use Rattle.cfgnumbers.proofs.numbering.Numbering.push_implicit.Given as goal
 
 abbrev pub invariant-loop-name : goal.invariant-loop-name
 invariant-loop-name g l =
-    map (production_view g.S.Storage.number) l.rows.items
-    ≡ map (production_view g.S.Storage.number) l.initial.rows.items ++ map (implicit_row (file_of l.self)) (map name_seen l.yielded)
+    l.rows ≡ l.initial.rows ++ map (implicit_row (file_of l.self)) (map name_seen l.yielded)

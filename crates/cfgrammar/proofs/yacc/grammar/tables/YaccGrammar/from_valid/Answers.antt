@@ -49,7 +49,7 @@ returns g c =
     let prods = given _ c.production_rows.result _ got.1 c.production_rows.ensures in
     let tokens = given _ c.token_rows.result _ got.2 c.token_rows.ensures in
     let settings = given_match _ _ c.clone.result _ got.3 c.clone.ensures.cases in
-    built g.S.Storage.number c.args.kind s c.in_ok-rules.rules.entries c.in_ok-rules.prods.items c.in_ok-rules.tokens.entries
+    built g.S.Storage.number c.args.kind s c.in_ok-rules.rules.entries c.in_ok-rules.prods c.in_ok-rules.tokens.entries
     (record { 0 = c.to_storage.result }) c.implicit_rule.result c.in_ok-rules.settings
     (rules ∙ (λ i. added_rules (numbering.implicit i) (length (numbering.file i).productions) ++ map file_rule (numbering.file i).rules))
     (prods ∙ (λ i.

@@ -1,7 +1,14 @@
-use Rattle.cfgrammar.proofs.Shows.{production_shown}
+use Rattle.std.proofs.Common.{ap}
+use Rattle.cfgnumbers.specs.Numbered.{Numbered}
+use Rattle.cfgnumbers.specs.View.{tables}
+use Rattle.cfgrammar.proofs.Shows.{production_shown, production_there}
 use Rattle.cfgrammar.proofs.yacc.grammar.tables.YaccGrammar.prod_precedence.Goals as goal
 
+pub row-requires : goal.row-requires
+unfolding tables
+row-requires g c = production_there c.self.inside.prods c.args.self.now (ap (λ (t : Numbered). t.productions) c.self.view_is) c.from.result (g.S.Storage.number c.args.pidx.0) c.from.ensures c.requires
+
 pub returns : goal.returns
-returns g c =
-    production_shown g.S.Storage.number c.self.inside.rules.entries c.self.inside.prods.items c.self.inside.tokens.entries c.self.inside.start_prod c.self.inside.implicit_rule c.self.inside.settings c.args.self.now c.self.view_is
-    (λ p. p.precedence) c.index.result.now c.from.result (g.S.Storage.number c.args.pidx.0) c.from.ensures c.requires c.index.ensures
+unfolding tables
+returns g c = production_shown c.self.inside.prods c.args.self.now (ap (λ (t : Numbered). t.productions) c.self.view_is) c.from.result (g.S.Storage.number c.args.pidx.0) c.from.ensures
+    (λ p. p.precedence) _ c.row.ensures.precedence

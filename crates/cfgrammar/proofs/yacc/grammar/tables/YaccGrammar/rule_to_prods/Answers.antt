@@ -9,7 +9,7 @@ pub returns-clause-value : goal.returns-clause-value
 returns-clause-value g c =
     rule_shown g.S.Storage.number (λ rule. rule.productions) c.index.result.now (map (λ (p : PIdx g.row.S.Denot). g.S.Storage.number p.0) c.as_slice.result.now)
     (λ key. ap (map (λ (p : PIdx g.row.S.Denot). g.S.Storage.number p.0)) (sym c.as_slice.ensures.value))
-    c.self.inside.rules.entries c.self.inside.prods.items c.self.inside.tokens.entries c.self.inside.start_prod c.self.inside.implicit_rule c.self.inside.settings c.args.self.now c.self.view_is
+    c.self.inside.rules.entries c.self.inside.prods c.self.inside.tokens.entries c.self.inside.start_prod c.self.inside.implicit_rule c.self.inside.settings c.args.self.now c.self.view_is
     c.from.result (g.S.Storage.number c.args.ridx.0) c.from.ensures c.index.ensures
 
 pub returns-clause-within : goal.returns-clause-within

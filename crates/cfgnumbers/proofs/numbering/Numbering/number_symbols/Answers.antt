@@ -6,7 +6,7 @@ use Rattle.cfgcheck.specs.Check.{symbol_error}
 use Rattle.cfgnumbers.specs.Numbered.{file_symbol, file_symbols, spaced}
 use Rattle.cfgnumbers.specs.View.{file_of, implicit_in}
 use Rattle.cfgnumbers.proofs.Symbols.{more_symbols}
-use Rattle.cfgnumbers.proofs.numbering.Numbering.numbered_symbols.Goals as goal
+use Rattle.cfgnumbers.proofs.numbering.Numbering.number_symbols.Goals as goal
 
 pub push_symbol-requires-clause-known : goal.push_symbol-requires-clause-known
 push_symbol-requires-clause-known g c =

@@ -3,7 +3,7 @@ use Rattle.cfgast.specs.View.{symbol_view}
 use Rattle.cfgnumbers.specs.Numbered.{file_symbols}
 use Rattle.cfgnumbers.specs.View.{file_of, implicit_in}
 use Rattle.cfgtables.specs.Symbols.{sym_of}
-use Rattle.cfgnumbers.proofs.numbering.Numbering.numbered_symbols.Given as goal
+use Rattle.cfgnumbers.proofs.numbering.Numbering.number_symbols.Given as goal
 
 abbrev pub invariant-loop-symbol : goal.invariant-loop-symbol
 invariant-loop-symbol g l =
