@@ -1,8 +1,10 @@
 pub mod Blanks
 pub mod Built
+pub mod Declared
 pub mod Kept
 pub mod KeptDeclarations
 pub mod KeptRules
+pub mod KeywordTables
 pub mod Loops
 mod Parts
 pub mod Steps
