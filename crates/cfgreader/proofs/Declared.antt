@@ -1,22 +1,19 @@
 -- Declarations by the keywords that the code finds.
-use Rattle.std.proofs.Common.{◌≡◌, ℕ, ◌<◌, ◌≤◌, ◌+◌, false, List, [], map, drop, get_or, length, Option, Some, None, Ok, sym, ap, subst, ◌∙◌}
+use Rattle.std.proofs.Common.{◌≡◌, ℕ, ◌<◌, ◌≤◌, ◌+◌, List, [], ◌∷◌, map, drop, get_or, length, Option, Some, None, refl, sym, ap, subst, ◌∙◌}
 use Rattle.std.proofs.lemmas.List.{drop_all, drop_more}
 use denote.Ref.{Bor}
 use Rattle.reading.specs.Pieces.{strip}
-use Rattle.reading.specs.Read.{gives}
-use Rattle.reading.specs.Construct.{ends, goes_on, computes}
-use Rattle.cfgast.specs.View.{syntax_built}
+use Rattle.reading.specs.Read.{Read, behind_word}
+use Rattle.cfgwords.specs.declared.fault.Fault.{Fault}
+use Rattle.cfgast.specs.Items.{Item}
+use Rattle.reading.specs.Construct.{then, again, ends, computes}
 use Rattle.cfgkinds.specs.declared.kind.YaccKind.{YaccKind}
 use Rattle.cfgreader.specs.declared.keywords.Declaration.{Declaration}
 use Rattle.cfgreader.specs.declared.reader.Reader.{Reader}
 use Rattle.cfgreader.specs.Here.{Turn}
-use Rattle.cfgreader.specs.Keywords.{one_of}
+use Rattle.cfgreader.specs.Keywords.{Keyword, one_of}
 use Rattle.cfgreader.specs.Declarations.{declaration, own_declarations}
-use Rattle.cfgreader.specs.Inner.Builds.{Builds}
 use Rattle.cfgreader.specs.Inner.Keywords.{IsKeywordHere, IsRowHere, declared, first_of, shown_row, with_value}
-use Rattle.cfgreader.proofs.KeywordTables.{behind_found, keyword_of, one_of_first, word_of}
-use Rattle.cfgreader.proofs.Loops.{built}
-use Rattle.cfgreader.proofs.Steps.{adds_none}
 
 -- the loop over a table: none of the words before i stands here
 pub record Passed (table : List (Bor (List ℕ) × Declaration)) (i : ℕ) (start now : Reader) : Type 0 where
@@ -44,33 +41,40 @@ module _ (table : List (Bor (List ℕ) × Declaration)) (i : ℕ) (d : Bor (List
       → IsRowHere (map shown_row table) start next (Some (get_or table i d).1)
   found_here (found, len, tree) = (left_by (Some next.rest.now) found, len ∙ ap (λ (r : Reader). r.len) so_far.same, tree ∙ ap (λ (r : Reader). r.tree) so_far.same)
 
--- a row of a table whose words begin with `%`
-abbrev pub row_of : List ℕ × Declaration → ℕ × List ℕ × Declaration
-row_of (word, declaration) = (37, drop 1 word, declaration)
+-- What is read by what was found in a table of words, which a turn has as keywords, each behind its `%`.
+module _ (len : ℕ) (c : Turn (Unit {0})) where
+  abbrev pub keyword_of : List ℕ × Declaration → Keyword
+  keyword_of (word, declaration) = record { first = 37; others = drop 1 word; follows = declared len declaration }
 
--- What is read by what was found in a table of words, which a turn has as keywords.
-module _ (c : Turn (Unit {0})) (old : Reader) (words : List (List ℕ × Declaration)) (proper : map (word_of (declared old.len) c) (map row_of words) ≡ words) where
-  abbrev pub turn : Turn (Unit {0})
-  turn = one_of (map (keyword_of (declared old.len) c) (map row_of words)) c
+  abbrev pub word_of : List ℕ × Declaration → List ℕ × Declaration
+  word_of (word, declaration) = (37 ∷ drop 1 word, declaration)
 
-  pub reads : (o : Option (Declaration × List ℕ)) → first_of words old.rest.now ≡ o → computes turn old.rest.now ≡ behind_found (declared old.len) c old.rest.now o
-  reads o found = one_of_first (declared old.len) c (map row_of words) old.rest.now
-      ∙ ap (λ words. behind_found (declared old.len) c old.rest.now (first_of words old.rest.now)) proper ∙ ap (behind_found (declared old.len) c old.rest.now) found
+  abbrev behind_found : List ℕ → Option (Declaration × List ℕ) → Read Item Fault (Option (Unit {0}))
+  behind_found text (Some (found, rest)) = computes (then (declared len found).construct again) rest
+  behind_found text None = computes c text
+
+  one_of_first : (words : List (List ℕ × Declaration)) (text : List ℕ) → computes (one_of (map keyword_of words) c) text ≡ behind_found text (first_of (map word_of words) text)
+  unfolding first_of
+  one_of_first [] text = refl
+  one_of_first ((word, declaration) ∷ words) text = go (one_of_first words text) (strip (37 ∷ drop 1 word) text)
+    where
+      go : computes (one_of (map keyword_of words) c) text ≡ behind_found text (first_of (map word_of words) text)
+          → (s : Option (List ℕ)) → behind_word (computes (then (declared len declaration).construct again)) (computes (one_of (map keyword_of words) c) text) s
+          ≡ behind_found text (with_value declaration s (first_of (map word_of words) text))
+      go further (Some rest) = refl
+      go further None = further
+
+  pub reads : (words : List (List ℕ × Declaration)) → map word_of words ≡ words → (text : List ℕ) (found : Option (Declaration × List ℕ)) → first_of words text ≡ found
+      → computes (one_of (map keyword_of words) c) text ≡ behind_found text found
+  reads words proper text found e = one_of_first words text ∙ ap (λ words. behind_found text (first_of words text)) proper ∙ ap (behind_found text) e
 
 -- the same where only the keywords of one kind are left
 pub own_found : (kind : YaccKind) (old now next : Reader) (words : List (List ℕ × Declaration)) (found : Option Declaration)
-    → map (word_of (declared old.len) ends) (map row_of words) ≡ words → own_declarations old.len kind ≡ map (keyword_of (declared old.len) ends) (map row_of words)
+    → map (word_of old.len ends) words ≡ words → own_declarations old.len kind ≡ map (keyword_of old.len ends) words
     → computes (declaration old.len kind) old.rest.now ≡ computes (one_of (own_declarations old.len kind) ends) old.rest.now → now ≡ old
     → IsRowHere words now next found → IsKeywordHere kind old next found
-own_found kind old now next words (Some found) proper own is same there =
-    let here : IsRowHere words old next (Some found) = subst (λ (r : Reader). IsRowHere words r next (Some found)) same there in
-    (is ∙ ap (λ keywords. computes (one_of keywords ends) old.rest.now) own ∙ reads ends old words proper (Some (found, next.rest.now)) here.0, here.1, here.2)
-own_found kind old now next words None proper own is same there =
-    let here : IsRowHere words old next None = subst (λ (r : Reader). IsRowHere words r next None) same there in
-    (is ∙ ap (λ keywords. computes (one_of keywords ends) old.rest.now) own ∙ reads ends old words proper None here.0, here.1)
-
--- where no keyword stands
-pub no_declaration : (kind : YaccKind) (old new : Reader) → IsKeywordHere kind old new None → Builds goes_on old new (Ok false) (declaration old.len kind)
-no_declaration kind old new (reads, same) =
-    built (declaration old.len kind) old new [] (ap (λ (r : Reader). syntax_built r.tree) same ∙ sym (adds_none (syntax_built old.tree))) goes_on false
-    (reads ∙ ap (λ (r : Reader). gives None r.rest.now) (sym same)) (ap (λ (r : Reader). r.len) same)
+own_found kind old now next words found proper own is same there = go found (subst (λ (r : Reader). IsRowHere words r next found) same there)
+  where
+    go : (found : Option Declaration) → IsRowHere words old next found → IsKeywordHere kind old next found
+    go (Some found) here = (is ∙ ap (λ keywords. computes (one_of keywords ends) old.rest.now) own ∙ reads old.len ends words proper old.rest.now (Some (found, next.rest.now)) here.0, here.1, here.2)
+    go None here = (is ∙ ap (λ keywords. computes (one_of keywords ends) old.rest.now) own ∙ reads old.len ends words proper old.rest.now None here.0, here.1)

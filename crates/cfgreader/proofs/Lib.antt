@@ -4,7 +4,6 @@ pub mod Declared
 pub mod Kept
 pub mod KeptDeclarations
 pub mod KeptRules
-pub mod KeywordTables
 pub mod Loops
 mod Parts
 pub mod Steps

@@ -106,7 +106,8 @@ impl<'a> Reader<'a> {
     /// Passes what follows `%expect-rr`.
     #[tactic(auto, unfolding(crate::specs::Declarations::number_declaration, cfgast::specs::Building::adds))]
     fn expect_rr_declaration(&mut self) -> Result<(), ReadFault>
-        ensures { Builds (λ x. x) self.old self.new result (number_declaration self.old.len ExpectReduceReduceDeclared) }
+        ensures { Builds (λ x. x) self.old self.new result
+            (number_declaration self.old.len ExpectReduceReduceDeclared) }
     {
         self.blank(false)?;
         let number = self.integer()?;
@@ -173,6 +174,7 @@ impl<'a> Reader<'a> {
     }
 
     /// Passes a declaration, and tells whether one stands here.
+    #[tactic(auto, unfolding(cfgast::specs::Building::adds))]
     fn declaration(&mut self, kind: YaccKind) -> Result<bool, ReadFault>
         ensures { Builds goes_on self.old self.new result (declaration self.old.len kind) }
     {
