@@ -1,20 +1,24 @@
 -- What holds of all that declarations give, construct by construct.
-use Rattle.std.proofs.Common.{ℕ, true, false, List, [], ◌∷◌, length, codes, refl}
+use Rattle.std.proofs.Common.{◌≡◌, ℕ, true, false, List, [], ◌∷◌, length, map, codes, refl}
 use Rattle.std.specs.Str.{IsUtf8}
-use Rattle.reading.specs.Construct.{repeat, while_test}
+use Rattle.reading.specs.Leaves.{Leaves, One}
+use Rattle.reading.specs.Construct.{Construct, ends, repeat, while_test}
 use Rattle.cfgbase.specs.declared.span.Span.{Span}
-use Rattle.cfgwords.specs.declared.fault.FaultKind.TheVariants.{IllegalString, PrematureEnd, UnknownDeclaration, UnknownSymbol}
+use Rattle.cfgwords.specs.declared.fault.Fault.{Fault}
+use Rattle.cfgwords.specs.declared.fault.FaultKind.TheVariants.{IllegalInteger, IllegalString, PrematureEnd, UnknownDeclaration, UnknownSymbol}
 use Rattle.cfgwords.specs.Words.{Word}
 use Rattle.cfgwords.specs.Places.{IsPiece}
 use Rattle.cfgwords.specs.Text.{place}
 use Rattle.cfgwords.proofs.Cuts.{boundary_cut}
-use Rattle.cfgwords.proofs.WordPlaces.{IsWordAt, StandsBehind, name_at, token_is_at, word_passed, fault_is_at, blank_is_at, line_rest_is_at, epp_string_is_at, colon_text_is_at, piece_behind}
+use Rattle.cfgwords.proofs.WordPlaces.{is_ascii_word, IsWordAt, StandsBehind, name_at, token_is_at, word_passed, fault_is_at, blank_is_at, line_rest_is_at, epp_string_is_at, colon_text_is_at, piece_behind}
 use Rattle.cfgast.specs.declared.precedence.AssocKind.{AssocKind}
-use Rattle.cfgast.specs.Items.{Item, ImplicitTokensBegun, ImplicitTokenDeclared, PrecedenceDeclared}
+use Rattle.cfgast.specs.declared.precedence.AssocKind.TheVariants.{Left, Right, Nonassoc}
+use Rattle.cfgast.specs.Items.{Item, ExpectDeclared, ExpectReduceReduceDeclared, AvoidInsertBegun, AvoidInsertDeclared, ImplicitTokensBegun, ImplicitTokenDeclared, PrecedenceDeclared}
 use Rattle.cfgkinds.specs.declared.kind.YaccKind.{YaccKind}
 use Rattle.cfgkinds.specs.declared.kind.YaccKind.TheVariants.{Original, Grmtools, Eco}
-use Rattle.cfgreader.specs.Here.{line_blank}
-use Rattle.cfgreader.specs.Declarations.{listed_token, token_declaration, start_declaration, action_type_declaration, printed_token, printed_form, epp_declaration, expect_declaration, expect_rr_declaration, unused_symbol, expect_unused_declaration, parse_param_declaration, parse_generics_declaration, line_token, level_token, precedence_declaration, marking_declaration, own_declaration, parser_declaration, expectation, precedence_or, declaration, separator_fault}
+use Rattle.cfgreader.specs.Keywords.{Keyword, one_of}
+use Rattle.cfgreader.specs.Here.{Strict, Turn, line_blank}
+use Rattle.cfgreader.specs.Declarations.{declares, listed_token, list_declaration, start_declaration, action_type_declaration, printed_token, printed_form, epp_declaration, number_declaration, unused_symbol, parse_param_declaration, parse_generics_declaration, line_token, level_token, precedence_declaration, marking_declaration, own_declarations, declaration, separator_fault}
 use Rattle.cfgreader.proofs.Kept.{IsItemAt, IsAt, KeepsPlaces, name_goes, name_is, integer_goes, integer_is}
 
 module _ (whole : List ℕ) (utf8 : IsUtf8 whole) where
@@ -28,9 +32,9 @@ module _ (whole : List ℕ) (utf8 : IsUtf8 whole) where
     fault_is_at whole utf8 IllegalString from,
   )
 
-  token_declaration_kept : (from : List ℕ) (Q : Unit {0} → Type 0) → Q tt → KeepsPlaces whole (token_declaration len) from Q
-  unfolding token_declaration while_test repeat
-  token_declaration_kept from Q q = search (blank_is_at whole utf8, listed_token_kept, q)
+  list_declaration_kept : (from : List ℕ) (symbol : Strict (Unit {0})) → KeepsPlaces whole symbol from (λ _. Unit {0}) → KeepsPlaces whole (list_declaration len symbol) from (λ _. Unit {0})
+  unfolding list_declaration while_test repeat
+  list_declaration_kept from symbol kept = (blank_is_at whole utf8 false from, λ _. ((kept, tt), λ _ _. tt))
 
   start_declaration_kept : (from : List ℕ) (Q : Unit {0} → Type 0) → Q tt → KeepsPlaces whole (start_declaration len) from Q
   unfolding start_declaration
@@ -72,13 +76,16 @@ module _ (whole : List ℕ) (utf8 : IsUtf8 whole) where
     )),
   )
 
-  expect_declaration_kept : (from : List ℕ) (Q : Unit {0} → Type 0) → Q tt → KeepsPlaces whole (expect_declaration len) from Q
-  unfolding expect_declaration
-  expect_declaration_kept from Q q = search (blank_is_at whole utf8, fault_is_at whole utf8, integer_goes whole utf8, integer_is whole utf8, q)
-
-  expect_rr_declaration_kept : (from : List ℕ) (Q : Unit {0} → Type 0) → Q tt → KeepsPlaces whole (expect_rr_declaration len) from Q
-  unfolding expect_rr_declaration
-  expect_rr_declaration_kept from Q q = search (blank_is_at whole utf8, fault_is_at whole utf8, integer_goes whole utf8, integer_is whole utf8, q)
+  number_declaration_kept : (from : List ℕ) (item : ℕ × Span → Item) → ((number : ℕ × Span) → IsPiece whole number.1 → IsItemAt whole (item number))
+      → KeepsPlaces whole (number_declaration len item) from (λ _. Unit {0})
+  unfolding number_declaration
+  number_declaration_kept from item at = (
+    blank_is_at whole utf8 false from,
+    λ _. (
+      λ text number rest t w. (integer_goes whole utf8 from text number rest t w, (at _ (integer_is whole utf8 from text number rest t w), (blank_is_at whole utf8 true from, λ _. tt))),
+      fault_is_at whole utf8 IllegalInteger from,
+    ),
+  )
 
   unused_symbol_kept : (from : List ℕ) (Q : Unit {0} → Type 0) → Q tt → KeepsPlaces whole (unused_symbol len) from Q
   unfolding unused_symbol
@@ -89,10 +96,6 @@ module _ (whole : List ℕ) (utf8 : IsUtf8 whole) where
       fault_is_at whole utf8 UnknownSymbol from,
     ),
   )
-
-  expect_unused_declaration_kept : (from : List ℕ) (Q : Unit {0} → Type 0) → Q tt → KeepsPlaces whole (expect_unused_declaration len) from Q
-  unfolding expect_unused_declaration while_test repeat
-  expect_unused_declaration_kept from Q q = search (blank_is_at whole utf8, unused_symbol_kept, q)
 
   parse_param_declaration_kept : (from : List ℕ) (Q : Unit {0} → Type 0) → Q tt → KeepsPlaces whole (parse_param_declaration len) from Q
   unfolding parse_param_declaration
@@ -114,75 +117,67 @@ module _ (whole : List ℕ) (utf8 : IsUtf8 whole) where
     fault_is_at whole utf8 IllegalString from,
   )
 
-  precedence_declaration_kept : (from : List ℕ) (kind : AssocKind) (Q : Unit {0} → Type 0) → Q tt → KeepsPlaces whole (precedence_declaration len kind) from Q
+  precedence_declaration_kept : (from : List ℕ) (kind : AssocKind) → KeepsPlaces whole (precedence_declaration len kind) from (λ _. Unit {0})
   unfolding precedence_declaration level_token repeat
-  precedence_declaration_kept from kind Q q = (
+  precedence_declaration_kept from kind = (
     blank_is_at whole utf8 false from,
-    λ _. ((line_token_kept from (PrecedenceDeclared kind) (λ word h. h), tt), λ _ _. (tt, q)),
+    λ _. ((line_token_kept from (PrecedenceDeclared kind) (λ word h. h), tt), λ _ _. (tt, tt)),
   )
 
   marking_declaration_kept : (from : List ℕ) (begins : Item) (item : Word → Item) → IsItemAt whole begins → ((word : Word) → IsWordAt whole word → IsItemAt whole (item word))
-      → (Q : Unit {0} → Type 0) → Q tt → KeepsPlaces whole (marking_declaration len begins item) from Q
+      → KeepsPlaces whole (marking_declaration len begins item) from (λ _. Unit {0})
   unfolding marking_declaration repeat
-  marking_declaration_kept from begins item b at Q q = (
-    (blank_is_at whole utf8 false from, λ _. (b, (line_token_kept from item at, λ _ _. q))),
-    (b, q),
+  marking_declaration_kept from begins item b at = (
+    (blank_is_at whole utf8 false from, λ _. (b, (line_token_kept from item at, λ _ _. tt))),
+    (b, tt),
   )
 
-  own_declaration_kept : (from : List ℕ) (kind : YaccKind) → KeepsPlaces whole (own_declaration len kind) from (λ _. Unit {0})
-  own_declaration_kept from (Original actions) = (word_passed whole utf8 (codes "%actiontype") refl from, action_type_declaration_kept from _ tt, tt)
-  own_declaration_kept from Grmtools = tt
-  own_declaration_kept from Eco = (
-    word_passed whole utf8 (codes "%implicit_tokens") refl from,
-    marking_declaration_kept from ImplicitTokensBegun ImplicitTokenDeclared tt (λ word h. h) _ tt,
-    tt,
-  )
+  -- a keyword of ASCII bytes, behind which what stands keeps places
+  record Kept (from : List ℕ) : Type 1 where
+    pub keyword : Keyword
+    pub ascii : is_ascii_word (keyword.first ∷ keyword.others) ≡ true
+    pub follows : KeepsPlaces whole keyword.follows.construct from (λ _. Unit {0})
 
-  parser_declaration_kept : (from : List ℕ) (kind : YaccKind) → KeepsPlaces whole (parser_declaration len kind) from (λ _. Unit {0})
-  unfolding parser_declaration
-  parser_declaration_kept from kind = search (
-    word_passed whole utf8 (codes "%parse-param") refl,
-    word_passed whole utf8 (codes "%parse-generics") refl,
-    parse_param_declaration_kept,
-    parse_generics_declaration_kept,
-    own_declaration_kept,
-  )
+  abbrev kept : (from : List ℕ) (name : List ℕ) → is_ascii_word (37 ∷ name) ≡ true → {l : Leaves} (c : Construct Item Fault l (One (Unit {0})))
+      → KeepsPlaces whole c from (λ _. Unit {0}) → Kept from
+  kept from name ascii c keeps = record { keyword = declares name c; ascii = ascii; follows = keeps }
 
-  expectation_kept : (from : List ℕ) (kind : YaccKind) → KeepsPlaces whole (expectation len kind) from (λ _. Unit {0})
-  unfolding expectation
-  expectation_kept from kind = search (
-    word_passed whole utf8 (codes "%expect-rr") refl,
-    word_passed whole utf8 (codes "%expect-unused") refl,
-    word_passed whole utf8 (codes "%expect") refl,
-    expect_rr_declaration_kept,
-    expect_unused_declaration_kept,
-    expect_declaration_kept,
-    parser_declaration_kept,
-  )
+  -- a table keeps what its rows keep
+  one_of_kept : (from : List ℕ) (table : List (Kept from)) (c : Turn (Unit {0})) → KeepsPlaces whole c from (λ _. Unit {0})
+      → KeepsPlaces whole (one_of (map (λ row. row.keyword) table) c) from (λ _. Unit {0})
+  one_of_kept from [] c keeps = keeps
+  one_of_kept from (row ∷ table) c keeps = (word_passed whole utf8 (row.keyword.first ∷ row.keyword.others) row.ascii from, row.follows, one_of_kept from table c keeps)
 
-  precedence_or_kept : (from : List ℕ) (kind : YaccKind) → KeepsPlaces whole (precedence_or len kind) from (λ _. Unit {0})
-  unfolding precedence_or
-  precedence_or_kept from kind = search (
-    word_passed whole utf8 (codes "%left") refl,
-    word_passed whole utf8 (codes "%right") refl,
-    word_passed whole utf8 (codes "%nonassoc") refl,
-    precedence_declaration_kept,
-    expectation_kept,
-  )
+  -- nothing is asked of a value
+  abbrev any : Unit {0} → Type 0
+  any _ = Unit {0}
+
+  own_kept : (from : List ℕ) (kind : YaccKind) → KeepsPlaces whole (one_of (own_declarations len kind) ends) from (λ _. Unit {0})
+  own_kept from (Original actions) = one_of_kept from (kept from (codes "actiontype") refl (action_type_declaration len) (action_type_declaration_kept from any tt) ∷ []) ends tt
+  own_kept from Grmtools = tt
+  own_kept from Eco = one_of_kept from (
+      kept from (codes "implicit_tokens") refl (marking_declaration len ImplicitTokensBegun ImplicitTokenDeclared)
+      (marking_declaration_kept from ImplicitTokensBegun ImplicitTokenDeclared tt (λ word h. h)) ∷ []
+      ) ends tt
 
   pub declaration_kept : (from : List ℕ) (kind : YaccKind) → KeepsPlaces whole (declaration len kind) from (λ _. Unit {0})
   unfolding declaration
-  declaration_kept from kind = search (
-    word_passed whole utf8 (codes "%token") refl,
-    word_passed whole utf8 (codes "%start") refl,
-    word_passed whole utf8 (codes "%epp") refl,
-    word_passed whole utf8 (codes "%avoid_insert") refl,
-    token_declaration_kept,
-    start_declaration_kept,
-    epp_declaration_kept,
-    marking_declaration_kept,
-    precedence_or_kept,
-  )
+  declaration_kept from kind = one_of_kept from (
+      kept from (codes "token") refl (list_declaration len (listed_token len)) (list_declaration_kept from (listed_token len) (listed_token_kept from any tt))
+      ∷ kept from (codes "start") refl (start_declaration len) (start_declaration_kept from any tt)
+      ∷ kept from (codes "epp") refl (epp_declaration len) (epp_declaration_kept from any tt)
+      ∷ kept from (codes "avoid_insert") refl (marking_declaration len AvoidInsertBegun AvoidInsertDeclared)
+      (marking_declaration_kept from AvoidInsertBegun AvoidInsertDeclared tt (λ word h. h))
+      ∷ kept from (codes "left") refl (precedence_declaration len Left) (precedence_declaration_kept from Left)
+      ∷ kept from (codes "right") refl (precedence_declaration len Right) (precedence_declaration_kept from Right)
+      ∷ kept from (codes "nonassoc") refl (precedence_declaration len Nonassoc) (precedence_declaration_kept from Nonassoc)
+      ∷ kept from (codes "expect-rr") refl (number_declaration len ExpectReduceReduceDeclared) (number_declaration_kept from ExpectReduceReduceDeclared (λ number h. h))
+      ∷ kept from (codes "expect-unused") refl (list_declaration len (unused_symbol len)) (list_declaration_kept from (unused_symbol len) (unused_symbol_kept from any tt))
+      ∷ kept from (codes "expect") refl (number_declaration len ExpectDeclared) (number_declaration_kept from ExpectDeclared (λ number h. h))
+      ∷ kept from (codes "parse-param") refl (parse_param_declaration len) (parse_param_declaration_kept from any tt)
+      ∷ kept from (codes "parse-generics") refl (parse_generics_declaration len) (parse_generics_declaration_kept from any tt)
+      ∷ []
+      ) (one_of (own_declarations len kind) ends) (own_kept from kind)
 
   pub separator_fault_kept : (from text : List ℕ) → StandsBehind whole from text → IsAt whole (separator_fault len text)
   separator_fault_kept from [] t = fault_is_at whole utf8 PrematureEnd from [] t

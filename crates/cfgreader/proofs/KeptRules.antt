@@ -213,7 +213,10 @@ module _ (whole : List ℕ) (utf8 : IsUtf8 whole) where
     λ text word rest t w.
         let it = name_at whole utf8 from text word rest t w in
         let name : IsNameAt whole (word_at len text word rest) = (it.1, name_begins text word rest w) in
-        (it.0, (it.1, (rule_type_kept from _ (λ action_type. (name, rule_body_kept from _ name Q q)), (name, rule_body_kept from _ name Q q)))),
+        let head : Option (List ℕ) → RuleHead = λ (action_type : Option (List ℕ)). record { name = word_at len text word rest; action_type = action_type } in
+        let body : (action_type : Option (List ℕ)) → IsNameAt whole (word_at len text word rest) × KeepsPlaces whole (rule_body len (head action_type)) from Q =
+        λ (action_type : Option (List ℕ)). (name, rule_body_kept from (head action_type) name Q q) in
+        (it.0, (it.1, (rule_type_kept from (λ action_type. IsNameAt whole (word_at len text word rest) × KeepsPlaces whole (rule_body len (head action_type)) from Q) body, body None))),
     fault_is_at whole utf8 IllegalName from,
   )
 

@@ -1,5 +1,6 @@
 pub mod Blanks
 pub mod Built
+pub mod Declared
 pub mod Kept
 pub mod KeptDeclarations
 pub mod KeptRules

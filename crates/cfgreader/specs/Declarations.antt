@@ -1,7 +1,8 @@
 -- Declarations, construct by construct: what stands before the first `%%`. `do` is sequence.
-use Rattle.std.specs.Prelude.{ℕ, Bool, true, false, List, [], ◌∷◌, ◌==◌, not, codes}
+use Rattle.std.specs.Prelude.{ℕ, Bool, true, false, List, [], ◌∷◌, ◌++◌, ◌==◌, not, codes}
 use Rattle.reading.specs.Pieces.{starts}
-use Rattle.reading.specs.Construct.{◌>>=◌, ◌>>◌, then, case_of, choice, here, again, goes_on, ends, repeat, while_test, word_or, gives, emits, fails, expect}
+use Rattle.reading.specs.Leaves.{Leaves, One}
+use Rattle.reading.specs.Construct.{Construct, ◌>>=◌, ◌>>◌, choice, here, goes_on, ends, repeat, while_test, word_or, gives, emits, fails, expect}
 use Rattle.cfgbase.specs.declared.span.Span.{Span}
 use Rattle.cfgwords.specs.declared.fault.Fault.{Fault}
 use Rattle.cfgwords.specs.declared.fault.FaultKind.TheVariants.{PrematureEnd, ReachedEOL, UnknownDeclaration, UnknownSymbol}
@@ -13,11 +14,16 @@ use Rattle.cfgast.specs.Items.{Item, TokenDeclared, StartDeclared, ActionTypeDec
 use Rattle.cfgkinds.specs.declared.kind.YaccKind.{YaccKind}
 use Rattle.cfgkinds.specs.declared.kind.YaccKind.TheVariants.{Original, Grmtools, Eco}
 use Rattle.cfgreader.specs.Kinds.{name_kind}
+use Rattle.cfgreader.specs.Keywords.{Keyword, behind, one_of}
 use Rattle.cfgreader.specs.Here.{Strict, Lax, Turn, is_open, blank_here, line_blank, name_here, token_or, token_here, integer_here, line_rest_here, epp_string_here, colon_text_here}
 
 -- a list of `%token` or `%expect-unused` goes on until `%` or the end
 abbrev pub is_listed : List ℕ → Bool
 is_listed text = starts (λ b. not (b == 37)) text
+
+-- a keyword by its name behind `%`, and what stands behind it
+abbrev pub declares : {l : Leaves} → List ℕ → Construct Item Fault l (One (Unit {0})) → Keyword
+declares name c = record { first = 37; others = name; follows = behind c }
 
 -- len is the whole text's length
 module _ (len : ℕ) where
@@ -27,10 +33,11 @@ module _ (len : ℕ) where
     emits (TokenDeclared (word_of token))
     blank_here len true
 
-  unfoldable pub token_declaration : Lax (Unit {0})
-  token_declaration = do
+  -- a list of such tokens, or of others, which goes on until `%` or the end
+  unfoldable pub list_declaration : Strict (Unit {0}) → Lax (Unit {0})
+  list_declaration symbol = do
     blank_here len false
-    repeat (while_test is_listed listed_token)
+    repeat (while_test is_listed symbol)
 
   unfoldable pub start_declaration : Strict (Unit {0})
   start_declaration = do
@@ -68,18 +75,12 @@ module _ (len : ℕ) where
     emits (PrintedFormDeclared token form)
     blank_here len true
 
-  unfoldable pub expect_declaration : Strict (Unit {0})
-  expect_declaration = do
+  -- what is expected: a number, of which item says
+  unfoldable pub number_declaration : (ℕ × Span → Item) → Strict (Unit {0})
+  number_declaration item = do
     blank_here len false
     number ← integer_here len
-    emits (ExpectDeclared number)
-    blank_here len true
-
-  unfoldable pub expect_rr_declaration : Strict (Unit {0})
-  expect_rr_declaration = do
-    blank_here len false
-    number ← integer_here len
-    emits (ExpectReduceReduceDeclared number)
+    emits (item number)
     blank_here len true
 
   -- An unquoted word is a rule's name, since a name is tried first.
@@ -88,11 +89,6 @@ module _ (len : ℕ) where
     word_or name_kind (word_at len) (λ name. emits (ExpectedUnused (RuleSymbol name)))
         (token_or len (λ token. emits (ExpectedUnused (TokenSymbol (word_of token)))) (fails (fault_at len UnknownSymbol)))
     blank_here len true
-
-  unfoldable pub expect_unused_declaration : Lax (Unit {0})
-  expect_unused_declaration = do
-    blank_here len false
-    repeat (while_test is_listed unused_symbol)
 
   -- A name up to a colon, and its type up to the line's end: no blank behind the colon passes that end.
   unfoldable pub parse_param_declaration : Strict (Unit {0})
@@ -139,41 +135,31 @@ module _ (len : ℕ) where
         repeat (line_token item))
       (emits begins)
 
-  -- what one kind of files alone declares
-  abbrev pub own_declaration : YaccKind → Turn (Unit {0})
-  own_declaration (Original actions) = case_of (codes "%actiontype") (then action_type_declaration again) ends
-  own_declaration Grmtools = ends
-  own_declaration Eco = case_of (codes "%implicit_tokens") (then (marking_declaration ImplicitTokensBegun ImplicitTokenDeclared) again) ends
+  -- What every kind of files declares, by the keywords' names behind `%`. A name that begins another one is tried after it.
+  abbrev pub common_declarations : List Keyword
+  common_declarations =
+      declares (codes "token") (list_declaration listed_token)
+      ∷ declares (codes "start") start_declaration
+      ∷ declares (codes "epp") epp_declaration
+      ∷ declares (codes "avoid_insert") (marking_declaration AvoidInsertBegun AvoidInsertDeclared)
+      ∷ declares (codes "left") (precedence_declaration Left)
+      ∷ declares (codes "right") (precedence_declaration Right)
+      ∷ declares (codes "nonassoc") (precedence_declaration Nonassoc)
+      ∷ declares (codes "expect-rr") (number_declaration ExpectReduceReduceDeclared)
+      ∷ declares (codes "expect-unused") (list_declaration unused_symbol)
+      ∷ declares (codes "expect") (number_declaration ExpectDeclared)
+      ∷ declares (codes "parse-param") parse_param_declaration
+      ∷ declares (codes "parse-generics") parse_generics_declaration
+      ∷ []
 
-  -- what is said of the parser
-  unfoldable pub parser_declaration : YaccKind → Turn (Unit {0})
-  parser_declaration kind =
-      case_of (codes "%parse-param") (then parse_param_declaration again)
-      (case_of (codes "%parse-generics") (then parse_generics_declaration again)
-      (own_declaration kind))
-
-  -- what is expected; a keyword that begins another one is tried behind it
-  unfoldable pub expectation : YaccKind → Turn (Unit {0})
-  expectation kind =
-      case_of (codes "%expect-rr") (then expect_rr_declaration again)
-      (case_of (codes "%expect-unused") (then expect_unused_declaration again)
-      (case_of (codes "%expect") (then expect_declaration again)
-      (parser_declaration kind)))
-
-  unfoldable pub precedence_or : YaccKind → Turn (Unit {0})
-  precedence_or kind =
-      case_of (codes "%left") (then (precedence_declaration Left) again)
-      (case_of (codes "%right") (then (precedence_declaration Right) again)
-      (case_of (codes "%nonassoc") (then (precedence_declaration Nonassoc) again)
-      (expectation kind)))
+  -- what one kind alone declares
+  abbrev pub own_declarations : YaccKind → List Keyword
+  own_declarations (Original actions) = declares (codes "actiontype") action_type_declaration ∷ []
+  own_declarations Grmtools = []
+  own_declarations Eco = declares (codes "implicit_tokens") (marking_declaration ImplicitTokensBegun ImplicitTokenDeclared) ∷ []
 
   unfoldable pub declaration : YaccKind → Turn (Unit {0})
-  declaration kind =
-      case_of (codes "%token") (then token_declaration again)
-      (case_of (codes "%start") (then start_declaration again)
-      (case_of (codes "%epp") (then epp_declaration again)
-      (case_of (codes "%avoid_insert") (then (marking_declaration AvoidInsertBegun AvoidInsertDeclared) again)
-      (precedence_or kind))))
+  declaration kind = one_of (common_declarations ++ own_declarations kind) ends
 
   -- where `%%` must stand
   abbrev pub separator_fault : List ℕ → Fault

@@ -3,5 +3,6 @@ pub mod Declarations
 pub mod Grammar
 pub mod Here
 pub mod Inner
+pub mod Keywords
 pub mod Kinds
 pub mod Rules

@@ -2,18 +2,17 @@
 
 ghost use Rattle.std.specs.Prelude.{◌≡◌, codes};
 ghost use Rattle.std.specs.String.{string_bytes};
-ghost use Rattle.reading.specs.Construct.{expect, goes_on, repeat, while_test};
+ghost use Rattle.reading.specs.Construct.{expect, goes_on, repeat};
 ghost use Rattle.cfgast.specs.View.{word_view};
-ghost use Rattle.cfgreader.specs.Declarations.{is_listed, separator_fault, listed_token, token_declaration};
-ghost use Rattle.cfgreader.specs.Declarations.{start_declaration, action_type_declaration, printed_token, printed_form};
-ghost use Rattle.cfgreader.specs.Declarations.{epp_declaration, expect_declaration, expect_rr_declaration};
-ghost use Rattle.cfgreader.specs.Declarations.{unused_symbol, expect_unused_declaration, parse_param_declaration};
-ghost use Rattle.cfgreader.specs.Declarations.{parse_generics_declaration, own_declaration, parser_declaration};
-ghost use Rattle.cfgreader.specs.Declarations.{expectation, precedence_or, declaration};
+ghost use Rattle.cfgast.specs.Items.{ExpectDeclared, ExpectReduceReduceDeclared};
+ghost use Rattle.cfgreader.specs.Declarations.{listed_token, start_declaration, action_type_declaration};
+ghost use Rattle.cfgreader.specs.Declarations.{printed_token, printed_form, epp_declaration, number_declaration};
+ghost use Rattle.cfgreader.specs.Declarations.{unused_symbol, parse_param_declaration, parse_generics_declaration};
+ghost use Rattle.cfgreader.specs.Declarations.{declaration, separator_fault};
+ghost use Rattle.cfgreader.specs.Inner.Keywords.{declared};
 
-use super::lists::Marking;
+use super::keywords::Declaration;
 use super::reader::{ReadFault, Reader};
-use cfgast::AssocKind;
 use cfgbase::Span;
 use cfgkinds::YaccKind;
 use cfgwords::fault::FaultKind;
@@ -24,42 +23,12 @@ impl<'a> Reader<'a> {
 
     /// Passes a token of a `%token` list and the blank behind it.
     #[tactic(auto, unfolding(crate::specs::Declarations::listed_token, cfgast::specs::Building::adds))]
-    fn listed_token(&mut self) -> Result<(), ReadFault>
+    pub(super) fn listed_token(&mut self) -> Result<(), ReadFault>
         ensures { Builds (λ x. x) self.old self.new result (listed_token self.old.len) }
     {
         let token = self.token()?;
         self.tree.declare_token(self.alloc, token.word())?;
         self.blank(true)
-    }
-
-    /// Whether a list of `%token` or `%expect-unused` goes on here: it ends at `%` and at the end.
-    fn is_listed(&self) -> bool
-        ensures { result ≡ is_listed self.now.rest.now }
-    {
-        match self.rest.as_bytes() {
-            [] => false,
-            [b, ..] => *b != b'%',
-        }
-    }
-
-    /// Passes the tokens of a `%token` list.
-    fn token_list(&mut self) -> Result<(), ReadFault>
-        ensures { Builds (λ x. x) self.old self.new result
-            (repeat (while_test is_listed (listed_token self.old.len))) }
-    {
-        while self.is_listed() {
-            self.listed_token()?;
-        }
-        Ok(())
-    }
-
-    /// Passes what follows `%token`.
-    #[tactic(auto, unfolding(crate::specs::Declarations::token_declaration, cfgast::specs::Building::adds))]
-    fn token_declaration(&mut self) -> Result<(), ReadFault>
-        ensures { Builds (λ x. x) self.old self.new result (token_declaration self.old.len) }
-    {
-        self.blank(false)?;
-        self.token_list()
     }
 
     /// Passes what follows `%start`.
@@ -124,9 +93,9 @@ impl<'a> Reader<'a> {
     }
 
     /// Passes what follows `%expect`.
-    #[tactic(auto, unfolding(crate::specs::Declarations::expect_declaration, cfgast::specs::Building::adds))]
+    #[tactic(auto, unfolding(crate::specs::Declarations::number_declaration, cfgast::specs::Building::adds))]
     fn expect_declaration(&mut self) -> Result<(), ReadFault>
-        ensures { Builds (λ x. x) self.old self.new result (expect_declaration self.old.len) }
+        ensures { Builds (λ x. x) self.old self.new result (number_declaration self.old.len ExpectDeclared) }
     {
         self.blank(false)?;
         let number = self.integer()?;
@@ -135,9 +104,10 @@ impl<'a> Reader<'a> {
     }
 
     /// Passes what follows `%expect-rr`.
-    #[tactic(auto, unfolding(crate::specs::Declarations::expect_rr_declaration, cfgast::specs::Building::adds))]
+    #[tactic(auto, unfolding(crate::specs::Declarations::number_declaration, cfgast::specs::Building::adds))]
     fn expect_rr_declaration(&mut self) -> Result<(), ReadFault>
-        ensures { Builds (λ x. x) self.old self.new result (expect_rr_declaration self.old.len) }
+        ensures { Builds (λ x. x) self.old self.new result
+            (number_declaration self.old.len ExpectReduceReduceDeclared) }
     {
         self.blank(false)?;
         let number = self.integer()?;
@@ -147,7 +117,7 @@ impl<'a> Reader<'a> {
 
     /// Passes a symbol of an `%expect-unused` list and the blank behind it.
     #[tactic(auto, unfolding(crate::specs::Declarations::unused_symbol, cfgast::specs::Building::adds))]
-    fn unused_symbol(&mut self) -> Result<(), ReadFault>
+    pub(super) fn unused_symbol(&mut self) -> Result<(), ReadFault>
         ensures { Builds (λ x. x) self.old self.new result (unused_symbol self.old.len) }
     {
         if let Some(name) = self.next_name() {
@@ -158,26 +128,6 @@ impl<'a> Reader<'a> {
             return Err(self.fault(FaultKind::UnknownSymbol));
         }
         self.blank(true)
-    }
-
-    /// Passes the symbols of an `%expect-unused` list.
-    fn unused_list(&mut self) -> Result<(), ReadFault>
-        ensures { Builds (λ x. x) self.old self.new result
-            (repeat (while_test is_listed (unused_symbol self.old.len))) }
-    {
-        while self.is_listed() {
-            self.unused_symbol()?;
-        }
-        Ok(())
-    }
-
-    /// Passes what follows `%expect-unused`.
-    #[tactic(auto, unfolding(crate::specs::Declarations::expect_unused_declaration, cfgast::specs::Building::adds))]
-    fn expect_unused_declaration(&mut self) -> Result<(), ReadFault>
-        ensures { Builds (λ x. x) self.old self.new result (expect_unused_declaration self.old.len) }
-    {
-        self.blank(false)?;
-        self.unused_list()
     }
 
     /// Passes what follows `%parse-param`.
@@ -205,100 +155,34 @@ impl<'a> Reader<'a> {
         self.blank(true)
     }
 
-    /// Passes a declaration that one kind of files alone has, and tells whether one stands here.
-    #[tactic(auto, unfolding(cfgast::specs::Building::adds))]
-    fn own_declaration(&mut self, kind: YaccKind) -> Result<bool, ReadFault>
-        ensures { Builds goes_on self.old self.new result (own_declaration self.old.len kind) }
+    /// Passes what stands behind a keyword.
+    fn declared(&mut self, declaration: Declaration) -> Result<(), ReadFault>
+        ensures { Builds (λ x. x) self.old self.new result (declared self.old.len declaration).construct }
     {
-        match kind {
-            YaccKind::Original(_) if self.accept("%actiontype") => {
-                self.action_type_declaration()?;
-                Ok(true)
-            }
-            YaccKind::Eco if self.accept("%implicit_tokens") => {
-                self.marking_declaration(Marking::ImplicitTokens)?;
-                Ok(true)
-            }
-            _ => Ok(false),
-        }
-    }
-
-    /// Passes a declaration of what is said of the parser, or one of a kind of files, and tells whether one stands
-    /// here.
-    #[tactic(auto, unfolding(crate::specs::Declarations::parser_declaration, cfgast::specs::Building::adds))]
-    fn parser_declaration(&mut self, kind: YaccKind) -> Result<bool, ReadFault>
-        ensures { Builds goes_on self.old self.new result (parser_declaration self.old.len kind) }
-    {
-        if self.accept("%parse-param") {
-            self.parse_param_declaration()?;
-            Ok(true)
-        } else if self.accept("%parse-generics") {
-            self.parse_generics_declaration()?;
-            Ok(true)
-        } else {
-            self.own_declaration(kind)
-        }
-    }
-
-    /// Passes a declaration of what is expected, or one that `parser_declaration` passes, and tells whether one stands
-    /// here.
-    #[tactic(auto, unfolding(crate::specs::Declarations::expectation, cfgast::specs::Building::adds))]
-    fn expectation(&mut self, kind: YaccKind) -> Result<bool, ReadFault>
-        ensures { Builds goes_on self.old self.new result (expectation self.old.len kind) }
-    {
-        if self.accept("%expect-rr") {
-            self.expect_rr_declaration()?;
-            Ok(true)
-        } else if self.accept("%expect-unused") {
-            self.expect_unused_declaration()?;
-            Ok(true)
-        } else if self.accept("%expect") {
-            self.expect_declaration()?;
-            Ok(true)
-        } else {
-            self.parser_declaration(kind)
-        }
-    }
-
-    /// Passes a declaration of precedences, or one that `expectation` passes, and tells whether one stands here.
-    #[tactic(auto, unfolding(crate::specs::Declarations::precedence_or, cfgast::specs::Building::adds))]
-    fn precedence_or(&mut self, kind: YaccKind) -> Result<bool, ReadFault>
-        ensures { Builds goes_on self.old self.new result (precedence_or self.old.len kind) }
-    {
-        if self.accept("%left") {
-            self.precedence_declaration(AssocKind::Left)?;
-            Ok(true)
-        } else if self.accept("%right") {
-            self.precedence_declaration(AssocKind::Right)?;
-            Ok(true)
-        } else if self.accept("%nonassoc") {
-            self.precedence_declaration(AssocKind::Nonassoc)?;
-            Ok(true)
-        } else {
-            self.expectation(kind)
+        match declaration {
+            Declaration::List(list) => self.list_declaration(list),
+            Declaration::Start => self.start_declaration(),
+            Declaration::PrintedForm => self.epp_declaration(),
+            Declaration::Marked(marking) => self.marking_declaration(marking),
+            Declaration::Precedence(kind) => self.precedence_declaration(kind),
+            Declaration::Expect => self.expect_declaration(),
+            Declaration::ExpectReduceReduce => self.expect_rr_declaration(),
+            Declaration::ParseParam => self.parse_param_declaration(),
+            Declaration::ParseGenerics => self.parse_generics_declaration(),
+            Declaration::ActionType => self.action_type_declaration(),
         }
     }
 
     /// Passes a declaration, and tells whether one stands here.
-    #[tactic(auto, unfolding(crate::specs::Declarations::declaration, cfgast::specs::Building::adds))]
+    #[tactic(auto, unfolding(cfgast::specs::Building::adds))]
     fn declaration(&mut self, kind: YaccKind) -> Result<bool, ReadFault>
         ensures { Builds goes_on self.old self.new result (declaration self.old.len kind) }
     {
-        if self.accept("%token") {
-            self.token_declaration()?;
-            Ok(true)
-        } else if self.accept("%start") {
-            self.start_declaration()?;
-            Ok(true)
-        } else if self.accept("%epp") {
-            self.epp_declaration()?;
-            Ok(true)
-        } else if self.accept("%avoid_insert") {
-            self.marking_declaration(Marking::AvoidInsert)?;
-            Ok(true)
-        } else {
-            self.precedence_or(kind)
-        }
+        let Some(declaration) = self.keyword(kind) else {
+            return Ok(false);
+        };
+        self.declared(declaration)?;
+        Ok(true)
     }
 
     /// Passes all declarations.

@@ -3,6 +3,7 @@
 
 mod bodies;
 mod declarations;
+mod keywords;
 mod laws;
 mod lists;
 mod read;

@@ -1,17 +1,27 @@
-//! Lists of tokens that a line's end closes: precedences, `%avoid_insert` and `%implicit_tokens`.
+//! Lists: those that go on until `%`, and those of tokens that a line's end closes.
 
 ghost use Rattle.std.specs.Prelude.{◌≡◌, OnOk};
-ghost use Rattle.reading.specs.Construct.{goes_on, repeat};
+ghost use Rattle.reading.specs.Construct.{goes_on, repeat, while_test};
 ghost use Rattle.cfgast.specs.Building.{add};
 ghost use Rattle.cfgast.specs.Items.{PrecedenceDeclared};
 ghost use Rattle.cfgast.specs.View.{syntax_built, word_view};
-ghost use Rattle.cfgreader.specs.Declarations.{line_token, level_token, precedence_declaration, marking_declaration};
-ghost use Rattle.cfgreader.specs.Inner.Lists.{begun, marked, said};
+ghost use Rattle.cfgreader.specs.Declarations.{is_listed, list_declaration, line_token, precedence_declaration};
+ghost use Rattle.cfgreader.specs.Declarations.{marking_declaration};
+ghost use Rattle.cfgreader.specs.Inner.Lists.{begun, listed_in, marked, said, turn_in};
 
 use super::reader::{ReadFault, Reader};
 use cfgast::{AssocKind, AstBuilder};
 use cfgwords::words::Word;
 use std::alloc::{AllocError, Global};
+
+/// What a list that goes on until `%` holds.
+#[derive(Clone, Copy)]
+pub(crate) enum Listed {
+    /// `%token`.
+    Tokens,
+    /// `%expect-unused`.
+    Unused,
+}
 
 /// What a list marks its tokens as.
 #[derive(Clone, Copy)]
@@ -69,6 +79,47 @@ impl LineList {
 impl Reader<'_> {
     ghost use Rattle.cfgreader.specs.Inner.Builds.{Builds};
 
+    /// Whether such a list goes on here: it ends at `%` and at the end.
+    fn is_listed(&self) -> bool
+        ensures { result ≡ is_listed self.now.rest.now }
+    {
+        match self.rest.as_bytes() {
+            [] => false,
+            [b, ..] => *b != b'%',
+        }
+    }
+
+    /// Passes one of what the list holds, and the blank behind it.
+    fn listed(&mut self, list: Listed) -> Result<(), ReadFault>
+        ensures { Builds (λ x. x) self.old self.new result (listed_in self.old.len list) }
+    {
+        match list {
+            Listed::Tokens => self.listed_token(),
+            Listed::Unused => self.unused_symbol(),
+        }
+    }
+
+    /// Passes all that the list holds.
+    fn list(&mut self, list: Listed) -> Result<(), ReadFault>
+        ensures { Builds (λ x. x) self.old self.new result
+            (repeat (while_test is_listed (listed_in self.old.len list))) }
+    {
+        while self.is_listed() {
+            self.listed(list)?;
+        }
+        Ok(())
+    }
+
+    /// Passes what follows `%token` or `%expect-unused`.
+    #[tactic(auto, unfolding(crate::specs::Declarations::list_declaration, cfgast::specs::Building::adds))]
+    pub(super) fn list_declaration(&mut self, list: Listed) -> Result<(), ReadFault>
+        ensures { Builds (λ x. x) self.old self.new result
+            (list_declaration self.old.len (listed_in self.old.len list)) }
+    {
+        self.blank(false)?;
+        self.list(list)
+    }
+
     /// Passes a token of the list and the blank behind it, and tells whether the list goes on: where the blank stays on
     /// its line.
     #[tactic(auto, unfolding(crate::specs::Declarations::line_token, cfgast::specs::Building::adds))]
@@ -80,23 +131,22 @@ impl Reader<'_> {
         self.line_blank()
     }
 
-    /// Passes a token of a list of precedences, which the text's end closes too, and tells whether the list goes on.
+    /// Passes a token of the list, and tells whether the list goes on: the text's end closes one of precedences too.
     #[tactic(auto, unfolding(crate::specs::Declarations::level_token, cfgast::specs::Building::adds))]
-    fn level_token(&mut self, kind: AssocKind) -> Result<bool, ReadFault>
-        ensures { Builds goes_on self.old self.new result (level_token self.old.len kind) }
+    fn line_turn(&mut self, list: LineList) -> Result<bool, ReadFault>
+        ensures { Builds goes_on self.old self.new result (turn_in self.old.len list) }
     {
-        if self.is_open() {
-            self.line_token(LineList::Precedence(kind))
-        } else {
-            Ok(false)
+        match list {
+            LineList::Precedence(_) if !self.is_open() => Ok(false),
+            _ => self.line_token(list),
         }
     }
 
-    /// Passes the tokens of a list of precedences.
-    fn level_tokens(&mut self, kind: AssocKind) -> Result<(), ReadFault>
-        ensures { Builds (λ x. x) self.old self.new result (repeat (level_token self.old.len kind)) }
+    /// Passes the tokens of the list.
+    fn line_tokens(&mut self, list: LineList) -> Result<(), ReadFault>
+        ensures { Builds (λ x. x) self.old self.new result (repeat (turn_in self.old.len list)) }
     {
-        while self.level_token(kind)? {}
+        while self.line_turn(list)? {}
         Ok(())
     }
 
@@ -106,16 +156,8 @@ impl Reader<'_> {
         ensures { Builds (λ x. x) self.old self.new result (precedence_declaration self.old.len kind) }
     {
         self.blank(false)?;
-        self.level_tokens(kind)?;
+        self.line_tokens(LineList::Precedence(kind))?;
         self.tree.end_level(kind)?;
-        Ok(())
-    }
-
-    /// Passes the tokens of a list that marks them.
-    fn marked_tokens(&mut self, marking: Marking) -> Result<(), ReadFault>
-        ensures { Builds (λ x. x) self.old self.new result (repeat (line_token self.old.len (marked marking))) }
-    {
-        while self.line_token(LineList::Marked(marking))? {}
         Ok(())
     }
 
@@ -128,7 +170,7 @@ impl Reader<'_> {
         if self.is_open() {
             self.blank(false)?;
             marking.begin(&mut self.tree, self.alloc);
-            self.marked_tokens(marking)
+            self.line_tokens(LineList::Marked(marking))
         } else {
             marking.begin(&mut self.tree, self.alloc);
             Ok(())

@@ -1,0 +1,50 @@
+-- What the code's keywords declare, as constructs.
+use Rattle.std.specs.Prelude.{◌≡◌, ℕ, List, [], ◌∷◌, Option, Some, None}
+use denote.Ref.{Bor}
+use Rattle.reading.specs.Pieces.{strip}
+use Rattle.reading.specs.Read.{gives}
+use Rattle.reading.specs.Construct.{then, again, computes}
+use Rattle.cfgast.specs.Items.{ExpectDeclared, ExpectReduceReduceDeclared}
+use Rattle.cfgkinds.specs.declared.kind.YaccKind.{YaccKind}
+use Rattle.cfgreader.specs.declared.keywords.Declaration.{Declaration}
+use Rattle.cfgreader.specs.declared.keywords.Declaration.TheVariants as code
+use Rattle.cfgreader.specs.declared.reader.Reader.{Reader}
+use Rattle.cfgreader.specs.Keywords.{Behind, behind}
+use Rattle.cfgreader.specs.Declarations.{list_declaration, start_declaration, epp_declaration, marking_declaration, precedence_declaration, number_declaration, parse_param_declaration, parse_generics_declaration, action_type_declaration, declaration}
+use Rattle.cfgreader.specs.Inner.Lists.{listed_in, begun, marked}
+
+abbrev pub with_value : {A : Type 0} → A → Option (List ℕ) → Option (A × List ℕ) → Option (A × List ℕ)
+with_value a (Some rest) further = Some (a, rest)
+with_value a None further = further
+
+-- what a table has beside its first word that stands at the front, and what is left behind that word
+unfoldable pub first_of : {A : Type 0} → List (List ℕ × A) → List ℕ → Option (A × List ℕ)
+first_of [] text = None
+first_of ((word, a) ∷ table) text = with_value a (strip word text) (first_of table text)
+
+-- what stands behind a keyword
+abbrev pub declared : ℕ → Declaration → Behind
+declared len (code.List list) = behind (list_declaration len (listed_in len list))
+declared len code.Start = behind (start_declaration len)
+declared len code.PrintedForm = behind (epp_declaration len)
+declared len (code.Marked marking) = behind (marking_declaration len (begun marking) (marked marking))
+declared len (code.Precedence kind) = behind (precedence_declaration len kind)
+declared len code.Expect = behind (number_declaration len ExpectDeclared)
+declared len code.ExpectReduceReduce = behind (number_declaration len ExpectReduceReduceDeclared)
+declared len code.ParseParam = behind (parse_param_declaration len)
+declared len code.ParseGenerics = behind (parse_generics_declaration len)
+declared len code.ActionType = behind (action_type_declaration len)
+
+abbrev pub shown_row : Bor (List ℕ) × Declaration → List ℕ × Declaration
+shown_row row = (row.0.now, row.1)
+
+-- which of a table's words stands here first, and what is left behind it
+abbrev pub IsRowHere : List (List ℕ × Declaration) → Reader → Reader → Option Declaration → Type 0
+IsRowHere table old new (Some found) = (first_of table old.rest.now ≡ Some (found, new.rest.now)) × (new.len ≡ old.len) × (new.tree ≡ old.tree)
+IsRowHere table old new None = (first_of table old.rest.now ≡ None) × (new ≡ old)
+
+-- whether a declaration stands here, and what is left behind its keyword: there what it declares is read
+abbrev pub IsKeywordHere : YaccKind → Reader → Reader → Option Declaration → Type 0
+IsKeywordHere kind old new (Some found) =
+    (computes (declaration old.len kind) old.rest.now ≡ computes (then (declared old.len found).construct again) new.rest.now) × (new.len ≡ old.len) × (new.tree ≡ old.tree)
+IsKeywordHere kind old new None = (computes (declaration old.len kind) old.rest.now ≡ gives None old.rest.now) × (new ≡ old)

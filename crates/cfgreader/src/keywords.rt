@@ -1,0 +1,79 @@
+//! Keywords of declarations.
+
+ghost use Rattle.std.specs.Prelude.{map};
+ghost use Rattle.cfgreader.specs.Inner.Keywords.{IsKeywordHere, IsRowHere, shown_row};
+
+use super::lists::{Listed, Marking};
+use super::reader::Reader;
+use cfgast::AssocKind;
+use cfgkinds::YaccKind;
+
+/// What a keyword declares.
+#[derive(Clone, Copy)]
+pub(super) enum Declaration {
+    /// A list that goes on until `%`.
+    List(Listed),
+    Start,
+    PrintedForm,
+    /// A list of marked tokens.
+    Marked(Marking),
+    /// A level of precedences.
+    Precedence(AssocKind),
+    Expect,
+    ExpectReduceReduce,
+    ParseParam,
+    ParseGenerics,
+    ActionType,
+}
+
+/// What every kind of files declares. A keyword that begins another one is tried after it.
+const COMMON: [(&str, Declaration); 12] = [
+    ("%token", Declaration::List(Listed::Tokens)),
+    ("%start", Declaration::Start),
+    ("%epp", Declaration::PrintedForm),
+    ("%avoid_insert", Declaration::Marked(Marking::AvoidInsert)),
+    ("%left", Declaration::Precedence(AssocKind::Left)),
+    ("%right", Declaration::Precedence(AssocKind::Right)),
+    ("%nonassoc", Declaration::Precedence(AssocKind::Nonassoc)),
+    ("%expect-rr", Declaration::ExpectReduceReduce),
+    ("%expect-unused", Declaration::List(Listed::Unused)),
+    ("%expect", Declaration::Expect),
+    ("%parse-param", Declaration::ParseParam),
+    ("%parse-generics", Declaration::ParseGenerics),
+];
+
+/// What one kind alone declares.
+const ORIGINAL: [(&str, Declaration); 1] = [("%actiontype", Declaration::ActionType)];
+
+const ECO: [(&str, Declaration); 1] = [(
+    "%implicit_tokens",
+    Declaration::Marked(Marking::ImplicitTokens),
+)];
+
+impl<'a> Reader<'a> {
+    /// Passes the first of the table's words that stands here, and answers what the table has beside it.
+    fn first_of(&mut self, table: &[(&str, Declaration)]) -> Option<Declaration>
+        ensures { IsRowHere (map shown_row table.now) self.old self.new result }
+    {
+        for (word, declaration) in table {
+            if self.accept(word) {
+                return Some(*declaration);
+            }
+        }
+        None
+    }
+
+    /// Passes the keyword of a declaration, if one stands here.
+    pub(super) fn keyword(&mut self, kind: YaccKind) -> Option<Declaration>
+        ensures { IsKeywordHere kind self.old self.new result }
+    {
+        if let Some(declaration) = self.first_of(&COMMON) {
+            return Some(declaration);
+        }
+        match kind {
+            YaccKind::Original(_) => self.first_of(&ORIGINAL),
+            YaccKind::Grmtools => None,
+            YaccKind::Eco => self.first_of(&ECO),
+        }
+    }
+}
