@@ -19,13 +19,24 @@ abbrev missing : ℕ → (ℕ → ℕ) → ℕ → ℕ
 missing limit f zero = 0
 missing limit f (suc n) = missing limit f n + (limit - f n)
 
-missing_less : (limit : ℕ) (f h : ℕ → ℕ) (r : ℕ) → ((q : ℕ) → f q ≤ h q) → f r < h r → h r ≤ limit
-    → (n : ℕ) → missing limit h n + min 1 (n - r) ≤ missing limit f n
-missing_less limit f h r le more small zero = omega arith
-missing_less limit f h r le more small (suc n) = let rest = missing_less limit f h r le more small n in elim (cases_eq n r) [
-  | inl e ↦ omega (arith, rest, more, small, ap f e, ap h e)
-  | inr ne ↦ omega (arith, rest, le n, ne)
-]
+module _ (limit : ℕ) (f h : ℕ → ℕ) (le : (q : ℕ) → f q ≤ h q) where
+  missing_le : (n : ℕ) → missing limit h n ≤ missing limit f n
+  missing_le zero = omega arith
+  missing_le (suc n) = let rest = missing_le n in omega (arith, rest, le n)
+
+  missing_less : (r : ℕ) → f r < h r → f r < limit → (n : ℕ) → r < n → missing limit h n < missing limit f n
+  missing_less r more small zero lt = absurd (omega (arith, lt))
+  missing_less r more small (suc n) lt = elim (cases_eq n r) [
+    | inl e ↦ let rest = missing_le n in omega (arith, rest, more, small, ap f e, ap h e)
+    | inr ne ↦ let rest = missing_less r more small n (omega (arith, lt, ne)) in omega (arith, rest, le n)
+  ]
+
+-- a cost that is bounded by one of words, up to a limit
+sum_most : (limit m n a b : ℕ) → min m limit < a + 1 → min n limit < b + 1 → min (m + n) limit < a + b + 1
+sum_most limit m n a b h i = omega (arith, h, i)
+
+most_along : (limit m v w : ℕ) → min m limit < v → min v (limit + 1) ≤ w → min m limit < w
+most_along limit m v w h le = omega (arith, h, le)
 
 module _ (g : Grammar) (cost : ℕ → ℕ) (limit : ℕ) where
   -- a word that the row yields, if one was found, and a word of each rule
@@ -35,14 +46,10 @@ module _ (g : Grammar) (cost : ℕ → ℕ) (limit : ℕ) where
   abbrev Words : Type 0
   Words = (r : ℕ) → Word (Rule r ∷ [])
 
-  -- what a word costs, cut down to the limit, and one more
+  -- what a word costs, and one more
   abbrev value : {a : List Sym} → Word a → ℕ
   value None = 0
-  value (Some y) = min (cost_of cost y.0) limit + 1
-
-  value_small : {a : List Sym} (o : Word a) → value o ≤ limit + 1
-  value_small None = omega arith
-  value_small (Some y) = omega arith
+  value (Some y) = cost_of cost y.0 + 1
 
   abbrev join : {a b : List Sym} → Word a → Word b → Word (a ++ b)
   join None o = None
@@ -52,7 +59,8 @@ module _ (g : Grammar) (cost : ℕ → ℕ) (limit : ℕ) where
   value-join : {a b : List Sym} (m n : ℕ) (o : Word a) (k : Word b) → min m limit < value o → min n limit < value k → min (m + n) limit < value (join o k)
   value-join m n None k h i = absurd (omega (arith, h))
   value-join m n (Some y) None h i = absurd (omega (arith, i))
-  value-join m n (Some y) (Some z) h i = omega (arith, h, i, sum_by-append cost y.0 z.0)
+  value-join m n (Some y) (Some z) h i = subst (λ k. min (m + n) limit < k + 1) (sym (sum_by-append cost y.0 z.0))
+      (sum_most limit m n (cost_of cost y.0) (cost_of cost z.0) h i)
 
   abbrev symbol_word : Words → (s : Sym) → Word (s ∷ [])
   symbol_word words (Rule r) = words r
@@ -62,9 +70,9 @@ module _ (g : Grammar) (cost : ℕ → ℕ) (limit : ℕ) where
   row_word words [] = Some ([], empty)
   row_word words (s ∷ a) = join (symbol_word words s) (row_word words a)
 
-  -- no production makes a word that costs more than its rule's
+  -- up to the limit the production makes no word that costs more than its rule's
   abbrev IsClosedAt : Words → Production → Type 0
-  IsClosedAt words p = value (row_word words p.symbols) ≤ value (words p.rule)
+  IsClosedAt words p = min (value (row_word words p.symbols)) (limit + 1) ≤ value (words p.rule)
 
   record Closed : Type 0 where
     words : Words
@@ -77,9 +85,9 @@ module _ (g : Grammar) (cost : ℕ → ℕ) (limit : ℕ) where
       (value-join (cost_of cost (t ∷ [])) (cost_of cost w) (symbol_word x.words (Token t)) (row_word x.words a) (omega arith) (row_most x h))
   row_most x (opened {r = r} {symbols = symbols} {a = a} {u = u} {w = w} has h k e) =
       let closed = subst (IsClosedAt x.words) (get_or_default g.productions has.0 _ _ has.1 ∙ has.2) (x.closed has.0 has.1) in
-      let below = row_most x h in
       subst (λ n. min n limit < value (row_word x.words (Rule r ∷ a))) (sym (ap (cost_of cost) e ∙ sum_by-append cost u w))
-      (value-join (cost_of cost u) (cost_of cost w) (x.words r) (row_word x.words a) (omega (arith, below, closed)) (row_most x k))
+      (value-join (cost_of cost u) (cost_of cost w) (x.words r) (row_word x.words a)
+      (most_along limit (cost_of cost u) (value (row_word x.words symbols)) (value (x.words r)) (row_most x h) closed) (row_most x k))
 
   -- a rule's word is exchanged for the one that a production of the rule makes
   module _ (words : Words) (p : Production) (has : HasProduction g p.rule p.symbols) where
@@ -98,7 +106,7 @@ module _ (g : Grammar) (cost : ℕ → ℕ) (limit : ℕ) where
     abbrev put : Words
     put q = put_at q (cases_eq q p.rule)
 
-    module _ (more : value (words p.rule) < value (row_word words p.symbols)) where
+    module _ (more : value (words p.rule) < min (value (row_word words p.symbols)) (limit + 1)) where
       no_less : (q : ℕ) (is : (q ≡ p.rule) ⊎ (q ≡ p.rule → ⊥)) → value (words q) ≤ value (put_at q is)
       no_less q (inl e) = omega (arith, more, value-make q e (row_word words p.symbols), ap (λ n. value (words n)) e)
       no_less q (inr ne) = omega arith
@@ -108,19 +116,17 @@ module _ (g : Grammar) (cost : ℕ → ℕ) (limit : ℕ) where
       more_there (inr ne) = absurd (ne refl)
 
       lacks_less : p.rule < g.rules → missing (limit + 1) (λ q. value (put q)) g.rules < missing (limit + 1) (λ q. value (words q)) g.rules
-      lacks_less lt =
-          let less = missing_less (limit + 1) (λ q. value (words q)) (λ q. value (put q)) p.rule
-          (λ q. no_less q (cases_eq q p.rule)) (more_there (cases_eq p.rule p.rule)) (value_small (put p.rule)) g.rules in
-          omega (arith, lt, less)
+      lacks_less lt = missing_less (limit + 1) (λ q. value (words q)) (λ q. value (put q)) (λ q. no_less q (cases_eq q p.rule)) p.rule
+          (more_there (cases_eq p.rule p.rule)) (omega (arith, more)) g.rules lt
 
   abbrev Better : Words → Type 0
-  Better words = (p : Production) × HasProduction g p.rule p.symbols × (value (words p.rule) < value (row_word words p.symbols))
+  Better words = (p : Production) × HasProduction g p.rule p.symbols × (value (words p.rule) < min (value (row_word words p.symbols)) (limit + 1))
 
   search_below : (words : Words) (n : ℕ) → n ≤ length g.productions → Better words ⊎ ((k : ℕ) → k < n → IsClosedAt words (nth_production g k))
   search_below words zero le = inr (λ k h. absurd (omega (arith, h)))
   search_below words (suc n) le = elim (search_below words n (omega (arith, le))) [
     | inl found ↦ inl found
-    | inr all ↦ let p = nth_production g n in elim (cases_lt (value (words p.rule)) (value (row_word words p.symbols))) [
+    | inr all ↦ let p = nth_production g n in elim (cases_lt (value (words p.rule)) (min (value (row_word words p.symbols)) (limit + 1))) [
       | inl more ↦ inl (p, Contains-get_or g.productions n (record { rule = 0; symbols = [] }) (omega (arith, le)), more)
       | inr here ↦ inr (λ k h. below_more (λ k. IsClosedAt words (nth_production g k)) n all here k (omega (arith, h)))
     ]
