@@ -1,8 +1,9 @@
 -- Numbers of openings fit, since rules, tokens and productions are counted by an index type.
 use Rattle.std.proofs.Common.{◌≡◌, ℕ, ◌+◌, ◌*◌, ◌<◌, ◌≤◌, length, arith}
 use Rattle.std.proofs.lemmas.Nat.{mul-le}
-use Rattle.derivation.specs.Grammar.{Grammar}
-use Rattle.cfgtables.specs.Openings.{most_openings, most_openings_all}
+use Rattle.derivation.specs.Grammar.{Grammar, IsGrammar}
+use Rattle.cfgtables.specs.Openings.{AreOpenedAtMost, most_openings}
+use Rattle.cfganalysis.specs.Inner.Growth.{CanVisit}
 
 pub openings_fit : (g : Grammar) (rules tokens most : ℕ) → rules ≡ g.rules → tokens ≡ g.tokens → rules ≤ most → tokens ≤ most → most < 4294967296
     → most_openings g < 18446744073709551615
@@ -15,6 +16,16 @@ product_fits n m most h lt k =
     let p : n * m ≤ 4294967295 * 18446744073709551615 = mul-le n m 4294967295 18446744073709551615 (omega arith) (omega arith) in
     omega arith
 
-pub all_openings_fit : (g : Grammar) (places most : ℕ) → places ≡ length g.productions → places ≤ most → most < 4294967296
-    → most_openings g < 18446744073709551615 → most_openings_all g < 340282366920938463463374607431768211455
-all_openings_fit g places most e h lt k = product_fits (length g.productions) (most_openings g) most (omega arith) lt k
+pub can_visit : (g : Grammar) (places most : ℕ) → IsGrammar g → places ≡ length g.productions → places ≤ most → most < 4294967296
+    → most_openings g < 18446744073709551615 → CanVisit most g
+can_visit g places most is e h lt small = record {
+  grammar = is;
+  fits = omega arith;
+  small = small;
+  all_small = product_fits (length g.productions) (most_openings g) most (omega arith) lt small;
+}
+
+-- productions that were not opened were not opened often
+pub still_few : (most : ℕ) (g : Grammar) (opened : ℕ → ℕ) (all : ℕ) → ((q : ℕ) → q < length g.productions → opened q ≡ 0) → all ≡ 0
+    → AreOpenedAtMost most g opened all
+still_few most g opened all fresh none = record { each = λ q lt. let h = fresh q lt in omega (arith, h); together = omega (arith, none) }

@@ -6,7 +6,7 @@ use Rattle.std.proofs.lemmas.List.{ext_get_or, length-replicate}
 use Rattle.std.proofs.lemmas.List.Sums.{count_by-le-length}
 use Rattle.lemmas.proofs.Elements.{get_or-replicate_default, within_from_get_or}
 use Rattle.derivation.specs.Grammar.{Grammar, Production, IsGrammar}
-use Rattle.cfgtables.specs.Openings.{nth_production, OpensOne}
+use Rattle.cfgtables.specs.Openings.{AreOpenedAtMost, nth_production, OpensOne}
 use Rattle.cfganalysis.specs.Inner.Growth.{CoversEach, TakesIn, TakesInto, Visited, left_to_do}
 use Rattle.cfganalysis.specs.Table.{bits_on}
 use Rattle.cfganalysis.specs.Inner.Waiting.{waits, Waits, NoneWaits, WaitsNoMore}
@@ -41,12 +41,14 @@ few_after o m m' b true few le was = elim (was refl) [
   | inr lt ↦ omega (arith, few, lt)
 ]
 
+one_more : (n m : ℕ) → n * (m + 1) ≡ n * m + n
+one_more n m = mul-add n m 1 ∙ ap (λ k. n * m + k) (mul-one n)
+
 -- as many productions wait as there are, at most, and only where bits were turned on more wait
 together_after : (all n m m' w w' places : ℕ) → all + w ≤ n + places * m → m ≤ m' → w' ≤ places → (m < m') ⊎ (w' ≡ w) → all + w' ≤ n + places * m'
 together_after all n m m' w w' places h le most (inl lt) =
     let product : places * (m + 1) ≤ places * m' = mul-le-mul_left places (omega (arith, lt)) in
-    let sum : places * (m + 1) ≡ places * m + places = mul-add places m 1 ∙ ap (λ k. places * m + k) (mul-one places) in
-    omega (arith, h, most, product, sum)
+    omega (arith, h, most, product, one_more places m)
 together_after all n m m' w w' places h le most (inr e) =
     let product : places * m ≤ places * m' = mul-le-mul_left places le in
     omega (arith, h, e, product)
@@ -57,9 +59,8 @@ left most places bits waiting = (most - bits) * (places + 1) + waiting
 
 left_less : (most places m m' w w' : ℕ) → m' ≤ most → w' ≤ places → (m < m') ⊎ ((m ≡ m') × (w' < w)) → left most places m' w' < left most places m w
 left_less most places m m' w w' top le (inl lt) =
-    let sum : (places + 1) * ((most - m') + 1) ≡ (places + 1) * (most - m') + (places + 1) = mul-add (places + 1) (most - m') 1 ∙ ap (λ k. (places + 1) * (most - m') + k) (mul-one (places + 1)) in
     let product : (places + 1) * ((most - m') + 1) ≤ (places + 1) * (most - m) = mul-le-mul_left (places + 1) (omega (arith, lt, top)) in
-    omega (arith, sum, product, le, mul_comm (places + 1) (most - m'), mul_comm (places + 1) (most - m))
+    omega (arith, one_more (places + 1) (most - m'), product, le, mul_comm (places + 1) (most - m'), mul_comm (places + 1) (most - m))
 left_less most places m m' w w' top le (inr h) = subst (λ k. left most places k w' < left most places m w) h.0 (omega (arith, h.1))
 
 module _ {X : Type 0} (holds : Grammar → X → Type 0) (covers : X → Production → Type 0) (bits : X → ℕ) (rests_on : Production → ℕ → Type 0) where
@@ -231,21 +232,17 @@ module _ {X : Type 0} (holds : Grammar → X → Type 0) (covers : X → Product
     pub all_below : (most : ℕ) → n < length g.productions → bits x ≤ most → length g.productions * (most + 1) < 2 ^ 128 - 1 → a < 2 ^ 128 - 1
     all_below most lt bound small =
         let product : length g.productions * bits x ≤ length g.productions * most = mul-le-mul_left (length g.productions) bound in
-        let sum : length g.productions * (most + 1) ≡ length g.productions * most + length g.productions =
-        mul-add (length g.productions) most 1 ∙ ap (λ k. length g.productions * most + k) (mul-one (length g.productions)) in
         let h = w.together in
-        omega (arith, h, product, sum, lt, small)
+        omega (arith, h, product, one_more (length g.productions) most, lt, small)
 
     -- also where a production waits
     pub all_again : (most m : ℕ) (rest : List Bool) → n ≡ length g.productions → WaitsNoMore m waiting rest → bits x ≤ most
         → length g.productions * (most + 1) < 2 ^ 128 - 1 → a < 2 ^ 128 - 1
     all_again most m rest top leaves bound small =
         let product : length g.productions * bits x ≤ length g.productions * most = mul-le-mul_left (length g.productions) bound in
-        let sum : length g.productions * (most + 1) ≡ length g.productions * most + length g.productions =
-        mul-add (length g.productions) most 1 ∙ ap (λ k. length g.productions * most + k) (mul-one (length g.productions)) in
         let h = w.together in
         let less = bits_on-clear waiting m (within_from_get_or waiting m false (λ e. both leaves.waited e)) leaves.waited in
-        omega (arith, h, product, sum, top, less, small)
+        omega (arith, h, product, one_more (length g.productions) most, top, less, small)
 
     -- what is noted has a place among those that wait
     pub noted_within : (rests : ℕ → Type 0) (users' : List (List ℕ)) → n < length g.productions → Notes n rests users users'
@@ -260,26 +257,29 @@ module _ {X : Type 0} (holds : Grammar → X → Type 0) (covers : X → Product
         → IsGrammar g → n < length g.productions → place ≡ n → p.rule ≡ (nth_production g place).rule → p.symbols ≡ (nth_production g place).symbols
         → OpensOne place g g' o o' a a' → Notes n (rests_on p) users users' → TakesInto holds covers bits rests_on no_more p users' x new waiting waiting'
         → users'' ≡ users' → NoneWaits gained' → length gained' ≡ length gained
-        → Visited holds covers bits rests_on g (n + 1) new users'' waiting' gained' o' a'
+        → Visited holds covers bits rests_on g' (n + 1) new users'' waiting' gained' o' a'
     visited_first no_more g' place p new users' users'' waiting' gained' o' a' is lt at rule symbols one notes takes same idle gains =
         let e = same_production p (nth_production g place) rule symbols ∙ ap (nth_production g) at in
         let state = opened_first g g' n x users users' waiting gained o o' a a' lt w (subst (λ k. OpensOne k g g' o o' a a') at one) (subst (λ q. Notes n (rests_on q) users users') e notes) in
-        subst (λ l. Visited holds covers bits rests_on g (n + 1) new l waiting' gained' o' a') (sym same)
+        subst (λ h. Visited holds covers bits rests_on h (n + 1) new users'' waiting' gained' o' a') (sym one.stays)
+        (subst (λ l. Visited holds covers bits rests_on g (n + 1) new l waiting' gained' o' a') (sym same)
         (opened_taken no_more g (n + 1) n x new users' waiting waiting' gained' o' a' is (omega (arith, lt)) state
-        (subst (λ q. TakesInto holds covers bits rests_on no_more q users' x new waiting waiting') e takes) idle (gains ∙ w.gains))
+        (subst (λ q. TakesInto holds covers bits rests_on no_more q users' x new waiting waiting') e takes) idle (gains ∙ w.gains)))
 
     -- a production that waited was opened again
     pub visited_next : (no_more : ℕ → X → X → Type 0) (g' : Grammar) (place m : ℕ) (p : Production) (new : X) (users' : List (List ℕ)) (rest waiting' gained' : List Bool) (o' : ℕ → ℕ) (a' : ℕ)
         → IsGrammar g → n ≡ length g.productions → place ≡ m → p.rule ≡ (nth_production g place).rule → p.symbols ≡ (nth_production g place).symbols
         → WaitsNoMore m waiting rest → OpensOne place g g' o o' a a' → TakesInto holds covers bits rests_on no_more p users x new rest waiting'
         → users' ≡ users → NoneWaits gained' → length gained' ≡ length gained
-        → Visited holds covers bits rests_on g n new users' waiting' gained' o' a'
+        → Visited holds covers bits rests_on g' (length g'.productions) new users' waiting' gained' o' a'
     visited_next no_more g' place m p new users' rest waiting' gained' o' a' is top at rule symbols leaves one takes same idle gains =
         let e = same_production p (nth_production g place) rule symbols ∙ ap (nth_production g) at in
         let state = opened_next g g' n m x users waiting rest gained o o' a a' w leaves (subst (λ k. OpensOne k g g' o o' a a') at one) in
-        subst (λ l. Visited holds covers bits rests_on g n new l waiting' gained' o' a') (sym same)
+        subst (λ h. Visited holds covers bits rests_on h (length h.productions) new users' waiting' gained' o' a') (sym one.stays)
+        (subst (λ k. Visited holds covers bits rests_on g k new users' waiting' gained' o' a') top
+        (subst (λ l. Visited holds covers bits rests_on g n new l waiting' gained' o' a') (sym same)
         (opened_taken no_more g n m x new users rest waiting' gained' o' a' is (omega (arith, top)) state
-        (subst (λ q. TakesInto holds covers bits rests_on no_more q users x new rest waiting') e takes) idle (gains ∙ w.gains))
+        (subst (λ q. TakesInto holds covers bits rests_on no_more q users x new rest waiting') e takes) idle (gains ∙ w.gains))))
 
     -- and less is left to do
     pub visited_less : (no_more : ℕ → X → X → Type 0) (m : ℕ) (p : Production) (new : X) (rest waiting' : List Bool) → bits new ≤ g.rules * (g.tokens + 1) → WaitsNoMore m waiting rest
@@ -309,40 +309,35 @@ module _ {X : Type 0} (holds : Grammar → X → Type 0) (covers : X → Product
             ∙ bits_on-clear waiting m (within_from_get_or waiting m false (λ e. both leaves.waited e)) leaves.waited
 
     -- what there was of openings, where each production was visited or the visits ended at one
-    pub few_opened : (most q : ℕ) → bits x ≤ most → q < length g.productions → o q ≤ most + 1
-    few_opened most q bound lt = elim (cases_lt q n) [
-      | inl i ↦ let h = w.few q i in omega (arith, h, bound)
-      | inr i ↦ let e = w.fresh q i lt in omega (arith, e)
-    ]
-
-    pub few_opened_all : (most : ℕ) → bits x ≤ most → n ≤ length g.productions → a ≤ length g.productions * (most + 1)
-    few_opened_all most bound le =
-        let product : length g.productions * bits x ≤ length g.productions * most = mul-le-mul_left (length g.productions) bound in
-        let sum : length g.productions * (most + 1) ≡ length g.productions * most + length g.productions =
-        mul-add (length g.productions) most 1 ∙ ap (λ k. length g.productions * most + k) (mul-one (length g.productions)) in
-        let h = w.together in
-        omega (arith, h, product, sum, le)
+    pub few_opened : (most : ℕ) → bits x ≤ most → n ≤ length g.productions → AreOpenedAtMost (most + 1) g o a
+    few_opened most bound le = record {
+      each = λ q lt. elim (cases_lt q n) [
+        | inl i ↦ let h = w.few q i in omega (arith, h, bound)
+        | inr i ↦ let e = w.fresh q i lt in omega (arith, e)
+      ];
+      together =
+          let product : length g.productions * bits x ≤ length g.productions * most = mul-le-mul_left (length g.productions) bound in
+          let h = w.together in
+          omega (arith, h, product, one_more (length g.productions) most, le);
+    }
 
     -- the same where one was opened and then refused
-    pub few_refused : (g' : Grammar) (o' : ℕ → ℕ) (a' most q : ℕ) → bits x ≤ most → n < length g.productions → OpensOne n g g' o o' a a'
-        → q < length g.productions → o' q ≤ most + 1
-    few_refused g' o' a' most q bound here one lt = elim (cases_eq q n) [
-      | inl e ↦
-          let new : o' n ≡ o n + 1 = one.more in
-          let none = w.fresh n (omega arith) here in
-          subst (λ k. o' k ≤ most + 1) (sym e) (omega (arith, new, none))
-      | inr ne ↦ subst (λ k. k ≤ most + 1) (sym (one.others q ne)) (few_opened most q bound lt)
-    ]
-
-    pub few_refused_all : (g' : Grammar) (o' : ℕ → ℕ) (a' most : ℕ) → bits x ≤ most → n < length g.productions → OpensOne n g g' o o' a a'
-        → a' ≤ length g.productions * (most + 1)
-    few_refused_all g' o' a' most bound here one =
-        let product : length g.productions * bits x ≤ length g.productions * most = mul-le-mul_left (length g.productions) bound in
-        let sum : length g.productions * (most + 1) ≡ length g.productions * most + length g.productions =
-        mul-add (length g.productions) most 1 ∙ ap (λ k. length g.productions * most + k) (mul-one (length g.productions)) in
-        let h = w.together in
-        let e = one.together in
-        omega (arith, h, e, product, sum, here)
+    pub few_refused : (g' : Grammar) (o' : ℕ → ℕ) (a' most : ℕ) → bits x ≤ most → n < length g.productions → OpensOne n g g' o o' a a'
+        → AreOpenedAtMost (most + 1) g o' a'
+    few_refused g' o' a' most bound here one = record {
+      each = λ q lt. elim (cases_eq q n) [
+        | inl e ↦
+            let new : o' n ≡ o n + 1 = one.more in
+            let none = w.fresh n (omega arith) here in
+            subst (λ k. o' k ≤ most + 1) (sym e) (omega (arith, new, none))
+        | inr ne ↦ subst (λ k. k ≤ most + 1) (sym (one.others q ne)) ((few_opened most bound (omega (arith, here))).each q lt)
+      ];
+      together =
+          let product : length g.productions * bits x ≤ length g.productions * most = mul-le-mul_left (length g.productions) bound in
+          let h = w.together in
+          let e = one.together in
+          omega (arith, h, e, product, one_more (length g.productions) most, here);
+    }
 
     -- where no production waits, all are covered
     pub visited_all : n ≡ length g.productions → NoneWaits waiting → CoversEach covers g x

@@ -6,7 +6,7 @@ ghost use Rattle.derivation.specs.Grammar.{Grammar, IsGrammar, IsSymbolOf, Rule}
 ghost use Rattle.cfganalysis.specs.Firsts.{AreFirsts, FitsGrammar, IsAmongFirsts, IsEpsilon, epsilon_bit, with_first};
 ghost use Rattle.cfganalysis.specs.Inner.GrowingFirsts.{BeginsBy, HasNoMoreFirsts, HaveFirstsOf, HoldsRule, SayFirsts};
 ghost use Rattle.cfganalysis.specs.Inner.GrowingFirsts.{count_firsts, is_empty_symbol, no_firsts, with_epsilon};
-ghost use Rattle.cfgtables.specs.Openings.{most_openings, most_openings_all};
+ghost use Rattle.cfgtables.specs.Openings.{AreOpenedAtMost, most_openings};
 ghost use Rattle.cfganalysis.specs.Inner.Growth.{TakesIn};
 ghost use Rattle.cfgtables.specs.Symbols.{sym_of};
 ghost use Rattle.cfganalysis.specs.Table.{Joins, row_of};
@@ -251,9 +251,8 @@ pub fn firsts_over<S: Storage, P: Productions<S>>(
     requires all_fresh { P.opened_all productions.old ≡ 0 }
     ensures firsts { IfOk result (AreFirsts (P.content productions.old)) }
     ensures content { P.content productions.new ≡ P.content productions.old }
-    ensures counts { (q : ℕ) → q < length (P.content productions.old).productions
-        → P.opened productions.new q ≤ most_openings (P.content productions.old) }
-    ensures all_counts { P.opened_all productions.new ≤ most_openings_all (P.content productions.old) }
+    ensures few { AreOpenedAtMost (most_openings (P.content productions.old)) (P.content productions.old)
+        (P.opened productions.new) (P.opened_all productions.new) }
 {
     let rules = productions.rules_len().0.to_usize();
     let tokens = productions.tokens_len().0.to_usize();

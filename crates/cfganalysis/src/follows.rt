@@ -1,14 +1,13 @@
 //! FOLLOW: the tokens that stand right after rules (Aho, Lam, Sethi and Ullman, 4.4.2).
 
-ghost use Rattle.std.specs.Prelude.{◌≡◌, ◌-◌, ◌<◌, ◌≤◌, ◌↔◌, ℕ, [], ◌∷◌, Contains, length};
-ghost use Rattle.std.specs.Prelude.{map, IfOk, IsTrue};
+ghost use Rattle.std.specs.Prelude.{◌≡◌, ◌-◌, ◌<◌, ◌≤◌, ◌↔◌, ℕ, [], ◌∷◌, Contains, length, map, IfOk, IsTrue};
 ghost use Rattle.derivation.specs.Grammar.{Grammar, IsGrammar, IsSymbolOf, Rule};
 ghost use Rattle.cfganalysis.specs.Firsts.{AreFirsts};
 ghost use Rattle.cfganalysis.specs.Follows.{AreFollows};
 ghost use Rattle.cfganalysis.specs.Inner.GrowingFollows.{BeginsList, FitFollows, FrontGives, Gathers, HasNoMoreFollows};
 ghost use Rattle.cfganalysis.specs.Inner.GrowingFollows.{HaveFollowsOf, IsFrontOf, IsGathered, IsOwner, Puts};
 ghost use Rattle.cfganalysis.specs.Inner.GrowingFollows.{PutsBehind, SayFollows, StepsBack, count_follows};
-ghost use Rattle.cfgtables.specs.Openings.{most_openings, most_openings_all};
+ghost use Rattle.cfgtables.specs.Openings.{AreOpenedAtMost, most_openings};
 ghost use Rattle.cfganalysis.specs.Inner.Growth.{TakesIn};
 ghost use Rattle.cfgtables.specs.Symbols.{sym_of};
 ghost use Rattle.cfganalysis.specs.Table.{HasBit, no_bits, row_of, with_bit};
@@ -360,9 +359,8 @@ pub fn follows_over<S: Storage, P: Productions<S>>(
     requires all_fresh { P.opened_all productions.old ≡ 0 }
     ensures follows { IfOk result (AreFollows (P.content productions.old)) }
     ensures content { P.content productions.new ≡ P.content productions.old }
-    ensures counts { (q : ℕ) → q < length (P.content productions.old).productions
-        → P.opened productions.new q ≤ most_openings (P.content productions.old) }
-    ensures all_counts { P.opened_all productions.new ≤ most_openings_all (P.content productions.old) }
+    ensures few { AreOpenedAtMost (most_openings (P.content productions.old)) (P.content productions.old)
+        (P.opened productions.new) (P.opened_all productions.new) }
 {
     let rules = productions.rules_len().0.to_usize();
     let tokens = productions.tokens_len().0.to_usize();

@@ -1,11 +1,10 @@
 //! Visits of productions, till none gives more. A production is visited again only where the set of a rule that it
 //! rests on has gained (Nielson, Nielson and Hankin, Principles of Program Analysis, 6.1).
 
-ghost use Rattle.std.specs.Prelude.{◌≡◌, ℕ, ◌+◌, ◌-◌, ◌*◌, ◌^◌, ◌<◌, ◌≤◌, length};
-ghost use Rattle.std.specs.Prelude.{IfOk, MatchBool, OnErr, OnOk};
+ghost use Rattle.std.specs.Prelude.{◌≡◌, ℕ, ◌+◌, ◌-◌, ◌*◌, ◌^◌, ◌<◌, ◌≤◌, length, IfOk, MatchBool, OnErr, OnOk};
 ghost use Rattle.derivation.specs.Grammar.{Grammar, IsGrammar};
-ghost use Rattle.cfganalysis.specs.Inner.Growth.{CoversEach, Visited, left_to_do};
-ghost use Rattle.cfgtables.specs.Openings.{OpensOne, most_openings, most_openings_all};
+ghost use Rattle.cfganalysis.specs.Inner.Growth.{CanVisit, CoversEach, Visited, left_to_do};
+ghost use Rattle.cfgtables.specs.Openings.{AreOpenedAtMost, OpensOne, most_openings};
 ghost use Rattle.cfganalysis.specs.Inner.Waiting.{NoneWaits};
 
 use crate::growth::{Analysis, take_in};
@@ -25,18 +24,15 @@ fn visit_first<S: Storage, P: Productions<S>, A: Analysis<S>>(
     work: &mut Work,
     number: usize,
 ) -> Result<(), AllocError>
-    requires grammar { IsGrammar (P.content productions.old) }
+    requires can { CanVisit S.MAX (P.content productions.old) }
     requires number { number < length (P.content productions.old).productions }
-    requires fits { number ≤ S.MAX }
-    requires small { most_openings (P.content productions.old) < 2 ^ 64 - 1 }
-    requires all_small { most_openings_all (P.content productions.old) < 2 ^ 128 - 1 }
     requires visited { Visited A.holds A.covers A.bits A.rests_on (P.content productions.old) number analysis.old
         work.old.users work.old.waiting work.old.gained (P.opened productions.old) (P.opened_all productions.old) }
     ensures opens { OpensOne number (P.content productions.old) (P.content productions.new)
         (P.opened productions.old) (P.opened productions.new)
         (P.opened_all productions.old) (P.opened_all productions.new) }
     ensures visited { IfOk result (λ _. Visited A.holds A.covers A.bits A.rests_on
-        (P.content productions.old) (number + 1) analysis.new
+        (P.content productions.new) (number + 1) analysis.new
         work.new.users work.new.waiting work.new.gained (P.opened productions.new) (P.opened_all productions.new)) }
     ensures refused { OnErr result (analysis.new ≡ analysis.old) }
 {
@@ -59,21 +55,17 @@ fn visit_each<S: Storage, P: Productions<S>, A: Analysis<S>>(
     work: &mut Work,
     prods_len: usize,
 ) -> Result<(), AllocError>
-    requires grammar { IsGrammar (P.content productions.old) }
+    requires can { CanVisit S.MAX (P.content productions.old) }
     requires all { prods_len ≡ length (P.content productions.old).productions }
-    requires fits { prods_len ≤ S.MAX }
-    requires small { most_openings (P.content productions.old) < 2 ^ 64 - 1 }
-    requires all_small { most_openings_all (P.content productions.old) < 2 ^ 128 - 1 }
     requires visited { Visited A.holds A.covers A.bits A.rests_on (P.content productions.old) 0 analysis.old
         work.old.users work.old.waiting work.old.gained (P.opened productions.old) (P.opened_all productions.old) }
     ensures content { P.content productions.new ≡ P.content productions.old }
     ensures visited { IfOk result (λ _. Visited A.holds A.covers A.bits A.rests_on
-        (P.content productions.old) prods_len analysis.new
+        (P.content productions.new) prods_len analysis.new
         work.new.users work.new.waiting work.new.gained (P.opened productions.new) (P.opened_all productions.new)) }
     ensures refused { OnErr result (A.holds (P.content productions.old) analysis.new) }
-    ensures counts { OnErr result ((q : ℕ) → q < length (P.content productions.old).productions
-        → P.opened productions.new q ≤ most_openings (P.content productions.old)) }
-    ensures all_counts { OnErr result (P.opened_all productions.new ≤ most_openings_all (P.content productions.old)) }
+    ensures few { OnErr result (AreOpenedAtMost (most_openings (P.content productions.old)) (P.content productions.old)
+        (P.opened productions.new) (P.opened_all productions.new)) }
 {
     for number in 0..prods_len {
         visit_first(productions, analysis, work, number)?;
@@ -87,19 +79,16 @@ fn visit_next<S: Storage, P: Productions<S>, A: Analysis<S>>(
     analysis: &mut A,
     work: &mut Work,
 ) -> bool
-    requires grammar { IsGrammar (P.content productions.old) }
-    requires fits { length (P.content productions.old).productions ≤ S.MAX }
-    requires small { most_openings (P.content productions.old) < 2 ^ 64 - 1 }
-    requires all_small { most_openings_all (P.content productions.old) < 2 ^ 128 - 1 }
+    requires can { CanVisit S.MAX (P.content productions.old) }
     requires visited { Visited A.holds A.covers A.bits A.rests_on (P.content productions.old)
         (length (P.content productions.old).productions) analysis.old
         work.old.users work.old.waiting work.old.gained (P.opened productions.old) (P.opened_all productions.old) }
     ensures content { P.content productions.new ≡ P.content productions.old }
-    ensures visited { Visited A.holds A.covers A.bits A.rests_on (P.content productions.old)
-        (length (P.content productions.old).productions) analysis.new
+    ensures visited { Visited A.holds A.covers A.bits A.rests_on (P.content productions.new)
+        (length (P.content productions.new).productions) analysis.new
         work.new.users work.new.waiting work.new.gained (P.opened productions.new) (P.opened_all productions.new) }
     ensures less { MatchBool result
-        (left_to_do (P.content productions.old) (A.bits analysis.new) work.new.waiting
+        (left_to_do (P.content productions.new) (A.bits analysis.new) work.new.waiting
         < left_to_do (P.content productions.old) (A.bits analysis.old) work.old.waiting)
         (NoneWaits work.new.waiting) }
 {
@@ -131,9 +120,8 @@ pub fn visit_all<S: Storage, P: Productions<S>, A: Analysis<S>>(
     ensures content { P.content productions.new ≡ P.content productions.old }
     ensures holds { A.holds (P.content productions.old) analysis.new }
     ensures covered { OnOk result (CoversEach A.covers (P.content productions.old) analysis.new) }
-    ensures counts { (q : ℕ) → q < length (P.content productions.old).productions
-        → P.opened productions.new q ≤ most_openings (P.content productions.old) }
-    ensures all_counts { P.opened_all productions.new ≤ most_openings_all (P.content productions.old) }
+    ensures few { AreOpenedAtMost (most_openings (P.content productions.old)) (P.content productions.old)
+        (P.opened productions.new) (P.opened_all productions.new) }
 {
     let rules = productions.rules_len().0.to_usize();
     let prods_len = productions.prods_len().0.to_usize();

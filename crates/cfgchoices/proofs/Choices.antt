@@ -1,42 +1,23 @@
 -- What choices give for two lists of symbols they give for the lists joined, and they give no more than one list of tokens.
-use Rattle.std.proofs.Common.{◌≡◌, ℕ, List, [], ◌∷◌, ◌++◌, Option, Some, refl, sym, ap, subst, ◌∙◌, append_assoc}
+use Rattle.std.proofs.Common.{◌≡◌, ℕ, List, [], ◌∷◌, ◌++◌, Option, Some, refl, sym, ap, subst, ◌∙◌, append-nil, append_assoc}
 use Rattle.derivation.specs.Grammar.{Sym, Rule, Token}
 use Rattle.cfgtables.specs.Openings.{nth_production}
 use Rattle.cfgleast.specs.Generator.{CostTables}
 use Rattle.cfgchoices.specs.Inner.Choices.{ChoicesGive, empty, token, free, chosen}
 
 module _ (x : CostTables) where
-  -- what they give for the first symbols, and for the others
-  pub record Given (a b : List Sym) (w : List ℕ) : Type 0 where
+  -- what they give for the rule in front, and for the others
+  pub record Given (r : ℕ) (a : List Sym) (w : List ℕ) : Type 0 where
     pub front : List ℕ
     pub back : List ℕ
     pub whole : w ≡ front ++ back
-    pub first : ChoicesGive x a front
-    pub second : ChoicesGive x b back
+    pub first : ChoicesGive x (Rule r ∷ []) front
+    pub second : ChoicesGive x a back
 
-  pub choices_split : (a b : List Sym) (w : List ℕ) → ChoicesGive x (a ++ b) w → Given a b w
-  choices_split [] b w h = record { front = []; back = w; whole = refl; first = empty; second = h }
-  choices_split (Token t ∷ a) b _ (token {w = w} h) = let p = choices_split a b w h in record {
-    front = t ∷ p.front;
-    back = p.back;
-    whole = ap (λ l. t ∷ l) p.whole;
-    first = token p.first;
-    second = p.second;
-  }
-  choices_split (Rule r ∷ a) b w (free nothing h) = let p = choices_split a b w h in record {
-    front = p.front;
-    back = p.back;
-    whole = p.whole;
-    first = free nothing p.first;
-    second = p.second;
-  }
-  choices_split (Rule r ∷ a) b _ (chosen {u = u} {w = w} costly choice h k e) = let p = choices_split a b w k in record {
-    front = u ++ p.front;
-    back = p.back;
-    whole = e ∙ ap (λ l. u ++ l) p.whole ∙ sym (append_assoc u p.front p.back);
-    first = chosen costly choice h p.first refl;
-    second = p.second;
-  }
+  pub choices_split : (r : ℕ) (a : List Sym) (w : List ℕ) → ChoicesGive x (Rule r ∷ a) w → Given r a w
+  choices_split r a w (free nothing h) = record { front = []; back = w; whole = refl; first = free nothing empty; second = h }
+  choices_split r a _ (chosen {u = u} {w = w} costly choice h k e) =
+      record { front = u; back = w; whole = e; first = chosen costly choice h empty (sym (append-nil u)); second = k }
 
   pub choices_join : {a b : List Sym} {u v : List ℕ} → ChoicesGive x a u → ChoicesGive x b v → ChoicesGive x (a ++ b) (u ++ v)
   choices_join empty k = k

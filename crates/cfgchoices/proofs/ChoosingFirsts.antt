@@ -219,7 +219,7 @@ module _ (x : CostTables) where
     heir_gives (Rule r ∷ a) w q c m given e small h k all =
         let p = plus_parts (sums (Rule r)) (sum_of sums a) m e in
         let whole = p.whole in
-        let parts = choices_split (by x l) (Rule r ∷ []) a w given in
+        let parts = choices_split (by x l) r a w given in
         let others = All-tail (IsPaid (token_cost x)) (Rule r) a all in
         elim (contains_cases (Rule r) (Rule q) a h) [
           | inl same ↦

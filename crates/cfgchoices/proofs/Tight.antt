@@ -20,8 +20,7 @@ use Rattle.cfgsums.proofs.Sums.{plus_parts, plus_both}
 use Rattle.cfgsums.proofs.Made.{cost_of-token}
 use Rattle.cfgleast.specs.Generator.{CostTables, IsGenerator, cost_answer, token_cost}
 use Rattle.cfgchoices.specs.Levels.{Along, here, next, CostsAsItsRule, HandsOn, IsOwn}
-use Rattle.cfgchoices.specs.Inner.Kinds.{AreKinds, HasHeir, HasNoHeir, HasRulesAsHeirs, IsHeir, IsKind, IsRowKind, IsTight}
-use Rattle.cfgchoices.specs.Inner.Kinds.{IsMinimal, IsOwnBelow}
+use Rattle.cfgchoices.specs.Inner.Kinds.{AreKinds, HasHeir, HasNoHeir, HasRulesAsHeirs, IsHeir, IsKind, IsRowKind, IsTight, IsMinimal, IsOwnBelow}
 use Rattle.cfgleast.specs.Inner.Open.{StopsAt}
 use Rattle.cfgchoices.specs.Splits.{Split, done, itself, part}
 use Rattle.cfgchoices.specs.declared.kinds.Kind.{Kind}

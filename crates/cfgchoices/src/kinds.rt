@@ -5,9 +5,8 @@ ghost use Rattle.cfgtables.specs.Symbols.{sym_of};
 ghost use Rattle.derivation.specs.Grammar.{Rule};
 ghost use Rattle.cfgsums.specs.Lists.{IsListed, rule_cost};
 ghost use Rattle.cfgsums.specs.Sums.{symbol_cost};
-ghost use Rattle.cfgleast.specs.Generator.{IsGenerator, tables_of};
-ghost use Rattle.cfgchoices.specs.Inner.Kinds.{HasRulesAsHeirs};
-ghost use Rattle.cfgchoices.specs.Inner.Kinds.{AreKinds, IsKind, IsRowKind};
+ghost use Rattle.cfgleast.specs.Generator.{IsGeneratorOf, settled_tables};
+ghost use Rattle.cfgchoices.specs.Inner.Kinds.{AreKinds, HasRulesAsHeirs, IsKind, IsRowKind};
 
 use cfgindex::{PIdx, RIdx, Storage, Symbol, to_storage};
 use cfgleast::partial::Partial;
@@ -99,13 +98,12 @@ fn kind_of<S: Storage, T: Tables<S>>(
     settled: &Settled<S>,
     p: PIdx<S>,
 ) -> Kind<S>
-    requires generator { IsGenerator (tables_of S.number (T.grammar tables.now) costs.now settled.now.least.items
-        settled.now.choices.items) settled.now.number }
+    requires generator { IsGeneratorOf S.number (T.grammar tables.now) costs.now settled.now }
     requires place { S.number p.0 < length (T.grammar tables.now).productions }
-    ensures { IsKind S.number (tables_of S.number (T.grammar tables.now) costs.now settled.now.least.items
-        settled.now.choices.items) (S.number p.0) result }
+    ensures { IsKind S.number (settled_tables S.number (T.grammar tables.now) costs.now settled.now)
+        (S.number p.0) result }
 {
-    let _rules = tables.rules_len();
+    tables.invariant_holds();
     let rule = usize::from(tables.prod_to_rule(p));
     match settled.least[rule] {
         Some(cost) if cost > 0 && cost < TOO_LARGE => {
@@ -126,10 +124,9 @@ pub fn kinds<S: Storage, T: Tables<S>>(
     costs: &[u8],
     settled: &Settled<S>,
 ) -> Result<Vec<Kind<S>>, AllocError>
-    requires { IsGenerator (tables_of S.number (T.grammar tables.now) costs.now settled.now.least.items
-        settled.now.choices.items) settled.now.number }
-    ensures kinds { IfOk result (λ kinds. AreKinds S.number (tables_of S.number (T.grammar tables.now) costs.now
-        settled.now.least.items settled.now.choices.items) kinds.items) }
+    requires { IsGeneratorOf S.number (T.grammar tables.now) costs.now settled.now }
+    ensures kinds { IfOk result (λ kinds. AreKinds S.number
+        (settled_tables S.number (T.grammar tables.now) costs.now settled.now) kinds.items) }
     ensures heirs { IfOk result (λ kinds. HasRulesAsHeirs S.number (T.grammar tables.now) kinds.items) }
 {
     let prods_len = tables.prods_len().0.to_usize();

@@ -1,7 +1,13 @@
--- What is answered of a rule's minimal sentences.
-use Rattle.std.specs.Prelude.{ℕ, List, map, Vec, codes}
+-- What is answered of a rule's greatest cost and of its minimal sentences.
+use Rattle.std.specs.Prelude.{◌≡◌, ◌↔◌, ℕ, ◌<◌, ◌≤◌, List, Option, Some, None, Result, Ok, Err, Contains, map, Vec, codes}
+use Rattle.std.specs.List.Sorted.{IsStrictlySortedBy}
 use Rattle.std.specs.declared.alloc.Global.{Global}
 use Rattle.cfgindex.specs.declared.idxnewtype.TIdx.{TIdx}
+use Rattle.derivation.specs.Grammar.{Sym}
+use Rattle.derivation.specs.Sentence.{cost_of}
+use Rattle.derivation.specs.Costs.{Greatest, Minimal, Unbounded}
+use Rattle.cfgleast.specs.Generator.{HasNone}
+use Rattle.cfgchoices.specs.First.{dictionary}
 use Rattle.cfgsums.specs.declared.errors.CostError.{CostError}
 use Rattle.cfgcosts.specs.declared.errors.SentenceError.{SentenceError}
 use Rattle.cfgcosts.specs.declared.errors.SentenceError.TheVariants.{NoSentence, CostTooLarge, OutOfMemory}
@@ -21,3 +27,17 @@ sentence_error_text OutOfMemory = codes "out of memory"
 -- the numbers of a word's tokens, and of a set of words
 abbrev pub numbers_of : {S : Type 0} → (S → ℕ) → Vec (TIdx S) Global → List ℕ
 numbers_of number word = map (λ t. number t.0) word.items
+
+-- the greatest cost of a rule, where it is at most 65535, or that its sentences cost more than any number, or why neither
+-- is told
+pub record AnswersGreatest (P : ℕ → List Sym → Type 0) (cost : ℕ → ℕ) (r : ℕ) (answer : Result (Option ℕ) CostError) : Type 0 where
+  pub none : (answer ≡ Err costs.NoSentence) ↔ HasNone P r
+  pub unbounded : (answer ≡ Ok None) ↔ Unbounded P cost r
+  pub greatest : (c : ℕ) → (answer ≡ Ok (Some c)) ↔ (Greatest P cost r c × (c ≤ 65535))
+  pub too_large : (answer ≡ Err costs.CostTooLarge) ↔ ((n : ℕ) × Greatest P cost r n × (65535 < n))
+
+-- the sentences of a rule that no other of its sentences costs less than, where they cost at most 65535, each once, in the
+-- order of a dictionary
+pub record ListsMinimal (P : ℕ → List Sym → Type 0) (cost : ℕ → ℕ) (r : ℕ) (sentences : List (List ℕ)) : Type 0 where
+  pub all : (w : List ℕ) → Contains sentences w ↔ (Minimal P cost r w × (cost_of cost w ≤ 65535))
+  pub order : IsStrictlySortedBy dictionary sentences

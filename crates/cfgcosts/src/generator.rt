@@ -4,12 +4,12 @@ ghost use Rattle.std.specs.Prelude.{◌≡◌, ◌↔◌, ℕ, ◌<◌, ◌≤�
 ghost use Rattle.std.specs.Prelude.{EachIndex, Err, IfOk, IfSome, IsTrue, None, Ok, Some, length, slice_index};
 ghost use Rattle.std.specs.Result.{result_ok};
 ghost use Rattle.cfgindex.specs.declared.idxnewtype.TIdx.{TIdx};
-ghost use Rattle.derivation.specs.Grammar.{HasProduction};
+ghost use Rattle.derivation.specs.Grammar.{HasProduction, IsGrammar};
 ghost use Rattle.derivation.specs.Costs.{Greatest, Least, Unbounded};
 ghost use Rattle.cfgsums.specs.Lists.{rule_cost};
 ghost use Rattle.cfgleast.specs.Certificate.{IsCovered, IsReached, choice_of, rule_choice};
-ghost use Rattle.cfgleast.specs.Generator.{AnswersLeast, HasNone, IsLeastProduction, IsTooDear, choice_answer};
-ghost use Rattle.cfgleast.specs.Generator.{cost_answer, token_cost};
+ghost use Rattle.cfgleast.specs.Generator.{AnswersLeast, HasNone, IsGenerator, IsLeastProduction, IsTooDear};
+ghost use Rattle.cfgleast.specs.Generator.{choice_answer, cost_answer, token_cost};
 
 use crate::heirs::last_heirs;
 use cfgchoices::first::first_choices;
@@ -63,20 +63,17 @@ impl<'a, S: Storage, T: Tables<S>> Model for SentenceGenerator<'a, S, T> {
     ghost use Rattle.std.specs.Prelude.{slice_index};
     ghost use Rattle.cfggreatest.specs.Words.{AreTold};
     ghost use Rattle.cfgchoices.specs.Inner.FirstChoices.{AreFirst, Walks};
-    ghost use Rattle.cfgleast.specs.Generator.{CostTables, IsGenerator, tables_of};
+    ghost use Rattle.cfgleast.specs.Generator.{CostTables, IsGeneratorOf, settled_tables, tables_of};
     ghost use Rattle.cfgcosts.specs.Inner.Heirs.{AreHeirs, rules_of};
     ghost use Rattle.cfgchoices.specs.Inner.Kinds.{AreKinds};
 
     ghost Value = { CostTables };
 
-    ghost view = { λ x. tables_of S.number (T.grammar x.tables.now) x.costs.items x.settled.least.items
-        x.settled.choices.items };
+    ghost view = { λ x. settled_tables S.number (T.grammar x.tables.now) x.costs.items x.settled };
 
-    ghost invariant = { λ x. IsGenerator (tables_of S.number (T.grammar x.tables.now) x.costs.items
-        x.settled.least.items x.settled.choices.items) x.settled.number
+    ghost invariant = { λ x. IsGeneratorOf S.number (T.grammar x.tables.now) x.costs.items x.settled
         × AreTold (T.grammar x.tables.now) (slice_index x.costs.items) x.greatest.items
-        × AreKinds S.number (tables_of S.number (T.grammar x.tables.now) x.costs.items x.settled.least.items
-        x.settled.choices.items) x.kinds.items
+        × AreKinds S.number (settled_tables S.number (T.grammar x.tables.now) x.costs.items x.settled) x.kinds.items
         × Walks (tables_of S.number (T.grammar x.tables.now) x.costs.items x.settled.least.items x.firsts.items)
         × AreFirst (tables_of S.number (T.grammar x.tables.now) x.costs.items x.settled.least.items x.firsts.items)
         × AreHeirs S.number (T.grammar x.tables.now) x.kinds.items (rules_of S.number x.last_heirs.items) };
@@ -121,6 +118,15 @@ impl<'a, S: Storage, T: Tables<S>> SentenceGenerator<'a, S, T> {
             last_heirs,
             greatest,
         })
+    }
+
+    /// A law, so the call does nothing: the tables are those of a generator, and of a grammar whose rules `S` counts.
+    pub(crate) fn invariant_holds(&self)
+        ensures generator { (n : ℕ) × IsGenerator self.now n }
+        ensures grammar { IsGrammar self.now.grammar }
+        ensures rules { self.now.grammar.rules ≤ S.MAX }
+    {
+        self.tables.invariant_holds();
     }
 
     /// What each token costs, at least 1.

@@ -38,7 +38,7 @@ impl<'a, S: Storage, T: Tables<S>> SentenceGenerator<'a, S, T> {
         ensures stopped { OnErr result (HasStopped self.now.grammar (token_cost self.now) (S.number rule.0)
             (O.has_opened source.new)) }
     {
-        let _rules = self.tables.rules_len().0.to_usize();
+        self.tables.invariant_holds();
         let mut sentence = Vec::new(alloc);
         let mut pending = Vec::new(alloc);
         pending.push(Symbol::Rule(rule))?;

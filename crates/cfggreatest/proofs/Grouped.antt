@@ -16,7 +16,7 @@ use Rattle.cfgsums.specs.declared.errors.CostError.TheVariants.{NoSentence, Cost
 use Rattle.cfggreatest.specs.Words.{Means}
 use Rattle.cfggreatest.specs.Inner.AtLeast.{IsDead, weigh}
 use Rattle.cfggreatest.specs.Inner.Known.{group_answer, known_cost, known_of, read_known}
-use Rattle.cfggreatest.specs.Inner.Sums.{AreReached, AreUnder, CostAtLeast, IsGroup, IsRead, IsSum, IsUnder, row_cost}
+use Rattle.cfggreatest.specs.Inner.Sums.{AreReached, AreUnder, CostAtLeast, IsGroup, IsRead, row_cost}
 use Rattle.cfggreatest.specs.declared.sums.Known.{Known}
 use Rattle.cfggreatest.specs.declared.sums.Known.TheVariants.{New, Open, Told}
 use Rattle.cfggreatest.specs.declared.sums.Stop.{Stop}

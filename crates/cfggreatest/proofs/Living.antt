@@ -1,19 +1,18 @@
 -- Rules that have sentences are found by their productions.
-use Rattle.std.proofs.Common.{◌≡◌, ℕ, ◌+◌, ◌*◌, ◌<◌, ◌≤◌, inl, inr, Bool, true, false, ◌⊎◌, List, [], ◌∷◌, ◌++◌, All, Contains, IsTrue, Some, get_or, length, slice_set, refl, sym, ap, subst, ◌∙◌, arith, true≢false, length-set, get_or-set_same, append-nil, slice_get, replicate}
+use Rattle.std.proofs.Common.{◌≡◌, ℕ, ◌+◌, ◌<◌, inl, inr, Bool, true, false, ◌⊎◌, List, [], ◌∷◌, ◌++◌, IsTrue, Some, get_or, length, slice_set, refl, sym, ap, subst, ◌∙◌, arith, true≢false, length-set, get_or-set_same, append-nil, slice_get, replicate}
 use Rattle.std.proofs.lemmas.Bool.{cases_eq}
 use Rattle.std.proofs.lemmas.List.{get_or_default, length-replicate}
 use Rattle.std.proofs.lemmas.Option.{unwrap_or-slice_get}
 use Rattle.std.specs.Option.{unwrap_or}
 use Rattle.std.proofs.lemmas.List.Elements.{All-cons, All-head, All-nil, All-tail}
 use Rattle.lemmas.proofs.Elements.{get_or-set, get_or-replicate_default, set-slice_get}
-use Rattle.derivation.specs.Grammar.{Sym, Rule, Token, Grammar, Production, IsGrammar, HasProduction}
+use Rattle.derivation.specs.Grammar.{Sym, Rule, Token, Grammar, Production, HasProduction}
 use Rattle.derivation.specs.Tree.{Yields, empty, token, opened}
 use Rattle.derivation.proofs.Trees.{trees_join}
 use Rattle.cfganalysis.specs.Inner.Growth.{CoversEach, TakesIn}
 use Rattle.cfganalysis.specs.Inner.GrowingFirsts.{HoldsRule}
 use Rattle.cfganalysis.specs.Inner.Waiting.{NoneWaits, Waits}
 use Rattle.cfganalysis.specs.Table.{bits_on}
-use Rattle.cfgtables.proofs.Placed.{owner}
 use Rattle.cfganalysis.proofs.Noting.{put_there, put_waits}
 use Rattle.search.proofs.Bits.{bits_on-set}
 use Rattle.cfggreatest.specs.Inner.AtLeast.{HasWord}

@@ -1,5 +1,5 @@
 -- What rules of a group cost at least, by the sums of their productions.
-use Rattle.std.proofs.Common.{◌≡◌, ℕ, zero, suc, ◌+◌, ◌*◌, ◌<◌, ◌≤◌, ◌⊎◌, inl, inr, ltb, min, max, ◌||◌, Bool, true, false, cond, List, [], ◌∷◌, All, Contains, Option, Some, None, Result, Ok, Err, get_or, length, append-nil, ltb-true, sum_by, refl, sym, ap, subst, ◌∙◌, arith, true≢false}
+use Rattle.std.proofs.Common.{◌≡◌, ℕ, zero, suc, ◌+◌, ◌*◌, ◌<◌, ◌≤◌, ◌⊎◌, inl, inr, ltb, ◌||◌, Bool, true, false, cond, List, [], ◌∷◌, All, Contains, Option, Some, None, Result, Ok, Err, get_or, length, append-nil, ltb-true, refl, sym, ap, subst, ◌∙◌, arith, true≢false}
 use Rattle.std.proofs.Math.Nat.{mul-le-mul_left}
 use Rattle.std.proofs.lemmas.Bool.{cases_Bool, cases_eq, cases_lt, lt-ltb}
 use Rattle.std.proofs.lemmas.List.Elements.{All-cons, All-nil}
@@ -9,9 +9,9 @@ use Rattle.cfgtables.proofs.Placed.{all_symbols}
 use Rattle.cfgsums.specs.declared.errors.CostError.{CostError}
 use Rattle.cfgsums.specs.declared.errors.CostError.TheVariants.{NoSentence, CostTooLarge}
 use Rattle.cfggreatest.specs.Words.{Means}
-use Rattle.cfggreatest.specs.Inner.AtLeast.{AtLeast, HasWord, IsDead, IsRowAbove}
+use Rattle.cfggreatest.specs.Inner.AtLeast.{AtLeast, HasWord, IsDead}
 use Rattle.cfggreatest.specs.Inner.Known.{IsLiveSymbol, is_dead, is_outside, known_cost, known_of, read_known, read_symbol}
-use Rattle.cfggreatest.specs.Inner.Sums.{AddsRow, AreNoLess, AreReached, AreUnder, CostAtLeast, CostsBeside, GrowsBeside, IsGroup, IsStopped, IsSum, IsUnder, StopsAt, StopsRow, TakesRow, row_cost}
+use Rattle.cfggreatest.specs.Inner.Sums.{AddsRow, AreNoLess, AreReached, CostAtLeast, CostsBeside, GrowsBeside, IsGroup, IsStopped, IsSum, IsUnder, StopsAt, TakesRow, row_cost}
 use Rattle.cfggreatest.specs.declared.sums.Known.{Known}
 use Rattle.cfggreatest.specs.declared.sums.Known.TheVariants.{New, Open, Told}
 use Rattle.cfggreatest.specs.declared.sums.Stop.{Stop}

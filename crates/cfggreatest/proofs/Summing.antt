@@ -1,5 +1,5 @@
 -- Sums of rows, symbol by symbol.
-use Rattle.std.proofs.Common.{◌≡◌, ℕ, ◌+◌, ◌*◌, ◌<◌, ◌≤◌, ltb, min, Bool, true, false, cond, List, [], ◌∷◌, ◌++◌, All, Option, Some, None, Result, Ok, Err, get_or, length, map, take, sum_by, refl, sym, ap, subst, ◌∙◌, arith}
+use Rattle.std.proofs.Common.{◌≡◌, ℕ, ◌+◌, ◌<◌, ◌≤◌, ltb, min, Bool, true, false, cond, List, [], ◌∷◌, ◌++◌, Option, Some, None, Result, Ok, Err, get_or, length, map, take, refl, sym, ap, subst, ◌∙◌, arith}
 use Rattle.std.proofs.lemmas.List.{length-map, take_all, take_more}
 use Rattle.std.proofs.lemmas.List.Elements.{All-nil, All-push}
 use Rattle.std.proofs.lemmas.List.Sums.{sum_by_push}
@@ -7,7 +7,7 @@ use Rattle.derivation.specs.Grammar.{Sym, Rule, Token}
 use Rattle.cfgtables.proofs.Slices.{mapped_at, mapped_within}
 use Rattle.cfggreatest.specs.Inner.AtLeast.{weigh}
 use Rattle.cfggreatest.specs.Inner.Known.{known_cost, known_of, read_known, read_symbol}
-use Rattle.cfggreatest.specs.Inner.Sums.{CostsBeside, IsRead, IsSum, row_cost}
+use Rattle.cfggreatest.specs.Inner.Sums.{IsRead, IsSum}
 use Rattle.cfggreatest.specs.declared.sums.Known.{Known}
 use Rattle.cfggreatest.specs.declared.sums.Known.TheVariants.{New, Open, Told}
 use Rattle.cfggreatest.specs.declared.sums.Stop.{Stop}

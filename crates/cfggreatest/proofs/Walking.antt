@@ -1,6 +1,6 @@
 -- Steps of a walk: what they make of what is known.
-use Rattle.std.proofs.Common.{◌≡◌, ℕ, ◌+◌, ◌-◌, ◌<◌, ◌≤◌, ◌⊎◌, inl, inr, ltb, Bool, true, false, List, [], ◌∷◌, ◌++◌, All, Contains, Option, Some, None, Result, Ok, Err, get_or, length, slice_set, sum_by, take, length-set, get_or-set_same, get_or-set_other, ltb-true, leb-true, refl, sym, ap, subst, ◌∙◌, arith, true≢false}
-use Rattle.std.proofs.lemmas.Bool.{cases_Bool, cases_eq, cases_lt, le-ltb}
+use Rattle.std.proofs.Common.{◌≡◌, ℕ, ◌+◌, ◌-◌, ◌<◌, ◌≤◌, ◌⊎◌, inl, inr, Bool, true, false, List, [], ◌∷◌, ◌++◌, All, Contains, Option, Result, Err, get_or, length, slice_set, sum_by, take, length-set, get_or-set_same, ltb-true, leb-true, refl, sym, ap, subst, ◌∙◌, arith, true≢false}
+use Rattle.std.proofs.lemmas.Bool.{cases_lt}
 use Rattle.std.proofs.lemmas.List.{get_or-take, get_or_append_left, get_or_default, get_or_past, get_or_push, length-take-le, length_push}
 use Rattle.std.proofs.lemmas.List.Elements.{All-nil}
 use Rattle.std.proofs.lemmas.List.Sums.{sum_by-set}
@@ -9,14 +9,14 @@ use Rattle.derivation.specs.Grammar.{Sym, Rule, Token, Grammar, IsGrammar, IsSym
 use Rattle.derivation.proofs.Trees.{trees_from_derivation}
 use Rattle.cfgtables.proofs.Placed.{all_symbols}
 use Rattle.cfgsums.specs.declared.errors.CostError.{CostError}
-use Rattle.cfgsums.specs.declared.errors.CostError.TheVariants.{NoSentence, CostTooLarge}
+use Rattle.cfgsums.specs.declared.errors.CostError.TheVariants.{NoSentence}
 use Rattle.cfggreatest.specs.Words.{Means}
-use Rattle.cfggreatest.specs.Inner.AtLeast.{HasWord, IsAbove, IsDead}
+use Rattle.cfggreatest.specs.Inner.AtLeast.{HasWord, IsAbove}
 use Rattle.cfggreatest.specs.Inner.Groups.{AreGroups, IsLast}
 use Rattle.cfggreatest.specs.Inner.Known.{AreTrue, IsLiveSymbol, count_new, is_dead, is_inside, is_outside, known_of, no_rule}
 use Rattle.cfggreatest.specs.Inner.Live.{HaveSentences, is_live}
 use Rattle.cfggreatest.specs.Inner.Sums.{IsGroup}
-use Rattle.cfggreatest.specs.Inner.Walk.{CanTell, GoesOn, IsEdge, IsEdgeTo, IsLedOut, IsWalk, IsWayOut, Steps, TellsNoMore, first_known, left_to_do}
+use Rattle.cfggreatest.specs.Inner.Walk.{CanTell, GoesOn, IsEdge, IsEdgeTo, IsLedOut, IsWalk, IsWayOut, Steps, TellsNoMore, first_known}
 use Rattle.cfggreatest.specs.declared.sums.Known.{Known}
 use Rattle.cfggreatest.specs.declared.sums.Known.TheVariants.{New, Open, Told}
 use Rattle.cfggreatest.specs.declared.walk.Walk.{Walk}

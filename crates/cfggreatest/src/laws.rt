@@ -1,8 +1,9 @@
 //! Laws of greatest costs, which hold of every grammar.
 
-ghost use Rattle.std.specs.Prelude.{ℕ, Bool, IsTrue};
-ghost use Rattle.derivation.specs.Grammar.{Grammar, HasProduction};
-ghost use Rattle.derivation.specs.Costs.{Unbounded};
+ghost use Rattle.std.specs.Prelude.{ℕ, ◌≤◌, Bool, List, IsTrue};
+ghost use Rattle.derivation.specs.Grammar.{Grammar, IsGrammar, HasProduction};
+ghost use Rattle.derivation.specs.Sentence.{Sentence, cost_of};
+ghost use Rattle.derivation.specs.Costs.{Greatest, Unbounded};
 ghost use Rattle.cfggreatest.specs.Growth.{GrowsFromSet};
 
 /// Rules with sentences, each of which grows from one of them, have sentences that cost more than any number.
@@ -10,4 +11,11 @@ pub fn sets_that_grow_are_unbounded()
     ensures { (g : Grammar) (cost : ℕ → ℕ) (set : ℕ → Bool)
         → ((r : ℕ) → IsTrue (set r) → GrowsFromSet (HasProduction g) cost set r)
         → (r : ℕ) → IsTrue (set r) → Unbounded (HasProduction g) cost r }
+{}
+
+/// A rule with a sentence, none of whose sentences costs more than some number, has a greatest cost.
+pub fn bounded_rules_have_a_greatest_cost()
+    ensures { (g : Grammar) (cost : ℕ → ℕ) (r n : ℕ) (w : List ℕ) → IsGrammar g
+        → ((v : List ℕ) → Sentence (HasProduction g) r v → cost_of cost v ≤ n)
+        → Sentence (HasProduction g) r w → (c : ℕ) × Greatest (HasProduction g) cost r c }
 {}

@@ -234,7 +234,7 @@ fn take_rule<S: Storage, T: Tables<S>>(
     ensures stopped { IfErr result (IsStopped (HasProduction (T.grammar grm.now)) (slice_index costs.now) path.now start
         (T.grammar grm.now).rules known.now) }
 {
-    let _rules_len = grm.rules_len().0.to_usize();
+    grm.invariant_holds();
     let places = grm.rule_to_prods(RIdx(to_storage(path[place])));
     for p in places {
         take_row(known, costs, start, grm.prod(*p), sums)?;

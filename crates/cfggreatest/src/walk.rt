@@ -83,7 +83,7 @@ fn push_edges<S: Storage, T: Tables<S>>(
     requires edges { All (IsEdge (T.grammar grm.now)) edges.old.items }
     ensures { OnOk result (All (IsEdge (T.grammar grm.now)) edges.new.items) }
 {
-    let _rules_len = grm.rules_len().0.to_usize();
+    grm.invariant_holds();
     let places = grm.rule_to_prods(RIdx(to_storage(rule)));
     for p in places {
         let symbols = grm.prod(*p);

@@ -9,6 +9,7 @@ use Rattle.cfgtables.specs.Openings.{nth_production}
 use Rattle.cfgsums.specs.declared.errors.CostError.{CostError}
 use Rattle.cfgsums.specs.declared.errors.CostError.TheVariants.{NoSentence, CostTooLarge}
 use Rattle.cfgsums.specs.Lists.{rule_cost}
+use Rattle.cfgleast.specs.declared.settle.Settled.{Settled}
 use Rattle.cfgleast.specs.Certificate.{choice_of, rule_choice}
 use Rattle.cfgleast.specs.Inner.Settled.{AreSettled}
 
@@ -22,6 +23,10 @@ pub record CostTables : Type 0 where
 -- these, from the lists of the code
 abbrev pub tables_of : {S : Type 0} → (S → ℕ) → Grammar → List ℕ → List (Option ℕ) → List (Option (PIdx S × ℕ)) → CostTables
 tables_of number g costs least choices = record { grammar = g; costs = costs; least = least; choices = map (choice_of number) choices }
+
+-- the same, from what settling gives
+abbrev pub settled_tables : {S : Type 0} → (S → ℕ) → Grammar → List ℕ → Settled S → CostTables
+settled_tables number g costs settled = tables_of number g costs settled.least.items settled.choices.items
 
 -- what a token costs
 abbrev pub token_cost : CostTables → ℕ → ℕ
@@ -72,3 +77,7 @@ pub record IsGenerator (x : CostTables) (n : ℕ) : Type 0 where
   pub tokens : length x.costs ≡ x.grammar.tokens
   pub positive : All (λ c. 0 < c) x.costs
   pub settled : AreSettled x.grammar (token_cost x) x.least x.choices n
+
+-- the tables that settling gives are those of a generator
+abbrev pub IsGeneratorOf : {S : Type 0} → (S → ℕ) → Grammar → List ℕ → Settled S → Type 0
+IsGeneratorOf number g costs settled = IsGenerator (settled_tables number g costs settled) settled.number

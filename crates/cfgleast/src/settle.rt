@@ -142,7 +142,7 @@ fn settle_all<S: Storage, T: Tables<S>>(
     ensures { OnOk result (AreSettled (T.grammar grm.now) (slice_index costs.now) settled.new.least.items
         (map (choice_of S.number) settled.new.choices.items) settled.new.number) }
 {
-    let _rules_len = grm.rules_len().0.to_usize();
+    grm.invariant_holds();
     let prods_len = grm.prods_len().0.to_usize();
     start(grm, prods_len, costs, &settled.least, queue, waiting)?;
     while let Some(top) = queue.pop() {

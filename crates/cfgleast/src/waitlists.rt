@@ -1,7 +1,6 @@
 //! Productions that wait for a rule to be settled.
 
-ghost use Rattle.std.specs.Prelude.{◌≡◌, ◌<◌, ◌++◌, [], ◌∷◌, length, replicate, IfOk, OnOk};
-ghost use Rattle.std.specs.Prelude.{slice_set};
+ghost use Rattle.std.specs.Prelude.{◌≡◌, ◌<◌, ◌++◌, [], ◌∷◌, length, replicate, IfOk, OnOk, slice_set};
 ghost use Rattle.cfgleast.specs.Inner.Open.{waiting_for};
 
 use crate::partial::Partial;

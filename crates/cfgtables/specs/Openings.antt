@@ -1,5 +1,5 @@
 -- Productions by their places, and how often each was opened.
-use Rattle.std.specs.Prelude.{◌≡◌, ◌≢◌, ◌↔◌, ℕ, ◌+◌, ◌*◌, ◌<◌, List, [], All, Contains, length, slice_index_or}
+use Rattle.std.specs.Prelude.{◌≡◌, ◌≢◌, ◌↔◌, ℕ, ◌+◌, ◌*◌, ◌<◌, ◌≤◌, List, [], All, Contains, length, slice_index_or}
 use Rattle.derivation.specs.Grammar.{Grammar, Production}
 
 abbrev pub nth_production : Grammar → ℕ → Production
@@ -30,3 +30,8 @@ most_openings g = g.rules * (g.tokens + 1) + 1
 -- and for all of them together
 abbrev pub most_openings_all : Grammar → ℕ
 most_openings_all g = length g.productions * most_openings g
+
+-- each production was opened at most so often
+pub record AreOpenedAtMost (most : ℕ) (g : Grammar) (opened : ℕ → ℕ) (all : ℕ) : Type 0 where
+  pub each : (p : ℕ) → p < length g.productions → opened p ≤ most
+  pub together : all ≤ length g.productions * most

@@ -1,9 +1,8 @@
 //! Productions of borrowed tables, with counts of their own.
 
-ghost use Rattle.std.specs.Prelude.{◌≡◌, ◌<◌, ◌≤◌, All, length, map, replicate, IfOk};
+ghost use Rattle.std.specs.Prelude.{◌≡◌, ◌^◌, ◌<◌, ◌≤◌, All, length, map, replicate, IfOk};
 ghost use Rattle.derivation.specs.Grammar.{Grammar, IsGrammar};
-ghost use Rattle.cfgtables.specs.Openings.{nth_production};
-ghost use Rattle.cfgtables.specs.Openings.{ArePlacesOf};
+ghost use Rattle.cfgtables.specs.Openings.{ArePlacesOf, nth_production};
 ghost use Rattle.cfgtables.specs.Symbols.{sym_of};
 
 use crate::productions::Productions;
@@ -21,6 +20,18 @@ pub trait Tables<S: Storage> {
         ensures value { S.number result.0 ≡ (grammar self.now).rules }
         ensures content { IsGrammar (grammar self.now) }
         ensures fits { All (λ p. length p.symbols ≤ S.MAX) (grammar self.now).productions };
+
+    /// A law, so the call does nothing: the tables are those of a grammar that `S` counts.
+    fn invariant_holds(&self)
+        ensures content { IsGrammar (grammar self.now) }
+        ensures rules { (grammar self.now).rules ≤ S.MAX }
+        ensures productions { length (grammar self.now).productions ≤ S.MAX }
+        ensures fits { All (λ p. length p.symbols ≤ S.MAX) (grammar self.now).productions }
+        ensures limit { S.MAX < 2 ^ 32 }
+    {
+        let _rules = self.rules_len().0.to_usize();
+        let _productions = self.prods_len().0.to_usize();
+    }
 
     /// How many tokens there are, with the end token.
     fn tokens_len(&self) -> TIdx<S>

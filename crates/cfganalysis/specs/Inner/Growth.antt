@@ -1,7 +1,7 @@
 -- Sets that grow by what productions give; what a production gives depends on the sets of the rules on which it rests.
-use Rattle.std.specs.Prelude.{◌≡◌, ℕ, ◌+◌, ◌-◌, ◌*◌, ◌<◌, ◌≤◌, ◌⊎◌, ◌↔◌, Bool, false, cond, List, length, Contains}
+use Rattle.std.specs.Prelude.{◌≡◌, ℕ, ◌+◌, ◌-◌, ◌*◌, ◌^◌, ◌<◌, ◌≤◌, ◌⊎◌, ◌↔◌, Bool, false, cond, List, length, Contains}
 use Rattle.derivation.specs.Grammar.{Grammar, Production, IsGrammar}
-use Rattle.cfgtables.specs.Openings.{nth_production}
+use Rattle.cfgtables.specs.Openings.{most_openings, most_openings_all, nth_production}
 use Rattle.cfganalysis.specs.Table.{bits_on}
 use Rattle.cfganalysis.specs.Inner.Waiting.{waits, Waits, NoneWaits}
 use Rattle.cfganalysis.specs.Inner.Work.{users_of, RestsOnGained}
@@ -46,6 +46,13 @@ module _ {X : Type 0} (holds : Grammar → X → Type 0) (covers : X → Product
       pub closed : (n : ℕ) → ((r : ℕ) → rests_on p r → Contains (users_of users r) n) → waits waiting' n ≡ false → covers new p
       pub stays : (q : Production) (n : ℕ) → ((r : ℕ) → rests_on q r → Contains (users_of users r) n) → waits waiting' n ≡ false
           → covers old q → covers new q
+
+-- productions that can all be opened as often as it may be needed: they are counted up to `most`, and so are their openings
+pub record CanVisit (most : ℕ) (g : Grammar) : Type 0 where
+  pub grammar : IsGrammar g
+  pub fits : length g.productions ≤ most
+  pub small : most_openings g < 2 ^ 64 - 1
+  pub all_small : most_openings_all g < 2 ^ 128 - 1
 
 -- no production gives more
 abbrev pub CoversEach : {X : Type 0} → (X → Production → Type 0) → Grammar → X → Type 0

@@ -84,7 +84,7 @@ impl<'a, S: Storage, T: Tables<S>> TightTables<'a, S, T> {
             < left_to_open self.now.tables (map (choice_of S.number) choices.now)
             (map (sym_of S.number) pending.old.items))) }
     {
-        let _rules = self.rules_len();
+        self.invariant_holds();
         while let Some(symbol) = pending.pop() {
             match symbol {
                 Symbol::Token(token) => return Ok(Some(token)),

@@ -1,7 +1,7 @@
 //! Levels of rules that cost the same, by rising cost.
 
 ghost use Rattle.std.specs.Prelude.{◌+◌, ◌<◌, IfOk, OnOk};
-ghost use Rattle.cfgleast.specs.Generator.{IsGenerator, tables_of};
+ghost use Rattle.cfgleast.specs.Generator.{IsGeneratorOf, settled_tables, tables_of};
 ghost use Rattle.cfgchoices.specs.Inner.FirstChoices.{AreFirst, Walks};
 ghost use Rattle.cfgchoices.specs.Inner.Kinds.{AreKinds};
 ghost use Rattle.cfgchoices.specs.Inner.Offers.{Climbed, chosen_tables, offers_of};
@@ -31,7 +31,7 @@ impl<S: Storage> Firsts<S> {
         requires within { cost < tight.now.limit }
         ensures { OnOk result (Climbed tight.now (offers_of S.number self.new) (cost + 1)) }
     {
-        let _rules = tight.rules_len();
+        tight.invariant_holds();
         self.cost = cost;
         self.offer_listed(tight, Listed::Own(cost))?;
         self.choose_all(tight)?;
@@ -48,7 +48,7 @@ impl<S: Storage> Firsts<S> {
         ensures walks { OnOk result (Walks (chosen_tables tight.now.tables (offers_of S.number self.new))) }
         ensures first { OnOk result (AreFirst (chosen_tables tight.now.tables (offers_of S.number self.new))) }
     {
-        let _rules = tight.rules_len();
+        tight.invariant_holds();
         for cost in 1..tight.costs_len() {
             self.choose_level(tight, cost)?;
         }
@@ -69,10 +69,9 @@ pub fn first_choices<S: Storage, T: Tables<S>>(
     settled: &Settled<S>,
     kinds: &[Kind<S>],
 ) -> Result<Vec<Option<(PIdx<S>, u32)>>, AllocError>
-    requires generator { IsGenerator (tables_of S.number (T.grammar tables.now) costs.now settled.now.least.items
-        settled.now.choices.items) settled.now.number }
-    requires kinds { AreKinds S.number (tables_of S.number (T.grammar tables.now) costs.now
-        settled.now.least.items settled.now.choices.items) kinds.now }
+    requires generator { IsGeneratorOf S.number (T.grammar tables.now) costs.now settled.now }
+    requires kinds { AreKinds S.number (settled_tables S.number (T.grammar tables.now) costs.now settled.now)
+        kinds.now }
     ensures walks { IfOk result (λ firsts. Walks (tables_of S.number (T.grammar tables.now) costs.now
         settled.now.least.items firsts.items)) }
     ensures first { IfOk result (λ firsts. AreFirst (tables_of S.number (T.grammar tables.now) costs.now

@@ -2,7 +2,7 @@
 
 ghost use Rattle.std.specs.Prelude.{◌≡◌, ℕ, ◌+◌, ◌<◌, IfOk, None, Some, length, replicate};
 ghost use Rattle.cfgsums.specs.Lists.{rule_cost};
-ghost use Rattle.cfgleast.specs.Generator.{IsGenerator, tables_of};
+ghost use Rattle.cfgleast.specs.Generator.{IsGeneratorOf, settled_tables};
 ghost use Rattle.cfgchoices.specs.Inner.Kinds.{AreKinds, IsKind};
 ghost use Rattle.cfgchoices.specs.Inner.Lists.{AreLists};
 
@@ -68,17 +68,16 @@ impl<S: Storage> Lists<S> {
         kind: Kind<S>,
         p: PIdx<S>,
     )
-        requires generator { IsGenerator (tables_of S.number (T.grammar tables.now) costs.now settled.now.least.items
-            settled.now.choices.items) settled.now.number }
+        requires generator { IsGeneratorOf S.number (T.grammar tables.now) costs.now settled.now }
         requires place { S.number p.0 < length (T.grammar tables.now).productions }
-        requires kind { IsKind S.number (tables_of S.number (T.grammar tables.now) costs.now settled.now.least.items
-            settled.now.choices.items) (S.number p.0) kind }
-        requires lists { AreLists S.number (tables_of S.number (T.grammar tables.now) costs.now
-            settled.now.least.items settled.now.choices.items) (S.number p.0 + 1) self.old }
-        ensures { AreLists S.number (tables_of S.number (T.grammar tables.now) costs.now
-            settled.now.least.items settled.now.choices.items) (S.number p.0) self.new }
+        requires kind { IsKind S.number (settled_tables S.number (T.grammar tables.now) costs.now settled.now)
+            (S.number p.0) kind }
+        requires lists { AreLists S.number (settled_tables S.number (T.grammar tables.now) costs.now settled.now)
+            (S.number p.0 + 1) self.old }
+        ensures { AreLists S.number (settled_tables S.number (T.grammar tables.now) costs.now settled.now)
+            (S.number p.0) self.new }
     {
-        let _rules = tables.rules_len();
+        tables.invariant_holds();
         match kind {
             Kind::Slack => {}
             Kind::Own => {
@@ -106,14 +105,13 @@ impl<S: Storage> Lists<S> {
         settled: &Settled<S>,
         kinds: &[Kind<S>],
     ) -> Result<Self, AllocError>
-        requires generator { IsGenerator (tables_of S.number (T.grammar tables.now) costs.now settled.now.least.items
-            settled.now.choices.items) settled.now.number }
-        requires kinds { AreKinds S.number (tables_of S.number (T.grammar tables.now) costs.now
-            settled.now.least.items settled.now.choices.items) kinds.now }
-        ensures { IfOk result (AreLists S.number (tables_of S.number (T.grammar tables.now) costs.now
-            settled.now.least.items settled.now.choices.items) 0) }
+        requires generator { IsGeneratorOf S.number (T.grammar tables.now) costs.now settled.now }
+        requires kinds { AreKinds S.number (settled_tables S.number (T.grammar tables.now) costs.now settled.now)
+            kinds.now }
+        ensures { IfOk result (AreLists S.number (settled_tables S.number (T.grammar tables.now) costs.now settled.now)
+            0) }
     {
-        let _prods = tables.prods_len().0.to_usize();
+        tables.invariant_holds();
         let mut lists = Lists {
             own: no_productions(alloc, costs_len(&settled.least))?,
             handing: no_productions(alloc, usize::from(tables.rules_len()))?,

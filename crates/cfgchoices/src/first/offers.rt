@@ -102,7 +102,7 @@ impl<S: Storage> Firsts<S> {
         ensures { IfOk result (λ is. is ≡ true
             → IsHandled tight.now.tables (offers_of S.number self.now) (S.number p.0)) }
     {
-        let _rules = tight.rules_len();
+        tight.invariant_holds();
         let rule = usize::from(tight.rule_of(p));
         if self.choices[rule].is_some() {
             return Ok(true);
@@ -222,7 +222,7 @@ impl<S: Storage> Firsts<S> {
             (left_to_choose tight.now (offers_of S.number self.new) < left_to_choose tight.now (offers_of S.number self.old))
             (waiting (offers_of S.number self.new) ≡ 0)) }
     {
-        let _rules = tight.rules_len();
+        tight.invariant_holds();
         let Some(p) = self.next() else {
             return Ok(false);
         };

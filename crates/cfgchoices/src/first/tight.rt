@@ -3,7 +3,7 @@
 ghost use Rattle.std.specs.Prelude.{◌≡◌, ℕ, ◌+◌, ◌^◌, ◌<◌, All, Contains, IfOk, false, length, map, slice_index_or, true};
 ghost use Rattle.cfgtables.specs.Openings.{nth_production};
 ghost use Rattle.cfgtables.specs.Symbols.{sym_of};
-ghost use Rattle.cfgleast.specs.Generator.{IsGenerator, tables_of};
+ghost use Rattle.cfgleast.specs.Generator.{IsGeneratorOf, settled_tables};
 ghost use Rattle.cfgchoices.specs.Inner.Kinds.{AreKinds, IsHeir, places_of};
 ghost use Rattle.cfgchoices.specs.Inner.Lists.{IsFirstFrom, IsIn, IsOwnAt};
 ghost use Rattle.cfgchoices.specs.Inner.Offers.{HasList, IsCounted, IsKnown, is_alone, owner, row};
@@ -34,7 +34,7 @@ fn alone_rules<S: Storage, T: Tables<S>>(
         → (nth_production (T.grammar tables.now) p).rule ≡ r → (nth_production (T.grammar tables.now) q).rule ≡ r
         → p ≡ q) }
 {
-    let _prods = tables.prods_len().0.to_usize();
+    tables.invariant_holds();
     let rules_len = usize::from(tables.rules_len());
     let mut alone = vec![in alloc; true; rules_len]?;
     let mut seen = vec![in alloc; false; rules_len]?;
@@ -64,28 +64,25 @@ pub(crate) struct TightTables<'a, S: Storage, T: Tables<S>> {
 
 impl<'a, S: Storage, T: Tables<S>> Model for TightTables<'a, S, T> {
     ghost use Rattle.std.specs.Prelude.{length};
-    ghost use Rattle.cfgleast.specs.Generator.{tables_of};
+    ghost use Rattle.cfgleast.specs.Generator.{settled_tables};
     ghost use Rattle.cfgchoices.specs.Inner.Lists.{AreLists};
     ghost use Rattle.cfgchoices.specs.Inner.Offers.{IsKnown, Known};
 
     ghost Value = { Known };
 
     ghost view = { λ x. record {
-      tables = tables_of S.number (T.grammar x.tables.now) x.costs.now
-          x.settled.now.least.items x.settled.now.choices.items;
+      tables = settled_tables S.number (T.grammar x.tables.now) x.costs.now x.settled.now;
       alone = x.alone.items;
       limit = length x.lists.own.items;
     } };
 
     ghost invariant = { λ x. IsKnown (record {
-      tables = tables_of S.number (T.grammar x.tables.now) x.costs.now
-          x.settled.now.least.items x.settled.now.choices.items;
+      tables = settled_tables S.number (T.grammar x.tables.now) x.costs.now x.settled.now;
       alone = x.alone.items;
       limit = length x.lists.own.items;
     })
         x.settled.now.number
-        × AreLists S.number (tables_of S.number (T.grammar x.tables.now) x.costs.now x.settled.now.least.items
-        x.settled.now.choices.items) 0 x.lists };
+        × AreLists S.number (settled_tables S.number (T.grammar x.tables.now) x.costs.now x.settled.now) 0 x.lists };
 }
 
 impl<'a, S: Storage, T: Tables<S>> TightTables<'a, S, T> {
@@ -101,14 +98,12 @@ impl<'a, S: Storage, T: Tables<S>> TightTables<'a, S, T> {
         settled: &'a Settled<S>,
         kinds: &'a [Kind<S>],
     ) -> Result<Self, AllocError>
-        requires generator { IsGenerator (tables_of S.number (T.grammar tables.now) costs.now settled.now.least.items
-            settled.now.choices.items) settled.now.number }
-        requires kinds { AreKinds S.number (tables_of S.number (T.grammar tables.now) costs.now
-            settled.now.least.items settled.now.choices.items) kinds.now }
-        ensures { IfOk result (λ x. x.tables ≡ tables_of S.number (T.grammar tables.now) costs.now
-            settled.now.least.items settled.now.choices.items) }
+        requires generator { IsGeneratorOf S.number (T.grammar tables.now) costs.now settled.now }
+        requires kinds { AreKinds S.number (settled_tables S.number (T.grammar tables.now) costs.now settled.now)
+            kinds.now }
+        ensures { IfOk result (λ x. x.tables ≡ settled_tables S.number (T.grammar tables.now) costs.now settled.now) }
     {
-        let _rules = tables.rules_len();
+        tables.invariant_holds();
         let alone = alone_rules(alloc, tables, kinds)?;
         let lists = Lists::new(alloc, tables, costs, settled, kinds)?;
         Ok(TightTables {
@@ -120,10 +115,16 @@ impl<'a, S: Storage, T: Tables<S>> TightTables<'a, S, T> {
         })
     }
 
+    /// A law, so the call does nothing: what is known of the productions is so.
+    pub(crate) fn invariant_holds(&self)
+        ensures { (n : ℕ) × IsKnown self.now n }
+    {
+        let _costs = &self.costs;
+    }
+
     /// How many rules there are.
     pub(crate) fn rules_len(&self) -> usize
-        ensures value { result ≡ self.now.tables.grammar.rules }
-        ensures known { (n : ℕ) × IsKnown self.now n }
+        ensures { result ≡ self.now.tables.grammar.rules }
     {
         usize::from(self.tables.rules_len())
     }
@@ -142,7 +143,7 @@ impl<'a, S: Storage, T: Tables<S>> TightTables<'a, S, T> {
         ensures within { S.number result.0 < self.now.tables.grammar.rules }
         ensures limit { self.now.tables.grammar.rules < 2 ^ 32 }
     {
-        let _rules = self.tables.rules_len().0.to_usize();
+        self.tables.invariant_holds();
         self.tables.prod_to_rule(p)
     }
 

@@ -26,7 +26,7 @@ impl<'a, S: Storage, T: Tables<S>> SentenceGenerator<'a, S, T> {
         requires { S.number rule.0 < self.now.grammar.rules }
         ensures { HasSameSentences self.now (S.number rule.0) (S.number result.0) }
     {
-        let _rules = self.tables.rules_len();
+        self.invariant_holds();
         self.last_heirs[usize::from(rule)]
     }
 
@@ -72,7 +72,7 @@ impl<'a, S: Storage, T: Tables<S>> SentenceGenerator<'a, S, T> {
         requires ready { IsReadyFor self.now (sentences_in S.number table.now) (S.number rule.0) }
         ensures { IfOk result (λ words. AreMinimal self.now (S.number rule.0) (words_of S.number words)) }
     {
-        let _rules = self.tables.rules_len();
+        self.invariant_holds();
         if self.is_free(rule) {
             let mut words = Vec::new(alloc);
             words.push(Vec::new(alloc))?;
@@ -92,7 +92,7 @@ impl<'a, S: Storage, T: Tables<S>> SentenceGenerator<'a, S, T> {
         requires known { (c : ℕ) × (cost_answer self.now (S.number rule.0) ≡ Some c) }
         ensures { IfOk result (λ words. AreMinimal self.now (S.number rule.0) (words_of S.number words)) }
     {
-        let _rules = self.tables.rules_len().0.to_usize();
+        self.invariant_holds();
         let mut table = BTreeMap::new(alloc);
         let mut asked = self.asked_rules(alloc, rule)?;
         while let Some((_, number)) = asked.pop() {

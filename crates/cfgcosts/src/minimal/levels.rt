@@ -3,9 +3,8 @@
 ghost use Rattle.std.specs.Prelude.{◌≡◌, ◌↔◌, ℕ, ◌<◌, Contains, IfOk, OnOk, length};
 ghost use Rattle.cfgtables.specs.Openings.{nth_production};
 ghost use Rattle.search.specs.Reached.{Reaches};
-ghost use Rattle.cfgchoices.specs.Inner.Kinds.{HasHeir, HasNoHeir, IsHeir, places_of};
+ghost use Rattle.cfgchoices.specs.Inner.Kinds.{HasHeir, HasNoHeir, IsHeir, IsOwnBelow, places_of};
 ghost use Rattle.cfgcosts.specs.Inner.Minimal.{Lists};
-ghost use Rattle.cfgchoices.specs.Inner.Kinds.{IsOwnBelow};
 
 use crate::generator::SentenceGenerator;
 use cfgchoices::kinds::Kind;

@@ -1,5 +1,5 @@
 -- What productions of a group's rules cost, beside the rules of the group.
-use Rattle.std.specs.Prelude.{◌≡◌, ℕ, ◌+◌, ◌*◌, ◌<◌, ◌≤◌, ◌⊎◌, ◌||◌, nat_lt, min, max, Bool, true, false, List, [], ◌∷◌, All, Contains, Option, Result, Ok, Err, length, slice_index, sum_by}
+use Rattle.std.specs.Prelude.{◌≡◌, ℕ, ◌+◌, ◌*◌, ◌<◌, ◌≤◌, ◌⊎◌, ◌||◌, nat_lt, min, max, true, false, List, [], ◌∷◌, All, Contains, Option, Ok, Err, length, slice_index, sum_by}
 use Rattle.derivation.specs.Grammar.{Sym, Rule, Grammar, HasProduction}
 use Rattle.cfggreatest.specs.Inner.AtLeast.{AtLeast, HasWord, IsAbove, IsDead, weigh}
 use Rattle.cfggreatest.specs.Inner.Known.{AreTrue, IsLiveSymbol, is_dead, is_outside, known_cost, known_of, read_symbol}

@@ -1,7 +1,6 @@
 -- Productions on the way to their sums: they are queued when their rules are all settled, and till then wait for a rule.
 -- `settled` says which rules are settled, and at which cost.
-use Rattle.std.specs.Prelude.{◌≡◌, ℕ, ◌+◌, ◌<◌, ◌≤◌, ◌++◌, min, List, [], ◌∷◌, Option, Some, None, All, Contains, length, take, drop, sum_by, slice_index_or, slice_set}
-use Rattle.std.specs.Prelude.{Vec}
+use Rattle.std.specs.Prelude.{◌≡◌, ℕ, ◌+◌, ◌<◌, ◌≤◌, ◌++◌, min, List, [], ◌∷◌, Option, Some, None, All, Contains, length, take, drop, sum_by, slice_index_or, slice_set, Vec}
 use Rattle.std.specs.declared.alloc.Global.{Global}
 use Rattle.std.specs.List.Sorted.{IsPermutation}
 use Rattle.derivation.specs.Grammar.{Sym, Rule, Grammar, IsGrammar}

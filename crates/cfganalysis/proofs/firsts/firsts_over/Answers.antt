@@ -1,6 +1,6 @@
 use Rattle.std.proofs.Common.{sym, subst, ◌∙◌}
 use Rattle.cfganalysis.specs.Inner.GrowingFirsts.{SayFirsts}
-use Rattle.cfganalysis.proofs.Fitting.{openings_fit}
+use Rattle.cfganalysis.proofs.Fitting.{openings_fit, still_few}
 use Rattle.cfganalysis.proofs.FirstBits.{are_firsts, say_none}
 use Rattle.cfganalysis.proofs.firsts.firsts_over.Goals as goal
 
@@ -18,3 +18,6 @@ visit_all-requires-clause-holds g c =
 
 pub returns-clause-firsts : goal.returns-clause-firsts
 returns-clause-firsts g c = are_firsts _ _ c.in_ok-visit_all.ensures.holds c.in_ok-visit_all.ensures.covered
+
+pub returns-in_err-firsts-clause-few : goal.returns-in_err-firsts-clause-few
+returns-in_err-firsts-clause-few g c = still_few _ _ _ _ c.requires.fresh c.requires.all_fresh

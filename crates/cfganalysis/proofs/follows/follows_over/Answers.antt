@@ -1,7 +1,7 @@
 use Rattle.std.proofs.Common.{sym, ap, ◌∙◌, subst, arith}
 use Rattle.cfganalysis.specs.Follows.{AreFollows}
 use Rattle.cfganalysis.specs.Inner.GrowingFollows.{SayFollows}
-use Rattle.cfganalysis.proofs.Fitting.{openings_fit}
+use Rattle.cfganalysis.proofs.Fitting.{openings_fit, still_few}
 use Rattle.cfganalysis.proofs.FollowBits.{are_follows, say_start}
 use Rattle.cfganalysis.proofs.follows.follows_over.Goals as goal
 
@@ -16,11 +16,14 @@ visit_all-requires-clause-small g c =
     (c.to_usize-rules.ensures.value ∙ c.rules_len.ensures.value) (c.to_usize-tokens.ensures.value ∙ c.tokens_len.ensures)
     c.to_usize-rules.ensures.range c.to_usize-tokens.ensures.range c.to_usize-rules.ensures.limit
 
-pub returns-clause-follows : goal.returns-clause-follows
-returns-clause-follows g c =
-    subst (λ x. AreFollows (g.P.Productions.content c.args.productions.now) x)
-    (sym (ap (λ x. x.sets.follows) c.analysis-inside.view_is ∙ ap (λ x. x.follows) c.analysis.view_is))
-    (are_follows _ _ c.in_ok-visit_all.ensures.holds c.in_ok-visit_all.ensures.covered)
+pub returns : goal.returns
+returns g c = record {
+  follows = subst (λ x. AreFollows (g.P.Productions.content c.args.productions.now) x)
+      (sym (ap (λ x. x.sets.follows) c.analysis-inside.view_is ∙ ap (λ x. x.follows) c.analysis.view_is))
+      (are_follows _ _ c.in_ok-visit_all.ensures.holds c.in_ok-visit_all.ensures.covered);
+  content = c.in_ok-visit_all.ensures.content;
+  few = c.in_ok-visit_all.ensures.few;
+}
 
 pub visit_all-requires-clause-grammar : goal.visit_all-requires-clause-grammar
 visit_all-requires-clause-grammar g c = c.rules_len.ensures.content
@@ -31,26 +34,11 @@ visit_all-requires-clause-fresh g c = c.requires.fresh
 pub visit_all-requires-clause-all_fresh : goal.visit_all-requires-clause-all_fresh
 visit_all-requires-clause-all_fresh g c = c.requires.all_fresh
 
-pub returns-in_err-analysis-clause-counts : goal.returns-in_err-analysis-clause-counts
-returns-in_err-analysis-clause-counts g c = λ q lt. let none = c.requires.fresh q lt in omega (arith, none)
-
-pub returns-in_err-analysis-clause-all_counts : goal.returns-in_err-analysis-clause-all_counts
-returns-in_err-analysis-clause-all_counts g c = omega (arith, c.requires.all_fresh)
+pub returns-in_err-analysis-clause-few : goal.returns-in_err-analysis-clause-few
+returns-in_err-analysis-clause-few g c = still_few _ _ _ _ c.requires.fresh c.requires.all_fresh
 
 pub returns-in_err-visit_all-clause-content : goal.returns-in_err-visit_all-clause-content
 returns-in_err-visit_all-clause-content g c = c.in_err-visit_all.ensures.content
 
-pub returns-in_err-visit_all-clause-counts : goal.returns-in_err-visit_all-clause-counts
-returns-in_err-visit_all-clause-counts g c = c.in_err-visit_all.ensures.counts
-
-pub returns-in_err-visit_all-clause-all_counts : goal.returns-in_err-visit_all-clause-all_counts
-returns-in_err-visit_all-clause-all_counts g c = c.in_err-visit_all.ensures.all_counts
-
-pub returns-clause-content : goal.returns-clause-content
-returns-clause-content g c = c.in_ok-visit_all.ensures.content
-
-pub returns-clause-counts : goal.returns-clause-counts
-returns-clause-counts g c = c.in_ok-visit_all.ensures.counts
-
-pub returns-clause-all_counts : goal.returns-clause-all_counts
-returns-clause-all_counts g c = c.in_ok-visit_all.ensures.all_counts
+pub returns-in_err-visit_all-clause-few : goal.returns-in_err-visit_all-clause-few
+returns-in_err-visit_all-clause-few g c = c.in_err-visit_all.ensures.few

@@ -6,12 +6,12 @@ use Rattle.cfganalysis.proofs.visits.visit_first.Goals as goal
 pub open-symbols-requires-clause-all_countable : goal.open-symbols-requires-clause-all_countable
 open-symbols-requires-clause-all_countable g c =
     let w = c.requires.visited in
-    all_below _ _ _ _ _ _ _ _ _ _ _ _ w _ c.requires.number (g.met.A.Analysis.bounded _ _ w.sound) c.requires.all_small
+    all_below _ _ _ _ _ _ _ _ _ _ _ _ w _ c.requires.number (g.met.A.Analysis.bounded _ _ w.sound) c.requires.can.all_small
 
 pub note-requires : goal.note-requires
 note-requires g c = (
   g.P.Productions.content c.args.productions.now,
-  c.requires.grammar,
+  c.requires.can.grammar,
   c.requires.visited.rules,
   at_place (g.P.Productions.content c.args.productions.now) (g.S.Storage.number c.to_storage.result) _
       (omega (arith, c.to_storage.ensures, c.requires.number)) c.rule_of-rule.ensures c.open-symbols.ensures.symbols,
@@ -21,7 +21,7 @@ pub take_in-requires-clause-grammar : goal.take_in-requires-clause-grammar
 take_in-requires-clause-grammar g c =
     let w = c.requires.visited in (
       g.P.Productions.content c.args.productions.now,
-      c.requires.grammar,
+      c.requires.can.grammar,
       w.sound,
       w.idle,
       w.gains,
@@ -35,6 +35,6 @@ take_in-requires-clause-within g c = noted_within _ _ _ _ _ _ _ _ _ _ _ _ c.requ
 
 pub returns-clause-visited : goal.returns-clause-visited
 returns-clause-visited g c =
-    visited_first _ _ _ _ _ _ _ _ _ _ _ _ c.requires.visited _ _ _ _ _ _ _ _ _ _ _ c.requires.grammar c.requires.number c.to_storage.ensures
+    visited_first _ _ _ _ _ _ _ _ _ _ _ _ c.requires.visited _ _ _ _ _ _ _ _ _ _ _ c.requires.can.grammar c.requires.number c.to_storage.ensures
     c.rule_of-rule.ensures c.open-symbols.ensures.symbols c.open-symbols.follows.holds-at-none c.in_ok-note.ensures c.take_in.ensures.takes
     c.take_in.ensures.users c.take_in.ensures.gained c.take_in.ensures.rules

@@ -1,12 +1,13 @@
 use Rattle.std.proofs.Common.{◌<◌, length, arith, refl, sym, subst, ap, length-set, false}
 use Rattle.cfgtables.proofs.Placed.{at_place}
+use Rattle.cfganalysis.specs.Inner.Growth.{left_to_do}
 use Rattle.cfganalysis.proofs.Visiting.{all_again, few_opened, visited_next, visited_less}
 use Rattle.cfganalysis.proofs.visits.visit_next.Goals as goal
 
 pub open-requires-clause-all_countable : goal.open-requires-clause-all_countable
 open-requires-clause-all_countable g c =
     let w = c.requires.visited in
-    all_again _ _ _ _ _ _ _ _ _ _ _ _ w _ _ _ refl c.in-Some.ensures (g.met.A.Analysis.bounded _ _ w.sound) c.requires.all_small
+    all_again _ _ _ _ _ _ _ _ _ _ _ _ w _ _ _ refl c.in-Some.ensures (g.met.A.Analysis.bounded _ _ w.sound) c.requires.can.all_small
 
 pub take_in-requires-clause-within : goal.take_in-requires-clause-within
 take_in-requires-clause-within g c =
@@ -16,17 +17,21 @@ take_in-requires-clause-within g c =
 
 pub returns-clause-visited : goal.returns-clause-visited
 returns-clause-visited g c =
-    visited_next _ _ _ _ _ _ _ _ _ _ _ _ c.requires.visited _ _ _ _ _ _ _ _ _ _ _ _ c.requires.grammar refl c.to_storage.ensures
+    visited_next _ _ _ _ _ _ _ _ _ _ _ _ c.requires.visited _ _ _ _ _ _ _ _ _ _ _ _ c.requires.can.grammar refl c.to_storage.ensures
     c.rule_of-rule.ensures c.open.ensures.symbols c.in-Some.ensures c.open.follows.holds-at-none c.take_in.ensures.takes
     c.take_in.ensures.users c.take_in.ensures.gained c.take_in.ensures.rules
 
 pub returns-clause-less : goal.returns-clause-less
 returns-clause-less g c =
-    visited_less _ _ _ _ _ _ _ _ _ _ _ _ c.requires.visited _ _ _ _ _ _ (g.met.A.Analysis.bounded _ _ (returns-clause-visited g c).sound)
-    c.in-Some.ensures c.take_in.ensures.takes
+    let w = c.requires.visited in
+    let same = c.open.follows.holds-at-none.stays in
+    let sound = subst (λ h. g.A.Analysis.holds h c.take_in.new.analysis) same (returns-clause-visited g c).sound in
+    subst (λ h. left_to_do h (g.A.Analysis.bits c.take_in.new.analysis) c.take_in.new.work.waiting
+    < left_to_do (g.P.Productions.content c.args.productions.now) (g.A.Analysis.bits c.args.analysis.now) c.args.work.now.waiting) (sym same)
+    (visited_less _ _ _ _ _ _ _ _ _ _ _ _ w _ _ _ _ _ _ (g.met.A.Analysis.bounded _ _ sound) c.in-Some.ensures c.take_in.ensures.takes)
 
 pub to_storage-requires : goal.to_storage-requires
-to_storage-requires g c = omega (arith, c.requires.visited.known c.in-Some.number c.in-Some.ensures.waited, c.requires.fits)
+to_storage-requires g c = omega (arith, c.requires.visited.known c.in-Some.number c.in-Some.ensures.waited, c.requires.can.fits)
 
 pub rule_of-rule-requires : goal.rule_of-rule-requires
 rule_of-rule-requires g c = subst (λ n. n < length (g.P.Productions.content c.args.productions.now).productions) (sym c.to_storage.ensures)
@@ -41,8 +46,8 @@ open-requires-clause-countable g c =
     let w = c.requires.visited in
     let place = subst (λ n. n < length (g.P.Productions.content c.args.productions.now).productions) (sym c.to_storage.ensures)
     (w.known c.in-Some.number c.in-Some.ensures.waited) in
-    let few = few_opened _ _ _ _ _ _ _ _ _ _ _ _ w _ (g.S.Storage.number c.to_storage.result) (g.met.A.Analysis.bounded _ _ w.sound) place in
-    omega (arith, few, c.requires.small)
+    let few = (few_opened _ _ _ _ _ _ _ _ _ _ _ _ w _ (g.met.A.Analysis.bounded _ _ w.sound) (omega arith)).each (g.S.Storage.number c.to_storage.result) place in
+    omega (arith, few, c.requires.can.small)
 
 pub take_in-requires-clause-grammar : goal.take_in-requires-clause-grammar
 take_in-requires-clause-grammar g c =
@@ -50,7 +55,7 @@ take_in-requires-clause-grammar g c =
     let place = subst (λ n. n < length (g.P.Productions.content c.args.productions.now).productions) (sym c.to_storage.ensures)
     (w.known c.in-Some.number c.in-Some.ensures.waited) in (
       g.P.Productions.content c.args.productions.now,
-      c.requires.grammar,
+      c.requires.can.grammar,
       w.sound,
       w.idle,
       w.gains,

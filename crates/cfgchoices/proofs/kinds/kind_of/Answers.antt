@@ -19,7 +19,7 @@ returns-in-Some g c =
     let p = number c.args.p.0 in
     let rule = (nth_production grammar p).rule in
     let at = subst (λ m. c.index.result.now ≡ get_or least m c.index.result.now) (c.from-rule.ensures ∙ c.prod_to_rule.ensures) c.index.ensures in
-    let entry = entry_read x _ c.requires.generator least rule c.index.result.now refl (owner_within grammar p c.rules_len-rules.ensures.content c.requires.place) at in
+    let entry = entry_read x _ c.requires.generator least rule c.index.result.now refl (owner_within grammar p c.invariant_holds.ensures.content c.requires.place) at in
     kind_told x p c.in-Some.cost c.requires.place (entry ∙ c.in-Some.is) (omega (arith, c.if-cost-gt0.true)) (omega (arith, c.if-cost-lt-TOO_LARGE.true)) number c.row_kind.result
     (subst (λ a. IsRowKind number (slice_index c.args.costs.now) (rule_cost least) c.in-Some.cost a c.row_kind.result) c.prod.ensures
     (subst (λ l. IsRowKind number (slice_index c.args.costs.now) (rule_cost l) c.in-Some.cost (map (sym_of number) c.prod.result.now) c.row_kind.result) c.deref.ensures.value c.row_kind.ensures))

@@ -13,11 +13,9 @@ loop-number-preserved g c = record {
       (record { 0 = c.to_storage.result }) c.cost.result c.loop-number.invariant.len c.in_ok-push.ensures.items c.to_storage.ensures c.cost.ensures c.loop-number.invariant.costs;
 }
 
-pub returns-clause-positive : goal.returns-clause-positive
-returns-clause-positive g c = c.loop-number.invariant.positive
-
-pub returns-clause-len : goal.returns-clause-len
-returns-clause-len g c = omega (arith, c.loop-number.invariant.len, c.loop-number-test.false, c.loop-number.auto.number-end)
-
-pub returns-clause-costs : goal.returns-clause-costs
-returns-clause-costs g c = λ t within. c.loop-number.invariant.costs t (omega (arith, within, c.loop-number-test.false))
+pub returns : goal.returns
+returns g c = record {
+  positive = c.loop-number.invariant.positive;
+  len = omega (arith, c.loop-number.invariant.len, c.loop-number-test.false, c.loop-number.auto.number-end);
+  costs = λ t within. c.loop-number.invariant.costs t (omega (arith, within, c.loop-number-test.false));
+}

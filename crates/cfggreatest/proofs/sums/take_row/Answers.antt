@@ -1,4 +1,4 @@
-use Rattle.std.proofs.Common.{◌≡◌, ◌∙◌, inl, inr, length, refl}
+use Rattle.std.proofs.Common.{inl, length, refl}
 use Rattle.std.proofs.lemmas.Result.{err_from_is_err_and}
 use Rattle.cfggreatest.proofs.sums.take_row.Goals as goal
 

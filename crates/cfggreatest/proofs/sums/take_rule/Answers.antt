@@ -1,8 +1,8 @@
-use Rattle.std.proofs.Common.{◌≡◌, ◌<◌, ◌∙◌, ◌⊎◌, All, List, map, length, sym, ap, subst, arith}
+use Rattle.std.proofs.Common.{◌<◌, ◌⊎◌, All, map, length, sym, subst, arith}
 use Rattle.std.specs.List.{slice_index}
 use Rattle.std.proofs.lemmas.List.{length-map}
 use Rattle.std.proofs.lemmas.Result.{err_from_is_err_and}
-use Rattle.derivation.specs.Grammar.{Sym, HasProduction}
+use Rattle.derivation.specs.Grammar.{HasProduction}
 use Rattle.cfgtables.specs.Symbols.{sym_of}
 use Rattle.cfgtables.specs.Openings.{ArePlacesOf}
 use Rattle.cfgtables.proofs.Slices.{mapped_all, mapped_at, mapped_within}
@@ -25,7 +25,7 @@ take_row-requires g c =
     subst (λ n. All (IsListed n (length c.args.costs.now)) (map (sym_of g.S.Storage.number) c.prod.result.now)) (sym c.requires.known)
     (subst (λ n. All (IsListed grammar.rules n) (map (sym_of g.S.Storage.number) c.prod.result.now)) (sym c.requires.costs)
     (subst (All (IsListed grammar.rules grammar.tokens)) (sym c.prod.ensures)
-    (symbols_listed grammar (g.S.Storage.number c.p-item.result.0) c.rules_len.ensures.content place)))
+    (symbols_listed grammar (g.S.Storage.number c.p-item.result.0) c.invariant_holds.ensures.content place)))
 
 pub returns-in_err-take_row-clause-stopped : goal.returns-in_err-take_row-clause-stopped
 returns-in_err-take_row-clause-stopped g c =
@@ -35,7 +35,7 @@ returns-in_err-take_row-clause-stopped g c =
     let has = placed grammar _ places (subst (λ r. ArePlacesOf grammar r places) c.to_storage.ensures c.rule_to_prods-places.ensures) c.loop-p.p-index _ _
     (mapped_within (λ p. g.S.Storage.number p.0) _ _ _ c.p-item.is lt) (mapped_at (λ p. g.S.Storage.number p.0) _ _ _ c.p-item.is lt) c.prod.ensures in
     let p = err_from_is_err_and c.from_residual.result c.from_residual.ensures.1 in
-    rw (p.1, p.2) (row_stopped grammar c.rules_len.ensures.content (slice_index c.args.costs.now) c.args.known.now c.args.path.now c.args.start c.requires.group
+    rw (p.1, p.2) (row_stopped grammar c.invariant_holds.ensures.content (slice_index c.args.costs.now) c.args.known.now c.args.path.now c.args.start c.requires.group
     c.args.place c.requires.behind c.requires.within _ has c.in_err-take_row.ensures.0 _ c.in_err-take_row.ensures.1)
 
 pub loop-p-preserved : goal.loop-p-preserved
@@ -47,7 +47,7 @@ loop-p-preserved g c =
     let within = mapped_within (λ p. g.S.Storage.number p.0) _ _ _ c.p-item.is lt in
     let at = mapped_at (λ p. g.S.Storage.number p.0) _ _ _ c.p-item.is lt in
     let has = placed grammar _ places of c.loop-p.p-index _ _ within at c.prod.ensures in
-    let taken = row_taken grammar c.rules_len.ensures.content (slice_index c.args.costs.now) c.args.known.now c.args.path.now c.args.start c.requires.group
+    let taken = row_taken grammar c.invariant_holds.ensures.content (slice_index c.args.costs.now) c.args.known.now c.args.path.now c.args.start c.requires.group
     c.args.place c.requires.behind c.requires.within _ has c.loop-p.sums c.take_row.new.sums c.loop-p.invariant.reached c.in_ok-take_row.ensures in
     record {
       reached = taken.0;

@@ -21,7 +21,7 @@ are_live-requires g c =
       grammar.tokens,
       subst (λ n. All (IsListed n grammar.tokens) (map (sym_of g.S.Storage.number) c.prod-symbols.result.now)) (sym c.requires.known)
           (subst (All (IsListed grammar.rules grammar.tokens)) (sym c.prod-symbols.ensures)
-          (symbols_listed grammar (g.S.Storage.number c.p-item.result.0) c.rules_len.ensures.content place)),
+          (symbols_listed grammar (g.S.Storage.number c.p-item.result.0) c.invariant_holds.ensures.content place)),
     )
 
 pub loop-p-preserved : goal.loop-p-preserved
@@ -33,6 +33,6 @@ loop-p-preserved g c =
     (mapped_within (λ p. g.S.Storage.number p.0) _ _ _ c.p-item.is lt) (mapped_at (λ p. g.S.Storage.number p.0) _ _ _ c.p-item.is lt) c.prod-symbols.ensures in
     elim c.if-are_live.branch [
       | then-are_live+in_ok-push_symbols w ↦ subst (λ v. All (IsEdge grammar) v.items) (sym w.edges-is) (w.in_ok-push_symbols.ensures grammar c.loop-p.invariant
-          (edges_from grammar c.rules_len.ensures.content c.args.known.now c.requires.lives c.args.rule c.requires.rule _ has w.if-are_live.ensures))
+          (edges_from grammar c.invariant_holds.ensures.content c.args.known.now c.requires.lives c.args.rule c.requires.rule _ has w.if-are_live.ensures))
       | else-are_live w ↦ subst (λ v. All (IsEdge grammar) v.items) (sym w.edges-is) c.loop-p.invariant
     ]

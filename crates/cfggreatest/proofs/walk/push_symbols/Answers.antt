@@ -1,4 +1,4 @@
-use Rattle.std.proofs.Common.{All, ap, map, sym, subst, ◌∙◌}
+use Rattle.std.proofs.Common.{All, sym, subst}
 use Rattle.std.proofs.lemmas.List.Elements.{All-push}
 use Rattle.cfgtables.specs.Symbols.{sym_of}
 use Rattle.cfgsums.proofs.Rows.{shown_holds}

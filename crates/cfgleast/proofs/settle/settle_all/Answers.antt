@@ -13,8 +13,8 @@ pub start-requires-clause-input : goal.start-requires-clause-input
 start-requires-clause-input g c =
     let rules = (g.T.Tables.grammar c.args.grm.now).rules in
     record {
-      grammar = c.rules_len.ensures.content;
-      places = omega (arith, c.prods_len.ensures, c.to_usize-prods_len.ensures.value, c.to_usize-prods_len.ensures.range);
+      grammar = c.invariant_holds.ensures.content;
+      places = c.invariant_holds.ensures.productions;
       tokens = c.requires.costs;
       rules = ap length (c.deref.ensures.value ∙ c.requires.least) ∙ length-replicate {A = Option ℕ} rules None;
     }
@@ -24,7 +24,7 @@ start-requires-clause-least g c = c.deref.ensures.value ∙ c.requires.least
 
 pub settle_next-requires-clause-small : goal.settle_next-requires-clause-small
 settle_next-requires-clause-small g c =
-    omega (arith, c.rules_len.ensures.value, c.to_usize-rules_len.ensures.value, c.to_usize-rules_len.ensures.range, c.to_usize-rules_len.ensures.limit)
+    omega (arith, c.invariant_holds.ensures.rules, c.invariant_holds.ensures.limit)
 
 pub loop-top-init : goal.loop-top-init
 loop-top-init g c =
@@ -32,8 +32,8 @@ loop-top-init g c =
     let cost = slice_index c.args.costs.now in
     record {
       input = record {
-        grammar = c.rules_len.ensures.content;
-        places = omega (arith, c.prods_len.ensures, c.to_usize-prods_len.ensures.value, c.to_usize-prods_len.ensures.range);
+        grammar = c.invariant_holds.ensures.content;
+        places = c.invariant_holds.ensures.productions;
         tokens = c.requires.costs;
         rules = ap length c.requires.least ∙ length-replicate {A = Option ℕ} grammar.rules None;
       };

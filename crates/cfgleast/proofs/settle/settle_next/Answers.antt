@@ -1,4 +1,4 @@
-use Rattle.std.proofs.Common.{◌<◌, ℕ, [], OnOk, Some, slice_set, map, length, length-set, refl, subst, sym, ap, ◌∙◌, arith}
+use Rattle.std.proofs.Common.{◌≡◌, ◌<◌, ℕ, [], OnOk, Some, slice_set, map, length, length-set, refl, subst, sym, ap, ◌∙◌, arith}
 use Rattle.std.proofs.lemmas.List.{length-map}
 use Rattle.std.proofs.lemmas.Result.{on_ok_weaker}
 use Rattle.std.specs.List.{slice_index}
@@ -8,7 +8,18 @@ use Rattle.cfgsums.specs.Lists.{rule_cost}
 use Rattle.cfgleast.specs.Inner.Open.{AreAllOpen, AreInput}
 use Rattle.cfgleast.specs.Inner.Settled.{AreChosen}
 use Rattle.cfgleast.proofs.Settles.{popped_place, popped_again, settles_chosen, settles_woken, settled_if_some, unset_if_none, owner_within}
+use Rattle.cfgleast.proofs.settle.settle_next.Given.{Over}
+use Rattle.cfgleast.proofs.settle.settle_next.Goals.{After-from-rule}
 use Rattle.cfgleast.proofs.settle.settle_next.Goals as goal
+
+owner : (g : Over) (c : After-from-rule g) → c.from-rule.result ≡ (nth_production (g.T.Tables.grammar c.args.grm.now) c.args.top.1).rule
+owner g c = c.from-rule.ensures ∙ c.prod_to_rule.ensures ∙ ap (λ n. (nth_production (g.T.Tables.grammar c.args.grm.now) n).rule) c.to_storage.ensures
+
+rule_within : (g : Over) (c : After-from-rule g) → c.from-rule.result < (g.T.Tables.grammar c.args.grm.now).rules
+rule_within g c =
+    let grammar = g.T.Tables.grammar c.args.grm.now in
+    let place = popped_place grammar (slice_index c.args.costs.now) c.args.settled.now.least.items c.args.top c.args.queue.now c.args.waiting.now c.requires.popped in
+    subst (λ n. n < grammar.rules) (sym (owner g c)) (owner_within grammar c.args.top.1 c.requires.input.grammar place)
 
 pub to_storage-requires : goal.to_storage-requires
 to_storage-requires g c =
@@ -24,25 +35,21 @@ pub returns-then-is_some-clause-state : goal.returns-then-is_some-clause-state
 returns-then-is_some-clause-state g c =
     let grammar = g.T.Tables.grammar c.args.grm.now in
     let least = c.args.settled.now.least.items in
-    let place = popped_place grammar (slice_index c.args.costs.now) least c.args.top c.args.queue.now c.args.waiting.now c.requires.popped in
-    let owner = c.from-rule.ensures ∙ c.prod_to_rule.ensures ∙ ap (λ n. (nth_production grammar n).rule) c.to_storage.ensures in
-    let below = owner_within grammar c.args.top.1 c.requires.input.grammar place in
-    let within : c.from-rule.result < length least = omega (arith, owner, below, c.requires.input.rules) in
+    let at = (goal.at.returns-then-is_some-clause-state g c).After-from-rule in
+    let within : c.from-rule.result < length least = omega (arith, rule_within g at, c.requires.input.rules) in
     let done = settled_if_some least c.from-rule.result c.index.result.now within c.index.ensures (sym c.is_some.ensures ∙ c.if-is_some.true) in
-    popped_again grammar (slice_index c.args.costs.now) least c.args.top c.args.queue.now c.args.waiting.now c.requires.popped c.from-rule.result done.0 (sym owner) done.1
+    popped_again grammar (slice_index c.args.costs.now) least c.args.top c.args.queue.now c.args.waiting.now c.requires.popped c.from-rule.result done.0 (sym (owner g at)) done.1
 
 pub wake-requires-clause-woken : goal.wake-requires-clause-woken
 wake-requires-clause-woken g c =
     let grammar = g.T.Tables.grammar c.args.grm.now in
     let least = c.args.settled.now.least.items in
-    let place = popped_place grammar (slice_index c.args.costs.now) least c.args.top c.args.queue.now c.args.waiting.now c.requires.popped in
-    let owner = c.from-rule.ensures ∙ c.prod_to_rule.ensures ∙ ap (λ n. (nth_production grammar n).rule) c.to_storage.ensures in
-    let below = owner_within grammar c.args.top.1 c.requires.input.grammar place in
-    let rule : c.from-rule.result < grammar.rules = omega (arith, owner, below) in
+    let at = (goal.at.wake-requires-clause-woken g c).After-from-rule in
+    let rule = rule_within g at in
     let within : c.from-rule.result < length least = omega (arith, rule, c.requires.input.rules) in
     let unset = unset_if_none least c.from-rule.result c.index.result.now within c.index.ensures (sym c.is_some.ensures ∙ c.if-is_some.false) in
     settles_woken grammar (slice_index c.args.costs.now) least c.args.top c.args.queue.now c.args.waiting.now c.requires.popped
-    (map (choice_of g.S.Storage.number) c.args.settled.now.choices.items) c.args.settled.now.number c.from-rule.result c.requires.chosen rule unset (sym owner)
+    (map (choice_of g.S.Storage.number) c.args.settled.now.choices.items) c.args.settled.now.number c.from-rule.result c.requires.chosen rule unset (sym (owner g at))
     c.deref.result.now c.take-woken.new.self c.deref-2.result.now (c.deref.ensures.value ∙ c.settle.ensures.least) c.take-woken.ensures.rest
     (c.deref-2.ensures.value ∙ c.take-woken.ensures.list)
 
@@ -51,50 +58,36 @@ returns-clause-chosen g c =
     let grammar = g.T.Tables.grammar c.args.grm.now in
     let least = c.args.settled.now.least.items in
     let choices = map (choice_of g.S.Storage.number) c.args.settled.now.choices.items in
-    let place = popped_place grammar (slice_index c.args.costs.now) least c.args.top c.args.queue.now c.args.waiting.now c.requires.popped in
-    let owner = c.from-rule.ensures ∙ c.prod_to_rule.ensures ∙ ap (λ n. (nth_production grammar n).rule) c.to_storage.ensures in
-    let below = owner_within grammar c.args.top.1 c.requires.input.grammar place in
-    let rule : c.from-rule.result < grammar.rules = omega (arith, owner, below) in
+    let at = (goal.at.returns-clause-chosen g c).After-from-rule in
+    let rule = rule_within g at in
     let within : c.from-rule.result < length least = omega (arith, rule, c.requires.input.rules) in
     let unset = unset_if_none least c.from-rule.result c.index.result.now within c.index.ensures (sym c.is_some.ensures ∙ c.if-is_some.false) in
     on_ok_weaker {Q = AreChosen grammar (slice_index c.args.costs.now) c.settle.new.self.least.items (map (choice_of g.S.Storage.number) c.settle.new.self.choices.items) c.settle.new.self.number}
     c.wake.result (λ _. settles_chosen grammar (slice_index c.args.costs.now) least c.args.top c.args.queue.now c.args.waiting.now c.requires.popped
-    choices c.args.settled.now.number c.from-rule.result c.requires.chosen rule unset (sym owner)
+    choices c.args.settled.now.number c.from-rule.result c.requires.chosen rule unset (sym (owner g at))
     c.settle.new.self.least.items (map (choice_of g.S.Storage.number) c.settle.new.self.choices.items) c.settle.new.self.number
     c.settle.ensures.least (c.settle.ensures.choices ∙ ap (λ (n : ℕ). slice_set choices c.from-rule.result (Some (n, c.args.settled.now.number))) c.to_storage.ensures)
     c.settle.ensures.number) c.wake.ensures.lists
 
 pub index-requires : goal.index-requires
 index-requires g c =
-    let grammar = g.T.Tables.grammar c.args.grm.now in
-    let place = popped_place grammar (slice_index c.args.costs.now) c.args.settled.now.least.items c.args.top c.args.queue.now c.args.waiting.now c.requires.popped in
-    let owner = c.from-rule.ensures ∙ c.prod_to_rule.ensures ∙ ap (λ n. (nth_production grammar n).rule) c.to_storage.ensures in
-    let rule = subst (λ n. n < grammar.rules) (sym owner) (owner_within grammar c.args.top.1 c.requires.input.grammar place) in
+    let rule = rule_within g (goal.at.index-requires g c).After-from-rule in
     subst (λ n. c.from-rule.result < n) (sym (c.args.settled.now.least.ok.0 ∙ c.requires.input.rules)) rule
 
 pub settle-requires-clause-least : goal.settle-requires-clause-least
 settle-requires-clause-least g c =
-    let grammar = g.T.Tables.grammar c.args.grm.now in
-    let place = popped_place grammar (slice_index c.args.costs.now) c.args.settled.now.least.items c.args.top c.args.queue.now c.args.waiting.now c.requires.popped in
-    let owner = c.from-rule.ensures ∙ c.prod_to_rule.ensures ∙ ap (λ n. (nth_production grammar n).rule) c.to_storage.ensures in
-    let rule = subst (λ n. n < grammar.rules) (sym owner) (owner_within grammar c.args.top.1 c.requires.input.grammar place) in
+    let rule = rule_within g (goal.at.settle-requires-clause-least g c).After-from-rule in
     subst (λ n. c.from-rule.result < n) (sym c.requires.input.rules) rule
 
 pub settle-requires-clause-choices : goal.settle-requires-clause-choices
 settle-requires-clause-choices g c =
-    let grammar = g.T.Tables.grammar c.args.grm.now in
-    let place = popped_place grammar (slice_index c.args.costs.now) c.args.settled.now.least.items c.args.top c.args.queue.now c.args.waiting.now c.requires.popped in
-    let owner = c.from-rule.ensures ∙ c.prod_to_rule.ensures ∙ ap (λ n. (nth_production grammar n).rule) c.to_storage.ensures in
-    let rule = subst (λ n. n < grammar.rules) (sym owner) (owner_within grammar c.args.top.1 c.requires.input.grammar place) in
+    let rule = rule_within g (goal.at.settle-requires-clause-choices g c).After-from-rule in
     subst (λ n. c.from-rule.result < n)
     (sym (sym (length-map c.args.settled.now.choices.items (choice_of g.S.Storage.number)) ∙ c.requires.chosen.listed)) rule
 
 pub take-woken-requires : goal.take-woken-requires
 take-woken-requires g c =
-    let grammar = g.T.Tables.grammar c.args.grm.now in
-    let place = popped_place grammar (slice_index c.args.costs.now) c.args.settled.now.least.items c.args.top c.args.queue.now c.args.waiting.now c.requires.popped in
-    let owner = c.from-rule.ensures ∙ c.prod_to_rule.ensures ∙ ap (λ n. (nth_production grammar n).rule) c.to_storage.ensures in
-    let rule = subst (λ n. n < grammar.rules) (sym owner) (owner_within grammar c.args.top.1 c.requires.input.grammar place) in
+    let rule = rule_within g (goal.at.take-woken-requires g c).After-from-rule in
     subst (λ n. c.from-rule.result < n) (sym c.requires.lists) rule
 
 pub wake-requires-clause-input : goal.wake-requires-clause-input

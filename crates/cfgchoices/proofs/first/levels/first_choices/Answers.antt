@@ -17,16 +17,14 @@ choose_by_cost-requires g c =
     let number = g.S.Storage.number in
     climbed_begins c.in_ok-tight.tight
     (offers_of number (record { alloc = c.args.alloc; choices = c.in_ok-no_choices.field-0; number = 0; cost = 0; ready = c.new-2.result; level = c.new-3.result; foremost = c.in_ok-no_productions.field-0 }))
-    (c.in_ok-no_choices.ensures ∙ ap (λ (n : ℕ). replicate {A = Option (ℕ × ℕ)} n None) c.rules_len.ensures.value) refl
+    (c.in_ok-no_choices.ensures ∙ ap (λ (n : ℕ). replicate {A = Option (ℕ × ℕ)} n None) c.rules_len.ensures) refl
     (ap (places_of number) c.new-2.ensures.items) (ap (places_of number) c.new-3.ensures.items)
-    (ap (map (place_of number)) c.in_ok-no_productions.ensures ∙ no_places number _ ∙ ap (λ (n : ℕ). replicate {A = Option ℕ} n None) c.rules_len-2.ensures.value)
+    (ap (map (place_of number)) c.in_ok-no_productions.ensures ∙ no_places number _ ∙ ap (λ (n : ℕ). replicate {A = Option ℕ} n None) c.rules_len-2.ensures)
 
-pub returns-clause-walks : goal.returns-clause-walks
-returns-clause-walks g c =
+pub returns : goal.returns
+returns g c =
     let firsts = map (choice_of g.S.Storage.number) c.choose_by_cost.new.self.choices.items in
-    subst (λ (x : CostTables). Walks (by x firsts)) c.in_ok-tight.ensures c.in_ok-choose_by_cost.ensures.walks
-
-pub returns-clause-first : goal.returns-clause-first
-returns-clause-first g c =
-    let firsts = map (choice_of g.S.Storage.number) c.choose_by_cost.new.self.choices.items in
-    subst (λ (x : CostTables). AreFirst (by x firsts)) c.in_ok-tight.ensures c.in_ok-choose_by_cost.ensures.first
+    record {
+      walks = subst (λ (x : CostTables). Walks (by x firsts)) c.in_ok-tight.ensures c.in_ok-choose_by_cost.ensures.walks;
+      first = subst (λ (x : CostTables). AreFirst (by x firsts)) c.in_ok-tight.ensures c.in_ok-choose_by_cost.ensures.first;
+    }

@@ -16,7 +16,7 @@ within : (g : Over) (c : After-from-rule g) → c.from-rule.result < (g.T.Tables
 within g c =
     let x = g.T.Tables.grammar c.args.tables.now in
     subst (λ r. r < x.rules) (sym (at g c)) (All-get_or (λ (p : Production). p.rule < x.rules) x.productions c.loop-number.number (record { rule = 0; symbols = [] })
-    (subst (λ m. c.loop-number.number < m) c.requires c.loop-number-test.true) c.rules_len.ensures.content.owners)
+    (subst (λ m. c.loop-number.number < m) c.requires c.loop-number-test.true) c.invariant_holds.ensures.content.owners)
 
 pub loop-number-preserved-in-Slack : goal.loop-number-preserved-in-Slack
 loop-number-preserved-in-Slack g c = alone_slack c.args.kinds.now (g.T.Tables.grammar c.args.tables.now) c.loop-number.number c.loop-number.alone.items c.loop-number.seen.items c.loop-number.invariant

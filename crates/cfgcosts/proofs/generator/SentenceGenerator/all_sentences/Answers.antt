@@ -1,7 +1,6 @@
 use Rattle.std.proofs.Common.{◌≡◌, ◌<◌, ℕ, ◌∷◌, Some, sym, ap, subst, arith, ◌∙◌}
 use Rattle.std.proofs.lemmas.List.Sorted.{length_permutation}
-use Rattle.derivation.specs.Grammar.{IsGrammar}
-use Rattle.cfgleast.specs.Generator.{CostTables, IsGenerator, cost_answer}
+use Rattle.cfgleast.specs.Generator.{cost_answer}
 use Rattle.cfgcosts.specs.Inner.Minimal.{AreMinimal, IsReadyFor, sentences_in, words_of}
 use Rattle.cfgcosts.proofs.Filled.{Filling, filling_begins, filling_goes_on, filling_ends, popped_answer, popped_ready, puts, taken}
 use Rattle.cfgchoices.proofs.Tight.{answered_within}
@@ -22,40 +21,24 @@ returns g c =
 pub to_storage-requires : goal.to_storage-requires
 to_storage-requires g c =
     let (all, asked, filling) = c.loop-number.invariant in
-    let n = c.self.inside.settled.number in
-    let is = subst (λ (x : CostTables). IsGenerator x n) c.self.view_is c.self.invariant.0 in
+    let (n, is) = c.invariant_holds.ensures.generator in
     let within = answered_within c.args.self.now n is c.in-Some.number c.in-Some.field-0-0
     (popped_answer c.args.self.now c.pop.new.self (c.in-Some.field-0-0, c.in-Some.number) asked filling c.in-Some.ensures.out c.in-Some.ensures.least) in
-    let rules = ap (λ (x : CostTables). x.grammar.rules) c.self.view_is in
-    let counted = c.rules_len.ensures.value in
-    let value = c.to_usize-rules.ensures.value in
-    let range = c.to_usize-rules.ensures.range in
-    omega (arith, within, rules, counted, value, range)
+    omega (arith, within, c.invariant_holds.ensures.rules)
 
-pub level_sentences-requires-clause-rule : goal.level_sentences-requires-clause-rule
-level_sentences-requires-clause-rule g c =
+pub level_sentences-requires : goal.level_sentences-requires
+level_sentences-requires g c =
     let (all, asked, filling) = c.loop-number.invariant in
-    let n = c.self.inside.settled.number in
-    let is = subst (λ (x : CostTables). IsGenerator x n) c.self.view_is c.self.invariant.0 in
-    subst (λ m. m < c.args.self.now.grammar.rules) (sym c.to_storage.ensures) (answered_within c.args.self.now n is c.in-Some.number c.in-Some.field-0-0
-    (popped_answer c.args.self.now c.pop.new.self (c.in-Some.field-0-0, c.in-Some.number) asked filling c.in-Some.ensures.out c.in-Some.ensures.least))
-
-pub level_sentences-requires-clause-known : goal.level_sentences-requires-clause-known
-level_sentences-requires-clause-known g c =
-    let (all, asked, filling) = c.loop-number.invariant in
-    subst (λ m. (d : ℕ) × (cost_answer c.args.self.now m ≡ Some d)) (sym c.to_storage.ensures) (
-      c.in-Some.field-0-0,
-      popped_answer c.args.self.now c.pop.new.self (c.in-Some.field-0-0, c.in-Some.number) asked filling c.in-Some.ensures.out c.in-Some.ensures.least,
-    )
-
-pub level_sentences-requires-clause-ready : goal.level_sentences-requires-clause-ready
-level_sentences-requires-clause-ready g c =
-    let (all, asked, filling) = c.loop-number.invariant in
-    let n = c.self.inside.settled.number in
-    let is = subst (λ (x : CostTables). IsGenerator x n) c.self.view_is c.self.invariant.0 in
-    let grammar = subst (λ (x : CostTables). IsGrammar x.grammar) c.self.view_is c.rules_len.ensures.content in
-    subst (IsReadyFor c.args.self.now (sentences_in g.S.Storage.number c.loop-number.table)) (sym c.to_storage.ensures)
-    (popped_ready c.args.self.now c.pop.new.self (c.in-Some.field-0-0, c.in-Some.number) asked filling c.in-Some.ensures.out c.in-Some.ensures.least n is grammar)
+    let (n, is) = c.invariant_holds.ensures.generator in
+    let x = c.args.self.now in
+    let top : ℕ × ℕ = (c.in-Some.field-0-0, c.in-Some.number) in
+    let answer = popped_answer x c.pop.new.self top asked filling c.in-Some.ensures.out c.in-Some.ensures.least in
+    record {
+      rule = subst (λ m. m < x.grammar.rules) (sym c.to_storage.ensures) (answered_within x n is c.in-Some.number c.in-Some.field-0-0 answer);
+      known = subst (λ m. (d : ℕ) × (cost_answer x m ≡ Some d)) (sym c.to_storage.ensures) (c.in-Some.field-0-0, answer);
+      ready = subst (IsReadyFor x (sentences_in g.S.Storage.number c.loop-number.table)) (sym c.to_storage.ensures)
+          (popped_ready x c.pop.new.self top asked filling c.in-Some.ensures.out c.in-Some.ensures.least n is c.invariant_holds.ensures.grammar);
+    }
 
 pub loop-number-preserved : goal.loop-number-preserved
 loop-number-preserved g c =

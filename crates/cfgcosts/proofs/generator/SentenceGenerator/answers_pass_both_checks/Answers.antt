@@ -3,14 +3,11 @@ use Rattle.cfgleast.specs.Generator.{CostTables, IsGenerator}
 use Rattle.cfgleast.proofs.Generated.{answers_covered, answers_reached}
 use Rattle.cfgcosts.proofs.generator.SentenceGenerator.answers_pass_both_checks.Goals as goal
 
-pub returns-clause-least : goal.returns-clause-least
-returns-clause-least g c =
+pub returns : goal.returns
+returns g c =
     let number = c.self.inside.settled.number in
     let is = subst (λ (x : CostTables). IsGenerator x number) c.self.view_is c.self.invariant.0 in
-    answers_covered c.args.self.now number is
-
-pub returns-clause-reached : goal.returns-clause-reached
-returns-clause-reached g c =
-    let number = c.self.inside.settled.number in
-    let is = subst (λ (x : CostTables). IsGenerator x number) c.self.view_is c.self.invariant.0 in
-    λ least choices rules answered chosen. answers_reached c.args.self.now number is least rules answered choices chosen
+    record {
+      least = answers_covered c.args.self.now number is;
+      reached = λ least choices rules answered chosen. answers_reached c.args.self.now number is least rules answered choices chosen;
+    }

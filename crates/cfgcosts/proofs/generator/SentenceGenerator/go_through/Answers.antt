@@ -36,17 +36,14 @@ loop-p-preserved g c =
       own = owns_more x places c.loop-p.p-index (g.S.Storage.number c.p-item.result.0) within at _ _ _ c.loop-p.invariant.own c.in_ok-take_in.ensures.own;
     }
 
-pub returns-clause-heirs : goal.returns-clause-heirs
-returns-clause-heirs g c =
-    let are = subst (λ (x : CostTables). ArePlacesOf x.grammar (g.S.Storage.number c.args.rule.0) (places_of g.S.Storage.number c.rule_to_prods-p-items.result.now)) c.self.view_is
-    c.rule_to_prods-p-items.ensures in
-    heirs_end c.args.self.now (places_of g.S.Storage.number c.rule_to_prods-p-items.result.now) (g.S.Storage.number c.args.rule.0) are _ _
-    (found_mapped (λ p. g.S.Storage.number p.0) (IsHeir c.args.self.now) c.rule_to_prods-p-items.result.now _ _
-    (each_all _ _ _ _ _ (omega (arith, c.loop-p-test.false, c.loop-p.auto.p-index-end)) c.loop-p.invariant.heirs))
-
-pub returns-clause-own : goal.returns-clause-own
-returns-clause-own g c =
-    let are = subst (λ (x : CostTables). ArePlacesOf x.grammar (g.S.Storage.number c.args.rule.0) (places_of g.S.Storage.number c.rule_to_prods-p-items.result.now)) c.self.view_is
-    c.rule_to_prods-p-items.ensures in
-    owns_end c.args.self.now (places_of g.S.Storage.number c.rule_to_prods-p-items.result.now) (g.S.Storage.number c.args.rule.0) are c.loop-p.p-index
-    (simp length-map (omega (arith, c.loop-p-test.false, c.loop-p.auto.p-index-end))) _ _ c.loop-p.invariant.own
+pub returns : goal.returns
+returns g c =
+    let x = c.args.self.now in
+    let rule = g.S.Storage.number c.args.rule.0 in
+    let places = places_of g.S.Storage.number c.rule_to_prods-p-items.result.now in
+    let are = subst (λ (x : CostTables). ArePlacesOf x.grammar rule places) c.self.view_is c.rule_to_prods-p-items.ensures in
+    record {
+      heirs = heirs_end x places rule are _ _ (found_mapped (λ p. g.S.Storage.number p.0) (IsHeir x) c.rule_to_prods-p-items.result.now _ _
+          (each_all _ _ _ _ _ (omega (arith, c.loop-p-test.false, c.loop-p.auto.p-index-end)) c.loop-p.invariant.heirs));
+      own = owns_end x places rule are c.loop-p.p-index (simp length-map (omega (arith, c.loop-p-test.false, c.loop-p.auto.p-index-end))) _ _ c.loop-p.invariant.own;
+    }

@@ -2,32 +2,33 @@ use Rattle.std.proofs.Common.{◌≡◌, ◌<◌, List, ℕ, All, length, map, a
 use Rattle.std.specs.Prelude.{slice_index}
 use Rattle.cfggreatest.specs.Words.{AreTold}
 use Rattle.cfgleast.specs.Certificate.{choice_of}
-use Rattle.cfgleast.specs.Generator.{tables_of}
+use Rattle.cfgleast.specs.Generator.{IsGeneratorOf, tables_of}
 use Rattle.cfgleast.specs.Inner.Settled.{AreSettled}
 use Rattle.cfgchoices.specs.Inner.FirstChoices.{AreFirst, Walks}
 use Rattle.cfgchoices.specs.Inner.Kinds.{AreKinds, HasRulesAsHeirs}
 use Rattle.cfgcosts.specs.Inner.Heirs.{AreHeirs, rules_of}
+use Rattle.cfgcosts.proofs.generator.SentenceGenerator.new.Given.{Over}
+use Rattle.cfgcosts.proofs.generator.SentenceGenerator.new.Goals.{In_ok-settled}
 use Rattle.cfgcosts.proofs.generator.SentenceGenerator.new.Goals as goal
+
+generator : (g : Over) (c : In_ok-settled g)
+    → IsGeneratorOf g.S.Storage.number (g.T.Tables.grammar c.args.tables.now) c.as_slice-by_token.result.now c.in_ok-settled.settled
+generator g c = record {
+  tokens = subst (λ (costs : List ℕ). length costs ≡ (g.T.Tables.grammar c.args.tables.now).tokens) (sym c.as_slice-by_token.ensures.value)
+      (c.in_ok-costs.ensures.len ∙ c.to_usize-tokens_len.ensures.value ∙ c.tokens_len.ensures);
+  positive = subst (All (λ c. 0 < c)) (sym c.as_slice-by_token.ensures.value) c.in_ok-costs.ensures.positive;
+  settled = c.in_ok-settled.ensures;
+}
 
 pub settle-requires : goal.settle-requires
 settle-requires g c = subst (λ (costs : List ℕ). length costs ≡ (g.T.Tables.grammar c.args.tables.now).tokens) (sym c.as_slice-by_token.ensures.value)
     (c.in_ok-costs.ensures.len ∙ c.to_usize-tokens_len.ensures.value ∙ c.tokens_len.ensures)
 
 pub kinds-requires : goal.kinds-requires
-kinds-requires g c = record {
-  tokens = subst (λ (costs : List ℕ). length costs ≡ (g.T.Tables.grammar c.args.tables.now).tokens) (sym c.as_slice-by_token.ensures.value)
-      (c.in_ok-costs.ensures.len ∙ c.to_usize-tokens_len.ensures.value ∙ c.tokens_len.ensures);
-  positive = subst (All (λ c. 0 < c)) (sym c.as_slice-by_token.ensures.value) c.in_ok-costs.ensures.positive;
-  settled = c.in_ok-settled.ensures;
-}
+kinds-requires g c = generator g (goal.at.kinds-requires g c).In_ok-settled
 
 pub first_choices-requires-clause-generator : goal.first_choices-requires-clause-generator
-first_choices-requires-clause-generator g c = record {
-  tokens = subst (λ (costs : List ℕ). length costs ≡ (g.T.Tables.grammar c.args.tables.now).tokens) (sym c.as_slice-by_token.ensures.value)
-      (c.in_ok-costs.ensures.len ∙ c.to_usize-tokens_len.ensures.value ∙ c.tokens_len.ensures);
-  positive = subst (All (λ c. 0 < c)) (sym c.as_slice-by_token.ensures.value) c.in_ok-costs.ensures.positive;
-  settled = c.in_ok-settled.ensures;
-}
+first_choices-requires-clause-generator g c = generator g (goal.at.first_choices-requires-clause-generator g c).In_ok-settled
 
 pub first_choices-requires-clause-kinds : goal.first_choices-requires-clause-kinds
 first_choices-requires-clause-kinds g c =

@@ -19,7 +19,7 @@ loop-symbol-init g c =
     let x = tables_of number (g.T.Tables.grammar c.self.inside.tables.now) c.self.inside.costs.items c.self.inside.settled.least.items c.self.inside.firsts.items in
     record {
       same = c.requires.same ∙ sym (ap (λ (y : CostTables). y.grammar) c.self.view_is);
-      way = begins x r _ c.requires.cost.0 c.self.invariant.3 c.rules_len.ensures.content c.self.invariant.4 (subst (λ (y : CostTables). r < y.grammar.rules) (sym c.self.view_is) c.requires.rule)
+      way = begins x r _ c.requires.cost.0 c.self.invariant.3 c.invariant_holds.ensures.content c.self.invariant.4 (subst (λ (y : CostTables). r < y.grammar.rules) (sym c.self.view_is) c.requires.rule)
           (subst (λ (y : CostTables). cost_answer y r ≡ Some c.requires.cost.0) (sym c.self.view_is) c.requires.cost.1) c.requires.fresh _ _
           (ap (map (sym_of number)) (c.in_ok-push.ensures.items ∙ ap (λ l. l ++ symbols.Rule c.args.rule ∷ []) c.new-pending.ensures.items))
           (ap (map (λ t. number t.0)) c.new-sentence.ensures.items);
@@ -28,12 +28,11 @@ loop-symbol-init g c =
 pub loop-symbol-preserved-in-Continue-branch-2 : goal.loop-symbol-preserved-in-Continue-branch-2
 loop-symbol-preserved-in-Continue-branch-2 g c =
     let number = g.S.Storage.number in
-    let x = tables_of number (g.T.Tables.grammar c.self.inside.tables.now) c.self.inside.costs.items c.self.inside.settled.least.items c.self.inside.firsts.items in
-    let way = popped number x _ _ _ _ c.in-Some.ensures.items c.in-Token.is c.loop-symbol.invariant.way in
+    let way = popped number _ _ _ _ _ c.in-Some.ensures.items c.in-Token.is c.loop-symbol.invariant.way in
     record {
       same = c.loop-symbol.invariant.same;
       way = subst (IsOnTheWay _ _ _ _) (sym (ap (map (λ t. number t.0)) c.in_ok-push-in-Token.ensures.items ∙ map-append (λ t. number t.0) c.loop-symbol.sentence.items (c.in-Token.token ∷ [])))
-          (after_token x _ _ _ _ (number c.in-Token.token.0) way);
+          (after_token _ _ _ _ _ (number c.in-Token.token.0) way);
     }
 
 pub loop-symbol-smaller-in-Continue-branch-2 : goal.loop-symbol-smaller-in-Continue-branch-2
@@ -51,8 +50,7 @@ loop-symbol-smaller g c =
 pub index-requires : goal.index-requires
 index-requires g c =
     let number = g.S.Storage.number in
-    let x = tables_of number (g.T.Tables.grammar c.self.inside.tables.now) c.self.inside.costs.items c.self.inside.settled.least.items c.self.inside.firsts.items in
-    let within = rule_within x _ _ _ _ (number c.in-Rule.rule.0) (popped number x _ _ _ _ c.in-Some.ensures.items c.in-Rule.is c.loop-symbol.invariant.way) in
+    let within = rule_within _ _ _ _ _ (number c.in-Rule.rule.0) (popped number _ _ _ _ _ c.in-Some.ensures.items c.in-Rule.is c.loop-symbol.invariant.way) in
     let all = c.loop-symbol.invariant.way.leads.walks.listed in
     let len = length-map c.self.inside.firsts.items (choice_of number) in
     omega (arith, within, all, len, c.from.ensures, c.self.inside.firsts.ok.0)
@@ -80,8 +78,7 @@ pub open_onto-requires-clause-countable : goal.open_onto-requires-clause-countab
 open_onto-requires-clause-countable g c =
     let cost = c.requires.cost.0 in
     let answer = subst (λ (y : CostTables). cost_answer y (g.S.Storage.number c.args.rule.0) ≡ Some cost) (sym c.self.view_is) c.requires.cost.1 in
-    let rules = c.to_usize-rules.ensures.value ∙ c.rules_len.ensures.value in
-    countable _ _ _ _ _ c.loop-symbol.invariant.way cost answer (omega (arith, rules, c.to_usize-rules.ensures.range, c.to_usize-rules.ensures.limit))
+    countable _ _ _ _ _ c.loop-symbol.invariant.way cost answer (omega (arith, c.invariant_holds.ensures.rules, c.invariant_holds.ensures.limit))
 
 pub loop-symbol-preserved-in-Continue-branch-3 : goal.loop-symbol-preserved-in-Continue-branch-3
 loop-symbol-preserved-in-Continue-branch-3 g c =
@@ -107,7 +104,7 @@ loop-symbol-smaller-in-Continue-branch-3 g c =
     let choice = choice_at x _ _ _ _ number c.self.inside.firsts.items q c.from.result c.index.result.now _ refl c.from.ensures c.index.ensures c.in-Some-index.is way in
     let o = (chosen_next x _ _ _ _ q p c.in-Some-index.field-0-1 choice way).opens in
     let many = g.S.Storage.MAX + 1 in
-    let fits = All-get_or (λ p. length p.symbols ≤ g.S.Storage.MAX) x.grammar.productions p (record { rule = 0; symbols = [] }) o.place c.rules_len.ensures.fits in
+    let fits = All-get_or (λ p. length p.symbols ≤ g.S.Storage.MAX) x.grammar.productions p (record { rule = 0; symbols = [] }) o.place c.invariant_holds.ensures.fits in
     let pending = c.in_ok-open_onto-in-Rule.ensures.symbols ∙ ap (λ (h : Grammar). map (sym_of number) c.pop.new.self.items ++ (nth_production h p).symbols) c.loop-symbol.invariant.same in
     let now = ap (weigh x many) pending in
     let before = ap (weigh x many) (last_shown number c.loop-symbol.pending.items c.pop.new.self.items _ _ c.in-Some.ensures.items c.in-Rule.is) in

@@ -1,4 +1,4 @@
-use Rattle.std.proofs.Common.{◌<◌, ◌∙◌, length, true, slice_get, slice_set, sym, ap, subst, refl}
+use Rattle.std.proofs.Common.{◌<◌, ◌∙◌, true, slice_get, slice_set, sym, ap, subst, refl}
 use Rattle.cfgtables.proofs.Placed.{owner}
 use Rattle.cfggreatest.proofs.Living.{takes_new, takes_none, takes_set}
 use Rattle.cfggreatest.proofs.live.LiveAnalysis.visit.Goals as goal

@@ -1,4 +1,4 @@
-use Rattle.std.proofs.Common.{◌<◌, ◌∙◌, length, sym, subst}
+use Rattle.std.proofs.Common.{◌<◌, ◌∙◌, sym, subst}
 use Rattle.std.proofs.lemmas.List.{get_or_read}
 use Rattle.cfggreatest.specs.Inner.Known.{no_rule}
 use Rattle.cfggreatest.proofs.walk.Walk.follow.Goals as goal

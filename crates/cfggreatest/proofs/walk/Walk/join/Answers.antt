@@ -1,4 +1,4 @@
-use Rattle.std.proofs.Common.{◌≡◌, ◌-◌, List, ℕ, take, length, refl, ap, ◌∙◌}
+use Rattle.std.proofs.Common.{◌-◌, ℕ, take, refl, ap, ◌∙◌}
 use Rattle.cfggreatest.proofs.Walking.{joined, joins_more}
 use Rattle.cfggreatest.proofs.walk.Walk.join.Goals as goal
 

@@ -1,9 +1,4 @@
-use Rattle.std.proofs.Common.{◌≡◌, ℕ, ◌<◌, length}
-use Rattle.derivation.specs.Grammar.{Grammar}
-use Rattle.cfggreatest.specs.Inner.Groups.{AreGroups}
-use Rattle.cfggreatest.specs.Inner.Known.{known_of}
-use Rattle.cfggreatest.specs.Inner.Walk.{IsWalk, IsWayOut}
-use Rattle.cfggreatest.specs.declared.sums.Known.TheVariants.{Open}
+use Rattle.std.proofs.Common.{length}
 use Rattle.cfggreatest.proofs.Walking.{JoinsGroups}
 use Rattle.cfggreatest.proofs.walk.Walk.join.Given as goal
 

@@ -1,4 +1,4 @@
-use Rattle.std.proofs.Common.{◌≡◌, ◌≤◌, ◌<◌, length, ap, ◌∙◌, arith}
+use Rattle.std.proofs.Common.{◌≡◌, ◌∙◌, arith}
 use Rattle.cfggreatest.proofs.Walking.{first_walk}
 use Rattle.cfggreatest.proofs.walk.Walk.new.Goals as goal
 

@@ -1,4 +1,4 @@
-use Rattle.std.proofs.Common.{◌≡◌, ◌<◌, ◌-◌, ◌∙◌, length, get_or, take, sym, ap, subst, refl, arith}
+use Rattle.std.proofs.Common.{◌<◌, ◌-◌, ◌∙◌, length, get_or, take, ap, refl, arith}
 use Rattle.std.proofs.lemmas.List.{get_or_read}
 use Rattle.cfggreatest.proofs.Walking.{start_within, tells_more, tells_none, told_walk}
 use Rattle.cfggreatest.proofs.walk.Walk.tell.Goals as goal

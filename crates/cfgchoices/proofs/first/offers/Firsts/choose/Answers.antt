@@ -34,7 +34,7 @@ pub overflow_add-self : goal.overflow_add-self
 overflow_add-self g c =
     let number = g.S.Storage.number in
     let at = (goal.at.overflow_add-self g c).After-index_mut in
-    let (m, known) = c.rules_len-rules.ensures.known in
+    let (m, known) = c.invariant_holds.ensures in
     let most = number_fits c.args.tight.now (number c.in-Some.p.0) (offers_of number c.args.self.now) (offers_of number c.next.new.self) (taken g at) c.requires m known (unset g at) (inside g at) in
     let limit = c.rule_of-rule.ensures.limit in
     omega (arith, most, limit)
@@ -45,7 +45,7 @@ offer_listed-requires-clause-offering g c =
     let k = c.args.tight.now in
     let f = offers_of number c.next.new.self in
     let at = (goal.at.offer_listed-requires-clause-offering g c).After-index_mut in
-    let (m, known) = c.rules_len-rules.ensures.known in
+    let (m, known) = c.invariant_holds.ensures in
     subst (λ l. Offering k (record { choices = l; number = f.number + 1; cost = f.cost; ready = f.ready; level = f.level; foremost = f.foremost })) (sym (same g at))
     (now_offering k (number c.in-Some.p.0) (offers_of number c.args.self.now) f (taken g at) c.requires m known (unset g at) (inside g at))
 
@@ -56,7 +56,7 @@ offer_listed-requires-clause-offered g c =
     let f = offers_of number c.next.new.self in
     let at = (goal.at.offer_listed-requires-clause-offered g c).After-index_mut in
     let t = taken g at in
-    let (m, known) = c.rules_len-rules.ensures.known in
+    let (m, known) = c.invariant_holds.ensures in
     λ q heir. subst (λ l. IsOffered k l (f.number + 1) f.cost q) (sym (same g at))
     (heir_offered k m known f (number c.in-Some.p.0) t.level t.next (unset g at) (inside g at) q (subst (IsHeir k.tables q) c.rule_of-rule.ensures.value heir))
 
@@ -78,7 +78,7 @@ returns-then-is_some g c =
     let p = number c.in-Some.p.0 in
     let items = c.next.new.self.choices.items in
     let t = c.in-Some.ensures k c.requires.offering.level in
-    let (m, known) = c.rules_len-rules.ensures.known in
+    let (m, known) = c.invariant_holds.ensures in
     let value = c.rule_of-rule.ensures.value in
     let within = entry_within (choice_of number) items _ _ _ t.level.choosing.listed value c.rule_of-rule.ensures.within in
     let has = has_shown number items c.from.result _ (c.from.ensures ∙ value) within c.index.result.now c.index.ensures (sym c.is_some.ensures ∙ c.if-is_some.true) in record {
@@ -99,7 +99,7 @@ returns g c =
     let p = number c.in-Some.p.0 in
     let at = (goal.at.returns g c).After-index_mut in
     let t = taken g at in
-    let (m, known) = c.rules_len-rules.ensures.known in
+    let (m, known) = c.invariant_holds.ensures in
     let places = length x.grammar.productions in
     let adds = subst (λ r. Adds x (λ q. IsHeir x q r) places (now k p f f' t c.requires m known (unset g at) (inside g at)) f'') c.rule_of-rule.ensures.value
     (subst (λ l. Adds x (λ q. IsHeir x q (number c.rule_of-rule.result.0)) places (record { choices = l; number = f'.number + 1; cost = f'.cost; ready = f'.ready; level = f'.level; foremost = f'.foremost }) f'')

@@ -33,7 +33,7 @@ pub returns-then-is_some : goal.returns-then-is_some
 returns-then-is_some g c =
     let number = g.S.Storage.number in
     let items = c.args.self.now.choices.items in
-    let (m, known) = c.rules_len-rules.ensures.known in
+    let (m, known) = c.invariant_holds.ensures in
     let at = c.from-rule.ensures ∙ c.rule_of.ensures.value in
     let inside = subst (λ i. i < c.args.tight.now.tables.grammar.rules) (sym c.from-rule.ensures) c.rule_of.ensures.within in
     let within = entry_within (choice_of number) items _ c.from-rule.result _ c.requires.offering.level.choosing.listed at inside in

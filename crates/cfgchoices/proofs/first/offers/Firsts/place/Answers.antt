@@ -24,40 +24,27 @@ index-requires g c =
     let to = c.probe-middle.ensures.to in
     omega (arith, le, len, to)
 
-pub compare-requires-clause-choosing : goal.compare-requires-clause-choosing
-compare-requires-clause-choosing g c = (
-  c.args.self.now.number,
-  subst (λ l. Choosing c.args.tight.now.tables (map (choice_of g.S.Storage.number) l) c.args.self.now.number) (sym c.deref.ensures.value) c.requires.level.choosing,
-)
-
-pub compare-requires-clause-place : goal.compare-requires-clause-place
-compare-requires-clause-place g c =
+pub compare-requires : goal.compare-requires
+compare-requires g c =
     let number = g.S.Storage.number in
-    let le = c.loop-low.invariant.within in
-    let len = length-map c.args.self.now.level.items (λ p. number p.0) in
-    let to = c.probe-middle.ensures.to in
-    (middle_offered c.args.tight.now (offers_of number c.args.self.now) c.requires.level (number c.args.p.0) c.requires.offered c.loop-low.low c.loop-low.high c.probe-middle.result (number c.index.result.now.0) c.loop-low.invariant
-    c.probe-middle.ensures.from to (nth_shown number c.args.self.now.level.items c.probe-middle.result c.index.result.now (omega (arith, to, le, len)) c.index.ensures)).tight.place
-
-pub compare-requires-clause-other : goal.compare-requires-clause-other
-compare-requires-clause-other g c = c.requires.offered.tight.place
-
-pub compare-requires-clause-given : goal.compare-requires-clause-given
-compare-requires-clause-given g c =
-    let number = g.S.Storage.number in
-    let le = c.loop-low.invariant.within in
-    let len = length-map c.args.self.now.level.items (λ p. number p.0) in
-    let to = c.probe-middle.ensures.to in
-    subst (λ l. IsGiven c.args.tight.now.tables (map (choice_of number) l) (row c.args.tight.now.tables (number c.index.result.now.0))) (sym c.deref.ensures.value)
-    (middle_given c.args.tight.now (offers_of number c.args.self.now) c.requires.level (number c.args.p.0) c.requires.offered c.loop-low.low c.loop-low.high c.probe-middle.result (number c.index.result.now.0) c.loop-low.invariant
-    c.probe-middle.ensures.from to (nth_shown number c.args.self.now.level.items c.probe-middle.result c.index.result.now (omega (arith, to, le, len)) c.index.ensures))
-
-pub compare-requires-clause-also : goal.compare-requires-clause-also
-compare-requires-clause-also g c =
-    let number = g.S.Storage.number in
+    let k = c.args.tight.now in
     let f = offers_of number c.args.self.now in
-    subst (λ l. IsGiven c.args.tight.now.tables (map (choice_of number) l) (row c.args.tight.now.tables (number c.args.p.0))) (sym c.deref.ensures.value)
-    (offered_given c.args.tight.now f.choices f.number c.requires.level.choosing f.cost (number c.args.p.0) c.requires.offered)
+    let p = number c.args.p.0 in
+    let le = c.loop-low.invariant.within in
+    let to = c.probe-middle.ensures.to in
+    let len = length-map c.args.self.now.level.items (λ p. number p.0) in
+    let at = nth_shown number c.args.self.now.level.items c.probe-middle.result c.index.result.now (omega (arith, to, le, len)) c.index.ensures in
+    record {
+      choosing = (f.number, subst (λ l. Choosing k.tables (map (choice_of number) l) f.number) (sym c.deref.ensures.value) c.requires.level.choosing);
+      place = (middle_offered k f c.requires.level p c.requires.offered c.loop-low.low c.loop-low.high c.probe-middle.result (number c.index.result.now.0) c.loop-low.invariant
+          c.probe-middle.ensures.from to at).tight.place;
+      other = c.requires.offered.tight.place;
+      given = subst (λ l. IsGiven k.tables (map (choice_of number) l) (row k.tables (number c.index.result.now.0))) (sym c.deref.ensures.value)
+          (middle_given k f c.requires.level p c.requires.offered c.loop-low.low c.loop-low.high c.probe-middle.result (number c.index.result.now.0) c.loop-low.invariant
+          c.probe-middle.ensures.from to at);
+      also = subst (λ l. IsGiven k.tables (map (choice_of number) l) (row k.tables p)) (sym c.deref.ensures.value)
+          (offered_given k f.choices f.number c.requires.level.choosing f.cost p c.requires.offered);
+    }
 
 pub loop-low-preserved-then-is_lt : goal.loop-low-preserved-then-is_lt
 loop-low-preserved-then-is_lt g c =

@@ -6,7 +6,7 @@ pub invariant_of-result : goal.invariant_of-result
 invariant_of-result g c =
     let number = g.S.Storage.number in
     let x = tables_of number (g.T.Tables.grammar c.args.tables.now) c.args.costs.now c.args.settled.now.least.items c.args.settled.now.choices.items in (
-      known number x c.args.kinds.now c.requires.kinds c.args.settled.now.number c.requires.generator c.rules_len-rules.ensures.content c.in_ok-alone.alone.items _
+      known number x c.args.kinds.now c.requires.kinds c.args.settled.now.number c.requires.generator c.invariant_holds.ensures.content c.in_ok-alone.alone.items _
           c.in_ok-alone.ensures.flags c.in_ok-alone.ensures.alone c.in_ok-lists.ensures.costs,
       c.in_ok-lists.ensures,
     )

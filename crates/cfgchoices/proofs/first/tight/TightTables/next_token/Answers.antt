@@ -10,7 +10,7 @@ use Rattle.cfgchoices.proofs.first.tight.TightTables.next_token.Goals as goal
 
 within : (g : Over) (c : After-from g) → c.from.result < length c.args.choices.now
 within g c = index_within g.S.Storage.number c.args.self.now c.args.choices.now c.args.pending.now.items c.loop-symbol.pending.items c.pop.new.self.items c.in-Some.symbol
-    c.in-Rule.rule c.from.result c.requires.choosing c.rules_len-rules.ensures.known c.requires.given c.loop-symbol.invariant.same c.in-Some.ensures.items c.in-Rule.is c.from.ensures
+    c.in-Rule.rule c.from.result c.requires.choosing c.invariant_holds.ensures c.requires.given c.loop-symbol.invariant.same c.in-Some.ensures.items c.in-Rule.is c.from.ensures
 
 split : (g : Over) (c : After-from g) → map (sym_of g.S.Storage.number) c.loop-symbol.pending.items ≡ map (sym_of g.S.Storage.number) c.pop.new.self.items ++ Rule (g.S.Storage.number c.in-Rule.rule.0) ∷ []
 split g c = last_shown g.S.Storage.number _ _ _ c.in-Some.ensures.items ∙ ap (λ s. map (sym_of g.S.Storage.number) c.pop.new.self.items ++ sym_of g.S.Storage.number s ∷ []) c.in-Rule.is
@@ -105,28 +105,25 @@ loop-symbol-smaller-in-Continue-1 g c =
     let now = ap (left_to_open x l) turned in
     omega (arith, less, is, now)
 
-pub returns-in-Token-clause-next : goal.returns-in-Token-clause-next
-returns-in-Token-clause-next g c =
+pub returns-in-Token : goal.returns-in-Token
+returns-in-Token g c =
     let number = g.S.Storage.number in
     let x = c.args.self.now.tables in
     let l = map (choice_of number) c.args.choices.now in
     let rest = map (sym_of number) c.pop.new.self.items in
-    let split = last_shown number _ _ _ c.in-Some.ensures.items ∙ ap (λ s. rest ++ sym_of number s ∷ []) c.in-Token.is in
-    let (n, state) = c.requires.choosing in
-    λ w h. token_pending x l n state rest (number c.in-Token.token.0) w (subst (λ a. Pends x l a w) split (c.loop-symbol.invariant.same w h))
-
-pub returns-in-Token-clause-less : goal.returns-in-Token-clause-less
-returns-in-Token-clause-less g c =
-    let number = g.S.Storage.number in
-    let x = c.args.self.now.tables in
-    let l = map (choice_of number) c.args.choices.now in
-    let rest = map (sym_of number) c.pop.new.self.items in
-    let split = last_shown number _ _ _ c.in-Some.ensures.items in
-    let (n, state) = c.requires.choosing in
-    let less = symbol_less x l n state rest (sym_of number c.in-Some.symbol) in
-    let was = c.loop-symbol.invariant.left in
-    let is = ap (left_to_open x l) split in
-    omega (arith, less, was, is)
+    record {
+      next =
+          let split = last_shown number _ _ _ c.in-Some.ensures.items ∙ ap (λ s. rest ++ sym_of number s ∷ []) c.in-Token.is in
+          let (n, state) = c.requires.choosing in
+          λ w h. token_pending x l n state rest (number c.in-Token.token.0) w (subst (λ a. Pends x l a w) split (c.loop-symbol.invariant.same w h));
+      less =
+          let split = last_shown number _ _ _ c.in-Some.ensures.items in
+          let (n, state) = c.requires.choosing in
+          let less = symbol_less x l n state rest (sym_of number c.in-Some.symbol) in
+          let was = c.loop-symbol.invariant.left in
+          let is = ap (left_to_open x l) split in
+          omega (arith, less, was, is);
+    }
 
 pub returns : goal.returns
 returns g c =
