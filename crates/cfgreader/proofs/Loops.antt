@@ -1,5 +1,7 @@
 -- The reader's loops: what is left to read, from the tree as it is, leads to the same end.
 use Rattle.std.proofs.Common.{◌≡◌, ℕ, ◌<◌, Bool, true, false, List, [], ◌∷◌, ◌++◌, length, Option, Some, None, Result, Ok, Err, refl, sym, ◌∙◌, ap, arith}
+use Rattle.std.specs.Prelude.{IsErrAnd}
+use Rattle.std.proofs.lemmas.Result.{err_from_is_err_and}
 use Rattle.reading.specs.Leaves.{Gives, ValueOf, Leaves}
 use Rattle.reading.specs.Read.{Read}
 use Rattle.reading.specs.Construct.{Construct, many, repeat, while_test, computes}
@@ -102,6 +104,11 @@ module _ {A : Type 0} {c : ℕ → Turn A} {start now : Reader} (so_far : Gather
       stopped (repeat (c start.len)) start next read (grown turn.1) fault
       (repeat_stopped (c start.len) start.rest.now read fault
       (front_stopped (leaves (c start.len)) so_far.front fault turn.0))
+
+  -- as the code hands it on
+  pub repeat_refused : (result : Result (Unit {0}) ReadFault) (e : ReadFault) → IsErrAnd result (λ fault. fault ≡ e) → Fails now next e (c now.len)
+      → Builds (λ x. x) start next result (repeat (c start.len))
+  repeat_refused result e refused fails = let p = err_from_is_err_and result refused in rw (p.1, p.2) (repeat_fails e fails)
 
 -- the turns of a loop with a test
 module _ {A : Type 0} (test : List ℕ → Bool) (d : ℕ → Strict A) (now : Reader) where

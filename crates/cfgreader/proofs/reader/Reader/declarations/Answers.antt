@@ -1,8 +1,7 @@
 use Rattle.std.proofs.Common.{ap}
-use Rattle.std.proofs.lemmas.Result.{err_from_is_err_and}
 use Rattle.reading.specs.Construct.{goes_on}
 use Rattle.cfgreader.specs.Declarations.{declaration}
-use Rattle.cfgreader.proofs.Loops.{gathers_start, gathers_on, repeat_fails, repeat_done, turn_shorter}
+use Rattle.cfgreader.proofs.Loops.{gathers_start, gathers_on, repeat_refused, repeat_done, turn_shorter}
 use Rattle.cfgreader.proofs.reader.Reader.declarations.Goals as goal
 
 pub loop-init : goal.loop-init
@@ -17,8 +16,7 @@ loop-preserved c = gathers_on c.loop.invariant c.declaration.new.self goes_on c.
 
 pub returns-in_err-declaration : goal.returns-in_err-declaration
 returns-in_err-declaration c =
-    let p = err_from_is_err_and c.from_residual.result c.from_residual.ensures.1 in
-    rw (p.1, p.2) (repeat_fails c.loop.invariant c.declaration.new.self _ c.in_err-declaration.ensures)
+    repeat_refused c.loop.invariant c.declaration.new.self c.from_residual.result _ c.from_residual.ensures.1 c.in_err-declaration.ensures
 
 pub returns : goal.returns
 returns c = repeat_done c.loop.invariant c.declaration.new.self goes_on c.in_ok-declaration.field-0 c.in_ok-declaration.ensures (ap goes_on c.if-branch.false)

@@ -1,10 +1,9 @@
 use Rattle.std.proofs.Common.{arith, sym, ◌∙◌, refl, Ok, Err, Some, None}
-use Rattle.std.proofs.lemmas.Result.{err_from_is_err_and}
 use Rattle.reading.specs.Construct.{while_test}
 use Rattle.reading.proofs.Agree.{leaves}
 use Rattle.cfgreader.specs.Declarations.{is_listed}
 use Rattle.cfgreader.specs.Inner.Lists.{listed_in}
-use Rattle.cfgreader.proofs.Loops.{gathers_start, gathers_on, repeat_fails, repeat_done, while_builds, while_done}
+use Rattle.cfgreader.proofs.Loops.{gathers_start, gathers_on, repeat_refused, repeat_done, while_builds, while_done}
 use Rattle.cfgreader.proofs.reader.Reader.list.Goals as goal
 
 pub loop-list-init : goal.loop-list-init
@@ -19,9 +18,8 @@ loop-list-preserved c = gathers_on c.loop-list.invariant c.listed.new.self Some 
 
 pub returns-in_err-listed : goal.returns-in_err-listed
 returns-in_err-listed c =
-    let p = err_from_is_err_and c.from_residual.result c.from_residual.ensures.1 in
-    rw (p.1, p.2) (repeat_fails c.loop-list.invariant c.listed.new.self _
-    (while_builds is_listed (λ len. listed_in len c.args.list) c.loop-list.self (λ x. x) c.listed.new.self (Err _) (sym c.is_listed.ensures ∙ c.loop-list-test.true) c.in_err-listed.ensures))
+    repeat_refused c.loop-list.invariant c.listed.new.self c.from_residual.result _ c.from_residual.ensures.1
+    (while_builds is_listed (λ len. listed_in len c.args.list) c.loop-list.self (λ x. x) c.listed.new.self (Err _) (sym c.is_listed.ensures ∙ c.loop-list-test.true) c.in_err-listed.ensures)
 
 pub returns : goal.returns
 returns c = repeat_done c.loop-list.invariant c.loop-list.self (λ (x : Unit {0}). None) tt

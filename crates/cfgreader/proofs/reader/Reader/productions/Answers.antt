@@ -1,9 +1,8 @@
 use Rattle.std.proofs.Common.{ap}
-use Rattle.std.proofs.lemmas.Result.{err_from_is_err_and}
 use Rattle.reading.specs.Construct.{goes_on}
 use Rattle.cfgast.specs.View.{head_view}
 use Rattle.cfgreader.specs.Rules.{production}
-use Rattle.cfgreader.proofs.Loops.{gathers_start, gathers_on, repeat_fails, repeat_done, turn_shorter}
+use Rattle.cfgreader.proofs.Loops.{gathers_start, gathers_on, repeat_refused, repeat_done, turn_shorter}
 use Rattle.cfgreader.proofs.reader.Reader.productions.Goals as goal
 
 pub loop-init : goal.loop-init
@@ -17,8 +16,7 @@ loop-preserved c = gathers_on c.loop.invariant c.production.new.self goes_on c.i
 
 pub returns-in_err-production : goal.returns-in_err-production
 returns-in_err-production c =
-    let p = err_from_is_err_and c.from_residual.result c.from_residual.ensures.1 in
-    rw (p.1, p.2) (repeat_fails c.loop.invariant c.production.new.self _ c.in_err-production.ensures)
+    repeat_refused c.loop.invariant c.production.new.self c.from_residual.result _ c.from_residual.ensures.1 c.in_err-production.ensures
 
 pub returns : goal.returns
 returns c = repeat_done c.loop.invariant c.production.new.self goes_on c.in_ok-production.field-0 c.in_ok-production.ensures (ap goes_on c.if-branch.false)

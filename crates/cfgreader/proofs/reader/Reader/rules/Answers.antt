@@ -1,9 +1,8 @@
 use Rattle.std.proofs.Common.{arith, sym, ◌∙◌, refl, Ok, Err, Some, None}
-use Rattle.std.proofs.lemmas.Result.{err_from_is_err_and}
 use Rattle.reading.specs.Construct.{while_test}
 use Rattle.reading.proofs.Agree.{leaves}
 use Rattle.cfgreader.specs.Rules.{is_rule_next, rule}
-use Rattle.cfgreader.proofs.Loops.{gathers_start, gathers_on, repeat_fails, repeat_done, while_builds, while_done}
+use Rattle.cfgreader.proofs.Loops.{gathers_start, gathers_on, repeat_refused, repeat_done, while_builds, while_done}
 use Rattle.cfgreader.proofs.reader.Reader.rules.Goals as goal
 
 pub loop-kind-init : goal.loop-kind-init
@@ -18,9 +17,8 @@ loop-kind-preserved c = gathers_on c.loop-kind.invariant c.rule.new.self Some tt
 
 pub returns-in_err-rule : goal.returns-in_err-rule
 returns-in_err-rule c =
-    let p = err_from_is_err_and c.from_residual.result c.from_residual.ensures.1 in
-    rw (p.1, p.2) (repeat_fails c.loop-kind.invariant c.rule.new.self _
-    (while_builds is_rule_next (λ len. rule len c.args.kind) c.loop-kind.self (λ x. x) c.rule.new.self (Err _) (sym c.is_rule_next.ensures ∙ c.loop-kind-test.true) c.in_err-rule.ensures))
+    repeat_refused c.loop-kind.invariant c.rule.new.self c.from_residual.result _ c.from_residual.ensures.1
+    (while_builds is_rule_next (λ len. rule len c.args.kind) c.loop-kind.self (λ x. x) c.rule.new.self (Err _) (sym c.is_rule_next.ensures ∙ c.loop-kind-test.true) c.in_err-rule.ensures)
 
 pub returns : goal.returns
 returns c = repeat_done c.loop-kind.invariant c.loop-kind.self (λ (x : Unit {0}). None) tt
