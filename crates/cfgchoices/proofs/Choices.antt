@@ -1,6 +1,6 @@
 -- What choices give for two lists of symbols they give for the lists joined, and they give no more than one list of tokens.
 use Rattle.std.proofs.Common.{◌≡◌, ℕ, List, [], ◌∷◌, ◌++◌, Option, Some, refl, sym, ap, subst, ◌∙◌, append-nil, append_assoc}
-use Rattle.derivation.specs.Grammar.{Sym, Rule, Token}
+use Rattle.derivation.specs.Grammar.{Sym, Rule}
 use Rattle.cfgtables.specs.Openings.{nth_production}
 use Rattle.cfgleast.specs.Generator.{CostTables}
 use Rattle.cfgchoices.specs.Inner.Choices.{ChoicesGive, empty, token, free, chosen}

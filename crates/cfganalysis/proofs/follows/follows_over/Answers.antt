@@ -1,4 +1,4 @@
-use Rattle.std.proofs.Common.{sym, ap, ◌∙◌, subst, arith}
+use Rattle.std.proofs.Common.{sym, ap, ◌∙◌, subst}
 use Rattle.cfganalysis.specs.Follows.{AreFollows}
 use Rattle.cfganalysis.specs.Inner.GrowingFollows.{SayFollows}
 use Rattle.cfganalysis.proofs.Fitting.{openings_fit, still_few}

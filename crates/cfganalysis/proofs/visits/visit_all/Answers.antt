@@ -1,4 +1,4 @@
-use Rattle.std.proofs.Common.{◌≤◌, MatchBool, length, subst, refl, sym, ap, arith, ◌<◌, ◌∙◌}
+use Rattle.std.proofs.Common.{MatchBool, length, subst, refl, sym, ap, arith, ◌<◌, ◌∙◌}
 use Rattle.cfgtables.specs.Openings.{AreOpenedAtMost, most_openings}
 use Rattle.cfganalysis.specs.Inner.Growth.{CanVisit, CoversEach, Visited, left_to_do}
 use Rattle.cfganalysis.specs.Inner.Waiting.{NoneWaits}

@@ -1,7 +1,7 @@
-use Rattle.std.proofs.Common.{ℕ, Option, Some, None, Err, ◌≡◌, refl, sym, ap, subst, ◌∙◌}
+use Rattle.std.proofs.Common.{refl, sym, ap, subst, ◌∙◌}
 use Rattle.derivation.specs.Grammar.{HasProduction}
 use Rattle.cfgleast.specs.Certificate.{rule_choice}
-use Rattle.cfgleast.specs.Generator.{AnswersLeast, CostTables, IsGenerator, cost_answer, token_cost, where_some}
+use Rattle.cfgleast.specs.Generator.{CostTables, IsGenerator, token_cost, where_some}
 use Rattle.cfgleast.proofs.Generated.{choice_none, choice_read, choice_shown, refused}
 use Rattle.cfgcosts.proofs.generator.SentenceGenerator.choice.Goals as goal
 

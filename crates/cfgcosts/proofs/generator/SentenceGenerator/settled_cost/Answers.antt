@@ -1,4 +1,4 @@
-use Rattle.std.proofs.Common.{◌≡◌, ◌≤◌, ◌<◌, ap, get_or, subst, ◌∙◌, arith}
+use Rattle.std.proofs.Common.{◌≡◌, ap, get_or, subst, ◌∙◌, arith}
 use Rattle.cfgsums.specs.Lists.{rule_cost}
 use Rattle.cfgleast.specs.Generator.{CostTables, IsGenerator}
 use Rattle.cfgleast.proofs.Generated.{entry_read, reads_none, reads_cost, reads_dear}

@@ -1,4 +1,4 @@
-use Rattle.std.proofs.Common.{◌∷◌, ◌++◌, [], map, take, sym, ap, subst, ◌∙◌}
+use Rattle.std.proofs.Common.{◌∷◌, ◌++◌, [], map, take, sym, ap, ◌∙◌}
 use Rattle.std.proofs.lemmas.List.{map_more, take_all}
 use Rattle.cfgtables.specs.Symbols.{sym_of}
 use Rattle.cfgcosts.specs.Inner.Minimal.{joined, row_words, sentences_in, words_of_symbol}
