@@ -6,7 +6,7 @@ use Rattle.search.specs.Reached.{IsReachedIn}
 use Rattle.cfgtree.specs.Inner.Nodes.{nodes}
 use Rattle.cfgast.specs.View.{syntax_view, rule_entry}
 use Rattle.cfgtree.specs.View.{syntax}
-use Rattle.cfgast.proofs.Found.{names_differ, rule_names}
+use Rattle.cfgtree.proofs.Found.{names_differ, rule_names}
 use Rattle.cfgtree.proofs.Nodes.{knows, nodes_length}
 use Rattle.cfgtree.proofs.ast.GrammarAST.known.Goals as goal
 

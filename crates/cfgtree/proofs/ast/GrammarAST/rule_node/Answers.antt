@@ -1,7 +1,7 @@
 use Rattle.std.proofs.Common.{sym, ◌∙◌}
 use Rattle.cfgast.specs.View.{syntax_view}
 use Rattle.cfgtree.specs.View.{syntax}
-use Rattle.cfgast.proofs.Found.{rule_position}
+use Rattle.cfgtree.proofs.Found.{rule_position}
 use Rattle.cfgtree.proofs.ast.GrammarAST.rule_node.Goals as goal
 
 pub returns-clause-node : goal.returns-clause-node
