@@ -4,55 +4,29 @@ use Rattle.std.specs.List.{list_any, IsDistinct}
 use Rattle.std.specs.Str.{bytes_eq}
 use Rattle.std.specs.Cmp.Lexicographic.{bytes_decides, nat_list_eq_equiv}
 use Rattle.std.proofs.lemmas.List.{map-append}
-use Rattle.std.proofs.lemmas.List.Elements.{filter-append}
 use Rattle.std.proofs.lemmas.List.Folds.{list_any-append, list_any_at}
 use Rattle.std.proofs.lemmas.List.Sums.{passes_at_first}
 use Rattle.std.proofs.lemmas.Bool.{or_left, or_right}
 use Rattle.std.proofs.lemmas.Bool.Decides.{same_from_decides}
 use Rattle.std.proofs.lemmas.Map.Keys.{IsDistinct-push}
-use Rattle.lemmas.specs.Lists.{with_fronts, pushed, pushed_unless}
+use Rattle.lemmas.specs.Lists.{pushed, pushed_unless}
 use Rattle.lemmas.proofs.Pushed.{filter_map-pushed, map-pushed_unless}
-use Rattle.lemmas.proofs.Fronts.{with_fronts-push}
 use Rattle.lemmas.proofs.Growing.{from_pushes}
 use Rattle.lemmas.proofs.Places.{found-position, position_or_len-append, position_or_len-distinct}
 use Rattle.lemmas.proofs.Tests.{list_any-map}
-use Rattle.cfgast.specs.Syntax.{is_named, is_first, firsts, entry_name, index_of, indices_of}
+use Rattle.cfgast.specs.Syntax.{is_named, firsts, entry_name, index_of, indices_of}
 use Rattle.cfgast.specs.Building.{with_name, with_directive, with_entry, has_name}
+use Rattle.cfgast.proofs.Once.{each_once-push, any_once}
 
 module _ {A : Type 0} (name_of : A → List ℕ) where
   pub firsts-push : (xs : List A) (x : A) → firsts name_of (xs ++ x ∷ []) ≡ pushed_unless (is_named name_of (name_of x) xs) (firsts name_of xs) x
   unfolding firsts
-  firsts-push xs x =
-      ap (λ t. map second (filter (is_first name_of) t)) (with_fronts-push xs x)
-      ∙ ap (map second) (filter-append (is_first name_of) (with_fronts xs) ((xs, x) ∷ []))
-      ∙ map-append second (filter (is_first name_of) (with_fronts xs)) (filter (is_first name_of) ((xs, x) ∷ []))
-      ∙ go (is_named name_of (name_of x) xs)
-    where
-      second : List A × A → A
-      second x = x.1
-
-      go : (known : Bool) → firsts name_of xs ++ map second (cond (not known) ((xs, x) ∷ []) []) ≡ pushed_unless known (firsts name_of xs) x
-      go true = append-nil _
-      go false = refl
+  firsts-push = each_once-push (λ x y. bytes_eq (name_of x) (name_of y))
 
   -- a name is known among the first occurrences exactly if it is known at all
   pub is_named-firsts : (name : List ℕ) (xs : List A) → is_named name_of name (firsts name_of xs) ≡ is_named name_of name xs
   unfolding firsts
-  is_named-firsts name = from_pushes (λ xs. is_named name_of name (firsts name_of xs) ≡ is_named name_of name xs) refl more
-    where
-      or_known : (a b : Bool) → (b ≡ true → a ≡ true) → a ≡ (a || (b || false))
-      or_known true b h = refl
-      or_known false true h = h refl
-      or_known false false h = refl
-
-      more : (xs : List A) (x : A) → is_named name_of name (firsts name_of xs) ≡ is_named name_of name xs → is_named name_of name (firsts name_of (xs ++ x ∷ [])) ≡ is_named name_of name (xs ++ x ∷ [])
-      more xs x before =
-          ap (is_named name_of name) (firsts-push xs x) ∙ go (is_named name_of (name_of x) xs) refl ∙ sym (list_any-append (λ y. bytes_eq name (name_of y)) xs (x ∷ []))
-        where
-          go : (known : Bool) → is_named name_of (name_of x) xs ≡ known
-              → is_named name_of name (pushed_unless known (firsts name_of xs) x) ≡ (is_named name_of name xs || (bytes_eq name (name_of x) || false))
-          go true known = before ∙ or_known _ _ (λ e. ap (λ n. is_named name_of n xs) ((bytes_decides name (name_of x)).0 e) ∙ known)
-          go false known = list_any-append (λ y. bytes_eq name (name_of y)) (firsts name_of xs) (x ∷ []) ∙ ap (λ a. a || (bytes_eq name (name_of x) || false)) before
+  is_named-firsts name = any_once (λ x y. bytes_eq (name_of x) (name_of y)) (λ x. bytes_eq name (name_of x)) (λ x y e. ap (bytes_eq name) ((bytes_decides _ _).0 e))
 
   -- with an element at the end, if there is one and its name is new
   abbrev pub put_first : List A → Option A → List A

@@ -9,15 +9,23 @@ use Rattle.lemmas.specs.Lists.{with_fronts, pushed_unless}
 use Rattle.lemmas.proofs.Fronts.{with_fronts-push}
 use Rattle.lemmas.proofs.Growing.{from_pushes}
 use Rattle.lemmas.proofs.Pushed.{map-pushed_unless}
+use Rattle.lemmas.proofs.Tests.{list_any_weaker}
 use Rattle.indexmap.specs.IndexSet.{insert_key}
-use Rattle.cfgast.specs.Occurrences.{each_once}
+use Rattle.cfgast.specs.Syntax.{each_once}
+
+-- what f makes of the elements that pass
+pub filtered-push : {A B : Type 0} (f : A → B) (p : A → Bool) (xs : List A) (x : A)
+    → map f (filter p (xs ++ x ∷ [])) ≡ cond (p x) (map f (filter p xs) ++ f x ∷ []) (map f (filter p xs))
+filtered-push f p xs x = ap (map f) (filter-append p xs (x ∷ [])) ∙ map-append f (filter p xs) (filter p (x ∷ [])) ∙ go (p x)
+  where
+    go : (b : Bool) → map f (filter p xs) ++ map f (cond b (x ∷ []) []) ≡ cond b (map f (filter p xs) ++ f x ∷ []) (map f (filter p xs))
+    go true = refl
+    go false = append-nil _
 
 module _ {A : Type 0} (same : A → A → Bool) where
   pub each_once-push : (xs : List A) (x : A) → each_once same (xs ++ x ∷ []) ≡ pushed_unless (list_any (same x) xs) (each_once same xs) x
   each_once-push xs x =
-      ap (λ t. map second (filter is_new t)) (with_fronts-push xs x)
-      ∙ ap (map second) (filter-append is_new (with_fronts xs) ((xs, x) ∷ []))
-      ∙ map-append second (filter is_new (with_fronts xs)) (filter is_new ((xs, x) ∷ []))
+      ap (λ t. map second (filter is_new t)) (with_fronts-push xs x) ∙ filtered-push second is_new (with_fronts xs) (xs, x)
       ∙ go (list_any (same x) xs)
     where
       second : List A × A → A
@@ -26,30 +34,28 @@ module _ {A : Type 0} (same : A → A → Bool) where
       is_new : List A × A → Bool
       is_new x = not (list_any (same x.1) x.0)
 
-      go : (known : Bool) → each_once same xs ++ map second (cond (not known) ((xs, x) ∷ []) []) ≡ pushed_unless known (each_once same xs) x
-      go true = append-nil _
+      go : (known : Bool) → cond (not known) (each_once same xs ++ x ∷ []) (each_once same xs) ≡ pushed_unless known (each_once same xs) x
+      go true = refl
       go false = refl
 
-  -- some element is the same as another exactly if one that stays is
-  pub known_once : IsEquivalence same → (k : A) (xs : List A) → list_any (same k) (each_once same xs) ≡ list_any (same k) xs
-  known_once laws k = from_pushes (λ xs. list_any (same k) (each_once same xs) ≡ list_any (same k) xs) refl more
+  -- a test that tells no two apart that are the same passes one of them exactly if it passes one that stays
+  pub any_once : (is : A → Bool) → ((x y : A) → same x y ≡ true → is x ≡ is y) → (xs : List A) → list_any is (each_once same xs) ≡ list_any is xs
+  any_once is alike = from_pushes (λ xs. list_any is (each_once same xs) ≡ list_any is xs) refl more
     where
       or_known : (a b : Bool) → (b ≡ true → a ≡ true) → a ≡ (a || (b || false))
       or_known true b h = refl
       or_known false true h = h refl
       or_known false false h = refl
 
-      alike : (x : A) (xs : List A) → same k x ≡ true → list_any (same x) xs ≡ list_any (same k) xs
-      alike x [] e = refl
-      alike x (y ∷ xs) e = λ i. sym (laws.congr k x y e) i || alike x xs e i
-
-      more : (xs : List A) (x : A) → list_any (same k) (each_once same xs) ≡ list_any (same k) xs → list_any (same k) (each_once same (xs ++ x ∷ [])) ≡ list_any (same k) (xs ++ x ∷ [])
-      more xs x before = ap (list_any (same k)) (each_once-push xs x) ∙ go (list_any (same x) xs) refl ∙ sym (list_any-append (same k) xs (x ∷ []))
+      more : (xs : List A) (x : A) → list_any is (each_once same xs) ≡ list_any is xs → list_any is (each_once same (xs ++ x ∷ [])) ≡ list_any is (xs ++ x ∷ [])
+      more xs x before = ap (list_any is) (each_once-push xs x) ∙ go (list_any (same x) xs) refl ∙ sym (list_any-append is xs (x ∷ []))
         where
-          go : (known : Bool) → list_any (same x) xs ≡ known
-              → list_any (same k) (pushed_unless known (each_once same xs) x) ≡ (list_any (same k) xs || (same k x || false))
-          go true known = before ∙ or_known _ _ (λ e. sym (alike x xs e) ∙ known)
-          go false known = list_any-append (same k) (each_once same xs) (x ∷ []) ∙ ap (λ a. a || (same k x || false)) before
+          go : (known : Bool) → list_any (same x) xs ≡ known → list_any is (pushed_unless known (each_once same xs) x) ≡ (list_any is xs || (is x || false))
+          go true known = before ∙ or_known _ _ (λ e. list_any_weaker (same x) is (λ y h. sym (alike x y h) ∙ e) xs known)
+          go false known = list_any-append is (each_once same xs) (x ∷ []) ∙ ap (λ a. a || (is x || false)) before
+
+  pub known_once : IsEquivalence same → (k : A) (xs : List A) → list_any (same k) (each_once same xs) ≡ list_any (same k) xs
+  known_once laws k = any_once (same k) (λ x y e. laws.symm k x ∙ laws.congr x y k e ∙ laws.symm y k)
 
 -- keys that show each element once, and one key more
 module _ {K A : Type 0} (eq : K → K → Bool) (same : A → A → Bool) (laws : IsEquivalence same) (show : K → A)

@@ -1,12 +1,11 @@
 -- What the views of keys, entries and copies show.
-use Rattle.std.proofs.Common.{◌≡◌, ℕ, Bool, true, false, cond, List, [], ◌∷◌, ◌++◌, map, Option, Some, None, option_map, String, Global, string_bytes, string_eq, if◌then◌else◌, is_some, refl, sym, ap, subst, ◌∙◌}
-use Rattle.std.specs.List.{list_any, position_or_len, AllByRecursion, AllZip, IsDistinct}
+use Rattle.std.proofs.Common.{◌≡◌, ℕ, Bool, true, false, List, [], ◌∷◌, ◌++◌, map, Option, Some, None, option_map, Result, Ok, Err, OnErr, String, Global, string_bytes, string_eq, if◌then◌else◌, is_some, refl, sym, ap, ◌∙◌}
+use Rattle.std.specs.List.{list_any, position_or_len, AllZip, IsDistinct}
 use Rattle.std.specs.Map.{lookup, set_value, keys_of}
 use Rattle.std.specs.Str.{bytes_eq}
 use Rattle.std.specs.Cmp.Lexicographic.{bytes_decides, nat_list_eq_equiv}
 use Rattle.std.proofs.lemmas.List.{map-append}
 use Rattle.std.proofs.lemmas.Simd.{map-map}
-use Rattle.std.proofs.lemmas.Map.Keys.{IsDistinct-head, IsDistinct-tail}
 use Rattle.std.proofs.lemmas.Map.Made.{is_some-lookup}
 use Rattle.lemmas.specs.Lists.{pushed_unless}
 use Rattle.lemmas.proofs.Copies.{AreCopies, map-copies, option_map-copies}
@@ -23,6 +22,7 @@ use Rattle.cfgast.specs.Building.{has_name, has_entry, with_entry}
 use Rattle.cfgast.specs.View.{text_view, rule_entry, rule_view, span_entry}
 use Rattle.cfgast.specs.declared.rule.Rule as source
 use Rattle.cfgast.proofs.Names.{entries-put}
+use Rattle.cfgast.proofs.Written as one
 
 -- the test by which a text is looked up among keys
 abbrev pub is_key : List ℕ → String Global → Bool
@@ -120,35 +120,31 @@ module _ (name : List ℕ) (change : Rule → Rule) where
   abbrev pub changed : List ℕ × Rule → List ℕ × Rule
   changed rule = if bytes_eq name rule.0 then (rule.0, change rule.1) else rule
 
-  changed-others : (es : List (String Global × source.Rule)) → AllByRecursion (λ k. is_key name k ≡ false) (keys_of es) → map changed (map rule_entry es) ≡ map rule_entry es
-  changed-others [] h = refl
-  changed-others (e ∷ es) h = λ j. (if h.0 j then (string_bytes e.0, change (rule_view e.1)) else rule_entry e) ∷ changed-others es h.1 j
+  own : (x y : String Global) → is_key name x ≡ true → is_key name y ≡ string_eq x y
+  own x y is = ap (λ n. is_key n y) ((bytes_decides name (string_bytes x)).0 is)
+
+  others : (e : String Global × source.Rule) → is_key name e.0 ≡ false → changed (rule_entry e) ≡ rule_entry e
+  others e is = λ i. if is i then (string_bytes e.0, change (rule_view e.1)) else rule_entry e
 
   -- no rule has the name
   pub changed-absent : (es : List (String Global × source.Rule)) → lookup (is_key name) es ≡ None → map changed (map rule_entry es) ≡ map rule_entry es
-  changed-absent [] none = refl
-  changed-absent (e ∷ es) none = go (is_key name e.0) none (changed-absent es)
-    where
-      go : (b : Bool) → cond b (Some e.1) (lookup (is_key name) es) ≡ None → (lookup (is_key name) es ≡ None → map changed (map rule_entry es) ≡ map rule_entry es)
-          → (if b then (string_bytes e.0, change (rule_view e.1)) else rule_entry e) ∷ map changed (map rule_entry es) ≡ rule_entry e ∷ map rule_entry es
-      go true same rest = cc
-      go false same rest = ap (λ t. rule_entry e ∷ t) (rest same)
+  changed-absent = one.changed-absent string_eq (is_key name) own rule_entry changed others
 
   -- keys differ, so the change is that of the one rule that is written
   pub changed-set_value : (es : List (String Global × source.Rule)) (old new : source.Rule) → IsDistinct string_eq (keys_of es) → lookup (is_key name) es ≡ Some old
       → rule_view new ≡ change (rule_view old) → map rule_entry (set_value (is_key name) es new) ≡ map changed (map rule_entry es)
-  changed-set_value [] old new distinct found grown = refl
-  changed-set_value (e ∷ es) old new distinct found grown =
-      go (is_key name e.0) refl found (λ f. changed-set_value es old new (IsDistinct-tail string_eq e.0 (keys_of es) distinct) f grown)
-    where
-      others : is_key name e.0 ≡ true → AllByRecursion (λ k. is_key name k ≡ false) (keys_of es)
-      others here = subst (λ n. AllByRecursion (λ k. is_key n k ≡ false) (keys_of es)) (sym ((bytes_decides name (string_bytes e.0)).0 here)) (IsDistinct-head string_eq e.0 (keys_of es) distinct)
+  changed-set_value es old new distinct found grown = one.changed-set_value string_eq (is_key name) own rule_entry changed others es old new distinct found
+      (λ key is. (λ i. (string_bytes key, grown i)) ∙ (λ i. if sym is i then (string_bytes key, change (rule_view old)) else rule_entry (key, old)))
 
-      go : (b : Bool) → is_key name e.0 ≡ b → cond b (Some e.1) (lookup (is_key name) es) ≡ Some old
-          → (lookup (is_key name) es ≡ Some old → map rule_entry (set_value (is_key name) es new) ≡ map changed (map rule_entry es))
-          → map rule_entry (cond b ((e.0, new) ∷ es) (e ∷ set_value (is_key name) es new))
-          ≡ cond b (string_bytes e.0, change (rule_view e.1)) (rule_entry e) ∷ map changed (map rule_entry es)
-      go true here same rest =
-          let is : old ≡ e.1 = cc in
-          λ j. (string_bytes e.0, (grown ∙ ap (λ (r : source.Rule). change (rule_view r)) is) j) ∷ sym (changed-others es (others here)) j
-      go false here same rest = ap (λ t. rule_entry e ∷ t) (rest same)
+-- a rule that isn't changed
+pub changed-nothing : (name : List ℕ) (rules : List (List ℕ × Rule)) → map (changed name (λ rule. rule)) rules ≡ rules
+changed-nothing name [] = refl
+changed-nothing name (rule ∷ rules) = λ i. go (bytes_eq name rule.0) i ∷ changed-nothing name rules i
+  where
+    go : (b : Bool) → (if b then (rule.0, rule.1) else rule) ≡ rule
+    go true = refl
+    go false = refl
+
+pub on_err : {T E P : Type 0} (r : Result T E) → P → OnErr r P
+on_err (Ok x) h = tt
+on_err (Err e) h = h

@@ -1,10 +1,6 @@
--- Who relies on the calls of this crate has to read these files; those in Inner have the words of private clauses.
+-- Who relies on the calls of this crate has to read these files.
 pub mod Items
 pub mod Occurrences
 pub mod Syntax
 pub mod Building
 pub mod View
-pub mod WellFormed
-pub mod Unused
-pub mod Writing
-pub mod Inner

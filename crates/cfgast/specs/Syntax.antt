@@ -98,12 +98,12 @@ head_name head = head.name.name
 abbrev pub is_named : {A : Type 0} → (A → List ℕ) → List ℕ → List A → Bool
 is_named name_of name xs = list_any (λ x. bytes_eq name (name_of x)) xs
 
--- a first occurrence: nothing before it has its name
-abbrev pub is_first : {A : Type 0} → (A → List ℕ) → List A × A → Bool
-is_first name_of (front, x) = not (is_named name_of (name_of x) front)
+-- each element once, where the first that is the same stands, and so those of each name
+abbrev pub each_once : {A : Type 0} → (A → A → Bool) → List A → List A
+each_once same xs = map (λ x. x.1) (filter (λ x. not (list_any (same x.1) x.0)) (with_fronts xs))
 
 unfoldable pub firsts : {A : Type 0} → (A → List ℕ) → List A → List A
-firsts name_of xs = map (λ x. x.1) (filter (is_first name_of) (with_fronts xs))
+firsts name_of xs = each_once (λ x y. bytes_eq (name_of x) (name_of y)) xs
 
 -- the place of a name among names, and the places of several
 abbrev pub index_of : List ℕ → List (List ℕ) → ℕ

@@ -1,6 +1,5 @@
--- What the types of the tree show, as plain data.
-use Rattle.std.specs.Prelude.{ℕ, List, Vec, String, map, option_map}
-use Rattle.std.specs.Borrow.{Bor}
+-- What the types of a syntax show, as plain data.
+use Rattle.std.specs.Prelude.{ℕ, List, String, map, option_map}
 use Rattle.std.specs.String.{string_bytes}
 use Rattle.std.specs.declared.alloc.Global.{Global}
 use Rattle.cfgbase.specs.declared.span.Span.{Span}
@@ -17,7 +16,7 @@ use Rattle.cfgast.specs.declared.rule.Rule.{Rule}
 use Rattle.cfgast.specs.declared.settings.Settings.{Settings}
 use Rattle.cfgast.specs.declared.tables.Tables.{Tables}
 use Rattle.cfgast.specs.declared.precedence.Precedence.{Precedence}
-use Rattle.cfgast.specs.declared.ast.GrammarAST.{GrammarAST}
+use Rattle.cfgast.specs.declared.syntax.Syntax.{Syntax as CodeSyntax}
 use Rattle.cfgast.specs.Items as items
 use Rattle.cfgast.specs.declared.builder.AstBuilder.{AstBuilder}
 use Rattle.cfgast.specs.declared.item.RuleHead.{RuleHead}
@@ -94,28 +93,24 @@ unique_view unique = record { kind = unique.kind; token = option_map string_byte
 abbrev pub occurrence_view : Occurrence → once.Occurrence
 occurrence_view occurrence = record { what = unique_view occurrence.what; span = occurrence.span }
 
--- what is declared more than once, under what it is
-abbrev pub duplicate_view : Bor Unique × Vec Span Global → once.Duplicate
-duplicate_view entry = record { what = unique_view entry.0.now; spans = entry.1.items }
-
-unfoldable pub syntax : GrammarAST → Syntax
-syntax ast = record {
-  start = option_map named_view ast.start;
-  rules = map rule_entry ast.rules.entries;
-  productions = map production_view ast.prods.items;
-  production_rules = ast.prods_rules.items;
-  tokens = map string_bytes ast.tokens.keys;
-  spans = ast.spans.items;
-  token_directives = ast.token_directives.keys;
-  tables = tables_view ast.tables;
-  settings = settings_view ast.settings;
-  expect_unused = map symbol_view ast.expect_unused.items;
-  occurrences = map occurrence_view ast.occurrences.items;
+unfoldable pub syntax_view : CodeSyntax → Syntax
+syntax_view syntax = record {
+  start = option_map named_view syntax.start;
+  rules = map rule_entry syntax.rules.entries;
+  productions = map production_view syntax.prods.items;
+  production_rules = syntax.prods_rules.items;
+  tokens = map string_bytes syntax.tokens.keys;
+  spans = syntax.spans.items;
+  token_directives = syntax.token_directives.keys;
+  tables = tables_view syntax.tables;
+  settings = settings_view syntax.settings;
+  expect_unused = map symbol_view syntax.expect_unused.items;
+  occurrences = map occurrence_view syntax.occurrences.items;
 }
 
 -- what was built so far
 unfoldable pub syntax_built : AstBuilder → Syntax
-syntax_built builder = syntax builder.ast
+syntax_built builder = syntax_view builder.syntax
 
 -- a token of a rule's body
 abbrev pub token_view : CodeToken → Token

@@ -8,7 +8,7 @@ use indexmap::{IndexMap, IndexSet};
 use std::alloc::{AllocError, Global};
 
 /// Has a map hash its keys so.
-pub(crate) fn hash_map_anew<V: Drop>(
+pub fn hash_map_anew<V: Drop>(
     alloc: Global,
     hashes: NameHashes,
     map: &mut IndexMap<String, V, NameHashes>,

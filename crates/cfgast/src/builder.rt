@@ -7,45 +7,41 @@ ghost use Rattle.cfgast.specs.Items.{RuleBegun, RuleNamed, TokenQuoted, Preceden
 ghost use Rattle.cfgast.specs.Syntax.{syntax_of, symbol_of, production_of, head_name, index_of, typed};
 ghost use Rattle.cfgast.specs.Occurrences.{of_grammar, of_token};
 ghost use Rattle.cfgast.specs.Building.{add, adds, with_first, with_rule, new_rule, is_declared};
-ghost use Rattle.cfgast.specs.WellFormed.{IsWellFormed};
 
 use crate::anew::{hash_map_anew, hash_set_anew};
-use crate::ast::GrammarAST;
 use crate::crowds::{Crowds, New};
 use crate::item::{Body, RuleHead};
 use crate::occurrence::{Occurrence, Unique, UniqueKind};
 use crate::precedence::{AssocKind, Precedence};
 use crate::production::Production;
-use crate::rule::Rule;
-use crate::settings::Settings;
+use crate::rule::{Rule, list_production};
 use crate::symbol::Symbol;
-use crate::tables::{Tables, begin_marked, put_entry, put_marked};
-use crate::writing::list_production;
+use crate::syntax::Syntax;
+use crate::tables::{begin_marked, put_entry, put_marked};
 use cfgbase::Span;
-use cfghash::{Crowd, NameHashes};
+use cfghash::NameHashes;
 use cfgwords::words::{Token, Word};
-use indexmap::{IndexMap, IndexSet};
 use std::alloc::{AllocError, Global};
 
 /// The first key is drawn from the first one of so many parts of a text.
 const PART: usize = 16;
 
-/// Builds the tree of a grammar file from the items that a reader finds in it, in their order.
+/// Builds what a grammar file says from the items that a reader finds in it, in their order.
 ///
 /// It is the reader's own: no public path of `cfgrammar` leads to it. A method that fails for lack of memory may have
 /// added a part of its item, and its contract says nothing of what the builder holds then. So the reader drops it, and
-/// answers want of memory and no tree.
+/// answers want of memory alone.
 #[derive(Drop)]
 pub struct AstBuilder<'text> {
     text: &'text str,
     crowds: Option<Crowds>,
     has_key: bool,
-    ast: GrammarAST,
+    syntax: Syntax,
 }
 
-#[tactic(auto, unfolding(crate::specs::View::syntax_built, crate::specs::View::syntax, crate::specs::Building::add))]
+#[tactic(auto, unfolding(crate::specs::View::syntax_built, crate::specs::View::syntax_view, crate::specs::Building::add))]
 impl<'text> AstBuilder<'text> {
-    ghost use Rattle.cfgast.specs.View.{syntax, syntax_built, production_view, rule_view, symbol_view, word_view};
+    ghost use Rattle.cfgast.specs.View.{syntax_view, syntax_built, production_view, rule_view, symbol_view, word_view};
     ghost use Rattle.cfgast.specs.View.{token_view, head_view, body_view};
 
     /// A builder that no item was added to. Names are hashed plainly, or where they crowd under a key of this text.
@@ -57,35 +53,15 @@ impl<'text> AstBuilder<'text> {
             text,
             crowds: Some(Crowds::new(alloc, hashes)),
             has_key: false,
-            ast: GrammarAST {
-                start: None,
-                rules: IndexMap::with_hasher(alloc, hashes),
-                prods: Vec::new(alloc),
-                prods_rules: Vec::new(alloc),
-                token_directives: IndexSet::new(alloc),
-                tokens: IndexSet::with_hasher(alloc, hashes),
-                spans: Vec::new(alloc),
-                tables: Tables::none(alloc, hashes),
-                settings: Settings::none(),
-                expect_unused: Vec::new(alloc),
-                occurrences: Vec::new(alloc),
-                added: Crowd::new(alloc),
-            },
+            syntax: Syntax::none(alloc, hashes),
         }
     }
 
-    /// The tree so far.
-    pub fn as_ast(&self) -> &GrammarAST
-        ensures { syntax result.now ≡ syntax_built self.now }
+    /// What the items that were added say.
+    pub fn finish(self) -> Syntax
+        ensures { syntax_view result ≡ syntax_built self.entry }
     {
-        &self.ast
-    }
-
-    /// The tree of the items that were added.
-    pub fn finish(self) -> GrammarAST
-        ensures { syntax result ≡ syntax_built self.entry }
-    {
-        self.ast
+        self.syntax
     }
 
     /// Adds a token of a `%token` list.
@@ -94,7 +70,7 @@ impl<'text> AstBuilder<'text> {
             ≡ add (syntax_built self.old) (TokenDeclared (word_view word.entry))) }
     {
         let index = self.put_token(alloc, word)?;
-        self.ast.token_directives.insert(index)?;
+        self.syntax.token_directives.insert(index)?;
         Ok(())
     }
 
@@ -109,11 +85,11 @@ impl<'text> AstBuilder<'text> {
         ensures { OnOk result (syntax_built self.new
             ≡ add (syntax_built self.old) (PrecedenceDeclared kind (word_view word.entry))) }
     {
-        let level = self.ast.tables.levels.len() as u64;
+        let level = self.syntax.tables.levels.len() as u64;
         let precedence = Precedence { level, kind };
         let is_new = put_entry(
             alloc,
-            &mut self.ast.tables.precs,
+            &mut self.syntax.tables.precs,
             word.name,
             (precedence, word.span),
         )?;
@@ -124,7 +100,7 @@ impl<'text> AstBuilder<'text> {
     pub fn end_level(&mut self, kind: AssocKind) -> Result<(), AllocError>
         ensures { OnOk result (syntax_built self.new ≡ add (syntax_built self.old) (LevelEnded kind)) }
     {
-        self.ast.tables.levels.push(kind)?;
+        self.syntax.tables.levels.push(kind)?;
         Ok(())
     }
 
@@ -132,8 +108,8 @@ impl<'text> AstBuilder<'text> {
     pub fn begin_avoid_insert(&mut self, alloc: Global)
         ensures { syntax_built self.new ≡ add (syntax_built self.old) AvoidInsertBegun }
     {
-        let hashes = *self.ast.tokens.hasher();
-        begin_marked(alloc, hashes, &mut self.ast.tables.avoid_insert);
+        let hashes = *self.syntax.tokens.hasher();
+        begin_marked(alloc, hashes, &mut self.syntax.tables.avoid_insert);
     }
 
     /// Adds a token of an `%avoid_insert` list. The first one of its name counts.
@@ -142,8 +118,8 @@ impl<'text> AstBuilder<'text> {
             ≡ add (syntax_built self.old) (AvoidInsertDeclared (word_view word.entry))) }
     {
         self.put_token(alloc, word)?;
-        let hashes = *self.ast.tokens.hasher();
-        let is_new = put_marked(alloc, hashes, &mut self.ast.tables.avoid_insert, word)?;
+        let hashes = *self.syntax.tokens.hasher();
+        let is_new = put_marked(alloc, hashes, &mut self.syntax.tables.avoid_insert, word)?;
         self.note_token(alloc, UniqueKind::AvoidInsert, word, is_new)
     }
 
@@ -151,8 +127,8 @@ impl<'text> AstBuilder<'text> {
     pub fn begin_implicit_tokens(&mut self, alloc: Global)
         ensures { syntax_built self.new ≡ add (syntax_built self.old) ImplicitTokensBegun }
     {
-        let hashes = *self.ast.tokens.hasher();
-        begin_marked(alloc, hashes, &mut self.ast.tables.implicit_tokens);
+        let hashes = *self.syntax.tokens.hasher();
+        begin_marked(alloc, hashes, &mut self.syntax.tables.implicit_tokens);
     }
 
     /// Adds a token of an `%implicit_tokens` list. The first one of its name counts.
@@ -165,8 +141,8 @@ impl<'text> AstBuilder<'text> {
             ≡ add (syntax_built self.old) (ImplicitTokenDeclared (word_view word.entry))) }
     {
         self.put_token(alloc, word)?;
-        let hashes = *self.ast.tokens.hasher();
-        let is_new = put_marked(alloc, hashes, &mut self.ast.tables.implicit_tokens, word)?;
+        let hashes = *self.syntax.tokens.hasher();
+        let is_new = put_marked(alloc, hashes, &mut self.syntax.tables.implicit_tokens, word)?;
         self.note_token(alloc, UniqueKind::ImplicitToken, word, is_new)
     }
 
@@ -183,7 +159,7 @@ impl<'text> AstBuilder<'text> {
     {
         let is_new = put_entry(
             alloc,
-            &mut self.ast.tables.epp,
+            &mut self.syntax.tables.epp,
             token.name,
             (token.span, (form, span)),
         )?;
@@ -227,8 +203,8 @@ impl<'text> AstBuilder<'text> {
         ensures { OnOk result (syntax_built self.new
             ≡ add (syntax_built self.old) (ActionTypeDeclared (text.now, span))) }
     {
-        if self.ast.settings.action_type.is_none() {
-            self.ast.settings.action_type = Some(String::from_str(alloc, text)?);
+        if self.syntax.settings.action_type.is_none() {
+            self.syntax.settings.action_type = Some(String::from_str(alloc, text)?);
         }
         self.note(UniqueKind::ActionType, span)
     }
@@ -237,8 +213,8 @@ impl<'text> AstBuilder<'text> {
     pub fn declare_expect(&mut self, number: (usize, Span)) -> Result<(), AllocError>
         ensures { OnOk result (syntax_built self.new ≡ add (syntax_built self.old) (ExpectDeclared number)) }
     {
-        if self.ast.settings.expect.is_none() {
-            self.ast.settings.expect = Some(number);
+        if self.syntax.settings.expect.is_none() {
+            self.syntax.settings.expect = Some(number);
         }
         self.note(UniqueKind::Expect, number.1)
     }
@@ -248,8 +224,8 @@ impl<'text> AstBuilder<'text> {
         ensures { OnOk result (syntax_built self.new
             ≡ add (syntax_built self.old) (ExpectReduceReduceDeclared number)) }
     {
-        if self.ast.settings.expectrr.is_none() {
-            self.ast.settings.expectrr = Some(number);
+        if self.syntax.settings.expectrr.is_none() {
+            self.syntax.settings.expectrr = Some(number);
         }
         self.note(UniqueKind::ExpectReduceReduce, number.1)
     }
@@ -266,7 +242,7 @@ impl<'text> AstBuilder<'text> {
     {
         let name = String::from_str(alloc, name)?;
         let kind = String::from_str(alloc, kind)?;
-        self.ast.settings.parse_param = Some((name, kind));
+        self.syntax.settings.parse_param = Some((name, kind));
         Ok(())
     }
 
@@ -274,7 +250,7 @@ impl<'text> AstBuilder<'text> {
     pub fn declare_generics(&mut self, alloc: Global, text: &str) -> Result<(), AllocError>
         ensures { OnOk result (syntax_built self.new ≡ add (syntax_built self.old) (GenericsDeclared text.now)) }
     {
-        self.ast.settings.parse_generics = Some(String::from_str(alloc, text)?);
+        self.syntax.settings.parse_generics = Some(String::from_str(alloc, text)?);
         Ok(())
     }
 
@@ -284,7 +260,9 @@ impl<'text> AstBuilder<'text> {
             ≡ add (syntax_built self.old) (ExpectedUnused (RuleSymbol (word_view word.entry)))) }
     {
         let name = String::from_str(alloc, word.name)?;
-        self.ast.expect_unused.push(Symbol::Rule(name, word.span))?;
+        self.syntax
+            .expect_unused
+            .push(Symbol::Rule(name, word.span))?;
         Ok(())
     }
 
@@ -294,7 +272,9 @@ impl<'text> AstBuilder<'text> {
             ≡ add (syntax_built self.old) (ExpectedUnused (TokenSymbol (word_view word.entry)))) }
     {
         let name = String::from_str(alloc, word.name)?;
-        self.ast.expect_unused.push(Symbol::Token(name, word.span))?;
+        self.syntax
+            .expect_unused
+            .push(Symbol::Token(name, word.span))?;
         Ok(())
     }
 
@@ -302,7 +282,7 @@ impl<'text> AstBuilder<'text> {
     pub fn give_programs(&mut self, alloc: Global, text: &str) -> Result<(), AllocError>
         ensures { OnOk result (syntax_built self.new ≡ add (syntax_built self.old) (ProgramsGiven text.now)) }
     {
-        self.ast.settings.programs = Some(String::from_str(alloc, text)?);
+        self.syntax.settings.programs = Some(String::from_str(alloc, text)?);
         Ok(())
     }
 
@@ -336,10 +316,10 @@ impl<'text> AstBuilder<'text> {
     {
         let production = self.production_of(alloc, body)?;
         let rule = self.put_rule(alloc, head)?;
-        let index = self.ast.prods.len();
-        list_production(&mut self.ast.rules, head.name.name, index)?;
-        self.ast.prods.push(production)?;
-        self.ast.prods_rules.push(rule)?;
+        let index = self.syntax.prods.len();
+        list_production(&mut self.syntax.rules, head.name.name, index)?;
+        self.syntax.prods.push(production)?;
+        self.syntax.prods_rules.push(rule)?;
         Ok(())
     }
 
@@ -350,7 +330,7 @@ impl<'text> AstBuilder<'text> {
         }) }
     {
         let what = Unique { kind, token: None };
-        self.ast.occurrences.push(Occurrence { what, span })?;
+        self.syntax.occurrences.push(Occurrence { what, span })?;
         Ok(())
     }
 
@@ -366,12 +346,18 @@ impl<'text> AstBuilder<'text> {
           occurrences = (syntax_built self.old).occurrences ++ of_token kind (word_view token.entry) ∷ [];
         }) }
     {
+        let new = if is_new {
+            New::Declared(kind, Some(token.name))
+        } else {
+            New::Known
+        };
+        self.take_in(alloc, new)?;
+        let name = String::from_str(alloc, token.name)?;
         let what = Unique {
             kind,
-            token: Some(String::from_str(alloc, token.name)?),
+            token: Some(name),
         };
-        self.take_in_declared(alloc, &what, is_new)?;
-        self.ast.occurrences.push(Occurrence {
+        self.syntax.occurrences.push(Occurrence {
             what,
             span: token.span,
         })?;
@@ -384,8 +370,8 @@ impl<'text> AstBuilder<'text> {
           start = with_first (Some (word_view word.entry)) (syntax_built self.old).start;
         }) }
     {
-        if self.ast.start.is_none() {
-            self.ast.start = Some((String::from_str(alloc, word.name)?, word.span));
+        if self.syntax.start.is_none() {
+            self.syntax.start = Some((String::from_str(alloc, word.name)?, word.span));
         }
         Ok(())
     }
@@ -396,14 +382,12 @@ impl<'text> AstBuilder<'text> {
             ≡ add (syntax_built self.old) (TokenQuoted (word_view word.entry))) }
         ensures index { IfOk result (λ index. index ≡ index_of word.entry.name.now (syntax_built self.new).tokens) }
     {
-        if let Some(index) = self.ast.tokens.get_index_of(word.name) {
+        if let Some(index) = self.syntax.tokens.get_index_of(word.name) {
             return Ok(index);
         }
-        self.ast.spans.push(word.span)?;
-        let (index, _) = self
-            .ast
-            .tokens
-            .insert_full(String::from_str(alloc, word.name)?)?;
+        self.syntax.spans.push(word.span)?;
+        let name = String::from_str(alloc, word.name)?;
+        let (index, _) = self.syntax.tokens.insert_full(name)?;
         self.take_in(alloc, New::Token(word.name))?;
         Ok(index)
     }
@@ -411,38 +395,21 @@ impl<'text> AstBuilder<'text> {
     // The index of the rule of this name, which is added where it is new.
     fn put_rule(&mut self, alloc: Global, head: RuleHead<'_>) -> Result<usize, AllocError>
         ensures added { OnOk result (syntax_built self.new ≡ record (syntax_built self.old) {
-          rules = with_rule (Some (typed (syntax_built self.old).settings.action_type (head_view head.entry))) (syntax_built self.old).rules;
+          rules = with_rule (Some (typed (syntax_built self.old).settings.action_type (head_view head.entry)))
+              (syntax_built self.old).rules;
         }) }
         ensures index { IfOk result (λ index. index
             ≡ index_of (head_name (head_view head.entry)) (map (λ rule. rule.0) (syntax_built self.new).rules)) }
     {
         let name = head.name.name;
-        if let Some(index) = self.ast.rules.get_index_of(name) {
+        if let Some(index) = self.syntax.rules.get_index_of(name) {
             return Ok(index);
         }
+        let key = String::from_str(alloc, name)?;
         let rule = self.new_rule(alloc, head)?;
-        let (index, _) = self
-            .ast
-            .rules
-            .insert_full(String::from_str(alloc, name)?, rule)?;
+        let (index, _) = self.syntax.rules.insert_full(key, rule)?;
         self.take_in(alloc, New::Rule(name))?;
         Ok(index)
-    }
-
-    // Takes in what is declared of a token, where it is new.
-    fn take_in_declared(
-        &mut self,
-        alloc: Global,
-        what: &Unique,
-        is_new: bool,
-    ) -> Result<(), AllocError>
-        ensures { OnOk result (syntax_built self.new ≡ syntax_built self.old) }
-    {
-        if is_new {
-            self.take_in(alloc, New::Declared(what))
-        } else {
-            Ok(())
-        }
     }
 
     // Takes in what is new. Where names crowd, they are hashed anew.
@@ -465,9 +432,9 @@ impl<'text> AstBuilder<'text> {
         ensures { OnOk result (syntax_built self.new ≡ syntax_built self.old) }
     {
         let hashes = self.draw_key(alloc)?;
-        hash_map_anew(alloc, hashes, &mut self.ast.rules)?;
-        hash_set_anew(alloc, hashes, &mut self.ast.tokens)?;
-        self.ast.tables.hash_anew(alloc, hashes)
+        hash_map_anew(alloc, hashes, &mut self.syntax.rules)?;
+        hash_set_anew(alloc, hashes, &mut self.syntax.tokens)?;
+        self.syntax.tables.hash_anew(alloc, hashes)
     }
 
     // The key of the text's first part, which is soon drawn. Where names crowd under it too, that of the whole text.
@@ -479,9 +446,8 @@ impl<'text> AstBuilder<'text> {
         if !self.has_key {
             self.has_key = true;
             let hashes = NameHashes::of_text(&text[..text.len() / PART]);
-            let mut crowds = Crowds::new(alloc, hashes);
-            if !crowds.takes_all(&self.ast)? {
-                self.crowds = Some(crowds);
+            self.crowds = Crowds::of(alloc, hashes, &self.syntax)?;
+            if self.crowds.is_some() {
                 return Ok(hashes);
             }
         }
@@ -495,7 +461,7 @@ impl<'text> AstBuilder<'text> {
     {
         let actiont = match head.action_type {
             Some(text) => Some(String::from_str(alloc, text)?),
-            None => self.ast.settings.action_type.clone()?,
+            None => self.syntax.settings.action_type.clone()?,
         };
         Ok(Rule {
             name: (String::from_str(alloc, head.name.name)?, head.name.span),
@@ -551,11 +517,11 @@ impl<'text> AstBuilder<'text> {
     fn is_declared(&self, name: &str) -> bool
         ensures { result ≡ is_declared (syntax_built self.now) name.now }
     {
-        if self.ast.token_directives.is_empty() {
+        if self.syntax.token_directives.is_empty() {
             return false;
         }
-        match self.ast.tokens.get_index_of(name) {
-            Some(index) => self.ast.token_directives.contains(&index),
+        match self.syntax.tokens.get_index_of(name) {
+            Some(index) => self.syntax.token_directives.contains(&index),
             None => false,
         }
     }
@@ -565,9 +531,4 @@ impl<'text> AstBuilder<'text> {
 /// the list says.
 pub fn built_is_syntax()
     ensures { (items : List Item) → adds (syntax_of []) items ≡ syntax_of items }
-{}
-
-/// The law behind the trees of grammar files: what a list of items says is well formed.
-pub fn syntax_is_well_formed()
-    ensures { (items : List Item) → IsWellFormed (syntax_of items) }
 {}

@@ -1,24 +1,26 @@
-//! How the names of a tree crowd in its tables.
+//! How the names of a file crowd in the tables of what it says.
 
-use crate::ast::GrammarAST;
-use crate::occurrence::{Unique, UniqueKind};
+use crate::occurrence::UniqueKind;
+use crate::syntax::Syntax;
 use cfghash::{Crowd, NameHashes};
 use std::alloc::{AllocError, Global};
 use std::hash::BuildHasher;
 
-/// What is new to a tree.
+/// What is new to what a file says.
 #[derive(Clone, Copy)]
 pub(crate) enum New<'a> {
     /// A rule of this name.
     Rule(&'a str),
     /// A token of this name.
     Token(&'a str),
-    /// A first declaration of what a token may be declared only once.
-    Declared(&'a Unique),
+    /// A first declaration of what may be declared only once, of the token of this name or of the whole grammar.
+    Declared(UniqueKind, Option<&'a str>),
+    /// Nothing: it is known.
+    Known,
 }
 
-/// How full the tables of a tree are, whose names are hashed so, and that of all that is declared of tokens. Tokens that
-/// are marked are counted as tokens: their tables hold a part of those.
+/// How full the tables of a syntax are, whose names are hashed so, and that of all that is declared of tokens. Tokens
+/// that are marked are counted as tokens: their tables hold a part of those.
 #[derive(Drop)]
 pub(crate) struct Crowds {
     hashes: NameHashes,
@@ -30,7 +32,7 @@ pub(crate) struct Crowds {
 }
 
 impl Crowds {
-    /// Those of a tree without names.
+    /// Those of a syntax without names.
     pub(crate) fn new(alloc: Global, hashes: NameHashes) -> Self {
         Crowds {
             hashes,
@@ -42,27 +44,41 @@ impl Crowds {
         }
     }
 
+    /// Those of a syntax, unless names crowd in one of its tables.
+    pub(crate) fn of(
+        alloc: Global,
+        hashes: NameHashes,
+        syntax: &Syntax,
+    ) -> Result<Option<Self>, AllocError> {
+        let mut crowds = Crowds::new(alloc, hashes);
+        if crowds.takes_all(syntax)? {
+            return Ok(None);
+        }
+        Ok(Some(crowds))
+    }
+
     /// Takes in what is new: whether names crowd in a table that it goes to.
     pub(crate) fn takes(&mut self, new: New<'_>) -> Result<bool, AllocError> {
         match new {
             New::Rule(name) => self.rules.takes(self.hashes.hash_one(name)),
             New::Token(name) => self.tokens.takes(self.hashes.hash_one(name)),
-            New::Declared(what) => self.takes_declared(what),
+            New::Declared(kind, token) => self.takes_declared(kind, token),
+            New::Known => Ok(false),
         }
     }
 
-    /// Takes in a whole tree: whether names crowd in one of its tables.
-    pub(crate) fn takes_all(&mut self, ast: &GrammarAST) -> Result<bool, AllocError> {
-        for name in ast.rules.keys() {
+    // Takes in a whole syntax: whether names crowd in one of its tables.
+    fn takes_all(&mut self, syntax: &Syntax) -> Result<bool, AllocError> {
+        for name in syntax.rules.keys() {
             if self.takes(New::Rule(name.as_str()))? {
                 return Ok(true);
             }
         }
-        Ok(self.takes_tokens(ast)? || self.takes_occurrences(ast)?)
+        Ok(self.takes_tokens(syntax)? || self.takes_occurrences(syntax)?)
     }
 
-    fn takes_tokens(&mut self, ast: &GrammarAST) -> Result<bool, AllocError> {
-        for name in &ast.tokens {
+    fn takes_tokens(&mut self, syntax: &Syntax) -> Result<bool, AllocError> {
+        for name in &syntax.tokens {
             if self.takes(New::Token(name.as_str()))? {
                 return Ok(true);
             }
@@ -71,25 +87,31 @@ impl Crowds {
     }
 
     // What is declared twice is taken in twice: at the worst names seem to crowd.
-    fn takes_occurrences(&mut self, ast: &GrammarAST) -> Result<bool, AllocError> {
-        for occurrence in &ast.occurrences {
-            if self.takes(New::Declared(&occurrence.what))? {
+    fn takes_occurrences(&mut self, syntax: &Syntax) -> Result<bool, AllocError> {
+        for occurrence in &syntax.occurrences {
+            let what = &occurrence.what;
+            if self.takes(New::Declared(what.kind, what.token.as_deref()))? {
                 return Ok(true);
             }
         }
         Ok(false)
     }
 
-    fn takes_declared(&mut self, what: &Unique) -> Result<bool, AllocError> {
-        let crowded = self.declared.takes(self.hashes.hash_one(what))?;
-        Ok(self.takes_entry(what)? || crowded)
+    // What is declared is hashed as the `Unique` of it is.
+    fn takes_declared(
+        &mut self,
+        kind: UniqueKind,
+        token: Option<&str>,
+    ) -> Result<bool, AllocError> {
+        let crowded = self.declared.takes(self.hashes.hash_one((kind, token)))?;
+        match token {
+            Some(name) => Ok(self.takes_entry(kind, name)? || crowded),
+            None => Ok(crowded),
+        }
     }
 
-    fn takes_entry(&mut self, what: &Unique) -> Result<bool, AllocError> {
-        let Some(name) = &what.token else {
-            return Ok(false);
-        };
-        match what.kind {
+    fn takes_entry(&mut self, kind: UniqueKind, name: &str) -> Result<bool, AllocError> {
+        match kind {
             UniqueKind::PrintedForm => self.epp.takes(self.hashes.hash_one(name)),
             UniqueKind::Precedence => self.precs.takes(self.hashes.hash_one(name)),
             _ => Ok(false),

@@ -1,11 +1,8 @@
 #![tactic(auto)]
 
-mod anew;
-pub mod ast;
+pub mod anew;
 pub mod builder;
-pub mod copies;
 mod crowds;
-pub mod duplicates;
 pub mod item;
 pub mod laws;
 pub mod occurrence;
@@ -14,12 +11,10 @@ pub mod production;
 pub mod rule;
 pub mod settings;
 pub mod symbol;
+pub mod syntax;
 pub mod tables;
-pub mod unused;
-pub mod writing;
 
-pub use ast::GrammarAST;
-pub use builder::{AstBuilder, built_is_syntax, syntax_is_well_formed};
+pub use builder::{AstBuilder, built_is_syntax};
 pub use item::{Body, RuleHead};
 pub use occurrence::{Occurrence, Unique, UniqueKind};
 pub use precedence::{AssocKind, Precedence};
@@ -27,5 +22,5 @@ pub use production::Production;
 pub use rule::Rule;
 pub use settings::Settings;
 pub use symbol::Symbol;
+pub use syntax::Syntax;
 pub use tables::Tables;
-pub use writing::clone_with_start;

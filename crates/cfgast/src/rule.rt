@@ -1,6 +1,10 @@
-ghost use Rattle.std.specs.Prelude.{◌≡◌};
+ghost use Rattle.std.specs.Prelude.{◌≡◌, map, OnErr, OnOk};
+ghost use Rattle.cfgast.specs.Building.{listed};
+ghost use Rattle.cfgast.specs.View.{rule_entry};
 
 use cfgbase::Span;
+use cfghash::NameHashes;
+use indexmap::IndexMap;
 use std::alloc::AllocError;
 
 /// A rule of a grammar.
@@ -26,4 +30,20 @@ impl Clone for Rule {
             actiont: self.actiont.clone()?,
         })
     }
+}
+
+/// Lists the production of this index with the rule of this name.
+pub fn list_production(
+    rules: &mut IndexMap<String, Rule, NameHashes>,
+    name: &str,
+    index: usize,
+) -> Result<(), AllocError>
+    ensures listed { OnOk result (map rule_entry rules.new.entries
+        ≡ map (listed name.now index) (map rule_entry rules.old.entries)) }
+    ensures unchanged { OnErr result (map rule_entry rules.new.entries ≡ map rule_entry rules.old.entries) }
+{
+    if let Some(rule) = rules.get_mut(name) {
+        rule.pidxs.push(index)?;
+    }
+    Ok(())
 }

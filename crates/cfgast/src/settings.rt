@@ -1,6 +1,7 @@
 ghost use Rattle.std.specs.Prelude.{◌≡◌, []};
 
 use cfgbase::Span;
+use lending::{Refill, refilled};
 use std::alloc::AllocError;
 
 /// What a file says of its grammar as a whole.
@@ -46,13 +47,22 @@ impl Clone for Settings {
     ghost is_clone = { λ settings copy. settings_view copy ≡ settings_view settings };
 
     fn clone(&self) -> Result<Settings, AllocError> {
-        Ok(Settings {
-            action_type: self.action_type.clone()?,
-            expect: self.expect,
-            expectrr: self.expectrr,
-            parse_param: self.parse_param.clone()?,
-            parse_generics: self.parse_generics.clone()?,
-            programs: self.programs.clone()?,
-        })
+        refilled(Settings::none(), self)
+    }
+}
+
+impl Refill for Settings {
+    ghost use Rattle.cfgast.specs.View.{settings_view};
+
+    ghost is_copy = { λ settings copy. settings_view copy ≡ settings_view settings };
+
+    fn refill(&mut self, from: &Settings) -> Result<(), AllocError> {
+        self.action_type.clone_from(&from.action_type)?;
+        self.expect = from.expect;
+        self.expectrr = from.expectrr;
+        self.parse_param.clone_from(&from.parse_param)?;
+        self.parse_generics.clone_from(&from.parse_generics)?;
+        self.programs.clone_from(&from.programs)?;
+        Ok(())
     }
 }

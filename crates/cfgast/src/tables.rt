@@ -5,12 +5,12 @@ ghost use Rattle.cfgast.specs.Building.{with_entry, with_marked};
 ghost use Rattle.cfgast.specs.View.{span_entry, word_view};
 
 use crate::anew::{hash_map_anew, hash_marked_anew};
-use crate::copies::{both, three};
 use crate::precedence::{AssocKind, Precedence};
 use cfgbase::Span;
 use cfghash::NameHashes;
 use cfgwords::words::Word;
 use indexmap::IndexMap;
+use lending::{Refill, refilled};
 use std::alloc::{AllocError, Global};
 
 /// What a file says of single tokens, each under its name, in the order in which they come first.
@@ -63,15 +63,23 @@ impl Clone for Tables {
     ghost is_clone = { λ tables copy. tables_view copy ≡ tables_view tables };
 
     fn clone(&self) -> Result<Tables, AllocError> {
-        let (avoid_insert, implicit_tokens) = both(&self.avoid_insert, &self.implicit_tokens)?;
-        let (precs, epp, levels) = three(&self.precs, &self.epp, &self.levels)?;
-        Ok(Tables {
-            precs,
-            epp,
-            avoid_insert,
-            implicit_tokens,
-            levels,
-        })
+        let none = Tables::none(*self.levels.allocator(), *self.precs.hasher());
+        refilled(none, self)
+    }
+}
+
+impl Refill for Tables {
+    ghost use Rattle.cfgast.specs.View.{tables_view};
+
+    ghost is_copy = { λ tables copy. tables_view copy ≡ tables_view tables };
+
+    fn refill(&mut self, from: &Tables) -> Result<(), AllocError> {
+        self.precs.clone_from(&from.precs)?;
+        self.epp.clone_from(&from.epp)?;
+        self.avoid_insert.clone_from(&from.avoid_insert)?;
+        self.implicit_tokens.clone_from(&from.implicit_tokens)?;
+        self.levels.clone_from(&from.levels)?;
+        Ok(())
     }
 }
 

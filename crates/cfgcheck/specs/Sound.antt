@@ -5,7 +5,7 @@ use Rattle.reading.specs.Pieces.{starts}
 use Rattle.cfgwords.specs.declared.bytes.ByteClass.TheVariants as bytes
 use Rattle.cfgwords.specs.Bytes.{holds}
 use Rattle.cfgast.specs.Syntax.{Syntax}
-use Rattle.cfgast.specs.WellFormed.{IsWellFormed}
+use Rattle.cfgtree.specs.WellFormed.{IsWellFormed}
 use Rattle.cfgcheck.specs.Check.{check_of}
 use Rattle.cfgerrors.specs.Errors.{GrammarError}
 

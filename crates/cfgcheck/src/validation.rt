@@ -2,17 +2,19 @@
 
 ghost use Rattle.std.specs.Prelude.{◌≡◌, IfOk, map, option_map, string_bytes};
 ghost use Rattle.cfgast.specs.Building.{has_entry, has_name, has_rule};
-ghost use Rattle.cfgast.specs.View.{syntax, symbol_view, production_view};
+ghost use Rattle.cfgast.specs.View.{symbol_view, production_view};
+ghost use Rattle.cfgtree.specs.View.{syntax};
 ghost use Rattle.cfgcheck.specs.Check.{found, unfit_error, start_error, symbol_error};
 ghost use Rattle.cfgcheck.specs.Check.{precedence_error, production_error, printed_error, place_error, rule_error};
 ghost use Rattle.cfgcheck.specs.Check.{first_error, check_of};
 
-use cfgast::{GrammarAST, Production, Rule, Symbol};
+use cfgast::{Production, Rule, Symbol};
 use cfgbase::Span;
 use cfgerrors::YaccGrammarErrorKind::{
     InvalidStartRule, NoPrecForToken, NoStartRule, UnknownEPP, UnknownRuleRef, UnknownToken,
 };
 use cfgerrors::{YaccGrammarError, error_at};
+use cfgtree::GrammarAST;
 use std::alloc::{AllocError, Global};
 
 /// What a check finds wrong. It borrows the name, so that to look for it takes no memory.

@@ -5,7 +5,7 @@ use Rattle.std.proofs.lemmas.List.Elements.{All-nil, All-cons, All-head, All-tai
 use Rattle.lemmas.proofs.Zips.{All-zip}
 use Rattle.cfgbase.specs.declared.span.Span.{Span}
 use Rattle.cfgast.specs.Syntax.{Syntax, EachSpan}
-use Rattle.cfgast.specs.Unused.{Name, AreWarnings, Warned, none, taken, left, possible_warnings, rule_warning, token_warning}
+use Rattle.cfgtree.specs.Unused.{Name, AreWarnings, Warned, none, taken, left, possible_warnings, rule_warning, token_warning}
 use Rattle.cfgwarnings.specs.Warnings.{GrammarWarning, warning_at}
 use Rattle.cfgwarnings.specs.declared.warning.YaccGrammarWarningKind.{YaccGrammarWarningKind}
 use Rattle.cfgwarnings.specs.declared.warning.YaccGrammarWarningKind.TheVariants.{UnusedRule, UnusedToken}

@@ -6,7 +6,7 @@ use Rattle.std.specs.Fmt.{decimal}
 use Rattle.cfgbase.specs.declared.span.Span.{Span}
 use Rattle.cfglines.specs.Lines.{line_number, column}
 use Rattle.cfgast.specs.Syntax.{Syntax}
-use Rattle.cfgast.specs.Unused.{AreWarnings}
+use Rattle.cfgtree.specs.Unused.{AreWarnings}
 use Rattle.cfgerrors.specs.Errors.{GrammarError}
 use Rattle.cfgerrors.specs.Texts.{error_text}
 use Rattle.cfgwarnings.specs.Texts.{warning_text}

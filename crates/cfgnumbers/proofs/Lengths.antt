@@ -4,7 +4,7 @@ use Rattle.std.specs.List.{zip}
 use Rattle.std.proofs.lemmas.List.{length-map, length-append}
 use Rattle.std.proofs.lemmas.Slice.Zip.{length-zip}
 use Rattle.cfgast.specs.Syntax.{Syntax}
-use Rattle.cfgast.specs.WellFormed.{IsWellFormed}
+use Rattle.cfgtree.specs.WellFormed.{IsWellFormed}
 use Rattle.cfgnumbers.specs.Fits.{productions_behind}
 use Rattle.cfgnumbers.specs.Numbered.{numbered_by, rules_before, added_rules, file_rule, added_productions, file_production, file_token, end_token}
 use Rattle.cfgnumbers.proofs.Added.{added_rules_len, added_productions_len}

@@ -5,7 +5,7 @@ use Rattle.std.proofs.lemmas.Bool.{ne_eqb}
 use Rattle.std.proofs.lemmas.List.Sums.{sum_by-cons}
 use Rattle.lemmas.specs.Lists.{places_from}
 use Rattle.cfgast.specs.Syntax.{Syntax}
-use Rattle.cfgast.specs.WellFormed.{IsWellFormed}
+use Rattle.cfgtree.specs.WellFormed.{IsWellFormed}
 use Rattle.cfgnumbers.specs.Numbered.{numbered_by}
 use Rattle.cfgnumbers.specs.WellNumbered.{ListsEachOnce}
 use Rattle.cfgnumbers.proofs.Owners.{owners, owner_at}

@@ -9,7 +9,7 @@ use Rattle.lemmas.specs.Lists.{places, places_from}
 use Rattle.lemmas.proofs.Passing.{places-map, places-same}
 use Rattle.cfgast.specs.Syntax as file
 use Rattle.cfgast.specs.Syntax.{Syntax}
-use Rattle.cfgast.specs.WellFormed.{IsWellFormed}
+use Rattle.cfgtree.specs.WellFormed.{IsWellFormed}
 use Rattle.cfgnumbers.specs.Numbered.{NumberedRule, rules_before, added_rules, file_rule, numbered_by}
 use Rattle.cfgnumbers.specs.Shown.{rule_part}
 use Rattle.cfgnumbers.proofs.Owners.{implicit_owners, added_owners, added_owners_before, file_owners, file_owners_len, owners}

@@ -9,7 +9,7 @@ use Rattle.lemmas.proofs.Elements.{element_at}
 use Rattle.lemmas.proofs.Passing.{places_from-within, places_from-contains}
 use Rattle.cfgbase.specs.declared.span.Span.{Span}
 use Rattle.cfgast.specs.Syntax.{Rule, Syntax, entry_name}
-use Rattle.cfgast.specs.WellFormed.{IsWellFormed}
+use Rattle.cfgtree.specs.WellFormed.{IsWellFormed}
 use Rattle.cfgkinds.specs.declared.kind.YaccKind.{YaccKind}
 use Rattle.cfgkinds.specs.declared.kind.YaccKind.TheVariants.{Original, Grmtools, Eco}
 use Rattle.cfgnumbers.specs.Numbered.{implicit_of}

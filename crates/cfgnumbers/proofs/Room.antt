@@ -6,7 +6,7 @@ use Rattle.std.proofs.lemmas.List.Elements.{All-nil, All-cons, All-append, All-h
 use Rattle.derivation.specs.Grammar.{Rule}
 use Rattle.cfgwords.specs.Words.{Word}
 use Rattle.cfgast.specs.Syntax.{Syntax, Production}
-use Rattle.cfgast.specs.WellFormed.{IsWellFormed}
+use Rattle.cfgtree.specs.WellFormed.{IsWellFormed}
 use Rattle.cfgnumbers.specs.Numbered.{NumberedProduction, numbered_by, rule_index, rules_before, start_symbols, file_symbols, file_production, added_production, added_productions}
 use Rattle.cfgnumbers.specs.Fits.{Fits, LeavesRoom}
 use Rattle.cfgnumbers.proofs.Added.{All-added}

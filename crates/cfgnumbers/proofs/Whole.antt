@@ -8,7 +8,7 @@ use Rattle.std.proofs.lemmas.Option.{slice_get-map, slice_get-get_or}
 use Rattle.std.proofs.lemmas.Slice.Zip.{firsts-zip}
 use Rattle.cfgbase.specs.declared.span.Span.{Span}
 use Rattle.derivation.specs.Grammar.{IsSymbolOf}
-use Rattle.cfgast.specs.WellFormed.{IsWellFormed}
+use Rattle.cfgtree.specs.WellFormed.{IsWellFormed}
 use Rattle.cfgast.specs.Syntax.{Syntax}
 use Rattle.lemmas.proofs.Elements.{slice_get_push}
 use Rattle.lemmas.proofs.Passing.{places_from-within}

@@ -7,7 +7,8 @@ use Rattle.cfgindex.specs.declared.idxnewtype.RIdx.{RIdx}
 use Rattle.cfgindex.specs.declared.idxnewtype.Symbol.{Symbol}
 use Rattle.cfgast.specs.declared.settings.Settings.{Settings}
 use Rattle.cfgast.specs.Syntax.{Syntax}
-use Rattle.cfgast.specs.View.{settings_view, syntax}
+use Rattle.cfgast.specs.View.{settings_view}
+use Rattle.cfgtree.specs.View.{syntax}
 use Rattle.cfgtables.specs.Symbols.{sym_of}
 use Rattle.cfgnumbers.specs.Numbered.{Numbered, NumberedRule, NumberedToken, NumberedProduction, end_token}
 use Rattle.cfgnumbers.specs.declared.numbering.Numbering.{Numbering}

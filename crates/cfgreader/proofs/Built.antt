@@ -5,8 +5,8 @@ use Rattle.reading.specs.Read.{stop_of}
 use Rattle.cfgwords.specs.declared.fault.Fault.{Fault}
 use Rattle.cfgast.specs.Building.{adds}
 use Rattle.cfgast.specs.Syntax.{Syntax, syntax_of}
-use Rattle.cfgast.specs.View.{syntax, syntax_built}
-use Rattle.cfgast.specs.declared.ast.GrammarAST.{GrammarAST}
+use Rattle.cfgast.specs.View.{syntax_view, syntax_built}
+use Rattle.cfgast.specs.declared.syntax.Syntax.{Syntax as CodeSyntax}
 use Rattle.cfgast.proofs.Law.{adds_syntax_of}
 use Rattle.cfgkinds.specs.declared.kind.YaccKind.{YaccKind}
 use Rattle.cfgreader.specs.declared.reader.Reader.{Reader}
@@ -27,10 +27,10 @@ module _ (kind : YaccKind) (len : ℕ) (rest : List ℕ) (old : Reader) (whole :
   abbrev pub Ends : Reader → Option Fault → Type 0
   Ends new stop = Grows old new (computes (file kind old.len) old.rest.now).items × (stop ≡ stop_of (computes (file kind old.len) old.rest.now).outcome)
 
-  pub file_read : {E : Type 0} (new : Reader) (tree : GrammarAST) (stop : Result (Option Fault) E) (both : Result (GrammarAST × Option Fault) E)
-      → syntax_built old.tree ≡ syntax_of [] → syntax tree ≡ syntax_built new.tree
-      → IfOk stop (Ends new) → IfOk both (λ both. (both.0 ≡ tree) × (stop ≡ Ok both.1)) → IfOk both (IsFile kind len rest)
-  file_read new tree stop (Ok (made, end)) began built ended same =
+  pub file_read : {E : Type 0} (new : Reader) (syntax : CodeSyntax) (stop : Result (Option Fault) E) (both : Result (CodeSyntax × Option Fault) E)
+      → syntax_built old.tree ≡ syntax_of [] → syntax_view syntax ≡ syntax_built new.tree
+      → IfOk stop (Ends new) → IfOk both (λ both. (both.0 ≡ syntax) × (stop ≡ Ok both.1)) → IfOk both (IsFile kind len rest)
+  file_read new syntax stop (Ok (made, end)) began built ended same =
       let ends : Ends new end = subst (λ stop. IfOk stop (Ends new)) same.1 ended in
-      (file_built new (syntax made) began (ap syntax same.0 ∙ built) ends.0, file_stopped end (sym ends.1))
-  file_read new tree stop (Err e) began built ended same = tt
+      (file_built new (syntax_view made) began (ap syntax_view same.0 ∙ built) ends.0, file_stopped end (sym ends.1))
+  file_read new syntax stop (Err e) began built ended same = tt

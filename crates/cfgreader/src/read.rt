@@ -7,7 +7,7 @@ ghost use Rattle.cfgreader.specs.Inner.Builds.{Grows, IsFile};
 ghost use Rattle.cfgreader.specs.Grammar.{file};
 
 use super::reader::{ReadFault, Reader};
-use cfgast::GrammarAST;
+use cfgast::Syntax;
 use cfgkinds::YaccKind;
 use cfgwords::fault::Fault;
 use std::alloc::{AllocError, Global};
@@ -19,13 +19,13 @@ pub fn read_file(
     kind: YaccKind,
     len: usize,
     rest: &str,
-) -> Result<(GrammarAST, Option<Fault>), AllocError>
+) -> Result<(Syntax, Option<Fault>), AllocError>
     requires { length rest.now ≤ len }
     ensures { IfOk result (IsFile kind len rest.now) }
 {
     let mut reader = Reader::new(alloc, len, rest);
     let stop = stop_in(&mut reader, kind);
-    with_end(reader.into_tree(), stop)
+    with_end(reader.into_syntax(), stop)
 }
 
 /// Passes a whole file, or as much of it as can be read: what stopped the reading, if anything did.

@@ -8,7 +8,7 @@ ghost use Rattle.cfgwords.specs.Text.{place, fault_at};
 ghost use Rattle.cfgreader.specs.Here.{is_open, stands, blank_here, line_blank, name_here, token_here, integer_here};
 ghost use Rattle.cfgreader.specs.Here.{line_rest_here, epp_string_here, colon_text_here};
 
-use cfgast::{AstBuilder, GrammarAST};
+use cfgast::{AstBuilder, Syntax};
 use cfgbase::Span;
 use cfgwords::blank::{Front, passes_line_end};
 use cfgwords::bytes::ByteClass;
@@ -69,7 +69,7 @@ pub(crate) struct Reader<'a> {
 
 impl<'a> Reader<'a> {
     ghost use Rattle.cfgreader.specs.Inner.Builds.{Builds, Grows, IsPartHere, IsNameHere, IsTokenHere};
-    ghost use Rattle.cfgast.specs.View.{syntax, syntax_built, word_view, token_view};
+    ghost use Rattle.cfgast.specs.View.{syntax_view, syntax_built, word_view, token_view};
     ghost use Rattle.cfgast.specs.Syntax.{syntax_of};
 
     /// At the front of what is left of a text of `len` bytes, with nothing read.
@@ -86,9 +86,9 @@ impl<'a> Reader<'a> {
         }
     }
 
-    /// The tree of what was read.
-    pub(super) fn into_tree(self) -> GrammarAST
-        ensures { syntax result ≡ syntax_built self.entry.tree }
+    /// What was read.
+    pub(super) fn into_syntax(self) -> Syntax
+        ensures { syntax_view result ≡ syntax_built self.entry.tree }
     {
         self.tree.finish()
     }

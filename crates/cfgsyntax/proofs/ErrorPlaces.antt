@@ -18,8 +18,10 @@ use Rattle.cfgwords.specs.Words.{Word}
 use Rattle.cfgwords.proofs.Cuts.{IsCut, cut_here}
 use Rattle.cfgast.specs.Items.{Item}
 use Rattle.cfgast.specs.Building.{has_entry, has_name, has_rule}
-use Rattle.cfgast.specs.Occurrences.{Unique, Occurrence, is_same, each_once, repeats, places_of, duplicates}
-use Rattle.cfgast.proofs.Repeats.{is_same_equivalence}
+use Rattle.cfgast.specs.Occurrences.{Unique, Occurrence}
+use Rattle.cfgast.specs.Syntax.{each_once}
+use Rattle.cfgtree.specs.Duplicates.{is_same, repeats, places_of, duplicates}
+use Rattle.cfgtree.proofs.Repeats.{is_same_equivalence}
 use Rattle.cfgast.specs.Syntax.{Symbol, RuleSymbol, TokenSymbol, EachProductionSpan, EachSpan, symbol_word, Production, Rule, Syntax, syntax_of}
 use Rattle.cfgkinds.specs.declared.kind.YaccKind.{YaccKind}
 use Rattle.cfgerrors.specs.HeaderErrors.{ShownError}

@@ -10,7 +10,7 @@ use Rattle.cfgsyntax.specs.Faults.{all_errors, errors_of}
 use Rattle.cfgsyntax.specs.Reads.{Stop, Reads, HasOneReading}
 use Rattle.cfgast.specs.Items.{Item}
 use Rattle.cfgwords.specs.Words.{Word}
-use Rattle.cfgast.specs.Writing.{started_at}
+use Rattle.cfgtree.specs.Writing.{started_at}
 use Rattle.cfgcheck.specs.Sound.{IsSound}
 
 -- no errors at all, so none of the last kind

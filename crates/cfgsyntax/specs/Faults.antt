@@ -8,7 +8,7 @@ use Rattle.cfgwords.specs.declared.fault.FaultKind.TheVariants as faults
 use Rattle.cfgast.specs.declared.occurrence.UniqueKind.{UniqueKind}
 use Rattle.cfgast.specs.declared.occurrence.UniqueKind.TheVariants as unique
 use Rattle.cfgast.specs.Items.{Item}
-use Rattle.cfgast.specs.Occurrences.{Duplicate, duplicates}
+use Rattle.cfgtree.specs.Duplicates.{Duplicate, duplicates}
 use Rattle.cfgast.specs.Syntax.{Syntax, syntax_of}
 use Rattle.cfgerrors.specs.Errors as kinds
 use Rattle.cfgerrors.specs.Errors.{ErrorKind, GrammarError, error_at, header_error}

@@ -3,7 +3,7 @@ use Rattle.std.specs.Prelude.{◌≡◌, ℕ, List, true, false, codes}
 use Rattle.cfgwords.specs.Words.{Word}
 use Rattle.cfgast.specs.Building.{has_rule}
 use Rattle.cfgast.specs.Syntax.{Syntax}
-use Rattle.cfgast.specs.Writing.{started_at}
+use Rattle.cfgtree.specs.Writing.{started_at}
 use Rattle.cfgerrors.specs.Errors.{InvalidStartRule}
 use Rattle.cfgerrors.specs.Texts.{error_text}
 use Rattle.cfgsyntax.specs.Parsed.{Parsed}

@@ -3,16 +3,18 @@
 ghost use Rattle.std.specs.Prelude.{◌≡◌, ◌≤◌, length, List, Option, IfOk, option_map};
 ghost use Rattle.cfgast.specs.Items.{Item};
 ghost use Rattle.cfgast.specs.Syntax.{syntax_of};
-ghost use Rattle.cfgast.specs.View.{syntax};
+ghost use Rattle.cfgtree.specs.View.{syntax};
 ghost use Rattle.cfgsyntax.specs.Reads.{HasOneReading, InFile, Reads, Stop};
 ghost use Rattle.cfgsyntax.specs.Inner.Steps.{IsBehindSection, IsReadBehind, stop_view};
 
-use cfgast::{AstBuilder, GrammarAST};
+use cfgast::Syntax;
 use cfgbase::Span;
 use cfgerrors::HeaderError;
+use cfghash::NameHashes;
 use cfgheader::{GrmtoolsSectionParser, HeaderFault};
 use cfgkinds::YaccKind;
 use cfgreader::read_file;
+use cfgtree::{GrammarAST, tree_of};
 use cfgwords::fault::Fault;
 use std::alloc::{AllocError, Global};
 
@@ -52,8 +54,8 @@ fn read_behind(
     requires { length rest.now ≤ len }
     ensures { IfOk result (IsReadBehind kind len rest.now) }
 {
-    let (tree, fault) = read_file(alloc, kind, len, rest)?;
-    Ok((tree, stop_in_file(fault)))
+    let (syntax, fault) = read_file(alloc, kind, len, rest)?;
+    Ok((tree_of(alloc, syntax), stop_in_file(fault)))
 }
 
 /// Reads a text as a grammar file of the kind, behind its section: what was read, and what stopped the reading, if
@@ -70,8 +72,8 @@ pub(crate) fn read(
     match behind_section(alloc, text) {
         Ok(rest) => read_behind(alloc, kind, text.len(), rest),
         Err(HeaderFault::Errors(errors)) => {
-            let nothing = AstBuilder::new(alloc, text).finish();
-            Ok((nothing, Some(Stopped::Section(errors))))
+            let nothing = Syntax::none(alloc, NameHashes::plain());
+            Ok((tree_of(alloc, nothing), Some(Stopped::Section(errors))))
         }
         Err(HeaderFault::OutOfMemory) => Err(AllocError),
     }

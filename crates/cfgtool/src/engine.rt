@@ -3,7 +3,7 @@
 ghost use Rattle.std.specs.Prelude.{◌≡◌, ◌+◌, ◌-◌, ◌^◌, ◌<◌, Some, Ok, IfOk, IsErrOf, string_bytes};
 ghost use Rattle.cfgwords.specs.Places.{IsPiece, IsWithin};
 ghost use Rattle.cfgast.specs.Syntax.{EachSpan};
-ghost use Rattle.cfgast.specs.View.{syntax};
+ghost use Rattle.cfgtree.specs.View.{syntax};
 ghost use Rattle.cfgsyntax.specs.Spans.{EachParsedSpan};
 ghost use Rattle.cfgrammar.specs.Answer.{Found, WasRead};
 ghost use Rattle.cfgrammar.specs.GrammarOf.{IsFoundAs, IsFoundItself};

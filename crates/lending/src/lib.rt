@@ -1,8 +1,10 @@
-//! Who owns a value of any type and lends it, so that no other function drops one of a large type.
+//! Who owns a value of any type, so that no other function drops one of a large type.
 #![tactic(auto)]
 
-ghost use Rattle.std.specs.Prelude.{◌≡◌, Err, IfErr, IfOk};
+ghost use Rattle.std.specs.Prelude.{◌≡◌, Err, IfErr, IfOk, Ok, OnOk};
 ghost use Rattle.std.specs.Fn.{FnOnceReturnsAt, FnOnceTakesAt};
+
+use std::alloc::AllocError;
 
 /// What `next` answers of the value, or the fault in its place.
 pub fn lend<T: Drop, E, R, F: FnOnce(&T) -> Result<R, E>>(
@@ -17,4 +19,47 @@ pub fn lend<T: Drop, E, R, F: FnOnce(&T) -> Result<R, E>>(
         Ok(value) => next(&value),
         Err(fault) => Err(fault),
     }
+}
+
+/// What is made a copy part by part, in place of what it was: a part that is refused leaves no others to drop.
+pub trait Refill: Drop {
+    // Holds of a value, and of one that was made its copy.
+    ghost is_copy: { Self → Self → Type 0 };
+
+    /// Makes this a copy.
+    ///
+    /// # Errors
+    ///
+    /// Want of memory.
+    fn refill(&mut self, from: &Self) -> Result<(), AllocError>
+        ensures { OnOk result (is_copy from.now self.new) };
+}
+
+/// A copy, made in place of this value.
+///
+/// # Errors
+///
+/// Want of memory.
+pub fn refilled<T: Refill>(mut copy: T, from: &T) -> Result<T, AllocError>
+    ensures { IfOk result (T.is_copy from.now) }
+{
+    copy.refill(from)?;
+    Ok(copy)
+}
+
+/// What all of them gave, or a refusal. A caller that asks for its parts before it looks at any has one way out, on
+/// which it owns nothing.
+///
+/// # Errors
+///
+/// Want of memory, where one of them is that.
+pub fn all<A: Drop, B: Drop, C: Drop, D: Drop>(
+    a: Result<A, AllocError>,
+    b: Result<B, AllocError>,
+    c: Result<C, AllocError>,
+    d: Result<D, AllocError>,
+) -> Result<(A, B, C, D), AllocError>
+    ensures { IfOk result (λ all. (a ≡ Ok all.0) × (b ≡ Ok all.1) × (c ≡ Ok all.2) × (d ≡ Ok all.3)) }
+{
+    Ok((a?, b?, c?, d?))
 }

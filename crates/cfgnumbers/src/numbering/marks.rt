@@ -2,11 +2,13 @@
 
 ghost use Rattle.std.specs.Prelude.{◌≡◌, option_map, string_bytes, map, IfOk};
 ghost use Rattle.std.specs.Option.{option_map_or};
-ghost use Rattle.cfgast.specs.View.{syntax, symbol_view, production_view};
+ghost use Rattle.cfgast.specs.View.{symbol_view, production_view};
+ghost use Rattle.cfgtree.specs.View.{syntax};
 ghost use Rattle.cfgnumbers.specs.Numbered.{precedence_of_token, precedence_of, last_token, printed_form};
 ghost use Rattle.cfgnumbers.specs.Numbered.{avoids_insert};
 
-use cfgast::{GrammarAST, Precedence, Production, Symbol};
+use cfgast::{Precedence, Production, Symbol};
+use cfgtree::GrammarAST;
 use std::alloc::AllocError;
 
 /// The precedence of a token.

@@ -8,16 +8,16 @@ mod symbols;
 mod tokens;
 
 ghost use Rattle.std.specs.Prelude.{◌≡◌, option_map};
-ghost use Rattle.cfgast.specs.View.{syntax};
+ghost use Rattle.cfgtree.specs.View.{syntax};
 ghost use Rattle.cfgnumbers.specs.Fits.{LeavesRoom};
 ghost use Rattle.cfgnumbers.specs.Numbered.{implicit_of, rules_before};
 ghost use Rattle.cfgnumbers.specs.View.{file_of, implicit_in};
 
-use cfgast::GrammarAST;
 use cfgbase::Span;
 use cfghash::NameHashes;
 use cfgindex::{RIdx, Storage, to_storage};
 use cfgkinds::YaccKind;
+use cfgtree::GrammarAST;
 use indexmap::IndexMap;
 
 /// What a numbering goes by: the syntax of a file, and its implicit tokens, where it is an Eco file with lists of them.

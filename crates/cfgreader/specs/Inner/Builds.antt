@@ -14,8 +14,8 @@ use Rattle.cfgwords.specs.declared.words.Token.{Token as CodeToken}
 use Rattle.cfgast.specs.Items.{Item}
 use Rattle.cfgast.specs.Building.{adds}
 use Rattle.cfgast.specs.Syntax.{syntax_of}
-use Rattle.cfgast.specs.View.{syntax, syntax_built, word_view, token_view}
-use Rattle.cfgast.specs.declared.ast.GrammarAST.{GrammarAST}
+use Rattle.cfgast.specs.View.{syntax_view, syntax_built, word_view, token_view}
+use Rattle.cfgast.specs.declared.syntax.Syntax.{Syntax as CodeSyntax}
 use Rattle.cfgkinds.specs.declared.kind.YaccKind.{YaccKind}
 use Rattle.reading.specs.Construct.{Construct, computes}
 use Rattle.reading.specs.Read.{stop_of}
@@ -83,7 +83,7 @@ IsActionHere old new (Some action) = (action_of old.rest.now ≡ Some (action.0.
     × (action_at old.len old.rest.now action.0.now new.rest.now ≡ (action.0.now, action.1)) × (new.len ≡ old.len) × (new.tree ≡ old.tree)
 IsActionHere old new None = (action_of old.rest.now ≡ None) × (new ≡ old)
 
--- the tree of a file, and what stopped its reading
-abbrev pub IsFile : YaccKind → ℕ → List ℕ → GrammarAST × Option Fault → Type 0
-IsFile kind len rest (tree, stop) = (syntax tree ≡ syntax_of (computes (file kind len) rest).items)
+-- what a file says, and what stopped its reading
+abbrev pub IsFile : YaccKind → ℕ → List ℕ → CodeSyntax × Option Fault → Type 0
+IsFile kind len rest (syntax, stop) = (syntax_view syntax ≡ syntax_of (computes (file kind len) rest).items)
     × (stop ≡ stop_of (computes (file kind len) rest).outcome)

@@ -4,8 +4,8 @@ use denote.Ref.{Bor}
 use Rattle.reading.specs.Construct.{computes}
 use Rattle.reading.specs.Read.{stop_of}
 use Rattle.cfgast.specs.Syntax.{syntax_of}
-use Rattle.cfgast.specs.View.{syntax}
-use Rattle.cfgast.specs.declared.ast.GrammarAST.{GrammarAST}
+use Rattle.cfgtree.specs.View.{syntax}
+use Rattle.cfgtree.specs.declared.ast.GrammarAST.{GrammarAST}
 use Rattle.cfgkinds.specs.declared.kind.YaccKind.{YaccKind}
 use Rattle.cfgheader.specs.declared.section.header_fault.HeaderFault.{HeaderFault}
 use Rattle.cfgheader.specs.declared.section.header_fault.HeaderFault.TheVariants as header

@@ -10,7 +10,8 @@ ghost use Rattle.std.specs.Prelude.{OnOk};
 ghost use Rattle.cfgast.specs.Building.{has_rule};
 ghost use Rattle.cfgast.specs.Items.{Item};
 ghost use Rattle.cfgast.specs.Syntax.{syntax_of};
-ghost use Rattle.cfgast.specs.View.{syntax, named_view};
+ghost use Rattle.cfgast.specs.View.{named_view};
+ghost use Rattle.cfgtree.specs.View.{syntax};
 ghost use Rattle.cfgheader.specs.Named.{HasOneNaming, Names, Naming};
 ghost use Rattle.cfgsyntax.specs.Faults.{errors_of};
 ghost use Rattle.cfgwords.specs.Places.{IsPiece, IsWithin};
@@ -21,11 +22,12 @@ ghost use Rattle.cfgsyntax.specs.Spans.{EachFaultSpan, EachParsedSpan};
 ghost use Rattle.cfgsyntax.specs.Starts.{restarted, IsStartFault};
 
 use crate::read::read;
-use cfgast::clone_with_start;
-pub use cfgast::{GrammarAST, Production, Rule, Settings, Symbol};
+pub use cfgast::{Production, Rule, Settings, Symbol};
 use cfgcheck::has_rule;
 use cfgerrors::{YaccGrammarError, YaccGrammarErrorKind, YaccGrammarResult};
 use cfgkinds::YaccKind;
+pub use cfgtree::GrammarAST;
+use cfgtree::clone_with_start;
 use errors::errors_found;
 use named::named_kind;
 pub use start::{ASTModificationError, StartFault};
@@ -41,7 +43,7 @@ pub struct ASTWithValidityInfo {
 }
 
 impl Model for ASTWithValidityInfo {
-    ghost use Rattle.cfgast.specs.View.{syntax};
+    ghost use Rattle.cfgtree.specs.View.{syntax};
     ghost use Rattle.cfgsyntax.specs.Parsed.{Parsed};
     ghost use Rattle.cfgcheck.specs.Sound.{IsSound};
 

@@ -1,5 +1,6 @@
 use Rattle.std.proofs.Common.{◌≡◌, map}
-use Rattle.cfgast.specs.View.{syntax, printed_entry}
+use Rattle.cfgast.specs.View.{printed_entry}
+use Rattle.cfgtree.specs.View.{syntax}
 use Rattle.cfgcheck.specs.Check.{first_error, printed_error}
 use Rattle.cfgcheck.proofs.validation.check_printed_forms.Given as goal
 

@@ -1,5 +1,5 @@
 use Rattle.std.proofs.Common.{◌≡◌, drop}
-use Rattle.cfgast.specs.View.{syntax}
+use Rattle.cfgtree.specs.View.{syntax}
 use Rattle.cfgcheck.specs.Check.{first_error, place_error}
 use Rattle.cfgcheck.proofs.validation.check_rule.Given as goal
 

@@ -1,5 +1,6 @@
 use Rattle.std.proofs.Common.{◌≡◌, map}
-use Rattle.cfgast.specs.View.{syntax, rule_entry}
+use Rattle.cfgast.specs.View.{rule_entry}
+use Rattle.cfgtree.specs.View.{syntax}
 use Rattle.cfgcheck.specs.Check.{first_error, rule_error}
 use Rattle.cfgcheck.proofs.validation.check_rules.Given as goal
 

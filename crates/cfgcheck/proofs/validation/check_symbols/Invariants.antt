@@ -1,5 +1,6 @@
 use Rattle.std.proofs.Common.{◌≡◌, map, drop}
-use Rattle.cfgast.specs.View.{syntax, symbol_view}
+use Rattle.cfgast.specs.View.{symbol_view}
+use Rattle.cfgtree.specs.View.{syntax}
 use Rattle.cfgcheck.specs.Check.{first_error, symbol_error}
 use Rattle.cfgcheck.proofs.validation.check_symbols.Given as goal
 

@@ -19,4 +19,4 @@ returns-in-Ok-clause-read c =
 pub returns-in-Err-Errors-clause-read : goal.returns-in-Err-Errors-clause-read
 returns-in-Err-Errors-clause-read c =
     let behind = rw c.in-Err-Errors.field-0-is at c.in-Err-Errors.ensures.rest in
-    rw c.in-Err-Errors.field-0-is (read_by c.args.kind c.args.text.now (Err _) _ _ behind (c.finish-nothing.ensures ∙ c.new.ensures) refl)
+    rw c.in-Err-Errors.field-0-is (read_by c.args.kind c.args.text.now (Err _) _ _ behind (c.tree_of.ensures ∙ c.none-nothing.ensures) refl)

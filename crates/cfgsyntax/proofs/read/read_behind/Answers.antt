@@ -3,4 +3,4 @@ use Rattle.cfgsyntax.specs.Reads.{InFile}
 use Rattle.cfgsyntax.proofs.read.read_behind.Goals as goal
 
 pub returns : goal.returns
-returns c = (c.in_ok-tree.ensures.0, c.stop_in_file.ensures ∙ ap (option_map InFile) c.in_ok-tree.ensures.1)
+returns c = (c.tree_of.ensures ∙ c.in_ok-syntax.ensures.0, c.stop_in_file.ensures ∙ ap (option_map InFile) c.in_ok-syntax.ensures.1)

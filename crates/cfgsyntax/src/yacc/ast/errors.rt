@@ -1,8 +1,9 @@
 //! The errors of a file, in order.
 
 ghost use Rattle.std.specs.Prelude.{◌≡◌, map, option_map, IfOk};
-ghost use Rattle.cfgast.specs.Occurrences.{duplicates};
-ghost use Rattle.cfgast.specs.View.{syntax, occurrence_view};
+ghost use Rattle.cfgtree.specs.Duplicates.{duplicates};
+ghost use Rattle.cfgast.specs.View.{occurrence_view};
+ghost use Rattle.cfgtree.specs.View.{syntax};
 ghost use Rattle.cfgheader.specs.SectionReads.{errors_view};
 ghost use Rattle.cfgerrors.specs.Errors.{kind_view, header_error};
 ghost use Rattle.cfgsyntax.specs.Faults.{repeated_kind, duplicate_error, stop_errors, all_errors};
@@ -10,8 +11,7 @@ ghost use Rattle.cfgsyntax.specs.Inner.Steps.{stop_view};
 
 use super::fault::error_of;
 use crate::read::Stopped;
-use cfgast::duplicates::duplicates;
-use cfgast::{GrammarAST, Occurrence, UniqueKind};
+use cfgast::{Occurrence, UniqueKind};
 use cfgbase::Span;
 use cfgcheck::check;
 use cfgerrors::YaccGrammarErrorKind::{
@@ -21,6 +21,8 @@ use cfgerrors::YaccGrammarErrorKind::{
 };
 use cfgerrors::{HeaderError, YaccGrammarError, YaccGrammarErrorKind};
 use cfghash::NameHashes;
+use cfgtree::GrammarAST;
+use cfgtree::duplicates::duplicates;
 use std::alloc::{AllocError, Global};
 
 /// The kind of error for what is declared more than once.

@@ -2,7 +2,7 @@ use Rattle.std.proofs.Common.{◌≡◌, All, string_bytes, sym, subst, ap, ◌�
 use Rattle.std.proofs.lemmas.Result.{IfOk-weaker}
 use Rattle.cfgwords.specs.Places.{IsPiece, IsWithin}
 use Rattle.cfgast.specs.Syntax.{Syntax, EachSpan}
-use Rattle.cfgast.specs.View.{syntax}
+use Rattle.cfgtree.specs.View.{syntax}
 use Rattle.cfgsyntax.specs.Spans.{EachErrorSpan}
 use Rattle.cfgnumbers.specs.Numbered.{Numbered}
 use Rattle.cfgrammar.specs.Answer.{WasRead, in_numbers}

@@ -1,6 +1,7 @@
 use Rattle.std.proofs.Common.{map, option_map, inl, inr, sym, ap, ◌∙◌}
 use Rattle.cfgast.specs.Syntax.{entry_name}
-use Rattle.cfgast.specs.View.{syntax, span_entry}
+use Rattle.cfgast.specs.View.{span_entry}
+use Rattle.cfgtree.specs.View.{syntax}
 use Rattle.cfgkinds.specs.declared.kind.YaccKind.{YaccKind}
 use Rattle.cfgnumbers.specs.Numbered.{implicit_of}
 use Rattle.cfgnumbers.specs.View.{names}

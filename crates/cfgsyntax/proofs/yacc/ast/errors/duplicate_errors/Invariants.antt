@@ -1,6 +1,7 @@
 use Rattle.std.proofs.Common.{◌≡◌, ◌++◌, map}
-use Rattle.cfgast.specs.Occurrences.{duplicates}
-use Rattle.cfgast.specs.View.{occurrence_view, duplicate_view}
+use Rattle.cfgtree.specs.Duplicates.{duplicates}
+use Rattle.cfgast.specs.View.{occurrence_view}
+use Rattle.cfgtree.specs.View.{duplicate_view}
 use Rattle.cfgsyntax.specs.Faults.{duplicate_error}
 use Rattle.cfgsyntax.proofs.yacc.ast.errors.duplicate_errors.Given as goal
 

@@ -1,8 +1,9 @@
 use Rattle.std.proofs.Common.{◌++◌, [], length, map, option_map, sym, subst, ◌∙◌}
-use Rattle.cfgast.proofs.Given.{given, given_match}
+use Rattle.lending.proofs.Given.{given, given_match}
 use Rattle.std.specs.List.{zip}
-use Rattle.cfgast.specs.View.{syntax, production_view}
-use Rattle.cfgast.specs.WellFormed.{IsWellFormed}
+use Rattle.cfgast.specs.View.{production_view}
+use Rattle.cfgtree.specs.View.{syntax}
+use Rattle.cfgtree.specs.WellFormed.{IsWellFormed}
 use Rattle.cfgcheck.specs.Sound.{IsSound}
 use Rattle.cfgnumbers.specs.Fits.{LeavesRoom}
 use Rattle.cfgnumbers.specs.Numbered.{added_productions, added_rules, file_production, file_rule, file_token}

@@ -1,7 +1,7 @@
 use Rattle.std.proofs.Common.{List, Option, ℕ, sym, subst, ◌∙◌, true≢false}
 use Rattle.cfgwords.specs.Places.{IsPiece, IsWithin}
 use Rattle.cfgast.specs.Syntax.{Syntax}
-use Rattle.cfgast.specs.View.{syntax}
+use Rattle.cfgtree.specs.View.{syntax}
 use Rattle.cfgnumbers.specs.Fits.{LeavesRoom}
 use Rattle.cfgnumbers.specs.Numbered.{implicit_of, numbered}
 use Rattle.cfgrammar.specs.Spans.{EachGrammarSpan}

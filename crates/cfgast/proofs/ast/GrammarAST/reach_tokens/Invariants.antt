@@ -1,9 +1,0 @@
-use Rattle.std.proofs.Common.{take}
-use Rattle.search.specs.Reached.{FoundBy, Reaches}
-use Rattle.cfgast.specs.Inner.Nodes.{IsNodeOf}
-use Rattle.cfgast.specs.Unused.{entry_token}
-use Rattle.cfgast.specs.View.{syntax, span_entry}
-use Rattle.cfgast.proofs.ast.GrammarAST.reach_tokens.Given as goal
-
-abbrev pub invariant-loop-place : goal.invariant-loop-place
-invariant-loop-place l = Reaches (FoundBy (λ entry. IsNodeOf (syntax l.self) (entry_token (span_entry entry))) (take l.place l.table.entries)) l.fn.search l.search

@@ -1,8 +1,0 @@
-use Rattle.std.proofs.Common.{sym, ◌∙◌}
-use Rattle.cfgast.specs.View.{syntax}
-use Rattle.cfgast.proofs.Found.{rule_position}
-use Rattle.cfgast.proofs.ast.GrammarAST.rule_node.Goals as goal
-
-pub returns-clause-node : goal.returns-clause-node
-unfolding syntax
-returns-clause-node c = c.get_index_of.ensures.index ∙ sym (rule_position c.args.name.now c.args.self.now.rules.entries)

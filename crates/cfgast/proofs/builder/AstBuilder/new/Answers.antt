@@ -1,8 +1,0 @@
-use Rattle.std.proofs.Common.{rules}
-use Rattle.cfgast.specs.Syntax.{syntax_of, settings_of, alternatives, firsts, token_words, declared_words, rule_heads}
-use Rattle.cfgast.specs.View.{syntax, syntax_built}
-use Rattle.cfgast.proofs.builder.AstBuilder.new.Goals as goal
-
-pub returns : goal.returns
-unfolding syntax_built syntax syntax_of settings_of alternatives firsts token_words declared_words rule_heads
-returns c = search rules

@@ -1,0 +1,66 @@
+//! What a grammar file says, as the builder keeps it.
+
+ghost use Rattle.std.specs.Prelude.{◌≡◌, []};
+
+use crate::occurrence::Occurrence;
+use crate::production::Production;
+use crate::rule::Rule;
+use crate::settings::Settings;
+use crate::symbol::Symbol;
+use crate::tables::Tables;
+use cfgbase::Span;
+use cfghash::NameHashes;
+use indexmap::{IndexMap, IndexSet};
+use std::alloc::Global;
+
+/// What a grammar file says: its rules, productions and tokens, by their names.
+#[derive(Debug, Drop)]
+pub struct Syntax {
+    /// The start rule's name, and the place where it is given.
+    pub start: Option<(String, Span)>,
+    /// The rules, by their names, in the order in which they come first.
+    pub rules: IndexMap<String, Rule, NameHashes>,
+    /// The productions of all rules, in their order in the file.
+    pub prods: Vec<Production>,
+    /// The rule of each production, by its index in the order of `rules`.
+    pub prods_rules: Vec<usize>,
+    /// The indices of the tokens that a `%token` declares.
+    pub token_directives: IndexSet<usize>,
+    /// The tokens' names, in the order in which they come first.
+    pub tokens: IndexSet<String, NameHashes>,
+    /// The place of each token's name, where it comes first.
+    pub spans: Vec<Span>,
+    /// What the file says of single tokens.
+    pub tables: Tables,
+    /// What the file says of its grammar as a whole.
+    pub settings: Settings,
+    /// The symbols of the `%expect-unused` lists, in order.
+    pub expect_unused: Vec<Symbol>,
+    /// Each declaration of what a file may declare only once, in order.
+    pub occurrences: Vec<Occurrence>,
+}
+
+impl Syntax {
+    ghost use Rattle.cfgast.specs.Syntax.{syntax_of};
+    ghost use Rattle.cfgast.specs.View.{syntax_view};
+
+    /// Nothing.
+    #[tactic(auto, unfolding(crate::specs::Syntax::syntax_of, crate::specs::View::syntax_view))]
+    pub fn none(alloc: Global, hashes: NameHashes) -> Self
+        ensures { syntax_view result ≡ syntax_of [] }
+    {
+        Syntax {
+            start: None,
+            rules: IndexMap::with_hasher(alloc, hashes),
+            prods: Vec::new(alloc),
+            prods_rules: Vec::new(alloc),
+            token_directives: IndexSet::new(alloc),
+            tokens: IndexSet::with_hasher(alloc, hashes),
+            spans: Vec::new(alloc),
+            tables: Tables::none(alloc, hashes),
+            settings: Settings::none(),
+            expect_unused: Vec::new(alloc),
+            occurrences: Vec::new(alloc),
+        }
+    }
+}

@@ -1,0 +1,133 @@
+-- One more occurrence: what it adds to the repeats, and to the places of what it declares.
+use Rattle.std.proofs.Common.{◌≡◌, ℕ, ◌+◌, ◌<◌, Bool, true, false, cond, not, ◌&&◌, ◌||◌, List, [], ◌∷◌, ◌++◌, map, filter, length, take, get_or, Option, Some, None, Vec, Global, String, string_bytes, string_eq, refl, sym, ap, subst, ◌∙◌}
+use Rattle.std.specs.Borrow.{Bor}
+use Rattle.std.specs.Cmp.{IsEquivalence}
+use Rattle.std.specs.Cmp.Lexicographic.{options_equiv}
+use Rattle.std.specs.List.{list_any}
+use Rattle.std.specs.Option.{option_eq, option_map}
+use Rattle.std.specs.Str.{bytes_eq}
+use Rattle.std.proofs.lemmas.Cmp.{and_equiv, nat_list_eq_equiv, on_equiv}
+use Rattle.std.proofs.lemmas.List.{map-append, take_more}
+use Rattle.lemmas.specs.Lists.{with_fronts, pushed_unless}
+use Rattle.lemmas.proofs.Fronts.{with_fronts-push}
+use Rattle.lemmas.proofs.Tests.{list_any-map}
+use Rattle.indexmap.specs.IndexMap.{insert_entry}
+use Rattle.indexmap.specs.IndexSet.{insert_key}
+use Rattle.cfgbase.specs.declared.span.Span.{Span}
+use Rattle.cfgast.specs.declared.occurrence.Unique.{Unique as CodeUnique}
+use Rattle.cfgast.specs.declared.occurrence.Occurrence.{Occurrence as CodeOccurrence}
+use Rattle.cfgast.specs.contracts.occurrence.UniqueKindPartialEq.TheImpl.{ghosts as kinds}
+use Rattle.cfgast.specs.contracts.occurrence.UniqueKindEq.TheImpl.Laws.{laws-law}
+use Rattle.cfgast.specs.contracts.occurrence.UniquePartialEq.TheImpl.{ghosts as uniques}
+use Rattle.cfgast.specs.Occurrences.{Unique, Occurrence}
+use Rattle.cfgast.specs.Syntax.{each_once}
+use Rattle.cfgtree.specs.Duplicates.{Duplicate, is_same, is_repeat, repeats, places_of}
+use Rattle.cfgast.specs.View.{unique_view, occurrence_view}
+use Rattle.cfgtree.specs.View.{duplicate_view}
+use Rattle.cfgast.proofs.Once.{filtered-push, each_once-push, known_once, key_known, key_inserted}
+
+pub is_same_equivalence : IsEquivalence is_same
+is_same_equivalence = and_equiv (on_equiv (λ u. u.kind) laws-law) (on_equiv (λ u. u.token) (options_equiv nat_list_eq_equiv))
+
+abbrev pub key_view : Bor CodeUnique → Unique
+key_view key = unique_view key.now
+
+abbrev pub same_key : Bor CodeUnique → Bor CodeUnique → Bool
+same_key x y = uniques.eq x.now y.now
+
+pub same_shown : (x y : Bor CodeUnique) → same_key x y ≡ is_same (key_view x) (key_view y)
+same_shown x y = ap (λ b. kinds.eq x.now.kind y.now.kind && b) (go x.now.token y.now.token)
+  where
+    go : (a b : Option (String Global)) → option_eq string_eq a b ≡ option_eq bytes_eq (option_map string_bytes a) (option_map string_bytes b)
+    go None None = refl
+    go None (Some b) = refl
+    go (Some a) None = refl
+    go (Some a) (Some b) = refl
+
+abbrev pub whats : List Occurrence → List Unique
+whats occurrences = map (λ o. o.what) occurrences
+
+pub repeats-push : (done : List Occurrence) (o : Occurrence) → repeats (done ++ o ∷ []) ≡ cond (list_any (is_same o.what) (whats done)) (repeats done ++ o.what ∷ []) (repeats done)
+unfolding repeats
+repeats-push done o =
+    ap (λ t. map (λ (x : List Occurrence × Occurrence). x.1.what) (filter is_repeat t)) (with_fronts-push done o)
+    ∙ filtered-push (λ (x : List Occurrence × Occurrence). x.1.what) is_repeat (with_fronts done) (done, o)
+    ∙ ap (λ b. cond b (repeats done ++ o.what ∷ []) (repeats done)) (sym (list_any-map (is_same o.what) (λ (o : Occurrence). o.what) done))
+
+pub places_of-push : (done : List Occurrence) (o : Occurrence) (what : Unique) → places_of (done ++ o ∷ []) what ≡ cond (is_same o.what what) (places_of done what ++ o.span ∷ []) (places_of done what)
+places_of-push done o what = filtered-push (λ (o : Occurrence). o.span) (λ o. is_same o.what what) done o
+
+-- what is declared more than once, with no place yet
+abbrev pub bare : Unique → Duplicate
+bare what = record { what = what; spans = [] }
+
+-- an entry with no place: a key that is there keeps it, and a new one goes last
+module _ (k : Bor CodeUnique) (none : Vec Span Global) (empty : none.items ≡ []) where
+  insert_bare : (es : List (Bor CodeUnique × Vec Span Global)) (us : List Unique) → map duplicate_view es ≡ map bare us
+      → map duplicate_view (insert_entry same_key es k none) ≡ map bare (pushed_unless (list_any (is_same (key_view k)) us) us (key_view k))
+  insert_bare [] [] e = λ i. record { what = key_view k; spans = empty i } ∷ []
+  insert_bare [] (u ∷ us) e = cc
+  insert_bare (x ∷ es) [] e = cc
+  insert_bare (x ∷ es) (u ∷ us) e =
+      let here : duplicate_view x ≡ bare u = cc in
+      let there : map duplicate_view es ≡ map bare us = cc in
+      go (same_key k x.0) (is_same (key_view k) u) (same_shown k x.0 ∙ ap (λ (d : Duplicate). is_same (key_view k) d.what) here) here there (insert_bare es us there)
+    where
+      behind : (known : Bool) → bare u ∷ map bare (pushed_unless known us (key_view k)) ≡ map bare (pushed_unless known (u ∷ us) (key_view k))
+      behind true = refl
+      behind false = refl
+
+      go : (b c : Bool) → b ≡ c → duplicate_view x ≡ bare u → map duplicate_view es ≡ map bare us
+          → map duplicate_view (insert_entry same_key es k none) ≡ map bare (pushed_unless (list_any (is_same (key_view k)) us) us (key_view k))
+          → map duplicate_view (cond b ((x.0, none) ∷ es) (x ∷ insert_entry same_key es k none))
+          ≡ map bare (pushed_unless (c || list_any (is_same (key_view k)) us) (u ∷ us) (key_view k))
+      go true true same here there rest = λ i. record { what = (ap (λ (d : Duplicate). d.what) here) i; spans = empty i } ∷ there i
+      go false false same here there rest = (λ i. here i ∷ rest i) ∙ behind (list_any (is_same (key_view k)) us)
+      go true false same here there rest = cc
+      go false true same here there rest = cc
+
+-- The keys of what was declared so far, and the entries of what was declared again.
+pub record InRepeats (done : List Occurrence) (keys : List (Bor CodeUnique)) (entries : List (Bor CodeUnique × Vec Span Global)) : Type 0 where
+  pub declared : map key_view keys ≡ each_once is_same (whats done)
+  pub found : map duplicate_view entries ≡ map bare (each_once is_same (repeats done))
+
+pub repeats_start : (keys : List (Bor CodeUnique)) (entries : List (Bor CodeUnique × Vec Span Global)) → keys ≡ [] → entries ≡ [] → InRepeats [] keys entries
+unfolding repeats
+repeats_start keys entries no_keys no_entries = record { declared = ap (map key_view) no_keys; found = ap (map duplicate_view) no_entries }
+
+module _ (done : List Occurrence) (keys more : List (Bor CodeUnique)) (entries : List (Bor CodeUnique × Vec Span Global)) (so_far : InRepeats done keys entries)
+    (o : Occurrence) (k : Bor CodeUnique) (is : key_view k ≡ o.what) (inserted : more ≡ insert_key same_key keys k)
+    (all : List Occurrence) (all_are : all ≡ done ++ o ∷ []) (grown : List (Bor CodeUnique × Vec Span Global)) where
+  declared_on : map key_view more ≡ each_once is_same (whats (done ++ o ∷ []))
+  declared_on = ap (map key_view) inserted ∙ key_inserted same_key is_same is_same_equivalence key_view same_shown k keys (whats done) so_far.declared
+      ∙ ap (λ what. each_once is_same (whats done ++ what ∷ [])) is ∙ ap (each_once is_same) (sym (map-append (λ (o : Occurrence). o.what) done (o ∷ [])))
+
+  known : (b : Bool) → list_any (same_key k) keys ≡ b → repeats (done ++ o ∷ []) ≡ cond b (repeats done ++ o.what ∷ []) (repeats done)
+  known b e = repeats-push done o ∙ ap (λ b. cond b (repeats done ++ o.what ∷ []) (repeats done))
+      (ap (λ what. list_any (is_same what) (whats done)) (sym is) ∙ sym (key_known same_key is_same is_same_equivalence key_view same_shown k keys (whats done) so_far.declared) ∙ e)
+
+  pub repeats_first : list_any (same_key k) keys ≡ false → grown ≡ entries → InRepeats all more grown
+  repeats_first new e = subst (λ d. InRepeats d more grown) (sym all_are) (record {
+    declared = declared_on;
+    found = ap (map duplicate_view) e ∙ so_far.found ∙ ap (λ us. map bare (each_once is_same us)) (sym (known false new));
+  })
+
+  pub repeats_again : list_any (same_key k) keys ≡ true → (none : Vec Span Global) → none.items ≡ []
+      → grown ≡ insert_entry same_key entries k none → InRepeats all more grown
+  repeats_again again none empty e = subst (λ d. InRepeats d more grown) (sym all_are) (record {
+    declared = declared_on;
+    found = ap (map duplicate_view) e ∙ insert_bare k none empty entries (each_once is_same (repeats done)) so_far.found
+        ∙ (λ i. map bare (pushed_unless (known_once is_same is_same_equivalence (key_view k) (repeats done) i) (each_once is_same (repeats done)) (key_view k)))
+        ∙ ap (map bare) (sym (each_once-push is_same (repeats done) (key_view k)))
+        ∙ ap (λ what. map bare (each_once is_same (repeats done ++ what ∷ []))) is
+        ∙ ap (λ us. map bare (each_once is_same us)) (sym (known true again));
+  })
+
+-- the occurrences up to one more
+pub shown_more : (xs : List CodeOccurrence) (i : ℕ) (x : CodeOccurrence) → i < length xs → x ≡ get_or xs i x → map occurrence_view (take (i + 1) xs) ≡ map occurrence_view (take i xs) ++ occurrence_view x ∷ []
+shown_more xs i x within is = ap (map occurrence_view) (take_more xs i x within ∙ ap (λ y. take i xs ++ y ∷ []) (sym is)) ∙ map-append occurrence_view (take i xs) (x ∷ [])
+
+-- whether it was known, from whether it was added
+pub from_added : (known added b : Bool) → added ≡ not known → added ≡ b → known ≡ not b
+from_added true added b e f = ap not (sym e ∙ f)
+from_added false added b e f = ap not (sym e ∙ f)

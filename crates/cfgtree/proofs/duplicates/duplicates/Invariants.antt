@@ -1,0 +1,12 @@
+use Rattle.std.proofs.Common.{◌≡◌, map, take}
+use Rattle.cfgast.specs.Syntax.{each_once}
+use Rattle.cfgtree.specs.Duplicates.{is_same, repeats}
+use Rattle.cfgast.specs.View.{occurrence_view}
+use Rattle.cfgtree.specs.View.{duplicate_view}
+use Rattle.cfgtree.proofs.Gathered.{placed}
+use Rattle.cfgtree.proofs.duplicates.duplicates.Given as goal
+
+abbrev pub invariant-loop-occurrence : goal.invariant-loop-occurrence
+invariant-loop-occurrence l =
+    map duplicate_view l.found.entries
+    ≡ map (placed (map occurrence_view (take l.occurrence-index l.occurrences))) (each_once is_same (repeats (map occurrence_view l.occurrences)))

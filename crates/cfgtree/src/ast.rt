@@ -1,0 +1,230 @@
+ghost use Rattle.std.specs.Prelude.{◌≡◌, ◌↔◌, map, option_map, IsTrue, Contains};
+ghost use Rattle.std.specs.Map.{lookup};
+ghost use Rattle.std.specs.Str.{bytes_eq};
+ghost use Rattle.std.specs.String.{string_bytes};
+ghost use Rattle.cfgast.specs.View.{production_view, rule_view, named_view, rule_entry, settings_view};
+ghost use Rattle.cfgast.specs.View.{precedence_entry, printed_entry, span_entry, pair_view, symbol_view};
+ghost use Rattle.cfgast.specs.View.{occurrence_view, syntax_view};
+ghost use Rattle.cfgtree.specs.View.{syntax};
+
+use cfgast::{Occurrence, Precedence, Production, Rule, Settings, Symbol, Syntax};
+use cfgbase::Span;
+use cfghash::{Crowd, NameHashes};
+use indexmap::{IndexMap, IndexSet};
+use lending::{Refill, refilled};
+use std::alloc::{AllocError, Global};
+
+/// What a grammar file says: its rules, productions and tokens, by their names.
+#[derive(Debug, Drop)]
+pub struct GrammarAST {
+    pub(crate) syntax: Syntax,
+    /// Of the rules that were added to the tree, how full their table is.
+    pub(crate) added: Crowd,
+}
+
+/// The tree that holds this. No public path of `cfgrammar` leads to it.
+#[tactic(auto, unfolding(crate::specs::View::syntax))]
+pub fn tree_of(alloc: Global, said: Syntax) -> GrammarAST
+    ensures { syntax result ≡ syntax_view said }
+{
+    GrammarAST {
+        syntax: said,
+        added: Crowd::new(alloc),
+    }
+}
+
+#[tactic(auto, unfolding(crate::specs::View::syntax, cfgast::specs::View::syntax_view))]
+impl GrammarAST {
+    /// The start rule's name, and the place where it is given.
+    pub fn start(&self) -> &Option<(String, Span)>
+        ensures { option_map named_view result.now ≡ (syntax self.now).start }
+    {
+        &self.syntax.start
+    }
+
+    /// The rules, by their names, in the order in which they come first.
+    pub fn rules(&self) -> &IndexMap<String, Rule, NameHashes>
+        ensures { map rule_entry result.now.entries ≡ (syntax self.now).rules }
+    {
+        &self.syntax.rules
+    }
+
+    /// The productions of all rules, in their order in the file.
+    pub fn prods(&self) -> &[Production]
+        ensures { map production_view result.now ≡ (syntax self.now).productions }
+    {
+        &self.syntax.prods
+    }
+
+    /// The rule of each production, by its index in the order of `rules`.
+    pub fn prods_rules(&self) -> &[usize]
+        ensures { result.now ≡ (syntax self.now).production_rules }
+    {
+        &self.syntax.prods_rules
+    }
+
+    /// The indices of the tokens that a `%token` declares.
+    pub fn token_directives(&self) -> &IndexSet<usize>
+        ensures { result.now.keys ≡ (syntax self.now).token_directives }
+    {
+        &self.syntax.token_directives
+    }
+
+    /// The tokens' names, in the order in which they come first.
+    pub fn tokens(&self) -> &IndexSet<String, NameHashes>
+        ensures { map string_bytes result.now.keys ≡ (syntax self.now).tokens }
+    {
+        &self.syntax.tokens
+    }
+
+    /// The place of each token's name, where it comes first.
+    pub fn spans(&self) -> &[Span]
+        ensures { result.now ≡ (syntax self.now).spans }
+    {
+        &self.syntax.spans
+    }
+
+    /// The precedences of tokens (POSIX yacc), each with the place where the token is given one first.
+    pub fn precs(&self) -> &IndexMap<String, (Precedence, Span), NameHashes>
+        ensures { map precedence_entry result.now.entries ≡ (syntax self.now).tables.precedences }
+    {
+        &self.syntax.tables.precs
+    }
+
+    /// The tokens of the `%avoid_insert` lists, each with its first place there, where there is such a list.
+    pub fn avoid_insert(&self) -> &Option<IndexMap<String, Span, NameHashes>>
+        ensures { option_map (λ table. map span_entry table.entries) result.now
+            ≡ (syntax self.now).tables.avoid_insert }
+    {
+        &self.syntax.tables.avoid_insert
+    }
+
+    /// The tokens of the `%implicit_tokens` lists, each with its first place there, where there is such a list.
+    pub fn implicit_tokens(&self) -> &Option<IndexMap<String, Span, NameHashes>>
+        ensures { option_map (λ table. map span_entry table.entries) result.now
+            ≡ (syntax self.now).tables.implicit_tokens }
+    {
+        &self.syntax.tables.implicit_tokens
+    }
+
+    /// The printed forms of tokens: the place of the token behind its first `%epp`, and the form with its own place.
+    pub fn epp(&self) -> &IndexMap<String, (Span, (String, Span)), NameHashes>
+        ensures { map printed_entry result.now.entries ≡ (syntax self.now).tables.printed_forms }
+    {
+        &self.syntax.tables.epp
+    }
+
+    /// How many conflicts between shifting and reducing `%expect` allows, and where it says so first.
+    pub fn expect(&self) -> &Option<(usize, Span)>
+        ensures { result.now ≡ (syntax self.now).settings.expect }
+    {
+        &self.syntax.settings.expect
+    }
+
+    /// How many conflicts between reductions `%expect-rr` allows, and where it says so first.
+    pub fn expectrr(&self) -> &Option<(usize, Span)>
+        ensures { result.now ≡ (syntax self.now).settings.expect_reduce_reduce }
+    {
+        &self.syntax.settings.expectrr
+    }
+
+    /// The name and the type of the parser's parameter, as the last `%parse-param` gives them.
+    pub fn parse_param(&self) -> &Option<(String, String)>
+        ensures { option_map pair_view result.now ≡ (syntax self.now).settings.parse_param }
+    {
+        &self.syntax.settings.parse_param
+    }
+
+    /// The parser's generic parameters, as the last `%parse-generics` gives them.
+    pub fn parse_generics(&self) -> &Option<String>
+        ensures { option_map string_bytes result.now ≡ (syntax self.now).settings.parse_generics }
+    {
+        &self.syntax.settings.parse_generics
+    }
+
+    /// The text of the programs part.
+    pub fn programs(&self) -> &Option<String>
+        ensures { option_map string_bytes result.now ≡ (syntax self.now).settings.programs }
+    {
+        &self.syntax.settings.programs
+    }
+
+    /// What the file says of its grammar as a whole.
+    pub fn settings(&self) -> &Settings
+        ensures { settings_view result.now ≡ (syntax self.now).settings }
+    {
+        &self.syntax.settings
+    }
+
+    /// The symbols of the `%expect-unused` lists, in order.
+    pub fn expect_unused(&self) -> &[Symbol]
+        ensures { map symbol_view result.now ≡ (syntax self.now).expect_unused }
+    {
+        &self.syntax.expect_unused
+    }
+
+    /// Each declaration of what a file may declare only once, in order.
+    pub fn occurrences(&self) -> &[Occurrence]
+        ensures { map occurrence_view result.now ≡ (syntax self.now).occurrences }
+    {
+        &self.syntax.occurrences
+    }
+
+    /// The rule of this name.
+    pub fn get_rule(&self, name: &str) -> Option<&Rule>
+        ensures { option_map (λ rule. rule_view rule.now) result
+            ≡ lookup (bytes_eq name.now) (syntax self.now).rules }
+    {
+        self.syntax.rules.get(name)
+    }
+
+    /// Whether a token has this name.
+    pub fn has_token(&self, name: &str) -> bool
+        ensures { IsTrue result ↔ Contains (syntax self.now).tokens name.now }
+    {
+        self.syntax.tokens.contains(name)
+    }
+}
+
+impl Clone for GrammarAST {
+    ghost use Rattle.cfgtree.specs.View.{syntax};
+
+    ghost is_clone = { λ ast copy. syntax copy ≡ syntax ast };
+
+    fn clone(&self) -> Result<GrammarAST, AllocError> {
+        let alloc = *self.syntax.prods.allocator();
+        refilled(
+            tree_of(alloc, Syntax::none(alloc, NameHashes::plain())),
+            self,
+        )
+    }
+}
+
+impl Refill for GrammarAST {
+    ghost use Rattle.cfgtree.specs.View.{syntax};
+
+    ghost is_copy = { λ ast copy. syntax copy ≡ syntax ast };
+
+    fn refill(&mut self, from: &GrammarAST) -> Result<(), AllocError> {
+        self.syntax.start.clone_from(&from.syntax.start)?;
+        self.syntax.rules.clone_from(&from.syntax.rules)?;
+        self.syntax.prods.clone_from(&from.syntax.prods)?;
+        self.syntax
+            .prods_rules
+            .clone_from(&from.syntax.prods_rules)?;
+        self.syntax
+            .token_directives
+            .clone_from(&from.syntax.token_directives)?;
+        self.syntax.tokens.clone_from(&from.syntax.tokens)?;
+        self.syntax.spans.clone_from(&from.syntax.spans)?;
+        self.syntax.tables.clone_from(&from.syntax.tables)?;
+        self.syntax.settings.clone_from(&from.syntax.settings)?;
+        self.syntax
+            .expect_unused
+            .clone_from(&from.syntax.expect_unused)?;
+        self.syntax
+            .occurrences
+            .clone_from(&from.syntax.occurrences)?;
+        Ok(())
+    }
+}

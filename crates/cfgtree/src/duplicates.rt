@@ -1,0 +1,55 @@
+//! What a file declares more than once, though it may declare it only once.
+
+ghost use Rattle.std.specs.Prelude.{◌≡◌, [], map, IfOk};
+ghost use Rattle.cfgast.specs.Syntax.{each_once};
+ghost use Rattle.cfgtree.specs.Duplicates.{is_same, repeats, duplicates};
+ghost use Rattle.cfgast.specs.View.{occurrence_view};
+ghost use Rattle.cfgtree.specs.View.{duplicate_view};
+
+use cfgast::{Occurrence, Unique};
+use cfgbase::Span;
+use cfghash::NameHashes;
+use indexmap::{IndexMap, IndexSet};
+use std::alloc::{AllocError, Global};
+
+/// What the occurrences declare more than once, in the order of the first repeats, with all its places.
+#[tactic(auto, unfolding(crate::specs::Duplicates::duplicates))]
+pub fn duplicates(
+    alloc: Global,
+    hashes: NameHashes,
+    occurrences: &[Occurrence],
+) -> Result<IndexMap<&Unique, Vec<Span>, NameHashes>, AllocError>
+    ensures { IfOk result (λ found. map duplicate_view found.entries
+        ≡ duplicates (map occurrence_view occurrences.now)) }
+{
+    let mut found = repeated(alloc, hashes, occurrences)?;
+    if found.is_empty() {
+        return Ok(found);
+    }
+    for occurrence in occurrences {
+        if let Some(places) = found.get_mut(&&occurrence.what) {
+            places.push(occurrence.span)?;
+        }
+    }
+    Ok(found)
+}
+
+// What the occurrences declare more than once, in the order of the first repeats, without its places.
+fn repeated(
+    alloc: Global,
+    hashes: NameHashes,
+    occurrences: &[Occurrence],
+) -> Result<IndexMap<&Unique, Vec<Span>, NameHashes>, AllocError>
+    ensures { IfOk result (λ found. map duplicate_view found.entries
+        ≡ map (λ what. record { what = what; spans = [] })
+        (each_once is_same (repeats (map occurrence_view occurrences.now)))) }
+{
+    let mut declared = IndexSet::with_capacity_and_hasher(alloc, occurrences.len(), hashes)?;
+    let mut again = IndexMap::with_hasher(alloc, hashes);
+    for occurrence in occurrences {
+        if !declared.insert(&occurrence.what)? {
+            again.insert(&occurrence.what, Vec::new(alloc))?;
+        }
+    }
+    Ok(again)
+}

@@ -1,0 +1,183 @@
+//! Writing a tree that is there.
+
+ghost use Rattle.std.specs.Prelude.{◌≡◌, ℕ, List, false, map, option_map, string_bytes, IsSome, IfOk, OnOk};
+ghost use Rattle.std.specs.Prelude.{OnErr};
+ghost use Rattle.std.specs.Map.{lookup};
+ghost use Rattle.std.specs.Str.{bytes_eq};
+ghost use Rattle.cfgast.specs.Items.{Item, RuleHead};
+ghost use Rattle.cfgast.specs.Syntax.{Syntax, syntax_of};
+ghost use Rattle.cfgast.specs.Building.{has_rule, listed};
+ghost use Rattle.cfgtree.specs.WellFormed.{IsWellFormed};
+ghost use Rattle.cfgast.specs.View.{named_view, rule_entry, symbol_view, text_view};
+ghost use Rattle.cfgtree.specs.View.{syntax};
+ghost use Rattle.cfgtree.specs.Writing.{rule_added, production_added, programs_set, started_at, IsTree};
+ghost use Rattle.cfgtree.specs.Writing.{ProductionsKeepTrees};
+
+use crate::ast::GrammarAST;
+use cfgast::anew::hash_map_anew;
+use cfgast::rule::list_production;
+use cfgast::{Production, Rule, Symbol};
+use cfgbase::Span;
+use cfghash::{Crowd, NameHashes};
+use indexmap::IndexMap;
+use std::alloc::{AllocError, Global};
+use std::hash::BuildHasher;
+
+#[tactic(auto, unfolding(crate::specs::View::syntax, cfgast::specs::View::syntax_view))]
+impl GrammarAST {
+    /// Adds a rule that has no productions yet, with its name's place and the type that its actions answer.
+    ///
+    /// A rule that has the name keeps its place among the rules. It gets the span and the type, and its list of
+    /// productions is emptied; they stay among the productions of all rules.
+    ///
+    /// # Errors
+    ///
+    /// The name is new, and there is no memory for the rule. The tree is as it was.
+    pub fn add_rule(
+        &mut self,
+        name: (String, Span),
+        actiont: Option<String>,
+    ) -> Result<(), AllocError>
+        ensures added { OnOk result (syntax self.new ≡ rule_added (syntax self.old) (record {
+          name = named_view name;
+          action_type = option_map string_bytes actiont;
+        })) }
+        ensures there { OnOk result (IsSome (lookup (bytes_eq (string_bytes name.0)) (syntax self.new).rules)) }
+        ensures unchanged { OnErr result (syntax self.new ≡ syntax self.old) }
+        ensures memory { OnErr result (has_rule (string_bytes name.0) (syntax self.old).rules ≡ false) }
+    {
+        let alloc = *name.0.allocator();
+        let pidxs = Vec::new(alloc);
+        let rule = Rule {
+            name,
+            pidxs,
+            actiont,
+        };
+        if let Some(known) = self.syntax.rules.get_mut(rule.name.0.as_str()) {
+            *known = rule;
+            return Ok(());
+        }
+        let key = rule.name.0.clone()?;
+        take_in(alloc, &mut self.added, &mut self.syntax.rules, &key)?;
+        self.syntax.rules.insert(key, rule)?;
+        Ok(())
+    }
+
+    /// Adds a production, as the last one of all and of the rule of this name, which is there.
+    ///
+    /// # Errors
+    ///
+    /// There is no memory for it. The tree is as it was.
+    pub fn add_prod(
+        &mut self,
+        rule: String,
+        symbols: Vec<Symbol>,
+        precedence: Option<String>,
+        action: Option<(String, Span)>,
+        prod_span: Span,
+    ) -> Result<(), AllocError>
+        requires { IsSome (lookup (bytes_eq (string_bytes rule)) (syntax self.old).rules) }
+        ensures added { OnOk result (syntax self.new
+            ≡ production_added (syntax self.old) (string_bytes rule) (record {
+              symbols = map symbol_view symbols.items;
+              precedence = option_map string_bytes precedence;
+              action = option_map text_view action;
+              span = prod_span;
+            })) }
+        ensures unchanged { OnErr result (syntax self.new ≡ syntax self.old) }
+    {
+        let name = rule.as_str();
+        let place = self.syntax.prods.len();
+        let Some(index) = self.syntax.rules.get_index_of(name) else {
+            return Ok(());
+        };
+        self.syntax.prods.reserve(1)?;
+        self.syntax.prods_rules.reserve(1)?;
+        list_production(&mut self.syntax.rules, name, place)?;
+        self.syntax.prods_rules.push(index)?;
+        self.syntax.prods.push(Production {
+            symbols,
+            precedence,
+            action,
+            prod_span,
+        })?;
+        Ok(())
+    }
+
+    /// Sets the text of the programs part, in place of the one that was there.
+    pub fn set_programs(&mut self, programs: String)
+        ensures { syntax self.new ≡ programs_set (syntax self.old) (string_bytes programs) }
+    {
+        self.syntax.settings.programs = Some(programs);
+    }
+
+    /// The older name of [`set_programs`](GrammarAST::set_programs).
+    pub fn add_programs(&mut self, programs: String)
+        ensures { syntax self.new ≡ programs_set (syntax self.old) (string_bytes programs) }
+    {
+        self.set_programs(programs);
+    }
+}
+
+// Takes in the name of a rule that comes next. Where the names of rules crowd, they are hashed anew, under a key of all
+// of them.
+fn take_in(
+    alloc: Global,
+    added: &mut Crowd,
+    rules: &mut IndexMap<String, Rule, NameHashes>,
+    name: &String,
+) -> Result<(), AllocError>
+    ensures { rules.new.entries ≡ rules.old.entries }
+{
+    if added.takes(rules.hasher().hash_one(name))? {
+        let hashes = NameHashes::of_text(told(alloc, rules)?.as_slice());
+        hash_map_anew(alloc, hashes, rules)?;
+        *added = count(alloc, rules)?;
+    }
+    Ok(())
+}
+
+// The names of rules as one list of bytes: each behind its length, so that other names give another list.
+fn told(alloc: Global, rules: &IndexMap<String, Rule, NameHashes>) -> Result<Vec<u8>, AllocError> {
+    let mut told = Vec::new(alloc);
+    for name in rules.keys() {
+        told.extend_from_slice(&name.len().to_le_bytes())?;
+        told.extend_from_slice(name.as_bytes())?;
+    }
+    Ok(told)
+}
+
+// How full the table of these rules is.
+fn count(alloc: Global, rules: &IndexMap<String, Rule, NameHashes>) -> Result<Crowd, AllocError> {
+    let mut crowd = Crowd::new(alloc);
+    for name in rules.keys() {
+        crowd.takes(rules.hasher().hash_one(name))?;
+    }
+    Ok(crowd)
+}
+
+/// A copy of the tree with another start. No public path of `cfgrammar` leads to it.
+///
+/// # Errors
+///
+/// There is no memory for the copy.
+pub fn clone_with_start(ast: &GrammarAST, start: (String, Span)) -> Result<GrammarAST, AllocError>
+    ensures { IfOk result (λ copy. syntax copy ≡ started_at (syntax ast.now) (named_view start)) }
+{
+    let mut copy = ast.clone()?;
+    copy.syntax.start = Some(start);
+    Ok(copy)
+}
+
+/// The law behind the trees of grammar files: what a list of items says is well formed.
+pub fn syntax_is_well_formed()
+    ensures { (items : List Item) → IsWellFormed (syntax_of items) }
+{}
+
+/// The law behind written trees: what is well formed is a tree, and it stays one when it is written.
+pub fn written_is_tree()
+    ensures read { (s : Syntax) → IsWellFormed s → IsTree s }
+    ensures rule { (s : Syntax) (head : RuleHead) → IsTree s → IsTree (rule_added s head) }
+    ensures production { ProductionsKeepTrees }
+    ensures programs { (s : Syntax) (text : List ℕ) → IsTree s → IsTree (programs_set s text) }
+{}
