@@ -9,12 +9,15 @@ ghost use Rattle.cfgtables.specs.Symbols.{sym_of};
 
 use cfgindex::{PIdx, RIdx, Storage, Symbol, to_storage};
 use cfgtables::Tables;
-use search::{Edges, Search};
+use search::{Edges, Marks, Search};
 use std::alloc::{AllocError, Global};
 use std::marker::PhantomData;
 
 /// Reaches the symbol, if it is a rule.
-fn reach_symbol<S: Storage>(search: &mut Search, symbol: Symbol<S>) -> Result<(), AllocError>
+fn reach_symbol<S: Storage, M: Marks>(
+    search: &mut Search<M>,
+    symbol: Symbol<S>,
+) -> Result<(), AllocError>
     requires { (g : Grammar) × (length search.old.reached ≡ g.rules) × IsSymbolOf g (sym_of S.number symbol) }
     ensures { OnOk result (Reaches (λ r. Rule r ≡ sym_of S.number symbol) search.old search.new) }
 {
@@ -29,7 +32,10 @@ fn reach_symbol<S: Storage>(search: &mut Search, symbol: Symbol<S>) -> Result<()
 /// # Errors
 ///
 /// Want of memory.
-fn reach_symbols<S: Storage>(search: &mut Search, symbols: &[Symbol<S>]) -> Result<(), AllocError>
+fn reach_symbols<S: Storage, M: Marks>(
+    search: &mut Search<M>,
+    symbols: &[Symbol<S>],
+) -> Result<(), AllocError>
     requires { (g : Grammar) × (length search.old.reached ≡ g.rules)
         × All (IsSymbolOf g) (map (sym_of S.number) symbols.now) }
     ensures { OnOk result (Reaches (λ r. Contains (map (sym_of S.number) symbols.now) (Rule r))
@@ -46,8 +52,8 @@ fn reach_symbols<S: Storage>(search: &mut Search, symbols: &[Symbol<S>]) -> Resu
 /// # Errors
 ///
 /// Want of memory.
-pub fn reach_held<S: Storage, T: Tables<S>>(
-    search: &mut Search,
+pub fn reach_held<S: Storage, T: Tables<S>, M: Marks>(
+    search: &mut Search<M>,
     tables: &T,
     productions: &[PIdx<S>],
 ) -> Result<(), AllocError>
@@ -71,12 +77,12 @@ struct References<'a, S: Storage, T: Tables<S>> {
     storage: PhantomData<S>,
 }
 
-impl<'a, S: Storage, T: Tables<S>> Edges for References<'a, S, T> {
+impl<'a, S: Storage, T: Tables<S>, M: Marks> Edges<M> for References<'a, S, T> {
     ghost nodes = { λ x. (T.grammar x.tables.now).rules };
 
     ghost leads = { λ x. Holds (HasProduction (T.grammar x.tables.now)) };
 
-    fn reach_from(&self, node: usize, search: &mut Search) -> Result<(), AllocError> {
+    fn reach_from(&self, node: usize, search: &mut Search<M>) -> Result<(), AllocError> {
         let _rules = self.tables.rules_len().0.to_usize();
         let productions = self.tables.rule_to_prods(RIdx(to_storage(node)));
         reach_held(search, self.tables, productions)

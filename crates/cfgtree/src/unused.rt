@@ -16,7 +16,7 @@ use cfgbase::Span;
 use cfghash::NameHashes;
 use cfgwarnings::{YaccGrammarWarning, YaccGrammarWarningKind, warning_at};
 use indexmap::IndexMap;
-use search::{Edges, Search};
+use search::{Bits, Edges, Search};
 use std::alloc::{AllocError, Global};
 
 #[tactic(auto, unfolding(crate::specs::View::syntax, cfgast::specs::View::syntax_view))]
@@ -177,7 +177,7 @@ impl GrammarAST {
 }
 
 // Rules lead to what their productions hold, and tokens to nothing.
-impl Edges for GrammarAST {
+impl Edges<Bits> for GrammarAST {
     ghost use Rattle.std.specs.Prelude.{length};
     ghost use Rattle.cfgtree.specs.Inner.Nodes.{nodes, LeadsTo};
     ghost use Rattle.cfgtree.specs.View.{syntax};

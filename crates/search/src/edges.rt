@@ -3,11 +3,12 @@
 ghost use Rattle.std.specs.Prelude.{◌≡◌, ℕ, ◌<◌, length, OnOk};
 ghost use Rattle.search.specs.Reached.{Reaches};
 
+use crate::marks::Marks;
 use crate::searching::Search;
 use std::alloc::AllocError;
 
-/// Nodes, each of which leads to some.
-pub trait Edges {
+/// Nodes, each of which leads to some, for searches with such marks.
+pub trait Edges<M: Marks> {
     // How many nodes there are.
     ghost nodes: { Self → ℕ };
 
@@ -19,7 +20,7 @@ pub trait Edges {
     /// # Errors
     ///
     /// Want of memory.
-    fn reach_from(&self, node: usize, search: &mut Search) -> Result<(), AllocError>
+    fn reach_from(&self, node: usize, search: &mut Search<M>) -> Result<(), AllocError>
         requires node { node < nodes self.now }
         requires nodes { length search.old.reached ≡ nodes self.now }
         ensures { OnOk result (Reaches (leads self.now node) search.old search.new) };

@@ -6,4 +6,5 @@ mod marks;
 mod searching;
 
 pub use edges::Edges;
+pub use marks::{Bits, Few, Marks};
 pub use searching::Search;

@@ -1,46 +1,63 @@
 //! The marks of a search.
 
-ghost use Rattle.std.specs.Prelude.{◌≡◌, ◌<◌, Some, false, length, not, slice_get, slice_index_or, slice_set, true};
-ghost use Rattle.std.specs.Prelude.{IfOk, OnOk};
-ghost use Rattle.search.specs.Inner.Marks.{bits_of};
+ghost use Rattle.std.specs.Prelude.{◌≡◌, ◌<◌, Bool, List, Some, false, length, not, slice_get, slice_index_or};
+ghost use Rattle.std.specs.Prelude.{IfOk, OnOk, slice_set, true};
+ghost use Rattle.search.specs.Inner.Marks.{bits_at};
 
 use cfgindex::Vob;
 use std::alloc::AllocError;
 use std::collections::BTreeSet;
 
 /// Marks on some of the numbers below a bound.
-#[derive(Drop)]
-pub enum Marks {
-    /// A bit for each number.
-    Bits(Vob),
-    /// The bound, and the numbers that are marked.
-    Few(usize, BTreeSet<usize>),
-}
+pub trait Marks: Drop {
+    // A bit for each number.
+    ghost bits: { Self → List Bool };
 
-impl Marks {
     /// Whether the number is marked.
-    pub fn is_marked(&self, number: usize) -> bool
-        ensures { result ≡ slice_index_or (bits_of self.now) number false }
-    {
-        match self {
-            Marks::Bits(bits) => bits.get(number).unwrap_or(false),
-            Marks::Few(bound, numbers) => number < *bound && numbers.contains(&number),
-        }
-    }
+    fn is_marked(&self, number: usize) -> bool
+        ensures { result ≡ slice_index_or (bits self.now) number false };
 
     /// Marks the number, and tells whether it was not marked before.
     ///
     /// # Errors
     ///
     /// Want of memory.
-    pub fn mark(&mut self, number: usize) -> Result<bool, AllocError>
-        requires { number < length (bits_of self.old) }
-        ensures bits { OnOk result (bits_of self.new ≡ slice_set (bits_of self.old) number true) }
-        ensures changed { IfOk result (λ fresh. slice_get (bits_of self.old) number ≡ Some (not fresh)) }
-    {
-        match self {
-            Marks::Bits(bits) => Ok(bits.set(number, true)),
-            Marks::Few(_, numbers) => Ok(numbers.insert(number)?),
-        }
+    fn mark(&mut self, number: usize) -> Result<bool, AllocError>
+        requires { number < length (bits self.old) }
+        ensures bits { OnOk result (bits self.new ≡ slice_set (bits self.old) number true) }
+        ensures changed { IfOk result (λ fresh. slice_get (bits self.old) number ≡ Some (not fresh)) };
+}
+
+/// A bit for each number.
+pub type Bits = Vob;
+
+impl Marks for Bits {
+    ghost bits = { λ bits. bits };
+
+    fn is_marked(&self, number: usize) -> bool {
+        self.get(number).unwrap_or(false)
+    }
+
+    fn mark(&mut self, number: usize) -> Result<bool, AllocError> {
+        Ok(self.set(number, true))
+    }
+}
+
+/// The numbers that are marked, of those below the bound.
+#[derive(Drop)]
+pub struct Few {
+    pub(crate) bound: usize,
+    pub(crate) numbers: BTreeSet<usize>,
+}
+
+impl Marks for Few {
+    ghost bits = { λ few. bits_at few.bound few.numbers };
+
+    fn is_marked(&self, number: usize) -> bool {
+        number < self.bound && self.numbers.contains(&number)
+    }
+
+    fn mark(&mut self, number: usize) -> Result<bool, AllocError> {
+        Ok(self.numbers.insert(number)?)
     }
 }

@@ -5,30 +5,27 @@ ghost use Rattle.std.specs.Prelude.{IfOk, MatchOption, OnOk};
 ghost use Rattle.search.specs.Reached.{IsReachedIn, Reached, Reaches, unsearched};
 
 use crate::edges::Edges;
-use crate::marks::Marks;
-use cfgindex::Vob;
+use crate::marks::{Bits, Few, Marks};
 use std::alloc::{AllocError, Global};
 use std::collections::BTreeSet;
 use std::marker::Model;
 
 /// A search through the numbers below a bound, its nodes. A node that was reached waits once, till it is gone through.
 #[derive(Drop)]
-pub struct Search {
-    reached: Marks,
+pub struct Search<M: Marks = Bits> {
+    reached: M,
     waiting: Vec<usize>,
 }
 
-impl Model for Search {
+impl<M: Marks> Model for Search<M> {
     ghost use Rattle.search.specs.Reached.{SearchState};
 
     ghost Value = { SearchState };
 
-    ghost use Rattle.search.specs.Inner.Marks.{bits_of};
-
-    ghost view = { λ x. record { reached = bits_of x.reached; waiting = x.waiting.items } };
+    ghost view = { λ x. record { reached = M.bits x.reached; waiting = x.waiting.items } };
 }
 
-impl Search {
+impl Search<Bits> {
     /// A search that has reached nothing. It takes a bit for each node.
     ///
     /// # Errors
@@ -38,21 +35,28 @@ impl Search {
         ensures { IfOk result (λ x. x ≡ unsearched nodes) }
     {
         Ok(Search {
-            reached: Marks::Bits(Vob::from_elem(alloc, false, nodes)?),
+            reached: Bits::from_elem(alloc, false, nodes)?,
             waiting: Vec::new(alloc),
         })
     }
+}
 
+impl Search<Few> {
     /// A search that has reached nothing. It takes memory for the nodes that it reaches alone, however many there are.
     pub fn through_few(alloc: Global, nodes: usize) -> Self
         ensures { result ≡ unsearched nodes }
     {
         Search {
-            reached: Marks::Few(nodes, BTreeSet::new(alloc)),
+            reached: Few {
+                bound: nodes,
+                numbers: BTreeSet::new(alloc),
+            },
             waiting: Vec::new(alloc),
         }
     }
+}
 
+impl<M: Marks> Search<M> {
     /// Whether the node was reached.
     pub fn is_reached(&self, node: usize) -> bool
         ensures { result ≡ slice_index_or self.now.reached node false }
@@ -89,7 +93,7 @@ impl Search {
     /// # Errors
     ///
     /// Want of memory.
-    pub fn go_on<E: Edges>(&mut self, edges: &E) -> Result<(), AllocError>
+    pub fn go_on<E: Edges<M>>(&mut self, edges: &E) -> Result<(), AllocError>
         requires nodes { length self.old.reached ≡ E.nodes edges.now }
         requires all_wait { (n : ℕ) → IsReachedIn self.old n ↔ Contains self.old.waiting n }
         ensures nodes { OnOk result (length self.new.reached ≡ length self.old.reached) }

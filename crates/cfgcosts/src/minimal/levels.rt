@@ -10,7 +10,7 @@ use crate::generator::SentenceGenerator;
 use cfgchoices::kinds::Kind;
 use cfgindex::{PIdx, RIdx, Storage, to_storage};
 use cfgtables::Tables;
-use search::Search;
+use search::{Few, Search};
 use std::alloc::{AllocError, Global};
 
 impl<'a, S: Storage, T: Tables<S>> SentenceGenerator<'a, S, T> {
@@ -22,7 +22,7 @@ impl<'a, S: Storage, T: Tables<S>> SentenceGenerator<'a, S, T> {
     fn take_in(
         &self,
         p: PIdx<S>,
-        search: &mut Search,
+        search: &mut Search<Few>,
         own: &mut Vec<PIdx<S>>,
     ) -> Result<(), AllocError>
         requires place { S.number p.0 < length self.now.grammar.productions }
@@ -52,7 +52,7 @@ impl<'a, S: Storage, T: Tables<S>> SentenceGenerator<'a, S, T> {
     fn go_through(
         &self,
         rule: RIdx<S>,
-        search: &mut Search,
+        search: &mut Search<Few>,
         own: &mut Vec<PIdx<S>>,
     ) -> Result<(), AllocError>
         requires rule { S.number rule.0 < self.now.grammar.rules }

@@ -1,7 +1,7 @@
 use Rattle.std.proofs.Common.{[], ap, ◌∙◌}
 use Rattle.search.specs.Inner.Marks.{bits_at}
 use Rattle.search.proofs.Keys.{no_bits}
-use Rattle.search.proofs.searching.Search.through_few.Goals as goal
+use Rattle.search.proofs.searching.Search+Few.through_few.Goals as goal
 
 pub returns : goal.returns
 returns c =
