@@ -6,33 +6,32 @@ use crate::pen::{self, Piece};
 use cfgrammar::yacc::YaccGrammar;
 use cfgrammar::yacc::firsts::YaccFirsts;
 use cfgrammar::{RIdx, Storage, TIdx, Vob};
+use rows::page::Page;
 use std::alloc::{AllocError, Global};
 
 /// Writes the FIRST sets of a grammar.
 pub fn write_firsts<S: Storage>(
-    out: &mut String,
+    out: &mut Page,
     alloc: Global,
     grammar: &YaccGrammar<S>,
 ) -> Result<(), AllocError> {
     let firsts = grammar.firsts(alloc)?;
-    write_sets(out, grammar, &firsts)
+    write_sets(out, grammar, &firsts);
+    Ok(())
 }
 
 /// Writes how many tokens the FIRST sets of a grammar have, all together, and how many rules are empty.
 pub fn write_lengths<S: Storage>(
-    out: &mut String,
+    out: &mut Page,
     alloc: Global,
     grammar: &YaccGrammar<S>,
 ) -> Result<(), AllocError> {
     let firsts = grammar.firsts(alloc)?;
-    write_counts(out, grammar, &firsts)
+    write_counts(out, grammar, &firsts);
+    Ok(())
 }
 
-fn write_counts<S: Storage>(
-    out: &mut String,
-    grammar: &YaccGrammar<S>,
-    firsts: &YaccFirsts<S>,
-) -> Result<(), AllocError> {
+fn write_counts<S: Storage>(out: &mut Page, grammar: &YaccGrammar<S>, firsts: &YaccFirsts<S>) {
     let mut tokens = 0usize;
     let mut empty = 0usize;
     for ridx in grammar.iter_rules() {
@@ -46,7 +45,7 @@ fn write_counts<S: Storage>(
             Piece::Number(" tokens, ", empty),
             Piece::Text(" rules empty\n"),
         ],
-    )
+    );
 }
 
 /// How many tokens a rule begins with.
@@ -60,78 +59,74 @@ fn tokens_in<S: Storage>(grammar: &YaccGrammar<S>, firsts: &YaccFirsts<S>, ridx:
 
 /// Writes each rule's set: the tokens by their indices, where the two accessors differ, and whether the rule is empty.
 pub(crate) fn write_sets<S: Storage>(
-    out: &mut String,
+    out: &mut Page,
     grammar: &YaccGrammar<S>,
     firsts: &YaccFirsts<S>,
-) -> Result<(), AllocError>
+)
     requires { length firsts.now.firsts.rows ≡ length grammar.now.rules }
 {
     for ridx in grammar.iter_rules() {
-        write_rule(out, grammar, firsts, ridx)?;
+        write_rule(out, grammar, firsts, ridx);
     }
-    Ok(())
 }
 
 /// Writes a rule's set.
 fn write_rule<S: Storage>(
-    out: &mut String,
+    out: &mut Page,
     grammar: &YaccGrammar<S>,
     firsts: &YaccFirsts<S>,
     ridx: RIdx<S>,
-) -> Result<(), AllocError>
+)
     requires { S.number ridx.0 < length firsts.now.firsts.rows }
 {
-    pen::rule(out, "    first of ", ridx)?;
-    pen::text(out, ":")?;
-    write_tokens(out, grammar, firsts, ridx)?;
-    pen::text_if(out, firsts.is_epsilon_set(ridx), " empty")?;
-    pen::end_line(out)
+    pen::rule(out, "    first of ", ridx);
+    out.push_str(":");
+    write_tokens(out, grammar, firsts, ridx);
+    pen::text_if(out, firsts.is_epsilon_set(ridx), " empty");
+    out.push('\n');
 }
 
 fn write_tokens<S: Storage>(
-    out: &mut String,
+    out: &mut Page,
     grammar: &YaccGrammar<S>,
     firsts: &YaccFirsts<S>,
     ridx: RIdx<S>,
-) -> Result<(), AllocError>
+)
     requires { S.number ridx.0 < length firsts.now.firsts.rows }
 {
     let tokens = firsts.firsts(ridx);
     for tidx in grammar.iter_tidxs() {
-        write_bit(out, tidx, firsts.is_set(ridx, tidx), tokens)?;
+        write_bit(out, tidx, firsts.is_set(ridx, tidx), tokens);
     }
-    Ok(())
 }
 
 /// Writes a token's index where the token is in a set, and whether the set's list of bits says otherwise.
-pub fn write_bit<S: Storage>(
-    out: &mut String,
-    tidx: TIdx<S>,
-    is_set: bool,
-    listed: &Vob,
-) -> Result<(), AllocError> {
+pub fn write_bit<S: Storage>(out: &mut Page, tidx: TIdx<S>, is_set: bool, listed: &Vob) {
     if is_set {
-        pen::token(out, " ", tidx)?;
+        pen::token(out, " ", tidx);
     }
     let is_other = listed.get(usize::from(tidx)) != Some(is_set);
-    pen::text_if(out, is_other, " differs")
+    pen::text_if(out, is_other, " differs");
 }
 
 /// Sets one bit of the FIRST sets of a grammar twice, and writes whether it was set before, and the sets.
 pub fn write_set(
-    out: &mut String,
+    out: &mut Page,
     alloc: Global,
     grammar: &YaccGrammar<u32>,
     (rule, token): (usize, usize),
 ) -> Result<(), AllocError> {
     match (u32::from_usize(rule), u32::from_usize(token)) {
         (Some(rule), Some(token)) => write_with_bit(out, alloc, grammar, rule, token),
-        _ => pen::text(out, "no such bit\n"),
+        _ => {
+            out.push_str("no such bit\n");
+            Ok(())
+        }
     }
 }
 
 fn write_with_bit(
-    out: &mut String,
+    out: &mut Page,
     alloc: Global,
     grammar: &YaccGrammar<u32>,
     rule: u32,
@@ -141,20 +136,16 @@ fn write_with_bit(
     if rule < grammar.rules_len().0 && token < grammar.tokens_len().0 {
         let was_set = firsts.set(RIdx(rule), TIdx(token));
         let is_set = firsts.set(RIdx(rule), TIdx(token));
-        pen::rule(out, "set(", RIdx(rule))?;
-        pen::token(out, ", ", TIdx(token))?;
-        write_set_twice(out, "): ", was_set, is_set)?;
+        pen::rule(out, "set(", RIdx(rule));
+        pen::token(out, ", ", TIdx(token));
+        write_set_twice(out, "): ", was_set, is_set);
     }
-    write_sets(out, grammar, &firsts)
+    write_sets(out, grammar, &firsts);
+    Ok(())
 }
 
 /// Writes whether a bit was set before, and again.
-pub(crate) fn write_set_twice(
-    out: &mut String,
-    before: &str,
-    was_set: bool,
-    is_set: bool,
-) -> Result<(), AllocError> {
+pub(crate) fn write_set_twice(out: &mut Page, before: &str, was_set: bool, is_set: bool) {
     pen::pieces(
         out,
         &[
@@ -162,5 +153,5 @@ pub(crate) fn write_set_twice(
             Piece::Flag(", and again: ", is_set),
             Piece::Text("\n"),
         ],
-    )
+    );
 }

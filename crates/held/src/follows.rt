@@ -7,72 +7,73 @@ use crate::pen;
 use cfgrammar::yacc::YaccGrammar;
 use cfgrammar::yacc::follows::YaccFollows;
 use cfgrammar::{RIdx, Storage};
+use rows::page::Page;
 use std::alloc::{AllocError, Global};
 
 /// Writes each rule's FOLLOW set: the tokens by their indices, and where the two accessors differ.
 pub fn write_follows<S: Storage>(
-    out: &mut String,
+    out: &mut Page,
     alloc: Global,
     grammar: &YaccGrammar<S>,
 ) -> Result<(), AllocError> {
     let follows = grammar.follows(alloc)?;
-    write_sets(out, grammar, &follows)
+    write_sets(out, grammar, &follows);
+    Ok(())
 }
 
 /// Writes each rule's set.
 pub(crate) fn write_sets<S: Storage>(
-    out: &mut String,
+    out: &mut Page,
     grammar: &YaccGrammar<S>,
     follows: &YaccFollows<S>,
-) -> Result<(), AllocError>
+)
     requires { length follows.now.rows ≡ length grammar.now.rules }
 {
     for ridx in grammar.iter_rules() {
-        write_rule(out, grammar, follows, ridx)?;
+        write_rule(out, grammar, follows, ridx);
     }
-    Ok(())
 }
 
 /// Writes a rule's set.
 fn write_rule<S: Storage>(
-    out: &mut String,
+    out: &mut Page,
     grammar: &YaccGrammar<S>,
     follows: &YaccFollows<S>,
     ridx: RIdx<S>,
-) -> Result<(), AllocError>
+)
     requires { S.number ridx.0 < length follows.now.rows }
 {
-    pen::rule(out, "    follow of ", ridx)?;
-    pen::text(out, ":")?;
-    write_tokens(out, grammar, follows, ridx)?;
-    pen::end_line(out)
+    pen::rule(out, "    follow of ", ridx);
+    out.push_str(":");
+    write_tokens(out, grammar, follows, ridx);
+    out.push('\n');
 }
 
 fn write_tokens<S: Storage>(
-    out: &mut String,
+    out: &mut Page,
     grammar: &YaccGrammar<S>,
     follows: &YaccFollows<S>,
     ridx: RIdx<S>,
-) -> Result<(), AllocError>
+)
     requires { S.number ridx.0 < length follows.now.rows }
 {
     let tokens = follows.follows(ridx);
     for tidx in grammar.iter_tidxs() {
-        write_bit(out, tidx, follows.is_set(ridx, tidx), tokens)?;
+        write_bit(out, tidx, follows.is_set(ridx, tidx), tokens);
     }
-    Ok(())
 }
 
 /// Writes how many tokens the FOLLOW sets of a grammar have, all together.
 pub fn write_lengths<S: Storage>(
-    out: &mut String,
+    out: &mut Page,
     alloc: Global,
     grammar: &YaccGrammar<S>,
 ) -> Result<(), AllocError> {
     let follows = YaccFollows::new(alloc, grammar)?;
     let tokens = tokens_of_all(grammar, &follows);
-    pen::number(out, "    follows of ", tokens)?;
-    pen::text(out, " tokens\n")
+    pen::number(out, "    follows of ", tokens);
+    out.push_str(" tokens\n");
+    Ok(())
 }
 
 fn tokens_of_all<S: Storage>(grammar: &YaccGrammar<S>, follows: &YaccFollows<S>) -> usize {

@@ -1,29 +1,24 @@
 //! Pieces of what is written: those of `rows::pen`, and indices.
 
 use cfgrammar::{PIdx, RIdx, Storage, TIdx};
+use rows::page::Page;
 pub use rows::pen::{
-    Piece, end_line, flag, line, name, number, numbers, pieces, span, text, text_if, unless_copied,
-    without_memory,
+    Piece, flag, line, name, number, numbers, pieces, span, text_if, unless_copied, without_memory,
 };
-use std::alloc::AllocError;
 
 /// Writes a text and a rule's number.
-pub fn rule<S: Storage>(out: &mut String, before: &str, ridx: RIdx<S>) -> Result<(), AllocError> {
-    number(out, before, usize::from(ridx))
+pub fn rule<S: Storage>(out: &mut Page, before: &str, ridx: RIdx<S>) {
+    number(out, before, usize::from(ridx));
 }
 
 /// Writes a text and a production's number.
-pub fn production<S: Storage>(
-    out: &mut String,
-    before: &str,
-    pidx: PIdx<S>,
-) -> Result<(), AllocError> {
-    number(out, before, usize::from(pidx))
+pub fn production<S: Storage>(out: &mut Page, before: &str, pidx: PIdx<S>) {
+    number(out, before, usize::from(pidx));
 }
 
 /// Writes a text and a token's number.
-pub fn token<S: Storage>(out: &mut String, before: &str, tidx: TIdx<S>) -> Result<(), AllocError> {
-    number(out, before, usize::from(tidx))
+pub fn token<S: Storage>(out: &mut Page, before: &str, tidx: TIdx<S>) {
+    number(out, before, usize::from(tidx));
 }
 
 /// The number of a rule that may be there.

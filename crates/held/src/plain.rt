@@ -9,11 +9,12 @@ use cfgrammar::yacc::firsts::YaccFirsts;
 use cfgrammar::yacc::follows::YaccFollows;
 use cfgrammar::yacc::grammar::Productions;
 use cfgrammar::{PIdx, Storage};
+use rows::page::Page;
 use std::alloc::{AllocError, Global};
 
 /// Makes the sets and the productions of a grammar, and writes all that it and they hold; then sets a bit twice.
 pub fn write_without_memory(
-    out: &mut String,
+    out: &mut Page,
     alloc: Global,
     grammar: &YaccGrammar<u32>,
 ) -> Result<(), AllocError> {
@@ -22,11 +23,12 @@ pub fn write_without_memory(
     let (rule, token) = (grammar.start_rule_idx(), grammar.eof_token_idx());
     let was_set = firsts.set(rule, token);
     let is_set = firsts.set(rule, token);
-    write_set_twice(out, "    end token set: ", was_set, is_set)
+    write_set_twice(out, "    end token set: ", was_set, is_set);
+    Ok(())
 }
 
 fn write_with_firsts(
-    out: &mut String,
+    out: &mut Page,
     alloc: Global,
     grammar: &YaccGrammar<u32>,
     firsts: &YaccFirsts<u32>,
@@ -39,7 +41,7 @@ fn write_with_firsts(
 
 /// Makes the productions, writes what the tables and the sets hold, and opens the start's production.
 fn write_with_sets(
-    out: &mut String,
+    out: &mut Page,
     alloc: Global,
     grammar: &YaccGrammar<u32>,
     firsts: &YaccFirsts<u32>,
@@ -53,14 +55,15 @@ fn write_with_sets(
     let start = grammar.start_prod();
     let rule = productions.rule_of(start);
     let symbols = productions.open(start).len();
-    pen::rule(out, "    opens one of rule ", rule)?;
-    pen::number(out, ", symbols ", symbols)?;
-    write_counts(out, &productions)
+    pen::rule(out, "    opens one of rule ", rule);
+    pen::number(out, ", symbols ", symbols);
+    write_counts(out, &productions);
+    Ok(())
 }
 
 /// Writes what the tables and the sets hold.
 fn write_plain(
-    out: &mut String,
+    out: &mut Page,
     grammar: &YaccGrammar<u32>,
     firsts: &YaccFirsts<u32>,
     follows: &YaccFollows<u32>,
@@ -68,24 +71,22 @@ fn write_plain(
     requires firsts { length firsts.now.firsts.rows ≡ length grammar.now.rules }
     requires follows { length follows.now.rows ≡ length grammar.now.rules }
 {
-    pen::without_memory(out)?;
+    pen::without_memory(out);
     tables::write_tables(out, None, grammar)?;
-    firsts::write_sets(out, grammar, firsts)?;
-    follows::write_sets(out, grammar, follows)
+    firsts::write_sets(out, grammar, firsts);
+    follows::write_sets(out, grammar, follows);
+    Ok(())
 }
 
 /// Writes how many rules, productions and tokens there are, and how often each production was opened, and all together.
-fn write_counts<S: Storage, P: Productions<S>>(
-    out: &mut String,
-    productions: &P,
-) -> Result<(), AllocError> {
-    pen::rule(out, ", rules ", productions.rules_len())?;
-    pen::token(out, ", tokens ", productions.tokens_len())?;
-    pen::text(out, ", opened")?;
+fn write_counts<S: Storage, P: Productions<S>>(out: &mut Page, productions: &P) {
+    pen::rule(out, ", rules ", productions.rules_len());
+    pen::token(out, ", tokens ", productions.tokens_len());
+    out.push_str(", opened");
     for number in 0..usize::from(productions.prods_len()) {
         if let Some(number) = S::from_usize(number) {
-            pen::number(out, " ", productions.opened(PIdx(number)) as usize)?;
+            pen::number(out, " ", productions.opened(PIdx(number)) as usize);
         }
     }
-    writeln!(out, "; all {}", productions.opened_all())
+    writeln!(out, "; all {}", productions.opened_all());
 }

@@ -7,13 +7,14 @@ use crate::follows::write_follows;
 use crate::pen::{self, Piece};
 use cfgrammar::yacc::{Precedence, YaccGrammar};
 use cfgrammar::{PIdx, RIdx, Storage, Symbol, TIdx};
+use rows::page::Page;
 use rows::said::{write_precedence, write_settings};
 use rows::text::push_pictures;
 use std::alloc::{AllocError, Global};
 
 /// Writes all that a grammar holds.
 pub fn write_grammar<S: Storage>(
-    out: &mut String,
+    out: &mut Page,
     alloc: Global,
     grammar: &YaccGrammar<S>,
 ) -> Result<(), AllocError> {
@@ -24,36 +25,34 @@ pub fn write_grammar<S: Storage>(
 
 /// Writes all that the tables of a grammar hold. Productions as text take memory, and aren't written without.
 pub(crate) fn write_tables<S: Storage>(
-    out: &mut String,
+    out: &mut Page,
     alloc: Option<Global>,
     grammar: &YaccGrammar<S>,
 ) -> Result<(), AllocError> {
-    write_lengths(out, grammar)?;
-    write_rules(out, grammar)?;
+    write_lengths(out, grammar);
+    write_rules(out, grammar);
     write_productions(out, alloc, grammar)?;
-    write_tokens(out, grammar)?;
-    write_rule_names(out, grammar)?;
-    write_token_names(out, grammar)
+    write_tokens(out, grammar);
+    write_rule_names(out, grammar);
+    write_token_names(out, grammar);
+    Ok(())
 }
 
 /// Writes how many rules, productions and tokens there are, which of them are the start's and the end's, and what is
 /// said of the grammar as a whole.
-pub fn write_lengths<S: Storage>(
-    out: &mut String,
-    grammar: &YaccGrammar<S>,
-) -> Result<(), AllocError> {
-    write_counts(out, grammar)?;
-    write_expected(out, grammar)?;
+pub fn write_lengths<S: Storage>(out: &mut Page, grammar: &YaccGrammar<S>) {
+    write_counts(out, grammar);
+    write_expected(out, grammar);
     write_settings(
         out,
         grammar.parse_param(),
         grammar.parse_generics(),
         grammar.programs(),
-    )
+    );
 }
 
 /// Writes how many rules, productions and tokens there are, and which of them are the start's and the end's.
-fn write_counts<S: Storage>(out: &mut String, grammar: &YaccGrammar<S>) -> Result<(), AllocError> {
+fn write_counts<S: Storage>(out: &mut Page, grammar: &YaccGrammar<S>) {
     pen::pieces(
         out,
         &[
@@ -64,15 +63,12 @@ fn write_counts<S: Storage>(out: &mut String, grammar: &YaccGrammar<S>) -> Resul
             Piece::Number("; tokens ", usize::from(grammar.tokens_len())),
             Piece::Number(", end ", usize::from(grammar.eof_token_idx())),
         ],
-    )
+    );
 }
 
 /// Writes the rule of the implicit tokens, ends the line, and writes how many conflicts are expected, each where it is
 /// there.
-fn write_expected<S: Storage>(
-    out: &mut String,
-    grammar: &YaccGrammar<S>,
-) -> Result<(), AllocError> {
+fn write_expected<S: Storage>(out: &mut Page, grammar: &YaccGrammar<S>) {
     let implicit = pen::rule_number(grammar.implicit_rule());
     let (expect, expectrr) = (grammar.expect(), grammar.expectrr());
     pen::pieces(
@@ -83,24 +79,19 @@ fn write_expected<S: Storage>(
             Piece::NumberOr("\n    expect-rr ", expectrr, ""),
             Piece::Text("\n"),
         ],
-    )
+    );
 }
 
 /// Writes a line for each rule.
-fn write_rules<S: Storage>(out: &mut String, grammar: &YaccGrammar<S>) -> Result<(), AllocError> {
+fn write_rules<S: Storage>(out: &mut Page, grammar: &YaccGrammar<S>) {
     for ridx in grammar.iter_rules() {
-        write_rule(out, grammar, ridx)?;
+        write_rule(out, grammar, ridx);
     }
-    Ok(())
 }
 
 /// Writes a rule: its index, its name, the name's place, and its productions; and where the two calls that answer its
 /// name differ.
-fn write_rule<S: Storage>(
-    out: &mut String,
-    grammar: &YaccGrammar<S>,
-    ridx: RIdx<S>,
-) -> Result<(), AllocError>
+fn write_rule<S: Storage>(out: &mut Page, grammar: &YaccGrammar<S>, ridx: RIdx<S>)
     requires { S.number ridx.0 < length grammar.now.rules }
 {
     let name = grammar.rule_name_str(ridx);
@@ -112,8 +103,8 @@ fn write_rule<S: Storage>(
             Piece::Span(grammar.rule_name_span(ridx)),
             Piece::Text(":"),
         ],
-    )?;
-    write_indices(out, grammar.rule_to_prods(ridx))?;
+    );
+    write_indices(out, grammar.rule_to_prods(ridx));
     pen::pieces(
         out,
         &[
@@ -121,19 +112,18 @@ fn write_rule<S: Storage>(
             Piece::If(grammar.rule_name(ridx) != name, ", another name"),
             Piece::Text("\n"),
         ],
-    )
+    );
 }
 
-fn write_indices<S: Storage>(out: &mut String, pidxs: &[PIdx<S>]) -> Result<(), AllocError> {
+fn write_indices<S: Storage>(out: &mut Page, pidxs: &[PIdx<S>]) {
     for pidx in pidxs {
-        pen::production(out, " ", *pidx)?;
+        pen::production(out, " ", *pidx);
     }
-    Ok(())
 }
 
 /// Writes a line for each production.
 fn write_productions<S: Storage>(
-    out: &mut String,
+    out: &mut Page,
     alloc: Option<Global>,
     grammar: &YaccGrammar<S>,
 ) -> Result<(), AllocError> {
@@ -146,7 +136,7 @@ fn write_productions<S: Storage>(
 /// Writes a production: its index, its place, its rule, its symbols, itself as text, and its precedence and its action,
 /// where it has them.
 fn write_production<S: Storage>(
-    out: &mut String,
+    out: &mut Page,
     alloc: Option<Global>,
     grammar: &YaccGrammar<S>,
     pidx: PIdx<S>,
@@ -162,25 +152,25 @@ fn write_production<S: Storage>(
             Piece::Number(", ", usize::from(grammar.prod_len(pidx))),
             Piece::Text(" symbols:"),
         ],
-    )?;
-    write_body(out, grammar.prod(pidx))?;
+    );
+    write_body(out, grammar.prod(pidx));
     write_printed(out, alloc, grammar, pidx)?;
-    write_action(out, grammar, pidx)
+    write_action(out, grammar, pidx);
+    Ok(())
 }
 
-fn write_body<S: Storage>(out: &mut String, symbols: &[Symbol<S>]) -> Result<(), AllocError> {
+fn write_body<S: Storage>(out: &mut Page, symbols: &[Symbol<S>]) {
     for symbol in symbols {
         match *symbol {
-            Symbol::Rule(ridx) => pen::rule(out, " rule ", ridx)?,
-            Symbol::Token(tidx) => pen::token(out, " token ", tidx)?,
+            Symbol::Rule(ridx) => pen::rule(out, " rule ", ridx),
+            Symbol::Token(tidx) => pen::token(out, " token ", tidx),
         }
     }
-    Ok(())
 }
 
 /// Writes a production as text, where there may be memory for that.
 fn write_printed<S: Storage>(
-    out: &mut String,
+    out: &mut Page,
     alloc: Option<Global>,
     grammar: &YaccGrammar<S>,
     pidx: PIdx<S>,
@@ -190,20 +180,17 @@ fn write_printed<S: Storage>(
     let Some(alloc) = alloc else {
         return Ok(());
     };
-    pen::text(out, "; ")?;
+    out.push_str("; ");
     let printed = grammar.pp_prod(alloc, pidx)?;
-    push_pictures(out, printed.as_str())
+    push_pictures(out, printed.as_str());
+    Ok(())
 }
 
 /// Writes a production's precedence and its action, where it has them, and ends the line.
-fn write_action<S: Storage>(
-    out: &mut String,
-    grammar: &YaccGrammar<S>,
-    pidx: PIdx<S>,
-) -> Result<(), AllocError>
+fn write_action<S: Storage>(out: &mut Page, grammar: &YaccGrammar<S>, pidx: PIdx<S>)
     requires { S.number pidx.0 < length grammar.now.productions }
 {
-    write_level(out, grammar.prod_precedence(pidx))?;
+    write_level(out, grammar.prod_precedence(pidx));
     pen::pieces(
         out,
         &[
@@ -211,24 +198,19 @@ fn write_action<S: Storage>(
             Piece::SpanOr(grammar.action_span(pidx), ""),
             Piece::Text("\n"),
         ],
-    )
+    );
 }
 
 /// Writes a line for each token.
-fn write_tokens<S: Storage>(out: &mut String, grammar: &YaccGrammar<S>) -> Result<(), AllocError> {
+fn write_tokens<S: Storage>(out: &mut Page, grammar: &YaccGrammar<S>) {
     for tidx in grammar.iter_tidxs() {
-        write_token(out, grammar, tidx)?;
+        write_token(out, grammar, tidx);
     }
-    Ok(())
 }
 
 /// Writes a token: its index, its name, the name's place, its precedence, its printed form where that isn't its name,
 /// and whether it is not to be inserted.
-fn write_token<S: Storage>(
-    out: &mut String,
-    grammar: &YaccGrammar<S>,
-    tidx: TIdx<S>,
-) -> Result<(), AllocError>
+fn write_token<S: Storage>(out: &mut Page, grammar: &YaccGrammar<S>, tidx: TIdx<S>)
     requires { S.number tidx.0 < length grammar.now.tokens }
 {
     let name = grammar.token_name(tidx);
@@ -239,57 +221,44 @@ fn write_token<S: Storage>(
             Piece::NameOr(" ", name, ""),
             Piece::SpanOr(grammar.token_span(tidx), ""),
         ],
-    )?;
-    write_level(out, grammar.token_precedence(tidx))?;
-    write_epp(out, grammar.token_epp(tidx), name)?;
-    pen::text_if(out, grammar.avoid_insert(tidx), ", avoid_insert")?;
-    pen::end_line(out)
+    );
+    write_level(out, grammar.token_precedence(tidx));
+    write_epp(out, grammar.token_epp(tidx), name);
+    pen::text_if(out, grammar.avoid_insert(tidx), ", avoid_insert");
+    out.push('\n');
 }
 
 /// Writes a token's printed form where that isn't its name.
-fn write_epp(out: &mut String, epp: Option<&str>, name: Option<&str>) -> Result<(), AllocError> {
+fn write_epp(out: &mut Page, epp: Option<&str>, name: Option<&str>) {
     if epp == name {
-        return Ok(());
+        return;
     }
-    pen::name(out, ", epp ", epp.unwrap_or("none"))
+    pen::name(out, ", epp ", epp.unwrap_or("none"));
 }
 
 /// Writes a precedence, where it is there.
-fn write_level(out: &mut String, answered: Option<Precedence>) -> Result<(), AllocError> {
-    match answered {
-        Some(Precedence { level, kind }) => { write_precedence(out, ", precedence ", level, &kind) }
-        None => Ok(()),
+fn write_level(out: &mut Page, answered: Option<Precedence>) {
+    if let Some(Precedence { level, kind }) = answered {
+        write_precedence(out, ", precedence ", level, &kind);
     }
 }
 
 /// Writes what each rule's name stands for.
-fn write_rule_names<S: Storage>(
-    out: &mut String,
-    grammar: &YaccGrammar<S>,
-) -> Result<(), AllocError> {
+fn write_rule_names<S: Storage>(out: &mut Page, grammar: &YaccGrammar<S>) {
     for ridx in grammar.iter_rules() {
-        write_name(out, grammar, grammar.rule_name_str(ridx))?;
+        write_name(out, grammar, grammar.rule_name_str(ridx));
     }
-    Ok(())
 }
 
 /// Writes what each token's name stands for, and the empty name, which the end token stands for here.
-fn write_token_names<S: Storage>(
-    out: &mut String,
-    grammar: &YaccGrammar<S>,
-) -> Result<(), AllocError> {
+fn write_token_names<S: Storage>(out: &mut Page, grammar: &YaccGrammar<S>) {
     for tidx in grammar.iter_tidxs() {
-        write_name(out, grammar, grammar.token_name(tidx).unwrap_or(""))?;
+        write_name(out, grammar, grammar.token_name(tidx).unwrap_or(""));
     }
-    Ok(())
 }
 
 /// Writes which rule and which token have a name.
-fn write_name<S: Storage>(
-    out: &mut String,
-    grammar: &YaccGrammar<S>,
-    name: &str,
-) -> Result<(), AllocError> {
+fn write_name<S: Storage>(out: &mut Page, grammar: &YaccGrammar<S>, name: &str) {
     let rule = pen::rule_number(grammar.rule_idx(name));
     let token = pen::token_number(grammar.token_idx(name));
     let is_unnamed = rule.is_none() && token.is_none();
@@ -303,5 +272,5 @@ fn write_name<S: Storage>(
             Piece::If(is_unnamed, " nothing"),
             Piece::Text("\n"),
         ],
-    )
+    );
 }

@@ -1,26 +1,25 @@
 //! What is written of a large row in place of all that is answered of it.
 
+use crate::page::Page;
 use crate::row::Row;
-use std::alloc::AllocError;
 
 /// How many characters of a line are written.
 const WIDTH: usize = 100;
 
 /// Writes how many lines and bytes all that is answered has, its digest, and for each `line` of the row the first
 /// line that begins as it says.
-pub fn write_digest(out: &mut String, row: &Row<'_>, answers: &str) -> Result<(), AllocError> {
+pub fn write_digest(out: &mut Page, row: &Row<'_>, answers: &str) {
     let (lines, bytes) = (answers.lines().count(), answers.len());
     let digest = digest(answers.as_bytes());
     writeln!(
         out,
         "    {lines} lines of {bytes} bytes, digest {digest:016x}"
-    )?;
+    );
     for (word, rest) in &row.lines {
         if *word == "line" {
-            write_line(out, *rest, answers)?;
+            write_line(out, *rest, answers);
         }
     }
-    Ok(())
 }
 
 /// The FNV-1a hash of these bytes, of 64 bits.
@@ -33,23 +32,23 @@ fn digest(bytes: &[u8]) -> u64 {
 }
 
 /// Writes the first line that begins so, apart from its blanks. Of a long line its beginning is written.
-fn write_line(out: &mut String, beginning: &str, answers: &str) -> Result<(), AllocError> {
+fn write_line(out: &mut Page, beginning: &str, answers: &str) {
     for line in answers.lines() {
         if line.trim_start().starts_with(beginning) {
             return write_beginning(out, line);
         }
     }
-    writeln!(out, "    no line begins with {beginning}")
+    writeln!(out, "    no line begins with {beginning}");
 }
 
 /// Writes a line behind a bar, or its beginning where it is long.
-fn write_beginning(out: &mut String, line: &str) -> Result<(), AllocError> {
-    out.push_str("    |")?;
+fn write_beginning(out: &mut Page, line: &str) {
+    out.push_str("    |");
     for character in line.trim_start().chars().take(WIDTH) {
-        out.push(character)?;
+        out.push(character);
     }
     if line.trim_start().chars().count() > WIDTH {
-        out.push_str(" ..")?;
+        out.push_str(" ..");
     }
-    out.push('\n')
+    out.push('\n');
 }

@@ -1,6 +1,7 @@
 //! Programs of rows: the names of files of rows are their words.
 
 use crate::digest::write_digest;
+use crate::page::Page;
 use crate::row::{Row, rows};
 use crate::text;
 use std::alloc::AllocError;
@@ -11,7 +12,7 @@ pub trait Answers {
     /// Writes all that is answered of a row and its text.
     fn write(
         &self,
-        out: &mut String,
+        out: &mut Page,
         rt: &HostRuntime,
         row: &Row<'_>,
         text: &str,
@@ -35,7 +36,7 @@ fn write_file<A: Answers>(rt: &HostRuntime, answers: &A, name: &str) -> io::Resu
 fn write_rows<A: Answers>(rt: &HostRuntime, answers: &A, rows: &[Row<'_>]) -> io::Result<()> {
     for row in rows {
         let answered = answers_of(rt, answers, row)?;
-        println!(rt; "== {}\n{answered}", row.name)?;
+        println!(rt; "== {}\n{}", row.name, answered.text()?)?;
     }
     Ok(())
 }
@@ -45,12 +46,13 @@ const ROOM: usize = 1_048_573;
 
 /// What is written of a row, behind its name: its notes, and its answers. Where memory ended on the way, that is
 /// written behind the answers so far, and they are asked for again.
-fn answers_of<A: Answers>(rt: &HostRuntime, answers: &A, row: &Row<'_>) -> io::Result<String> {
-    let mut out = String::with_capacity(rt.alloc(), ROOM)?;
-    row.write_notes(&mut out)?;
+fn answers_of<A: Answers>(rt: &HostRuntime, answers: &A, row: &Row<'_>) -> io::Result<Page> {
+    let mut out = Page::with_capacity(rt.alloc(), ROOM)?;
+    row.write_notes(&mut out);
     match write_answers(&mut out, rt, answers, row) {
         Err(fault) if fault.kind() == io::ErrorKind::OutOfMemory => {
-            out.push_str("out of memory\n")?;
+            out.mend();
+            out.push_str("out of memory\n");
             write_answers(&mut out, rt, answers, row)?;
         }
         other => other?,
@@ -60,18 +62,19 @@ fn answers_of<A: Answers>(rt: &HostRuntime, answers: &A, row: &Row<'_>) -> io::R
 
 /// Writes a row's answers, or their digest where the row asks for that.
 fn write_answers<A: Answers>(
-    out: &mut String,
+    out: &mut Page,
     rt: &HostRuntime,
     answers: &A,
     row: &Row<'_>,
 ) -> io::Result<()> {
     let text = text::of_row(rt, row)?;
     if row.first("show") == Some("digest") {
-        let mut whole = String::new(rt.alloc());
+        let mut whole = Page::new(rt.alloc());
         answers.write(&mut whole, rt, row, text.as_str())?;
-        write_digest(out, row, whole.as_str())?;
+        write_digest(out, row, whole.text()?);
     } else {
         answers.write(out, rt, row, text.as_str())?;
     }
+    out.text()?;
     Ok(())
 }

@@ -1,5 +1,6 @@
 //! Pieces of what is written.
 
+use crate::page::Page;
 use cfgbase::Span;
 use std::alloc::AllocError;
 
@@ -19,115 +20,87 @@ pub enum Piece<'a> {
 }
 
 /// Writes pieces, one behind the other. One call with all of a line's pieces is proved sooner than a call for each.
-pub fn pieces(out: &mut String, pieces: &[Piece<'_>]) -> Result<(), AllocError> {
+pub fn pieces(out: &mut Page, pieces: &[Piece<'_>]) {
     for piece in pieces {
-        write_piece(out, *piece)?;
-    }
-    Ok(())
-}
-
-fn write_piece(out: &mut String, piece: Piece<'_>) -> Result<(), AllocError> {
-    match piece {
-        Piece::Text(word) => text(out, word),
-        Piece::If(is_so, word) => text_if(out, is_so, word),
-        Piece::Number(before, value) => number(out, before, value),
-        Piece::Name(before, word) => name(out, before, word),
-        Piece::Flag(before, is_so) => flag(out, before, is_so),
-        Piece::Span(place) => span(out, place),
-        other => write_or(out, other),
+        write_piece(out, *piece);
     }
 }
 
-/// Writes a piece that may be missing, or what stands in its place.
-fn write_or(out: &mut String, piece: Piece<'_>) -> Result<(), AllocError> {
+fn write_piece(out: &mut Page, piece: Piece<'_>) {
     match piece {
-        Piece::NumberOr(before, Some(value), _) => number(out, before, value),
-        Piece::NameOr(before, Some(word), _) => name(out, before, word),
+        Piece::Text(word)
+        | Piece::If(true, word)
+        | Piece::NumberOr(_, None, word)
+        | Piece::NameOr(_, None, word)
+        | Piece::TextOr(_, None, word)
+        | Piece::SpanOr(None, word) => out.push_str(word),
+        Piece::If(false, _) => {}
+        Piece::Number(before, value) | Piece::NumberOr(before, Some(value), _) => {
+            number(out, before, value)
+        }
+        Piece::Name(before, word) | Piece::NameOr(before, Some(word), _) => name(out, before, word),
         Piece::TextOr(before, Some(word), _) => name(out, before, word.as_str()),
-        Piece::SpanOr(Some(place), _) => span(out, place),
-        Piece::NumberOr(_, None, otherwise)
-        | Piece::NameOr(_, None, otherwise)
-        | Piece::TextOr(_, None, otherwise)
-        | Piece::SpanOr(None, otherwise) => text(out, otherwise),
-        _ => Ok(()),
+        Piece::Flag(before, is_so) => flag(out, before, is_so),
+        Piece::Span(place) | Piece::SpanOr(Some(place), _) => span(out, place),
     }
-}
-
-/// Writes a text.
-pub fn text(out: &mut String, text: &str) -> Result<(), AllocError> {
-    out.push_str(text)
 }
 
 /// Writes a text where something is so.
-pub fn text_if(out: &mut String, is_so: bool, word: &str) -> Result<(), AllocError> {
-    text(out, if is_so { word } else { "" })
-}
-
-/// Writes a character.
-pub fn character(out: &mut String, character: char) -> Result<(), AllocError> {
-    out.push(character)
-}
-
-/// Ends a line.
-pub fn end_line(out: &mut String) -> Result<(), AllocError> {
-    out.push('\n')
+pub fn text_if(out: &mut Page, is_so: bool, word: &str) {
+    out.push_str(if is_so { word } else { "" });
 }
 
 /// Writes two texts as a line, or as what is left of one.
-pub fn line(out: &mut String, before: &str, rest: &str) -> Result<(), AllocError> {
-    text(out, before)?;
-    text(out, rest)?;
-    end_line(out)
+pub fn line(out: &mut Page, before: &str, rest: &str) {
+    out.push_str(before);
+    out.push_str(rest);
+    out.push('\n');
 }
 
 /// Writes a text where a value isn't the same as a copy of it.
 pub fn unless_copied<T: Clone + PartialEq + Drop>(
-    out: &mut String,
+    out: &mut Page,
     value: &T,
     word: &str,
 ) -> Result<(), AllocError> {
     let is_same = value.clone()? == *value;
-    text_if(out, !is_same, word)
+    text_if(out, !is_same, word);
+    Ok(())
 }
 
 /// Writes that no call behind this line takes memory.
-pub fn without_memory(out: &mut String) -> Result<(), AllocError> {
-    text(out, "without memory\n")
+pub fn without_memory(out: &mut Page) {
+    out.push_str("without memory\n");
 }
 
 /// Writes a text and a number.
-pub fn number(out: &mut String, before: &str, number: usize) -> Result<(), AllocError> {
-    write!(out, "{before}{number}")
+pub fn number(out: &mut Page, before: &str, number: usize) {
+    write!(out, "{before}{number}");
 }
 
 /// Writes a text and two numbers with a text between them.
-pub fn numbers(
-    out: &mut String,
-    (before, first): (&str, usize),
-    (between, second): (&str, usize),
-) -> Result<(), AllocError> {
-    write!(out, "{before}{first}{between}{second}")
+pub fn numbers(out: &mut Page, (before, first): (&str, usize), (between, second): (&str, usize)) {
+    write!(out, "{before}{first}{between}{second}");
 }
 
 /// Writes a text and a name in double quotes.
-pub fn name(out: &mut String, before: &str, name: &str) -> Result<(), AllocError> {
-    write!(out, "{before}{name:?}")
+pub fn name(out: &mut Page, before: &str, name: &str) {
+    write!(out, "{before}{name:?}");
 }
 
 /// Writes a text and whether something is so.
-pub fn flag(out: &mut String, before: &str, flag: bool) -> Result<(), AllocError> {
-    write!(out, "{before}{flag}")
+pub fn flag(out: &mut Page, before: &str, flag: bool) {
+    write!(out, "{before}{flag}");
 }
 
 /// Writes a space and the bytes of a span.
-pub fn span(out: &mut String, span: Span) -> Result<(), AllocError> {
-    write!(out, " ({},{})", span.start(), span.end())
+pub fn span(out: &mut Page, span: Span) {
+    write!(out, " ({},{})", span.start(), span.end());
 }
 
 /// Writes spans, each behind a space.
-pub fn spans(out: &mut String, spans: &[Span]) -> Result<(), AllocError> {
+pub fn spans(out: &mut Page, spans: &[Span]) {
     for place in spans {
-        span(out, *place)?;
+        span(out, *place);
     }
-    Ok(())
 }

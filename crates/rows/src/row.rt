@@ -1,5 +1,6 @@
 //! Rows as files hold them.
 
+use crate::page::Page;
 use std::alloc::{AllocError, Global};
 
 /// A row: what it tries, its name, and its lines, each a word and what stands behind it.
@@ -22,13 +23,12 @@ impl<'a> Row<'a> {
     }
 
     /// Writes the row's notes, each as a line.
-    pub fn write_notes(&self, out: &mut String) -> Result<(), AllocError> {
+    pub fn write_notes(&self, out: &mut Page) {
         for (word, rest) in &self.lines {
             if *word == "note" {
-                writeln!(out, "   {rest}")?;
+                writeln!(out, "   {rest}");
             }
         }
-        Ok(())
     }
 
     /// The number behind the name in a line that begins with the word, or 0 where none stands there.

@@ -1,5 +1,6 @@
 //! The texts of rows.
 
+use crate::page::Page;
 use crate::row::{Row, number};
 use std::alloc::AllocError;
 use std::{fs, io};
@@ -59,23 +60,21 @@ pub fn push_turn(text: &mut String, line: &str, turn: usize) -> Result<(), Alloc
 }
 
 /// Writes a text, each line behind a bar, with pictures for CR and TAB.
-pub fn write_text(out: &mut String, text: &str) -> Result<(), AllocError> {
+pub fn write_text(out: &mut Page, text: &str) {
     for line in text.split('\n') {
-        out.push_str("    |")?;
-        push_pictures(out, line)?;
-        out.push('\n')?;
+        out.push_str("    |");
+        push_pictures(out, line);
+        out.push('\n');
     }
-    Ok(())
 }
 
 /// Adds a text with pictures for CR and TAB.
-pub fn push_pictures(out: &mut String, text: &str) -> Result<(), AllocError> {
+pub fn push_pictures(out: &mut Page, text: &str) {
     for character in text.chars() {
         out.push(match character {
             '\r' => '␍',
             '\t' => '␉',
             other => other,
-        })?;
+        });
     }
-    Ok(())
 }

@@ -4,25 +4,29 @@ use cfgbase::{Location, Span, Spanned};
 use cfgerrors::{HeaderError, YaccGrammarError};
 use cfgheader::{GrmtoolsSectionParser, Header, HeaderFault};
 use cfgkinds::{HeaderValue, KindFault, YaccKind};
+use rows::page::Page;
 use rows::pen;
 use std::alloc::{AllocError, Global};
 
 /// Reads a section that must be there, and writes a line for each key, or for each error.
-pub(crate) fn write_section(out: &mut String, alloc: Global, text: &str) -> Result<(), AllocError> {
+pub(crate) fn write_section(out: &mut Page, alloc: Global, text: &str) -> Result<(), AllocError> {
     match GrmtoolsSectionParser::new(text, true).parse(alloc) {
         Ok(parsed) => write_parsed(out, alloc, &parsed),
-        Err(HeaderFault::Errors(errors)) => write_each(out, errors),
+        Err(HeaderFault::Errors(errors)) => {
+            write_each(out, errors);
+            Ok(())
+        }
         Err(HeaderFault::OutOfMemory) => Err(AllocError),
     }
 }
 
 /// Writes a line for each key, and how a section begins again to be read.
 fn write_parsed(
-    out: &mut String,
+    out: &mut Page,
     alloc: Global,
     (header, _): &(Header<Span>, usize),
 ) -> Result<(), AllocError> {
-    pen::without_memory(out)?;
+    pen::without_memory(out);
     let _parser = GrmtoolsSectionParser::new("", false);
     for (key, held) in header {
         write_held(out, alloc, key.as_str(), held)?;
@@ -32,56 +36,59 @@ fn write_parsed(
 
 /// Writes a key, the place that speaks for its value, and the kind that the value names where the key is `yacckind`.
 fn write_held(
-    out: &mut String,
+    out: &mut Page,
     alloc: Global,
     key: &str,
     held: &HeaderValue<Span>,
 ) -> Result<(), AllocError> {
     let place = *held.1.primary_location();
-    pen::name(out, "    ", key)?;
-    pen::span(out, place)?;
-    write!(out, " {:?}", Location::from(place))?;
+    pen::name(out, "    ", key);
+    pen::span(out, place);
+    write!(out, " {:?}", Location::from(place));
     if key == "yacckind" {
         write_kind(out, &YaccKind::try_from_value(alloc, &held.1))?;
     }
-    pen::end_line(out)
+    out.push('\n');
+    Ok(())
 }
 
 /// Writes a kind.
-fn write_kind(
-    out: &mut String,
-    kind: &Result<YaccKind, KindFault<Span>>,
-) -> Result<(), AllocError> {
+fn write_kind(out: &mut Page, kind: &Result<YaccKind, KindFault<Span>>) -> Result<(), AllocError> {
     match kind {
-        Ok(kind) => write!(out, "; kind {kind:?}"),
-        Err(KindFault::Error(_)) => out.push_str("; no kind"),
+        Ok(kind) => {
+            write!(out, "; kind {kind:?}");
+            Ok(())
+        }
+        Err(KindFault::Error(_)) => {
+            out.push_str("; no kind");
+            Ok(())
+        }
         Err(KindFault::OutOfMemory) => Err(AllocError),
     }
 }
 
 /// Values that are written as they go. One generic function owns them.
 trait Told: Drop {
-    fn tell(self, out: &mut String) -> Result<(), AllocError>;
+    fn tell(self, out: &mut Page);
 }
 
 /// An error is written as that of a whole text.
 impl Told for HeaderError<Span> {
-    fn tell(self, out: &mut String) -> Result<(), AllocError> {
-        write_error(out, &YaccGrammarError::from(self))
+    fn tell(self, out: &mut Page) {
+        write_error(out, &YaccGrammarError::from(self));
     }
 }
 
-fn write_each<T: Told>(out: &mut String, values: Vec<T>) -> Result<(), AllocError> {
-    pen::without_memory(out)?;
+fn write_each<T: Told>(out: &mut Page, values: Vec<T>) {
+    pen::without_memory(out);
     for value in values {
-        value.tell(out)?;
+        value.tell(out);
     }
-    Ok(())
 }
 
 /// Writes the kind of an error, its spans, and what they stand for.
-fn write_error(out: &mut String, error: &YaccGrammarError) -> Result<(), AllocError> {
-    write!(out, "    {:?}", error.kind())?;
-    pen::spans(out, error.spans())?;
-    writeln!(out, " {:?}", error.spanskind())
+fn write_error(out: &mut Page, error: &YaccGrammarError) {
+    write!(out, "    {:?}", error.kind());
+    pen::spans(out, error.spans());
+    writeln!(out, " {:?}", error.spanskind());
 }

@@ -3,12 +3,23 @@
 //! compares it with what is stored.
 #![tactic(auto)]
 
+mod desk;
+mod given;
+mod narrow;
+mod programs;
+mod reports;
+mod rooms;
+mod runs;
+
+use held::costs;
 use rows::files::{Answers, write_files};
+use rows::page::Page;
 use rows::row::Row;
-use std::alloc::AllocError;
+use sections::kinds;
+use std::alloc::{AllocError, Global};
 use std::io;
 use trees::written;
-use values::{kinds, lines, marks, numbers};
+use values::{lines, marks, numbers};
 use vectors::every;
 
 /// What is answered of rows of all kinds.
@@ -17,7 +28,7 @@ struct All;
 impl Answers for All {
     fn write(
         &self,
-        out: &mut String,
+        out: &mut Page,
         rt: &HostRuntime,
         row: &Row<'_>,
         text: &str,
@@ -32,13 +43,23 @@ impl Answers for All {
             "values" => numbers::tell(out, rt.alloc(), row, text),
             "errors" => kinds::tell(out, rt.alloc(), row, text),
             "tree" => written::tell(out, rt.alloc(), row, text),
-            "report" => runs::reports::tell(out, rt.alloc(), row, text),
-            "run" => runs::runs::tell(out, rt.alloc(), row, text),
-            "program" => runs::programs::tell(out, rt, row, text),
-            "guide" => uses::answers::tell(out, rt.alloc(), row.name, text),
-            _ => writeln!(out, "no such row: {}", row.tries),
+            "report" => reports::tell(out, rt.alloc(), row, text),
+            "run" => runs::tell(out, rt.alloc(), row, text),
+            "program" => programs::tell(out, rt, row, text),
+            "guide" => guide(out, rt.alloc(), row.name, text),
+            _ => {
+                writeln!(out, "no such row: {}", row.tries);
+                Ok(())
+            }
         }
     }
+}
+
+/// Writes what the caller of this name in the guide answers of a text.
+fn guide(out: &mut Page, alloc: Global, call: &str, text: &str) -> Result<(), AllocError> {
+    let answer = uses::answers::tell(alloc, call, text)?;
+    out.push_str(answer.as_str());
+    Ok(())
 }
 
 fn main(rt: HostRuntime) -> io::Result<()> {

@@ -3,12 +3,13 @@
 use crate::made::{Writer, write_made};
 use crate::written::tree_text;
 use cfgsyntax::yacc::ast::{ASTWithValidityInfo, GrammarAST, Production, Rule};
+use rows::page::Page;
 use rows::pen;
 use std::alloc::{AllocError, Global};
 
 /// Writes of what was parsed, and of each rule, production and symbol, that a copy isn't the same.
 pub(crate) fn write_copies(
-    out: &mut String,
+    out: &mut Page,
     alloc: Global,
     parsed: &ASTWithValidityInfo,
 ) -> Result<(), AllocError> {
@@ -25,9 +26,10 @@ struct Twin<'a> {
 }
 
 impl Writer<ASTWithValidityInfo, AllocError> for Twin<'_> {
-    fn write(&self, out: &mut String, copy: &mut ASTWithValidityInfo) -> Result<(), AllocError> {
+    fn write(&self, out: &mut Page, copy: &mut ASTWithValidityInfo) -> Result<(), AllocError> {
         let is_same = is_same(self.alloc, self.parsed, copy)?;
-        pen::text_if(out, !is_same, "    and a copy that isn't the same\n")
+        pen::text_if(out, !is_same, "    and a copy that isn't the same\n");
+        Ok(())
     }
 }
 
@@ -46,25 +48,25 @@ fn is_same(
     )
 }
 
-fn write_rules(out: &mut String, ast: &GrammarAST) -> Result<(), AllocError> {
+fn write_rules(out: &mut Page, ast: &GrammarAST) -> Result<(), AllocError> {
     for rule in ast.rules().values() {
         write_rule(out, rule)?;
     }
     Ok(())
 }
 
-fn write_rule(out: &mut String, rule: &Rule) -> Result<(), AllocError> {
+fn write_rule(out: &mut Page, rule: &Rule) -> Result<(), AllocError> {
     pen::unless_copied(out, rule, "    and a copy of a rule that isn't the same\n")
 }
 
-fn write_productions(out: &mut String, ast: &GrammarAST) -> Result<(), AllocError> {
+fn write_productions(out: &mut Page, ast: &GrammarAST) -> Result<(), AllocError> {
     for production in ast.prods() {
         write_production(out, production)?;
     }
     Ok(())
 }
 
-fn write_production(out: &mut String, production: &Production) -> Result<(), AllocError> {
+fn write_production(out: &mut Page, production: &Production) -> Result<(), AllocError> {
     for symbol in &production.symbols {
         pen::unless_copied(
             out,

@@ -8,12 +8,13 @@ use cfghash::NameHashes;
 use cfgsyntax::yacc::ast::{ASTWithValidityInfo, GrammarAST};
 use cfgsyntax::yacc::{YaccFault, YaccGrammarError, YaccKind};
 use indexmap::IndexMap;
+use rows::page::Page;
 use rows::pen;
 use std::alloc::{AllocError, Global};
 
 /// Writes a line for each beginning of the text that ends where a character begins or the text ends.
 pub fn write_cuts(
-    out: &mut String,
+    out: &mut Page,
     alloc: Global,
     kind: Option<YaccKind>,
     text: &str,
@@ -28,13 +29,13 @@ pub fn write_cuts(
 
 /// Writes the length of a text, its errors, each as its kind and its spans, and how much was read of it.
 fn write_cut(
-    out: &mut String,
+    out: &mut Page,
     alloc: Global,
     kind: Option<YaccKind>,
     text: &str,
 ) -> Result<(), AllocError> {
-    pen::number(out, "    ", text.len())?;
-    pen::text(out, ":")?;
+    pen::number(out, "    ", text.len());
+    out.push_str(":");
     write_made(out, &Cut, parse(alloc, kind, text))
 }
 
@@ -42,97 +43,87 @@ fn write_cut(
 struct Cut;
 
 impl Writer<ASTWithValidityInfo, YaccFault> for Cut {
-    fn write(&self, out: &mut String, parsed: &mut ASTWithValidityInfo) -> Result<(), AllocError> {
-        write_errors(out, parsed.errors())?;
-        write_read(out, parsed.ast())
+    fn write(&self, out: &mut Page, parsed: &mut ASTWithValidityInfo) -> Result<(), AllocError> {
+        write_errors(out, parsed.errors());
+        write_read(out, parsed.ast());
+        Ok(())
     }
 
-    fn refuse(&self, out: &mut String, fault: &YaccFault) -> Result<(), AllocError> {
+    fn refuse(&self, out: &mut Page, fault: &YaccFault) -> Result<(), AllocError> {
         match fault {
-            YaccFault::Errors(errors) => write_refused(out, errors),
+            YaccFault::Errors(errors) => {
+                write_refused(out, errors);
+                Ok(())
+            }
             YaccFault::OutOfMemory => Err(AllocError),
         }
     }
 }
 
 /// Writes the errors that keep a text from naming a kind.
-fn write_refused(out: &mut String, errors: &[YaccGrammarError]) -> Result<(), AllocError> {
-    write_errors(out, errors)?;
-    pen::text(out, "; no kind\n")
+fn write_refused(out: &mut Page, errors: &[YaccGrammarError]) {
+    write_errors(out, errors);
+    out.push_str("; no kind\n");
 }
 
 /// Writes errors, each as its kind and its spans.
-pub(crate) fn write_errors(
-    out: &mut String,
-    errors: &[YaccGrammarError],
-) -> Result<(), AllocError> {
+pub(crate) fn write_errors(out: &mut Page, errors: &[YaccGrammarError]) {
     for error in errors {
-        write_error(out, error)?;
+        write_kind(out, error);
+        pen::spans(out, error.spans());
     }
-    Ok(())
-}
-
-fn write_error(out: &mut String, error: &YaccGrammarError) -> Result<(), AllocError> {
-    write_kind(out, error)?;
-    pen::spans(out, error.spans())
 }
 
 /// Writes how much was read of a text.
-fn write_read(out: &mut String, ast: &GrammarAST) -> Result<(), AllocError> {
-    write_lengths(out, ast)?;
-    write_said_of_tokens(out, ast)?;
-    write_said_of_parser(out, ast)?;
-    pen::end_line(out)
+fn write_read(out: &mut Page, ast: &GrammarAST) {
+    write_lengths(out, ast);
+    write_said_of_tokens(out, ast);
+    write_said_of_parser(out, ast);
+    out.push('\n');
 }
 
 /// Writes how many rules, productions and tokens were read.
-fn write_lengths(out: &mut String, ast: &GrammarAST) -> Result<(), AllocError> {
+fn write_lengths(out: &mut Page, ast: &GrammarAST) {
     pen::numbers(
         out,
         ("; ", ast.rules().len()),
         (" rules, ", ast.prods().len()),
-    )?;
-    pen::number(out, " productions, ", ast.tokens().len())?;
-    pen::text(out, " tokens")
+    );
+    pen::number(out, " productions, ", ast.tokens().len());
+    out.push_str(" tokens");
 }
 
 /// Writes of how many tokens something was read, where it was of any, and how long the lists are that are there.
-fn write_said_of_tokens(out: &mut String, ast: &GrammarAST) -> Result<(), AllocError> {
-    write_count(out, ast.precs().len(), " precedences")?;
-    write_count(out, ast.epp().len(), " epp")?;
-    write_table(out, ast.avoid_insert(), " avoid_insert")?;
-    write_table(out, ast.implicit_tokens(), " implicit_tokens")?;
-    write_count(out, ast.expect_unused().len(), " expect-unused")
+fn write_said_of_tokens(out: &mut Page, ast: &GrammarAST) {
+    write_count(out, ast.precs().len(), " precedences");
+    write_count(out, ast.epp().len(), " epp");
+    write_table(out, ast.avoid_insert(), " avoid_insert");
+    write_table(out, ast.implicit_tokens(), " implicit_tokens");
+    write_count(out, ast.expect_unused().len(), " expect-unused");
 }
 
 /// Writes how many there are, where there are any.
-fn write_count(out: &mut String, count: usize, word: &str) -> Result<(), AllocError> {
-    if count == 0 {
-        return Ok(());
+fn write_count(out: &mut Page, count: usize, word: &str) {
+    if count > 0 {
+        write_length(out, count, word);
     }
-    write_length(out, count, word)
 }
 
 /// Writes how many tokens a list has, where there is one.
-fn write_table(
-    out: &mut String,
-    table: &Option<IndexMap<String, Span, NameHashes>>,
-    word: &str,
-) -> Result<(), AllocError> {
-    match table {
-        Some(table) => write_length(out, table.len(), word),
-        None => Ok(()),
+fn write_table(out: &mut Page, table: &Option<IndexMap<String, Span, NameHashes>>, word: &str) {
+    if let Some(table) = table {
+        write_length(out, table.len(), word);
     }
 }
 
-fn write_length(out: &mut String, length: usize, word: &str) -> Result<(), AllocError> {
-    pen::number(out, ", ", length)?;
-    pen::text(out, word)
+fn write_length(out: &mut Page, length: usize, word: &str) {
+    pen::number(out, ", ", length);
+    out.push_str(word);
 }
 
 /// Writes what was read of the parser and of the programs.
-fn write_said_of_parser(out: &mut String, ast: &GrammarAST) -> Result<(), AllocError> {
-    pen::text_if(out, ast.parse_param().is_some(), ", parse-param")?;
-    pen::text_if(out, ast.parse_generics().is_some(), ", parse-generics")?;
-    pen::text_if(out, ast.programs().is_some(), ", programs")
+fn write_said_of_parser(out: &mut Page, ast: &GrammarAST) {
+    pen::text_if(out, ast.parse_param().is_some(), ", parse-param");
+    pen::text_if(out, ast.parse_generics().is_some(), ", parse-generics");
+    pen::text_if(out, ast.programs().is_some(), ", programs");
 }

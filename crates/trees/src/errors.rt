@@ -3,61 +3,50 @@
 use cfgbase::{Span, Spanned};
 use cfglines::Places;
 use cfgsyntax::yacc::YaccGrammarError;
+use rows::page::Page;
 use rows::pen;
 use std::alloc::{AllocError, Global};
 
 /// Writes whether there are errors, and a line for each.
 pub fn write_errors(
-    out: &mut String,
+    out: &mut Page,
     alloc: Global,
     text: &str,
     errors: &[YaccGrammarError],
 ) -> Result<(), AllocError> {
     if errors.is_empty() {
-        return pen::text(out, "errors: none\n");
+        out.push_str("errors: none\n");
+        return Ok(());
     }
-    pen::text(out, "errors\n")?;
+    out.push_str("errors\n");
     write_error_lines(out, alloc, text, errors)
 }
 
 /// Writes a line for each error: its kind, its spans, the line and the column of the first span's start, what the spans
 /// stand for, and its text.
 pub fn write_error_lines(
-    out: &mut String,
+    out: &mut Page,
     alloc: Global,
     text: &str,
     errors: &[YaccGrammarError],
 ) -> Result<(), AllocError> {
     let places = Places::new(alloc, text)?;
-    write_placed_errors(out, &places, errors)
-}
-
-fn write_placed_errors(
-    out: &mut String,
-    places: &Places<'_>,
-    errors: &[YaccGrammarError],
-) -> Result<(), AllocError> {
-    for error in errors {
-        write_error(out, places, error)?;
-    }
+    write_placed_errors(out, &places, errors);
     Ok(())
 }
 
-fn write_error(
-    out: &mut String,
-    places: &Places<'_>,
-    error: &YaccGrammarError,
-) -> Result<(), AllocError> {
-    pen::text(out, "   ")?;
-    write_kind(out, error)?;
-    pen::spans(out, error.spans())?;
-    write_place(out, places, first_start(error.spans()))?;
-    write_meaning(out, error)
+fn write_placed_errors(out: &mut Page, places: &Places<'_>, errors: &[YaccGrammarError]) {
+    for error in errors {
+        write_error(out, places, error);
+    }
 }
 
-/// Writes what the spans of an error stand for, and its text.
-fn write_meaning(out: &mut String, error: &YaccGrammarError) -> Result<(), AllocError> {
-    writeln!(out, " {:?}: {error}", error.spanskind())
+fn write_error(out: &mut Page, places: &Places<'_>, error: &YaccGrammarError) {
+    out.push_str("   ");
+    write_kind(out, error);
+    pen::spans(out, error.spans());
+    write_place(out, places, first_start(error.spans()));
+    writeln!(out, " {:?}: {error}", error.spanskind());
 }
 
 /// Where the first span starts, or 0 where there is none.
@@ -69,14 +58,14 @@ fn first_start(spans: &[Span]) -> usize {
 }
 
 /// Writes the line and the column of a byte.
-fn write_place(out: &mut String, places: &Places<'_>, byte: usize) -> Result<(), AllocError> {
+fn write_place(out: &mut Page, places: &Places<'_>, byte: usize) {
     match places.line_and_column(byte) {
         Some((line, column)) => pen::numbers(out, (" ", line), (":", column)),
-        None => pen::text(out, " no place"),
+        None => out.push_str(" no place"),
     }
 }
 
 /// Writes a space and the kind of an error.
-pub fn write_kind(out: &mut String, error: &YaccGrammarError) -> Result<(), AllocError> {
-    write!(out, " {:?}", error.kind())
+pub fn write_kind(out: &mut Page, error: &YaccGrammarError) {
+    write!(out, " {:?}", error.kind());
 }

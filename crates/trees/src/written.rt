@@ -7,13 +7,14 @@ use cfgsyntax::yacc::ast::{
     ASTModificationError, ASTWithValidityInfo, GrammarAST, Rule, StartFault,
 };
 use cfgsyntax::yacc::{YaccKind, YaccOriginalActionKind};
+use rows::page::Page;
 use rows::pen;
 use rows::row::{Row, number, words};
 use std::alloc::{AllocError, Global};
 
 /// Writes what each call of the row answers on the row's text: each `start` on what was read, which stays as it was,
 /// and then the others, one after another on a copy of the tree.
-pub fn tell(out: &mut String, alloc: Global, row: &Row<'_>, text: &str) -> Result<(), AllocError> {
+pub fn tell(out: &mut Page, alloc: Global, row: &Row<'_>, text: &str) -> Result<(), AllocError> {
     let kind = YaccKind::Original(YaccOriginalActionKind::GenericParseTree);
     let script = Script { alloc, row };
     write_made(out, &script, ASTWithValidityInfo::new(alloc, kind, text))
@@ -27,13 +28,13 @@ struct Script<'a> {
 }
 
 impl Writer<ASTWithValidityInfo, AllocError> for Script<'_> {
-    fn write(&self, out: &mut String, parsed: &mut ASTWithValidityInfo) -> Result<(), AllocError> {
+    fn write(&self, out: &mut Page, parsed: &mut ASTWithValidityInfo) -> Result<(), AllocError> {
         tell_read(out, self.alloc, self.row, parsed)
     }
 }
 
 impl Writer<GrammarAST, AllocError> for Script<'_> {
-    fn write(&self, out: &mut String, ast: &mut GrammarAST) -> Result<(), AllocError> {
+    fn write(&self, out: &mut Page, ast: &mut GrammarAST) -> Result<(), AllocError> {
         if self.row.first("show") == Some("without-memory") {
             return set_programs_twice(out, self.alloc, self.row, ast);
         }
@@ -43,7 +44,7 @@ impl Writer<GrammarAST, AllocError> for Script<'_> {
 }
 
 fn tell_read(
-    out: &mut String,
+    out: &mut Page,
     alloc: Global,
     row: &Row<'_>,
     parsed: &ASTWithValidityInfo,
@@ -56,7 +57,7 @@ fn tell_read(
 }
 
 fn change_starts(
-    out: &mut String,
+    out: &mut Page,
     alloc: Global,
     row: &Row<'_>,
     parsed: &ASTWithValidityInfo,
@@ -71,7 +72,7 @@ fn change_starts(
 
 /// Writes what starts where the rule of this name is the start, or why it can't be.
 fn change_start(
-    out: &mut String,
+    out: &mut Page,
     alloc: Global,
     parsed: &ASTWithValidityInfo,
     line: &str,
@@ -86,11 +87,11 @@ struct Start {
 }
 
 impl Writer<ASTWithValidityInfo, StartFault> for Start {
-    fn write(&self, out: &mut String, changed: &mut ASTWithValidityInfo) -> Result<(), AllocError> {
+    fn write(&self, out: &mut Page, changed: &mut ASTWithValidityInfo) -> Result<(), AllocError> {
         write_start(out, self.alloc, changed)
     }
 
-    fn refuse(&self, out: &mut String, fault: &StartFault) -> Result<(), AllocError> {
+    fn refuse(&self, out: &mut Page, fault: &StartFault) -> Result<(), AllocError> {
         match fault {
             StartFault::Modification(error) => write_refused(out, error),
             StartFault::OutOfMemory => Err(AllocError),
@@ -98,10 +99,11 @@ impl Writer<ASTWithValidityInfo, StartFault> for Start {
     }
 }
 
-fn write_refused(out: &mut String, error: &ASTModificationError) -> Result<(), AllocError> {
-    write!(out, "    {error}")?;
+fn write_refused(out: &mut Page, error: &ASTModificationError) -> Result<(), AllocError> {
+    write!(out, "    {error}");
     pen::unless_copied(out, error, ", and a copy that isn't the same")?;
-    pen::end_line(out)
+    out.push('\n');
+    Ok(())
 }
 
 fn restarted(
@@ -115,27 +117,25 @@ fn restarted(
 
 /// Writes the start, the number of errors, and the warnings.
 fn write_start(
-    out: &mut String,
+    out: &mut Page,
     alloc: Global,
     parsed: &ASTWithValidityInfo,
 ) -> Result<(), AllocError> {
-    write_named(out, parsed.ast().start())?;
-    pen::number(out, ", ", parsed.errors().len())?;
-    pen::text(out, " errors, ")?;
+    write_named(out, parsed.ast().start());
+    pen::number(out, ", ", parsed.errors().len());
+    out.push_str(" errors, ");
     warnings::write_warnings(out, alloc, parsed.ast())
 }
 
 /// Writes the start's name and its place, where there is a start.
-fn write_named(out: &mut String, start: &Option<(String, Span)>) -> Result<(), AllocError> {
+fn write_named(out: &mut Page, start: &Option<(String, Span)>) {
     match start {
-        Some((name, span)) => write_placed(out, name.as_str(), *span),
-        None => pen::text(out, "    no start"),
+        Some((name, span)) => {
+            pen::name(out, "    start ", name.as_str());
+            pen::span(out, *span);
+        }
+        None => out.push_str("    no start"),
     }
-}
-
-fn write_placed(out: &mut String, name: &str, span: Span) -> Result<(), AllocError> {
-    pen::name(out, "    start ", name)?;
-    pen::span(out, span)
 }
 
 /// The rule that a line tells, by its name and the two ends of its span.
@@ -154,7 +154,7 @@ fn rule_of(alloc: Global, line: &str) -> Result<Rule, AllocError> {
 
 /// Makes all calls of the row that write a tree.
 fn change_tree(
-    out: &mut String,
+    out: &mut Page,
     alloc: Global,
     row: &Row<'_>,
     ast: &mut GrammarAST,
@@ -167,7 +167,7 @@ fn change_tree(
 
 /// Makes a call that writes a tree. Where memory ended, the tree is looked at, and the call is made again.
 fn change_told(
-    out: &mut String,
+    out: &mut Page,
     alloc: Global,
     ast: &mut GrammarAST,
     line: (&str, &str),
@@ -180,32 +180,33 @@ fn change_told(
 }
 
 fn change_again(
-    out: &mut String,
+    out: &mut Page,
     alloc: Global,
     ast: &mut GrammarAST,
     line: (&str, &str),
     before: &str,
 ) -> Result<(), AllocError> {
-    pen::text(out, "out of memory\n")?;
+    out.push_str("out of memory\n");
     write_difference(out, alloc, ast, before)?;
     change(alloc, ast, line)
 }
 
 /// Writes whether a tree isn't what it was before.
 fn write_difference(
-    out: &mut String,
+    out: &mut Page,
     alloc: Global,
     ast: &GrammarAST,
     before: &str,
 ) -> Result<(), AllocError> {
     let now = tree_text(alloc, ast)?;
-    pen::text_if(out, now.as_str() != before, "    with another tree\n")
+    pen::text_if(out, now.as_str() != before, "    with another tree\n");
+    Ok(())
 }
 
 pub(crate) fn tree_text(alloc: Global, ast: &GrammarAST) -> Result<String, AllocError> {
-    let mut out = String::new(alloc);
+    let mut out = Page::new(alloc);
     write_tree(&mut out, alloc, ast)?;
-    Ok(out)
+    out.into_text()
 }
 
 fn change(
@@ -222,10 +223,10 @@ fn change(
 }
 
 /// Writes a tree: its rules, how many productions there are, its programs and its warnings.
-fn write_tree(out: &mut String, alloc: Global, ast: &GrammarAST) -> Result<(), AllocError> {
-    write_rules(out, ast)?;
-    pen::number(out, "    ", ast.prods().len())?;
-    write!(out, " productions, programs {:?}, ", ast.programs())?;
+fn write_tree(out: &mut Page, alloc: Global, ast: &GrammarAST) -> Result<(), AllocError> {
+    write_rules(out, ast);
+    pen::number(out, "    ", ast.prods().len());
+    write!(out, " productions, programs {:?}, ", ast.programs());
     warnings::write_warnings(out, alloc, ast)
 }
 
@@ -241,26 +242,27 @@ fn set_programs(alloc: Global, ast: &mut GrammarAST, text: &str) -> Result<(), A
 
 /// Sets the row's programs, and others in their place, by the two calls that do so.
 fn set_programs_twice(
-    out: &mut String,
+    out: &mut Page,
     alloc: Global,
     row: &Row<'_>,
     ast: &mut GrammarAST,
 ) -> Result<(), AllocError> {
     let first = String::from_str(alloc, row.first("programs").unwrap_or(""))?;
     let second = String::from_str(alloc, row.first("add-programs").unwrap_or(""))?;
-    write_set(out, ast, first)?;
+    write_set(out, ast, first);
     ast.add_programs(second);
-    write_programs(out, ast)
+    write_programs(out, ast);
+    Ok(())
 }
 
-fn write_set(out: &mut String, ast: &mut GrammarAST, text: String) -> Result<(), AllocError> {
-    pen::without_memory(out)?;
+fn write_set(out: &mut Page, ast: &mut GrammarAST, text: String) {
+    pen::without_memory(out);
     ast.set_programs(text);
-    write_programs(out, ast)
+    write_programs(out, ast);
 }
 
-fn write_programs(out: &mut String, ast: &GrammarAST) -> Result<(), AllocError> {
-    writeln!(out, "    programs {:?}", ast.programs())
+fn write_programs(out: &mut Page, ast: &GrammarAST) {
+    writeln!(out, "    programs {:?}", ast.programs());
 }
 
 /// Adds an empty production to the rule of this name, where it is there.
@@ -273,16 +275,15 @@ fn add_production(alloc: Global, ast: &mut GrammarAST, name: &str) -> Result<(),
 }
 
 /// Writes a line for each rule: its name, its place, and the productions that it lists.
-fn write_rules(out: &mut String, ast: &GrammarAST) -> Result<(), AllocError> {
+fn write_rules(out: &mut Page, ast: &GrammarAST) {
     for (name, rule) in ast.rules() {
-        write_rule(out, name.as_str(), rule)?;
+        write_rule(out, name.as_str(), rule);
     }
-    Ok(())
 }
 
-fn write_rule(out: &mut String, name: &str, rule: &Rule) -> Result<(), AllocError> {
-    pen::text(out, "    ")?;
-    pen::text(out, name)?;
-    pen::span(out, rule.name.1)?;
-    writeln!(out, ": {:?}", rule.pidxs)
+fn write_rule(out: &mut Page, name: &str, rule: &Rule) {
+    out.push_str("    ");
+    out.push_str(name);
+    pen::span(out, rule.name.1);
+    writeln!(out, ": {:?}", rule.pidxs);
 }

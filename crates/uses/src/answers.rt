@@ -10,16 +10,16 @@ use cfgrammar::yacc::{YaccFault, YaccGrammar, YaccKind, YaccOriginalActionKind};
 use lending::lend;
 use std::alloc::{AllocError, Global};
 
-/// Writes what the caller of this name answers of a text.
+/// What the caller of this name answers of a text.
 ///
 /// # Errors
 ///
 /// Want of memory.
-pub fn tell(out: &mut String, alloc: Global, call: &str, text: &str) -> Result<(), AllocError> {
+pub fn tell(alloc: Global, call: &str, text: &str) -> Result<String, AllocError> {
     match answer(alloc, call, text) {
-        Ok(answer) => out.push_str(&answer),
+        Ok(answer) => Ok(answer),
         Err(YaccFault::OutOfMemory) => Err(AllocError),
-        Err(fault) => writeln!(out, "{fault}"),
+        Err(fault) => format!(in alloc; "{fault}\n"),
     }
 }
 

@@ -1,7 +1,6 @@
-//! Worked rows on lines, on maps, on plain values, and on the texts of errors and warnings.
+//! Worked rows on lines, on maps, and on plain values.
 #![tactic(auto)]
 
-pub mod kinds;
 pub mod lines;
 pub mod marks;
 pub mod numbers;

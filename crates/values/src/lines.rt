@@ -5,6 +5,7 @@ ghost use Rattle.cfglines.specs.Lines.{StandsFor};
 
 use cfgbase::Span;
 use cfglines::{FeedError, NewlineCache};
+use rows::page::Page;
 use rows::pen;
 use rows::row::{Row, number, numbers};
 use rows::text::write_text;
@@ -12,10 +13,10 @@ use std::alloc::{AllocError, Global};
 
 /// Writes what a cache of the text's newlines answers, of the text fed whole; and the ways to feed it in pieces by
 /// which it answers something else.
-pub fn tell(out: &mut String, alloc: Global, row: &Row<'_>, text: &str) -> Result<(), AllocError> {
-    pen::number(out, "text of ", text.len())?;
-    pen::text(out, " bytes\n")?;
-    write_text(out, text)?;
+pub fn tell(out: &mut Page, alloc: Global, row: &Row<'_>, text: &str) -> Result<(), AllocError> {
+    pen::number(out, "text of ", text.len());
+    out.push_str(" bytes\n");
+    write_text(out, text);
     match NewlineCache::from_str(alloc, text) {
         Ok(cache) => tell_cache(out, alloc, row, &cache, text),
         Err(_) => Err(AllocError),
@@ -23,7 +24,7 @@ pub fn tell(out: &mut String, alloc: Global, row: &Row<'_>, text: &str) -> Resul
 }
 
 fn tell_cache(
-    out: &mut String,
+    out: &mut Page,
     alloc: Global,
     row: &Row<'_>,
     whole: &NewlineCache,
@@ -32,7 +33,8 @@ fn tell_cache(
     requires { StandsFor whole.now text.now }
 {
     if row.first("show") == Some("without-memory") {
-        return tell_without_memory(out, alloc, row, whole, text);
+        tell_without_memory(out, alloc, row, whole, text);
+        return Ok(());
     }
     let answers = answers(alloc, row, whole, text)?;
     tell_ways(out, alloc, row, text, answers.as_str())
@@ -40,36 +42,36 @@ fn tell_cache(
 
 /// Writes what a cache of a text answers, and what others do that are fed in pieces.
 fn tell_ways(
-    out: &mut String,
+    out: &mut Page,
     alloc: Global,
     row: &Row<'_>,
     text: &str,
     whole: &str,
 ) -> Result<(), AllocError> {
-    pen::text(out, whole)?;
+    out.push_str(whole);
     write_ways(out, alloc, row, text, whole)?;
     write_joined(out, alloc, text)
 }
 
 /// Writes what a cache of a text answers, and what one does that was fed nothing.
 fn tell_without_memory(
-    out: &mut String,
+    out: &mut Page,
     alloc: Global,
     row: &Row<'_>,
     whole: &NewlineCache,
     text: &str,
-) -> Result<(), AllocError>
+)
     requires { StandsFor whole.now text.now }
 {
-    pen::without_memory(out)?;
-    write_answers(out, row, whole, text)?;
-    write_answers(out, row, &NewlineCache::new(alloc), "")
+    pen::without_memory(out);
+    write_answers(out, row, whole, text);
+    write_answers(out, row, &NewlineCache::new(alloc), "");
 }
 
 /// Writes the ways to feed a text in pieces by which a cache answers something else, and how many ways were tried. A
 /// text of which a digest is written is only fed as the row says.
 fn write_ways(
-    out: &mut String,
+    out: &mut Page,
     alloc: Global,
     row: &Row<'_>,
     text: &str,
@@ -80,14 +82,15 @@ fn write_ways(
         _ => try_cuts(out, alloc, row, text, whole)?,
     };
     let told = try_told(out, alloc, row, text, whole)?;
-    pen::number(out, "fed in ", cuts.saturating_add(told))?;
-    pen::text(out, " ways\n")
+    pen::number(out, "fed in ", cuts.saturating_add(told));
+    out.push_str(" ways\n");
+    Ok(())
 }
 
 /// Feeds a text in two pieces, cut before each character and at the end, and in pieces of one character. How many ways
 /// these are.
 fn try_cuts(
-    out: &mut String,
+    out: &mut Page,
     alloc: Global,
     row: &Row<'_>,
     text: &str,
@@ -105,7 +108,7 @@ fn try_cuts(
 
 /// Feeds a text as the row says. How many ways these are.
 fn try_told(
-    out: &mut String,
+    out: &mut Page,
     alloc: Global,
     row: &Row<'_>,
     text: &str,
@@ -129,7 +132,7 @@ fn try_told(
 /// Feeds a text in pieces of these lengths, and then the rest, and writes so where a cache then answers something else
 /// than where it is fed whole.
 fn try_way(
-    out: &mut String,
+    out: &mut Page,
     alloc: Global,
     row: &Row<'_>,
     text: &str,
@@ -142,12 +145,13 @@ fn try_way(
     writeln!(
         out,
         "otherwise where it is fed by {lengths:?} bytes and the rest"
-    )
+    );
+    Ok(())
 }
 
 /// Whether a cache of a text fed in pieces of these lengths, and then the rest, answers what the whole text does.
 fn answers_same(
-    out: &mut String,
+    out: &mut Page,
     alloc: Global,
     row: &Row<'_>,
     text: &str,
@@ -182,7 +186,7 @@ fn even_lengths(alloc: Global, text: &str, length: usize) -> Result<Vec<usize>, 
 /// The cache of a text that is fed in pieces: these lengths, and then the rest. There is none where a character would
 /// be cut.
 fn feed_pieces(
-    out: &mut String,
+    out: &mut Page,
     alloc: Global,
     row: &Row<'_>,
     text: &str,
@@ -212,7 +216,7 @@ fn before<'a>(text: &'a str, end: &str) -> &'a str {
 /// Feeds a piece behind what was fed. Where memory ended, that is written, and it is fed again; but not where a digest
 /// would hide it.
 fn feed(
-    out: &mut String,
+    out: &mut Page,
     alloc: Global,
     row: &Row<'_>,
     cache: &mut NewlineCache,
@@ -233,30 +237,24 @@ fn feed(
 
 /// Writes that memory ended, and whether the cache then isn't that of what was fed before.
 fn write_want(
-    out: &mut String,
+    out: &mut Page,
     alloc: Global,
     cache: &NewlineCache,
     fed: &str,
 ) -> Result<(), FeedError> {
-    pen::text(out, "out of memory\n")?;
+    out.push_str("out of memory\n");
     let other = NewlineCache::from_str(alloc, fed)?;
-    write_differences(out, cache, &other, fed.len())?;
+    write_differences(out, cache, &other, fed.len());
     Ok(())
 }
 
 /// Writes for each byte up to past an end whether two caches differ there.
-fn write_differences(
-    out: &mut String,
-    cache: &NewlineCache,
-    other: &NewlineCache,
-    end: usize,
-) -> Result<(), AllocError> {
+fn write_differences(out: &mut Page, cache: &NewlineCache, other: &NewlineCache, end: usize) {
     for byte in 0..end.saturating_add(2) {
         let is_same = cache.byte_to_line_num(byte) == other.byte_to_line_num(byte)
             && cache.byte_to_line_byte(byte) == other.byte_to_line_byte(byte);
-        pen::text_if(out, !is_same, "with another cache\n")?;
+        pen::text_if(out, !is_same, "with another cache\n");
     }
-    Ok(())
 }
 
 /// What the four questions answer: of each byte, of the text's end and past it, and of the row's spans.
@@ -268,38 +266,33 @@ fn answers(
 ) -> Result<String, AllocError>
     requires { StandsFor cache.now text.now }
 {
-    let mut out = String::new(alloc);
-    write_answers(&mut out, row, cache, text)?;
-    Ok(out)
+    let mut out = Page::new(alloc);
+    write_answers(&mut out, row, cache, text);
+    out.into_text()
 }
 
 /// Writes what the four questions answer.
-fn write_answers(
-    out: &mut String,
-    row: &Row<'_>,
-    cache: &NewlineCache,
-    text: &str,
-) -> Result<(), AllocError>
+fn write_answers(out: &mut Page, row: &Row<'_>, cache: &NewlineCache, text: &str)
     requires { StandsFor cache.now text.now }
 {
     for byte in 0..text.len().saturating_add(2) {
-        pen::number(out, "    ", byte)?;
-        out.push(':')?;
-        write_line(out, cache, byte)?;
+        pen::number(out, "    ", byte);
+        out.push(':');
+        write_line(out, cache, byte);
         match cache.byte_to_line_num_and_col_num(text, byte) {
-            Some((line, column)) => pen::numbers(out, (", at ", line), (":", column))?,
-            None => out.push_str(", no column")?,
+            Some((line, column)) => pen::numbers(out, (", at ", line), (":", column)),
+            None => out.push_str(", no column"),
         }
-        out.push('\n')?;
+        out.push('\n');
     }
-    write_spans(out, row, cache)
+    write_spans(out, row, cache);
 }
 
 /// Writes the line of a byte, and where that line starts.
-fn write_line(out: &mut String, cache: &NewlineCache, byte: usize) -> Result<(), AllocError> {
+fn write_line(out: &mut Page, cache: &NewlineCache, byte: usize) {
     match cache.byte_to_line_num(byte) {
-        Some(line) => pen::number(out, " line ", line)?,
-        None => out.push_str(" no line")?,
+        Some(line) => pen::number(out, " line ", line),
+        None => out.push_str(" no line"),
     }
     match cache.byte_to_line_byte(byte) {
         Some(start) => pen::number(out, " from ", start),
@@ -308,33 +301,35 @@ fn write_line(out: &mut String, cache: &NewlineCache, byte: usize) -> Result<(),
 }
 
 /// Writes the bytes of the lines that each of the row's spans touches.
-fn write_spans(out: &mut String, row: &Row<'_>, cache: &NewlineCache) -> Result<(), AllocError> {
+fn write_spans(out: &mut Page, row: &Row<'_>, cache: &NewlineCache) {
     for (word, rest) in &row.lines {
         let (start, end) = numbers(*rest);
         if *word == "span" && start <= end {
             let (first, last) = cache.span_line_bytes(Span::new(start, end));
-            pen::numbers(out, ("    lines of (", start), (",", end))?;
-            pen::numbers(out, ("): (", first), (",", last))?;
-            out.push_str(")\n")?;
+            pen::numbers(out, ("    lines of (", start), (",", end));
+            pen::numbers(out, ("): (", first), (",", last));
+            out.push_str(")\n");
         }
     }
-    Ok(())
 }
 
 /// Writes what a cache of the text's lines, joined, answers of the text's end and past it.
-fn write_joined(out: &mut String, alloc: Global, text: &str) -> Result<(), AllocError> {
+fn write_joined(out: &mut Page, alloc: Global, text: &str) -> Result<(), AllocError> {
     let lines: Vec<&str> = text.split_inclusive('\n').collect(alloc)?;
     match NewlineCache::from_pieces(alloc, lines.iter().copied()) {
-        Ok(joined) => write_end(out, &joined, text.len()),
+        Ok(joined) => {
+            write_end(out, &joined, text.len());
+            Ok(())
+        }
         Err(_) => Err(AllocError),
     }
 }
 
-fn write_end(out: &mut String, joined: &NewlineCache, end: usize) -> Result<(), AllocError> {
-    pen::number(out, "of its lines, joined: ", end)?;
-    pen::text(out, ":")?;
-    write_line(out, joined, end)?;
-    pen::text(out, ", past it:")?;
-    write_line(out, joined, end.saturating_add(1))?;
-    pen::end_line(out)
+fn write_end(out: &mut Page, joined: &NewlineCache, end: usize) {
+    pen::number(out, "of its lines, joined: ", end);
+    out.push_str(":");
+    write_line(out, joined, end);
+    out.push_str(", past it:");
+    write_line(out, joined, end.saturating_add(1));
+    out.push('\n');
 }

@@ -10,6 +10,7 @@ mod entry;
 mod stops;
 
 use cfgmarks::markmap::{MarkMap, MergeBehavior, MergeError, MergeFault};
+use rows::page::Page;
 use rows::pen;
 use rows::row::{Row, number, words};
 use rows::text::push_turn;
@@ -23,7 +24,7 @@ trait Key: Ord + Clone + Debug + Drop {
     fn of(alloc: Global, word: &str) -> Result<Self, AllocError>;
 
     /// Writes a text and the key.
-    fn tell(&self, out: &mut String, before: &str) -> Result<(), AllocError>;
+    fn tell(&self, out: &mut Page, before: &str);
 
     ghost faithful: { IsFaithful Self.cmp Self.is_clone };
 }
@@ -35,8 +36,8 @@ impl Key for u32 {
         Ok(small(word))
     }
 
-    fn tell(&self, out: &mut String, before: &str) -> Result<(), AllocError> {
-        pen::number(out, before, *self as usize)
+    fn tell(&self, out: &mut Page, before: &str) {
+        pen::number(out, before, *self as usize);
     }
 }
 
@@ -47,14 +48,14 @@ impl Key for String {
         String::from_str(alloc, word)
     }
 
-    fn tell(&self, out: &mut String, before: &str) -> Result<(), AllocError> {
-        pen::name(out, before, self.as_str())
+    fn tell(&self, out: &mut Page, before: &str) {
+        pen::name(out, before, self.as_str());
     }
 }
 
 /// Runs the row's script, over keys of the type that the row names, and writes each call, its answer, and the map after
 /// it.
-pub fn tell(out: &mut String, alloc: Global, row: &Row<'_>) -> Result<(), AllocError> {
+pub fn tell(out: &mut Page, alloc: Global, row: &Row<'_>) -> Result<(), AllocError> {
     match row.first("keys") {
         Some("numbers") => play::<u32>(out, alloc, row),
         _ => play::<String>(out, alloc, row),
@@ -78,14 +79,14 @@ impl<K: Key> Maps<K> {
 }
 
 /// Runs a script on two maps, of which the second is merged into the first.
-fn play<K: Key>(out: &mut String, alloc: Global, row: &Row<'_>) -> Result<(), AllocError> {
+fn play<K: Key>(out: &mut Page, alloc: Global, row: &Row<'_>) -> Result<(), AllocError> {
     let mut maps = Maps::<K>::new(alloc);
     play_lines(out, alloc, row, &mut maps)
 }
 
 /// Runs all lines of a script.
 fn play_lines<K: Key>(
-    out: &mut String,
+    out: &mut Page,
     alloc: Global,
     row: &Row<'_>,
     maps: &mut Maps<K>,
@@ -101,14 +102,14 @@ fn play_lines<K: Key>(
 
 /// Merges the other map, and writes how that ended and the map. Where memory ends, what is then there is looked at.
 fn merge_told<K: Key>(
-    out: &mut String,
+    out: &mut Page,
     alloc: Global,
     row: &Row<'_>,
     place: usize,
     maps: &mut Maps<K>,
     refused: &str,
 ) -> Result<(), AllocError> {
-    write_call(out, "    merge ", refused)?;
+    write_call(out, "    merge ", refused);
     match merge(out, alloc, maps, refused) {
         Ok(()) => write_map(out, alloc, row, &mut maps.map),
         Err(_) => stops::tell_stop(out, alloc, row, place, &maps.map),
@@ -117,7 +118,7 @@ fn merge_told<K: Key>(
 
 /// Runs a line of a script that merges nothing.
 fn play_line<K: Key>(
-    out: &mut String,
+    out: &mut Page,
     alloc: Global,
     row: &Row<'_>,
     place: usize,
@@ -128,45 +129,47 @@ fn play_line<K: Key>(
         "call" => tell_call(out, alloc, row, place, &mut maps.map, rest),
         "calls" => calls(out, alloc, &mut maps.map, rest),
         "others" => calls(out, alloc, &mut maps.other, rest),
-        "other" => call_other(out, alloc, &mut maps.other, rest),
-        "compare" => compare(out, "    equal to the other: ", &maps.map, &maps.other),
+        "other" => {
+            write_call(out, "    other ", rest);
+            call(out, alloc, &mut maps.other, rest)
+        }
+        "compare" => {
+            compare(out, "    equal to the other: ", &maps.map, &maps.other);
+            Ok(())
+        }
         "show" if rest == "without-memory" => {
-            pen::without_memory(out)?;
+            pen::without_memory(out);
             compare(
                 out,
                 "    equal to a new map: ",
                 &maps.map,
                 &MarkMap::new(alloc),
-            )
+            );
+            Ok(())
         }
         _ => Ok(()),
     }
 }
 
 /// Writes whether two maps are equal, as a line.
-fn compare<K: Key>(
-    out: &mut String,
-    before: &str,
-    map: &MarkMap<K, u32>,
-    other: &MarkMap<K, u32>,
-) -> Result<(), AllocError> {
-    pen::flag(out, before, *map == *other)?;
-    pen::end_line(out)
+fn compare<K: Key>(out: &mut Page, before: &str, map: &MarkMap<K, u32>, other: &MarkMap<K, u32>) {
+    pen::flag(out, before, *map == *other);
+    out.push('\n');
 }
 
 /// Makes a call, and writes it, what it answers and what the map then has.
 fn tell_call<K: Key>(
-    out: &mut String,
+    out: &mut Page,
     alloc: Global,
     row: &Row<'_>,
     place: usize,
     map: &mut MarkMap<K, u32>,
     line: &str,
 ) -> Result<(), AllocError> {
-    write_call(out, "    ", line)?;
+    write_call(out, "    ", line);
     if call(out, alloc, map, line).is_err() {
         write_want(out, alloc, row, place, map)?;
-        write_call(out, "    ", line)?;
+        write_call(out, "    ", line);
         call(out, alloc, map, line)?;
     }
     write_map(out, alloc, row, map)
@@ -175,41 +178,30 @@ fn tell_call<K: Key>(
 /// Writes that memory ended in a call, and what the map then has where that stands in front of the call too: behind
 /// another call and behind a merge.
 fn write_want<K: Key>(
-    out: &mut String,
+    out: &mut Page,
     alloc: Global,
     row: &Row<'_>,
     place: usize,
     map: &mut MarkMap<K, u32>,
 ) -> Result<(), AllocError> {
-    pen::text(out, "out of memory\n")?;
+    out.push_str("out of memory\n");
     match row.lines.get(place.wrapping_sub(1)) {
         Some(("call" | "merge", _)) => write_map(out, alloc, row, map),
         _ => Ok(()),
     }
 }
 
-/// Makes a call on the other map, and writes it and what it answers.
-fn call_other<K: Key>(
-    out: &mut String,
-    alloc: Global,
-    other: &mut MarkMap<K, u32>,
-    line: &str,
-) -> Result<(), AllocError> {
-    write_call(out, "    other ", line)?;
-    call(out, alloc, other, line)
-}
-
 /// Writes a call in front of what it answers.
-fn write_call(out: &mut String, before: &str, line: &str) -> Result<(), AllocError> {
-    pen::text(out, before)?;
-    pen::text(out, line)?;
-    pen::text(out, ": ")
+fn write_call(out: &mut Page, before: &str, line: &str) {
+    out.push_str(before);
+    out.push_str(line);
+    out.push_str(": ");
 }
 
 /// Makes a call as many times as the number in front of it says, with the turn's number for each `#`, and writes what
 /// each answers.
 fn calls<K: Key>(
-    out: &mut String,
+    out: &mut Page,
     alloc: Global,
     map: &mut MarkMap<K, u32>,
     line: &str,
@@ -222,7 +214,7 @@ fn calls<K: Key>(
 }
 
 fn call_turn<K: Key>(
-    out: &mut String,
+    out: &mut Page,
     alloc: Global,
     map: &mut MarkMap<K, u32>,
     line: &str,
@@ -235,7 +227,7 @@ fn call_turn<K: Key>(
 
 /// Makes a call, and writes what it answers.
 fn call<K: Key>(
-    out: &mut String,
+    out: &mut Page,
     alloc: Global,
     map: &mut MarkMap<K, u32>,
     line: &str,
@@ -243,7 +235,8 @@ fn call<K: Key>(
     let (name, key, value) = words(line);
     if name == "default" {
         map.set_default_merge_behavior(behavior(key));
-        return pen::text(out, "()\n");
+        out.push_str("()\n");
+        return Ok(());
     }
     let key = K::of(alloc, key)?;
     call_with(out, map, &key, name, value)
@@ -251,7 +244,7 @@ fn call<K: Key>(
 
 /// Makes a call with a key, and writes what it answers.
 fn call_with<K: Key>(
-    out: &mut String,
+    out: &mut Page,
     map: &mut MarkMap<K, u32>,
     key: &K,
     name: &str,
@@ -291,14 +284,17 @@ fn act_of(name: &str, word: &str) -> Act {
 
 /// Makes a call that takes a key, and writes what it answers.
 fn make_call<K: Key>(
-    out: &mut String,
+    out: &mut Page,
     map: &mut MarkMap<K, u32>,
     key: &K,
     act: Act,
 ) -> Result<(), AllocError> {
     match act {
         Act::Insert(value) => insert(out, map, key, value),
-        Act::Remove => write_old(out, map.remove(key)),
+        Act::Remove => {
+            write_old(out, map.remove(key));
+            Ok(())
+        }
         Act::MarkUsed => write_done(out, map.mark_used(key), "()\n"),
         Act::MarkRequired => write_done(out, map.mark_required(key), "()\n"),
         Act::SetMergeBehavior(behavior) => write_done(
@@ -312,7 +308,7 @@ fn make_call<K: Key>(
 
 /// Gives a key a value, and writes the value that it held. Where memory ended, both come back.
 fn insert<K: Key>(
-    out: &mut String,
+    out: &mut Page,
     map: &mut MarkMap<K, u32>,
     key: &K,
     value: u32,
@@ -321,40 +317,44 @@ fn insert<K: Key>(
 }
 
 fn write_inserted<K: Key>(
-    out: &mut String,
+    out: &mut Page,
     inserted: &Result<Option<u32>, (K, u32)>,
     handed: (&K, u32),
 ) -> Result<(), AllocError> {
     match inserted {
-        Ok(old) => write_old(out, *old),
+        Ok(old) => {
+            write_old(out, *old);
+            Ok(())
+        }
         Err(back) => refused(out, back, handed),
     }
 }
 
 /// Want of memory, behind which key and value came back, or others.
 fn refused<K: Key>(
-    out: &mut String,
+    out: &mut Page,
     (key, value): &(K, u32),
     handed: (&K, u32),
 ) -> Result<(), AllocError> {
     let is_handed_back = *key == *handed.0 && *value == handed.1;
-    pen::text_if(out, !is_handed_back, "another key and value come back, ")?;
+    pen::text_if(out, !is_handed_back, "another key and value come back, ");
     Err(AllocError)
 }
 
 /// Writes an answer where a call was done.
 fn write_done(
-    out: &mut String,
+    out: &mut Page,
     done: Result<(), AllocError>,
     answer: &str,
 ) -> Result<(), AllocError> {
     done?;
-    pen::text(out, answer)
+    out.push_str(answer);
+    Ok(())
 }
 
 /// Writes the value that a key held, and ends the line.
-fn write_old(out: &mut String, old: Option<u32>) -> Result<(), AllocError> {
-    writeln!(out, "{old:?}")
+fn write_old(out: &mut Page, old: Option<u32>) {
+    writeln!(out, "{old:?}");
 }
 
 /// The number that a word spells, or what is left of it where it is large.
@@ -373,7 +373,7 @@ fn behavior(word: &str) -> MergeBehavior {
 
 /// Merges the other map, where one value isn't converted, and writes how that ended.
 fn merge<K: Key>(
-    out: &mut String,
+    out: &mut Page,
     alloc: Global,
     maps: &mut Maps<K>,
     refused: &str,
@@ -399,45 +399,54 @@ fn merged<K: Key>(
 
 /// Writes how merging ended.
 fn write_merged<K: Key>(
-    out: &mut String,
+    out: &mut Page,
     merged: &Result<(), MergeFault<K, u32, &'static str>>,
 ) -> Result<(), AllocError> {
     match merged {
-        Ok(()) => pen::text(out, "()\n"),
-        Err(MergeFault::Convert(key, refused)) => writeln!(out, "{refused} at {key:?}"),
+        Ok(()) => {
+            out.push_str("()\n");
+            Ok(())
+        }
+        Err(MergeFault::Convert(key, refused)) => {
+            writeln!(out, "{refused} at {key:?}");
+            Ok(())
+        }
         Err(MergeFault::OutOfMemory) => Err(AllocError),
-        Err(MergeFault::Conflict(conflict)) => write_conflict(out, conflict),
+        Err(MergeFault::Conflict(conflict)) => {
+            write_conflict(out, conflict);
+            Ok(())
+        }
     }
 }
 
-fn write_conflict<K: Key>(
-    out: &mut String,
-    conflict: &MergeError<K, Box<u32>>,
-) -> Result<(), AllocError> {
+fn write_conflict<K: Key>(out: &mut Page, conflict: &MergeError<K, Box<u32>>) {
     let MergeError::Exclusivity(key, value) = conflict;
-    writeln!(out, "{conflict}, at {key:?} against {}", **value)
+    writeln!(out, "{conflict}, at {key:?} against {}", **value);
 }
 
 /// Writes a map: what each of the row's keys has, and its lists of keys.
 fn write_map<K: Key>(
-    out: &mut String,
+    out: &mut Page,
     alloc: Global,
     row: &Row<'_>,
     map: &mut MarkMap<K, u32>,
 ) -> Result<(), AllocError> {
-    pen::text(out, "       ")?;
+    out.push_str("       ");
     write_watched(out, alloc, row.first("watch").unwrap_or(""), map)?;
-    write_keys(out, map)?;
-    write_entries(out, map)?;
+    write_keys(out, map);
+    write_entries(out, map);
     match row.first("show") {
-        Some("without-memory") => pen::end_line(out),
+        Some("without-memory") => {
+            out.push('\n');
+            Ok(())
+        }
         _ => write_marked(out, alloc, map),
     }
 }
 
 /// Writes what each of these keys has.
 fn write_watched<K: Key>(
-    out: &mut String,
+    out: &mut Page,
     alloc: Global,
     watched: &str,
     map: &mut MarkMap<K, u32>,
@@ -445,51 +454,50 @@ fn write_watched<K: Key>(
     for word in watched.split_whitespace() {
         entry::write_key(out, alloc, map, word)?;
     }
-    pen::end_line(out)
+    out.push('\n');
+    Ok(())
 }
 
 /// Writes the keys.
-fn write_keys<K: Key>(out: &mut String, map: &MarkMap<K, u32>) -> Result<(), AllocError> {
-    pen::text(out, "        keys")?;
+fn write_keys<K: Key>(out: &mut Page, map: &MarkMap<K, u32>) {
+    out.push_str("        keys");
     for key in map.keys() {
-        key.tell(out, " ")?;
+        key.tell(out, " ");
     }
-    Ok(())
 }
 
 /// Writes the entries.
-fn write_entries<K: Key>(out: &mut String, map: &MarkMap<K, u32>) -> Result<(), AllocError> {
-    pen::text(out, "; entries")?;
+fn write_entries<K: Key>(out: &mut Page, map: &MarkMap<K, u32>) {
+    out.push_str("; entries");
     for (key, value) in map {
-        key.tell(out, " ")?;
-        pen::number(out, " ", *value as usize)?;
+        key.tell(out, " ");
+        pen::number(out, " ", *value as usize);
     }
-    Ok(())
 }
 
 /// Writes the unused keys and the missing ones.
 fn write_marked<K: Key>(
-    out: &mut String,
+    out: &mut Page,
     alloc: Global,
     map: &MarkMap<K, u32>,
 ) -> Result<(), AllocError> {
-    write_unused(out, &map.unused(alloc)?)?;
-    write_missing(out, &map.missing(alloc)?)
-}
-
-fn write_unused<K: Key>(out: &mut String, keys: &[K]) -> Result<(), AllocError> {
-    pen::text(out, "; unused")?;
-    for key in keys {
-        key.tell(out, " ")?;
-    }
+    write_unused(out, &map.unused(alloc)?);
+    write_missing(out, &map.missing(alloc)?);
     Ok(())
 }
 
-fn write_missing<K: Key>(out: &mut String, keys: &[&K]) -> Result<(), AllocError> {
-    pen::text(out, "; missing")?;
+fn write_unused<K: Key>(out: &mut Page, keys: &[K]) {
+    out.push_str("; unused");
+    for key in keys {
+        key.tell(out, " ");
+    }
+}
+
+fn write_missing<K: Key>(out: &mut Page, keys: &[&K]) {
+    out.push_str("; missing");
     for key in keys {
         let key: &K = *key;
-        key.tell(out, " ")?;
+        key.tell(out, " ");
     }
-    pen::end_line(out)
+    out.push('\n');
 }

@@ -4,12 +4,13 @@ ghost use Rattle.std.specs.Prelude.{◌≡◌, ◌<◌, length};
 
 use cfgbase::{Location, Span};
 use cfgindex::{PIdx, RIdx, SIdx, Storage, Symbol, TIdx, Vob};
+use rows::page::Page;
 use rows::pen;
 use rows::row::{Row, number, numbers};
 use std::alloc::{AllocError, Global};
 
 /// Writes what is answered of each value of the row. The row's text, or else `a script`, is the place that no span is.
-pub fn tell(out: &mut String, alloc: Global, row: &Row<'_>, text: &str) -> Result<(), AllocError> {
+pub fn tell(out: &mut Page, alloc: Global, row: &Row<'_>, text: &str) -> Result<(), AllocError> {
     if row.first("show") == Some("without-memory") {
         return tell_without_memory(out, alloc, row);
     }
@@ -21,7 +22,7 @@ pub fn tell(out: &mut String, alloc: Global, row: &Row<'_>, text: &str) -> Resul
 }
 
 fn tell_line(
-    out: &mut String,
+    out: &mut Page,
     alloc: Global,
     row: &Row<'_>,
     script: &str,
@@ -29,14 +30,17 @@ fn tell_line(
 ) -> Result<(), AllocError> {
     match word {
         "span" => write_span(out, alloc, script, numbers(rest)),
-        "number" => write_number(out, number(rest)),
+        "number" => {
+            write_number(out, number(rest));
+            Ok(())
+        }
         "bits" => write_bits(out, alloc, row, numbers(rest)),
         _ => Ok(()),
     }
 }
 
 /// Writes what is answered of each value of the row, and of the row's list of bits, all of them made before.
-fn tell_without_memory(out: &mut String, alloc: Global, row: &Row<'_>) -> Result<(), AllocError> {
+fn tell_without_memory(out: &mut Page, alloc: Global, row: &Row<'_>) -> Result<(), AllocError> {
     let (len, first) = numbers(row.first("bits").unwrap_or(""));
     let mut bits = Vob::from_elem(alloc, first == 1, len)?;
     let others = Vob::from_elem(alloc, true, len)?;
@@ -45,12 +49,12 @@ fn tell_without_memory(out: &mut String, alloc: Global, row: &Row<'_>) -> Result
 
 /// Writes what is answered of each span and each number of the row, and of a list of bits.
 fn write_values(
-    out: &mut String,
+    out: &mut Page,
     row: &Row<'_>,
     bits: &mut Vob,
     others: &Vob,
 ) -> Result<(), AllocError> {
-    pen::without_memory(out)?;
+    pen::without_memory(out);
     for (word, rest) in &row.lines {
         write_value(out, bits, others, *word, numbers(*rest))?;
     }
@@ -58,7 +62,7 @@ fn write_values(
 }
 
 fn write_value(
-    out: &mut String,
+    out: &mut Page,
     bits: &mut Vob,
     others: &Vob,
     word: &str,
@@ -66,91 +70,100 @@ fn write_value(
 ) -> Result<(), AllocError> {
     match word {
         "span" => write_plain_span(out, first, second),
-        "number" => write_number(out, first),
-        "or" if others.len() == bits.len() => write_or(out, bits, 1, others),
-        _ => write_call(out, bits, word, first, second),
+        "number" => {
+            write_number(out, first);
+            Ok(())
+        }
+        "or" if others.len() == bits.len() => {
+            write_or(out, bits, 1, others);
+            Ok(())
+        }
+        _ => {
+            write_call(out, bits, word, first, second);
+            Ok(())
+        }
     }
 }
 
 /// Writes the parts of a span, and of the place that it is, as a line.
-fn write_plain_span(out: &mut String, start: usize, end: usize) -> Result<(), AllocError> {
+fn write_plain_span(out: &mut Page, start: usize, end: usize) -> Result<(), AllocError> {
     if start > end {
-        return out.push_str("    no span\n");
+        out.push_str("    no span\n");
+        return Ok(());
     }
     write_parts(out, Span::new(start, end))?;
-    out.push('\n')
+    out.push('\n');
+    Ok(())
 }
 
 /// Writes the parts of a span, and of the place that it is, and whether other places equal their copies.
 fn write_span(
-    out: &mut String,
+    out: &mut Page,
     alloc: Global,
     script: &str,
     (start, end): (usize, usize),
 ) -> Result<(), AllocError> {
     if start > end {
-        return out.push_str("    no span\n");
+        out.push_str("    no span\n");
+        return Ok(());
     }
     write_parts(out, Span::new(start, end))?;
     write_other(out, &Location::Other(String::from_str(alloc, script)?))
 }
 
 /// Writes the parts of a span, and of the place that it is.
-fn write_parts(out: &mut String, span: Span) -> Result<(), AllocError> {
-    pen::numbers(out, ("    (", span.start()), (",", span.end()))?;
-    pen::number(out, ") has ", span.len())?;
-    out.push_str(" bytes")?;
+fn write_parts(out: &mut Page, span: Span) -> Result<(), AllocError> {
+    pen::numbers(out, ("    (", span.start()), (",", span.end()));
+    pen::number(out, ") has ", span.len());
+    out.push_str(" bytes");
     if span.is_empty() {
-        out.push_str(", is empty")?;
+        out.push_str(", is empty");
     }
     write_place(out, &Location::from(span))
 }
 
 /// Writes a place that a span is, and whether it equals a copy, and the command line.
-fn write_place(out: &mut String, place: &Location) -> Result<(), AllocError> {
-    write!(out, ", as a place {place:?}; ")?;
+fn write_place(out: &mut Page, place: &Location) -> Result<(), AllocError> {
+    write!(out, ", as a place {place:?}; ");
     write_copied(out, place)?;
-    pen::flag(out, " ", *place == Location::CommandLine)
+    pen::flag(out, " ", *place == Location::CommandLine);
+    Ok(())
 }
 
 /// Writes whether another place equals a copy, and ends the line.
-fn write_other(out: &mut String, place: &Location) -> Result<(), AllocError> {
-    out.push(' ')?;
+fn write_other(out: &mut Page, place: &Location) -> Result<(), AllocError> {
+    out.push(' ');
     write_copied(out, place)?;
-    out.push('\n')
+    out.push('\n');
+    Ok(())
 }
 
 /// Writes whether a value equals a copy.
-fn write_copied<T: Clone + PartialEq + Drop>(
-    out: &mut String,
-    value: &T,
-) -> Result<(), AllocError> {
+fn write_copied<T: Clone + PartialEq + Drop>(out: &mut Page, value: &T) -> Result<(), AllocError> {
     let is_same = value.clone()? == *value;
-    pen::flag(out, "", is_same)
+    pen::flag(out, "", is_same);
+    Ok(())
 }
 
 /// Writes a number as each index type stores it.
-fn write_number(out: &mut String, number: usize) -> Result<(), AllocError> {
-    pen::number(out, "    ", number)?;
-    out.push(':')?;
-    write_stored::<u8>(out, " u8", number)?;
-    write_stored::<u16>(out, " u16", number)?;
-    write_stored::<u32>(out, " u32", number)?;
-    out.push('\n')
+fn write_number(out: &mut Page, number: usize) {
+    pen::number(out, "    ", number);
+    out.push(':');
+    write_stored::<u8>(out, " u8", number);
+    write_stored::<u16>(out, " u16", number);
+    write_stored::<u32>(out, " u32", number);
+    out.push('\n');
 }
 
 /// Writes a number as one index type stores it, and as the indices of this type tell it.
-fn write_stored<S: Storage>(
-    out: &mut String,
-    storage: &str,
-    number: usize,
-) -> Result<(), AllocError> {
+fn write_stored<S: Storage>(out: &mut Page, storage: &str, number: usize) {
     let Some(stored) = S::from_usize(number) else {
-        out.push_str(storage)?;
-        return out.push_str(" none");
+        out.push_str(storage);
+        out.push_str(" none");
+        return;
     };
-    out.push_str(storage)?;
-    pen::number(out, " ", stored.to_usize())?;
+    out.push_str(storage);
+    pen::number(out, " ", stored.to_usize());
     let (rule, production) = (RIdx(stored), PIdx(stored));
     let (symbol, token) = (SIdx(stored), TIdx(stored));
     let numbers = [
@@ -169,26 +182,25 @@ fn write_stored<S: Storage>(
     ];
     let is_rule = Symbol::Rule(rule) == Symbol::Token(token);
     if numbers.iter().any(|other| *other != number) || is_rule {
-        out.push_str(" with other indices")?;
+        out.push_str(" with other indices");
     }
-    Ok(())
 }
 
 /// Writes a list of bits that are off, the answers of the row's calls, and the list after each.
 fn write_bits(
-    out: &mut String,
+    out: &mut Page,
     alloc: Global,
     row: &Row<'_>,
     (len, first): (usize, usize),
 ) -> Result<(), AllocError> {
     let mut bits = Vob::from_elem(alloc, first == 1, len)?;
-    write_list(out, &bits)?;
+    write_list(out, &bits);
     write_calls(out, alloc, row, &mut bits)
 }
 
 /// Writes the answers of the row's calls, and the list after each.
 fn write_calls(
-    out: &mut String,
+    out: &mut Page,
     alloc: Global,
     row: &Row<'_>,
     bits: &mut Vob,
@@ -197,69 +209,64 @@ fn write_calls(
         let (place, bit) = numbers(*rest);
         match *word {
             "or" => write_or_all(out, alloc, bits, place)?,
-            _ => write_call(out, bits, *word, place, bit)?,
+            _ => write_call(out, bits, *word, place, bit),
         }
     }
     Ok(())
 }
 
 /// Writes what a call on a list of bits answers.
-fn write_call(
-    out: &mut String,
-    bits: &mut Vob,
-    word: &str,
-    place: usize,
-    bit: usize,
-) -> Result<(), AllocError> {
+fn write_call(out: &mut Page, bits: &mut Vob, word: &str, place: usize, bit: usize) {
     match word {
         "set" if place < bits.len() => write_set(out, bits, place, bit),
         "get" => writeln!(out, "    get({place}): {:?}", bits.get(place)),
-        _ => Ok(()),
+        _ => {}
     }
 }
 
 /// Sets a bit, and writes whether it changed, and the list.
-fn write_set(out: &mut String, bits: &mut Vob, place: usize, bit: usize) -> Result<(), AllocError>
+fn write_set(out: &mut Page, bits: &mut Vob, place: usize, bit: usize)
     requires { place < length bits.old }
 {
-    pen::numbers(out, ("    set(", place), (", ", bit))?;
-    pen::flag(out, "): ", bits.set(place, bit == 1))?;
-    out.push('\n')?;
-    write_list(out, bits)
+    pen::numbers(out, ("    set(", place), (", ", bit));
+    pen::flag(out, "): ", bits.set(place, bit == 1));
+    out.push('\n');
+    write_list(out, bits);
 }
 
 /// Takes in the bits of a list of bits that are all off or all on.
 fn write_or_all(
-    out: &mut String,
+    out: &mut Page,
     alloc: Global,
     bits: &mut Vob,
     bit: usize,
 ) -> Result<(), AllocError> {
     let other = Vob::from_elem(alloc, bit == 1, bits.len())?;
-    write_or(out, bits, bit, &other)
+    write_or(out, bits, bit, &other);
+    Ok(())
 }
 
 /// Takes in the bits of another list as long, and writes whether that changed it, whether they are equal, and the list.
-fn write_or(out: &mut String, bits: &mut Vob, place: usize, other: &Vob) -> Result<(), AllocError>
+fn write_or(out: &mut Page, bits: &mut Vob, place: usize, other: &Vob)
     requires { length other.now ≡ length bits.old }
 {
-    pen::number(out, "    or(", place)?;
-    pen::flag(out, "..): ", bits.or(other))?;
-    pen::flag(out, ", equal: ", *bits == *other)?;
-    out.push('\n')?;
-    write_list(out, bits)
+    pen::number(out, "    or(", place);
+    pen::flag(out, "..): ", bits.or(other));
+    pen::flag(out, ", equal: ", *bits == *other);
+    out.push('\n');
+    write_list(out, bits);
 }
 
 /// Writes the bits of a list.
-fn write_list(out: &mut String, bits: &Vob) -> Result<(), AllocError> {
-    pen::number(out, "    ", bits.len())?;
-    out.push_str(" bits ")?;
+fn write_list(out: &mut Page, bits: &Vob) {
+    pen::number(out, "    ", bits.len());
+    out.push_str(" bits ");
     for place in 0..bits.len() {
         out.push(if bits.get(place) == Some(true) {
             '1'
         } else {
             '0'
-        })?;
+        });
     }
-    out.push('\n')
+    out.push('\n');
 }

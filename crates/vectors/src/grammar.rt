@@ -5,6 +5,7 @@ use crate::{accessors, names, openings, paths, rendered, starts, tables};
 use cfgrammar::yacc::ast::ASTWithValidityInfo;
 use cfgrammar::yacc::{YaccFault, YaccGrammar, YaccGrammarError, YaccGrammarResult, YaccKind};
 use held::{firsts, pen, plain};
+use rows::page::Page;
 use rows::row::{Row, numbers};
 use rows::text;
 use std::alloc::{AllocError, Global};
@@ -15,7 +16,7 @@ use trees::{cuts, errors, syntax, warnings};
 const NOT_SO: &str = "    and its grammar isn't refused so\n";
 
 /// Writes all that is answered of a row's text, or as much as the row asks for.
-pub fn tell(out: &mut String, alloc: Global, row: &Row<'_>, text: &str) -> Result<(), AllocError> {
+pub fn tell(out: &mut Page, alloc: Global, row: &Row<'_>, text: &str) -> Result<(), AllocError> {
     write_made(
         out,
         &Asked { alloc, row, text },
@@ -32,11 +33,11 @@ struct Asked<'a> {
 }
 
 impl Writer<ASTWithValidityInfo, YaccFault> for Asked<'_> {
-    fn write(&self, out: &mut String, parsed: &ASTWithValidityInfo) -> Result<(), AllocError> {
+    fn write(&self, out: &mut Page, parsed: &ASTWithValidityInfo) -> Result<(), AllocError> {
         tell_parsed(out, self.alloc, self.row, self.text, parsed)
     }
 
-    fn refuse(&self, out: &mut String, fault: &YaccFault) -> Result<(), AllocError> {
+    fn refuse(&self, out: &mut Page, fault: &YaccFault) -> Result<(), AllocError> {
         match fault {
             YaccFault::Errors(errors) => {
                 tell_refused(out, self.alloc, self.row, self.text, errors)
@@ -47,11 +48,11 @@ impl Writer<ASTWithValidityInfo, YaccFault> for Asked<'_> {
 }
 
 impl Writer<YaccGrammar<u32>, YaccFault> for Asked<'_> {
-    fn write(&self, out: &mut String, grammar: &YaccGrammar<u32>) -> Result<(), AllocError> {
+    fn write(&self, out: &mut Page, grammar: &YaccGrammar<u32>) -> Result<(), AllocError> {
         tell_held(out, self.alloc, self.row, grammar)
     }
 
-    fn refuse(&self, _: &mut String, fault: &YaccFault) -> Result<(), AllocError> {
+    fn refuse(&self, _: &mut Page, fault: &YaccFault) -> Result<(), AllocError> {
         match fault {
             YaccFault::Errors(_) => Ok(()),
             YaccFault::OutOfMemory => Err(AllocError),
@@ -61,15 +62,15 @@ impl Writer<YaccGrammar<u32>, YaccFault> for Asked<'_> {
 
 /// Writes what is answered of a text that names no kind.
 fn tell_refused(
-    out: &mut String,
+    out: &mut Page,
     alloc: Global,
     row: &Row<'_>,
     text: &str,
     errors: &[YaccGrammarError],
 ) -> Result<(), AllocError> {
-    pen::number(out, "text of ", text.len())?;
-    pen::text(out, " bytes, no kind\n")?;
-    text::write_text(out, text)?;
+    pen::number(out, "text of ", text.len());
+    out.push_str(" bytes, no kind\n");
+    text::write_text(out, text);
     match row.first("show") {
         Some("cuts") => cuts::write_cuts(out, alloc, kind_of(row), text),
         _ => tell_errors(out, alloc, text, errors),
@@ -78,7 +79,7 @@ fn tell_refused(
 
 /// Writes the errors of a text that names no kind.
 fn tell_errors(
-    out: &mut String,
+    out: &mut Page,
     alloc: Global,
     text: &str,
     errors: &[YaccGrammarError],
@@ -98,17 +99,17 @@ struct Refused<'a> {
 }
 
 impl Writer<YaccGrammar<u32>, YaccFault> for Refused<'_> {
-    fn write(&self, out: &mut String, _: &YaccGrammar<u32>) -> Result<(), AllocError> {
-        pen::text(out, NOT_SO)
+    fn write(&self, out: &mut Page, _: &YaccGrammar<u32>) -> Result<(), AllocError> {
+        out.push_str(NOT_SO);
+        Ok(())
     }
 
-    fn refuse(&self, out: &mut String, fault: &YaccFault) -> Result<(), AllocError> {
+    fn refuse(&self, out: &mut Page, fault: &YaccFault) -> Result<(), AllocError> {
         match fault {
-            YaccFault::Errors(errors) => pen::text_if(
-                out,
-                errors.as_slice() != self.errors,
-                NOT_SO,
-            ),
+            YaccFault::Errors(errors) => {
+                pen::text_if(out, errors.as_slice() != self.errors, NOT_SO);
+                Ok(())
+            }
             YaccFault::OutOfMemory => Err(AllocError),
         }
     }
@@ -116,24 +117,24 @@ impl Writer<YaccGrammar<u32>, YaccFault> for Refused<'_> {
 
 /// Writes what is answered of a text that was read.
 fn tell_parsed(
-    out: &mut String,
+    out: &mut Page,
     alloc: Global,
     row: &Row<'_>,
     text: &str,
     parsed: &ASTWithValidityInfo,
 ) -> Result<(), AllocError> {
-    pen::number(out, "text of ", text.len())?;
-    writeln!(out, " bytes, {:?}", parsed.yacc_kind())?;
+    pen::number(out, "text of ", text.len());
+    writeln!(out, " bytes, {:?}", parsed.yacc_kind());
     if row.first("show") == Some("brief") {
         return tell_brief(out, alloc, row, text, parsed);
     }
-    text::write_text(out, text)?;
+    text::write_text(out, text);
     tell_shown(out, alloc, row, text, parsed)
 }
 
 /// Writes what the row shows of a text that was read.
 fn tell_shown(
-    out: &mut String,
+    out: &mut Page,
     alloc: Global,
     row: &Row<'_>,
     text: &str,
@@ -150,33 +151,34 @@ fn tell_shown(
 
 /// Writes the errors of a text, how much there is in its syntax and its tables, and what the analyses do.
 fn tell_brief(
-    out: &mut String,
+    out: &mut Page,
     alloc: Global,
     row: &Row<'_>,
     text: &str,
     parsed: &ASTWithValidityInfo,
 ) -> Result<(), AllocError> {
     errors::write_errors(out, alloc, text, parsed.errors())?;
-    syntax::write_lengths(out, parsed.ast())?;
+    syntax::write_lengths(out, parsed.ast());
     tables::write_tables(out, alloc, text, parsed, true)?;
     tell_grammar(out, alloc, row, text)
 }
 
 /// Writes what takes no memory to be told of a text's grammar, where it has one, and of what was read.
 fn tell_without_memory(
-    out: &mut String,
+    out: &mut Page,
     alloc: Global,
     row: &Row<'_>,
     text: &str,
     parsed: &ASTWithValidityInfo,
 ) -> Result<(), AllocError> {
     tell_grammar(out, alloc, row, text)?;
-    syntax::write_without_memory(out, parsed)
+    syntax::write_without_memory(out, parsed);
+    Ok(())
 }
 
 /// Writes all that is answered of a text.
 fn tell_whole(
-    out: &mut String,
+    out: &mut Page,
     alloc: Global,
     row: &Row<'_>,
     text: &str,
@@ -191,7 +193,7 @@ fn tell_whole(
 
 /// Writes the errors, the syntax and the warnings of what was parsed.
 pub(crate) fn write_parsed(
-    out: &mut String,
+    out: &mut Page,
     alloc: Global,
     text: &str,
     parsed: &ASTWithValidityInfo,
@@ -203,7 +205,7 @@ pub(crate) fn write_parsed(
 
 /// Writes the tables of a text by the kind that it names, where the row says none.
 fn tell_by_name(
-    out: &mut String,
+    out: &mut Page,
     alloc: Global,
     row: &Row<'_>,
     text: &str,
@@ -217,7 +219,7 @@ fn tell_by_name(
 
 /// Writes what the row asks of a text's grammar, where it has one.
 fn tell_grammar(
-    out: &mut String,
+    out: &mut Page,
     alloc: Global,
     row: &Row<'_>,
     text: &str,
@@ -244,13 +246,16 @@ fn grammar_of(
 /// Writes what the row asks of a grammar: what its accessors answer, what takes no memory to be told, or what its
 /// analyses do beside what they answer.
 fn tell_held(
-    out: &mut String,
+    out: &mut Page,
     alloc: Global,
     row: &Row<'_>,
     grammar: &YaccGrammar<u32>,
 ) -> Result<(), AllocError> {
     match row.first("show") {
-        Some("accessors") => accessors::write_accessors(out, grammar),
+        Some("accessors") => {
+            accessors::write_accessors(out, grammar);
+            Ok(())
+        }
         Some("without-memory") => plain::write_without_memory(out, alloc, grammar),
         _ => tell_analyses(out, alloc, row, grammar),
     }
@@ -258,7 +263,7 @@ fn tell_held(
 
 /// Writes how often the analyses open productions, where that isn't expected, and what the row's lines ask of them.
 fn tell_analyses(
-    out: &mut String,
+    out: &mut Page,
     alloc: Global,
     row: &Row<'_>,
     grammar: &YaccGrammar<u32>,
@@ -272,7 +277,7 @@ fn tell_analyses(
 
 /// Writes what a line of the row asks of the analyses, if it asks anything.
 fn tell_asked(
-    out: &mut String,
+    out: &mut Page,
     alloc: Global,
     grammar: &YaccGrammar<u32>,
     word: &str,

@@ -3,13 +3,14 @@
 use cfgrammar::yacc::YaccGrammar;
 use cfgrammar::{NameHashes, TIdx};
 use lexcheck::{LexReport, check};
+use rows::page::Page;
 use rows::pen;
 use std::alloc::{AllocError, Global};
 use std::collections::HashMap;
 
 /// Writes where the tokens and these names, which white space parts, differ.
 pub(crate) fn write_names(
-    out: &mut String,
+    out: &mut Page,
     alloc: Global,
     grammar: &YaccGrammar<u32>,
     names: &str,
@@ -19,7 +20,7 @@ pub(crate) fn write_names(
 }
 
 fn write_checked(
-    out: &mut String,
+    out: &mut Page,
     alloc: Global,
     grammar: &YaccGrammar<u32>,
     names: &[&str],
@@ -29,27 +30,25 @@ fn write_checked(
 }
 
 fn write_report(
-    out: &mut String,
+    out: &mut Page,
     alloc: Global,
     grammar: &YaccGrammar<u32>,
     names: &[&str],
     report: &LexReport<u32>,
 ) -> Result<(), AllocError> {
-    write!(out, "names {names:?}: {report:?}")?;
+    write!(out, "names {names:?}: {report:?}");
     pen::unless_copied(out, report, ", and a copy that isn't the same")?;
     write_map(out, alloc, grammar)?;
-    pen::end_line(out)
+    out.push('\n');
+    Ok(())
 }
 
 /// Writes whether the map of tokens isn't what it says.
-fn write_map(
-    out: &mut String,
-    alloc: Global,
-    grammar: &YaccGrammar<u32>,
-) -> Result<(), AllocError> {
+fn write_map(out: &mut Page, alloc: Global, grammar: &YaccGrammar<u32>) -> Result<(), AllocError> {
     let tokens = grammar.tokens_map(alloc)?;
     let is_other = !is_mapped(grammar, &tokens);
-    pen::text_if(out, is_other, ", and another map of tokens")
+    pen::text_if(out, is_other, ", and another map of tokens");
+    Ok(())
 }
 
 /// Whether a map has just the tokens that have a name, each under its name.

@@ -5,11 +5,12 @@ ghost use Rattle.std.specs.Prelude.{◌<◌, length};
 use cfgrammar::RIdx;
 use cfgrammar::yacc::YaccGrammar;
 use held::pen;
+use rows::page::Page;
 use std::alloc::{AllocError, Global};
 
 /// Writes for each rule the rules to which it leads.
 pub(crate) fn write_paths(
-    out: &mut String,
+    out: &mut Page,
     alloc: Global,
     grammar: &YaccGrammar<u32>,
 ) -> Result<(), AllocError> {
@@ -21,22 +22,23 @@ pub(crate) fn write_paths(
 
 /// Writes the rules to which a rule leads, by their names.
 fn write_paths_of(
-    out: &mut String,
+    out: &mut Page,
     alloc: Global,
     grammar: &YaccGrammar<u32>,
     from: RIdx<u32>,
 ) -> Result<(), AllocError>
     requires { from.0 < length grammar.now.rules }
 {
-    pen::text(out, "paths of ")?;
-    pen::text(out, grammar.rule_name_str(from))?;
-    pen::text(out, ":")?;
+    out.push_str("paths of ");
+    out.push_str(grammar.rule_name_str(from));
+    out.push_str(":");
     write_ends(out, alloc, grammar, from)?;
-    pen::end_line(out)
+    out.push('\n');
+    Ok(())
 }
 
 fn write_ends(
-    out: &mut String,
+    out: &mut Page,
     alloc: Global,
     grammar: &YaccGrammar<u32>,
     from: RIdx<u32>,
@@ -45,20 +47,20 @@ fn write_ends(
 {
     for to in grammar.iter_rules() {
         if grammar.has_path(alloc, from, to)? {
-            write_end(out, grammar.rule_name_str(to))?;
+            write_end(out, grammar.rule_name_str(to));
         }
     }
     Ok(())
 }
 
-fn write_end(out: &mut String, name: &str) -> Result<(), AllocError> {
-    pen::text(out, " ")?;
-    pen::text(out, name)
+fn write_end(out: &mut Page, name: &str) {
+    out.push_str(" ");
+    out.push_str(name);
 }
 
 /// Writes whether the first of two rules leads to the other.
 pub(crate) fn write_path(
-    out: &mut String,
+    out: &mut Page,
     alloc: Global,
     grammar: &YaccGrammar<u32>,
     names: &str,
@@ -66,12 +68,15 @@ pub(crate) fn write_path(
     let (from, to) = names.split_once(' ').unwrap_or((names, ""));
     match (grammar.rule_idx(from), grammar.rule_idx(to)) {
         (Some(from), Some(to)) => write_leads(out, alloc, grammar, names, from, to),
-        _ => pen::line(out, "no such path: ", names),
+        _ => {
+            pen::line(out, "no such path: ", names);
+            Ok(())
+        }
     }
 }
 
 fn write_leads(
-    out: &mut String,
+    out: &mut Page,
     alloc: Global,
     grammar: &YaccGrammar<u32>,
     names: &str,
@@ -81,8 +86,9 @@ fn write_leads(
     requires { from.0 < length grammar.now.rules }
 {
     let leads = grammar.has_path(alloc, from, to)?;
-    pen::text(out, "path ")?;
-    pen::text(out, names)?;
-    pen::flag(out, ": ", leads)?;
-    pen::end_line(out)
+    out.push_str("path ");
+    out.push_str(names);
+    pen::flag(out, ": ", leads);
+    out.push('\n');
+    Ok(())
 }

@@ -2,11 +2,12 @@
 
 use cfgrammar::yacc::ast::ASTWithValidityInfo;
 use cfgrammar::{Spanned, render};
+use rows::page::Page;
 use std::alloc::{AllocError, Global};
 
 /// Writes each of a text's errors and warnings as a person reads it.
 pub(crate) fn tell(
-    out: &mut String,
+    out: &mut Page,
     alloc: Global,
     text: &str,
     parsed: &ASTWithValidityInfo,
@@ -16,7 +17,7 @@ pub(crate) fn tell(
 }
 
 fn write_warnings(
-    out: &mut String,
+    out: &mut Page,
     alloc: Global,
     text: &str,
     parsed: &ASTWithValidityInfo,
@@ -26,7 +27,7 @@ fn write_warnings(
 }
 
 fn write_all<E: Spanned>(
-    out: &mut String,
+    out: &mut Page,
     alloc: Global,
     text: &str,
     errors: &[E],
@@ -38,11 +39,12 @@ fn write_all<E: Spanned>(
 }
 
 fn write_rendered<E: Spanned>(
-    out: &mut String,
+    out: &mut Page,
     alloc: Global,
     text: &str,
     error: &E,
 ) -> Result<(), AllocError> {
     let told = render(alloc, "g.y", text, error)?;
-    out.push_str(told.as_str())
+    out.push_str(told.as_str());
+    Ok(())
 }

@@ -6,12 +6,13 @@ use crate::tables;
 use cfgrammar::Span;
 use cfgrammar::yacc::ast::{ASTWithValidityInfo, Rule, StartFault};
 use held::pen;
+use rows::page::Page;
 use rows::row::{Row, number, words};
 use std::alloc::{AllocError, Global};
 
 /// Writes what is answered of each other start that the row asks for.
 pub(crate) fn write_starts(
-    out: &mut String,
+    out: &mut Page,
     alloc: Global,
     row: &Row<'_>,
     text: &str,
@@ -27,13 +28,13 @@ pub(crate) fn write_starts(
 
 /// Writes what is answered of the start that a line tells.
 fn write_start(
-    out: &mut String,
+    out: &mut Page,
     alloc: Global,
     line: &str,
     text: &str,
     parsed: &ASTWithValidityInfo,
 ) -> Result<(), AllocError> {
-    pen::line(out, "start ", line)?;
+    pen::line(out, "start ", line);
     write_made(out, &Start { alloc, text }, restarted(alloc, parsed, line))
 }
 
@@ -45,14 +46,17 @@ struct Start<'a> {
 }
 
 impl Writer<ASTWithValidityInfo, StartFault> for Start<'_> {
-    fn write(&self, out: &mut String, changed: &ASTWithValidityInfo) -> Result<(), AllocError> {
+    fn write(&self, out: &mut Page, changed: &ASTWithValidityInfo) -> Result<(), AllocError> {
         write_parsed(out, self.alloc, self.text, changed)?;
         tables::write_tables_of_tree(out, self.alloc, self.text, changed)
     }
 
-    fn refuse(&self, out: &mut String, fault: &StartFault) -> Result<(), AllocError> {
+    fn refuse(&self, out: &mut Page, fault: &StartFault) -> Result<(), AllocError> {
         match fault {
-            StartFault::Modification(error) => writeln!(out, "    {error}"),
+            StartFault::Modification(error) => {
+                writeln!(out, "    {error}");
+                Ok(())
+            }
             StartFault::OutOfMemory => Err(AllocError),
         }
     }

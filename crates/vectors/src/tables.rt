@@ -7,38 +7,39 @@ use cfgrammar::yacc::ast::ASTWithValidityInfo;
 use cfgrammar::yacc::parser::{YaccFault, YaccGrammarError, YaccGrammarResult};
 use held::tables::{write_grammar, write_lengths};
 use held::{firsts, follows, pen};
+use rows::page::Page;
 use std::alloc::{AllocError, Global};
 use trees::errors::write_error_lines;
 
 /// What is told at each index type.
 #[derive(Drop)]
 struct Told {
-    narrow: String,
-    middle: String,
-    wide: String,
+    narrow: Page,
+    middle: Page,
+    wide: Page,
 }
 
 /// Writes the tables of a text at every index type, or how much there is in them, once where that is the same.
 pub(crate) fn write_tables(
-    out: &mut String,
+    out: &mut Page,
     alloc: Global,
     text: &str,
     parsed: &ASTWithValidityInfo,
     is_brief: bool,
 ) -> Result<(), AllocError> {
-    let (narrow, middle, wide) = (String::new(alloc), String::new(alloc), String::new(alloc));
     let mut told = Told {
-        narrow,
-        middle,
-        wide,
+        narrow: Page::new(alloc),
+        middle: Page::new(alloc),
+        wide: Page::new(alloc),
     };
     tell_all(&mut told, alloc, text, parsed, is_brief)?;
     write_once(
         out,
-        told.narrow.as_str(),
-        told.middle.as_str(),
-        told.wide.as_str(),
-    )
+        told.narrow.text()?,
+        told.middle.text()?,
+        told.wide.text()?,
+    );
+    Ok(())
 }
 
 fn tell_all(
@@ -54,23 +55,24 @@ fn tell_all(
 }
 
 /// Writes what was told at the index types, once where it is the same.
-fn write_once(out: &mut String, narrow: &str, middle: &str, wide: &str) -> Result<(), AllocError> {
+fn write_once(out: &mut Page, narrow: &str, middle: &str, wide: &str) {
     if narrow == middle && middle == wide {
-        return write_told(out, "grammar over u8, u16 and u32", wide);
+        write_told(out, "grammar over u8, u16 and u32", wide);
+        return;
     }
-    write_told(out, "grammar over u8", narrow)?;
-    write_told(out, "grammar over u16", middle)?;
-    write_told(out, "grammar over u32", wide)
+    write_told(out, "grammar over u8", narrow);
+    write_told(out, "grammar over u16", middle);
+    write_told(out, "grammar over u32", wide);
 }
 
-fn write_told(out: &mut String, before: &str, told: &str) -> Result<(), AllocError> {
-    pen::text(out, before)?;
-    pen::text(out, told)
+fn write_told(out: &mut Page, before: &str, told: &str) {
+    out.push_str(before);
+    out.push_str(told);
 }
 
 /// Tells the tables of a text that was read, by both calls that make them, or how much there is in them.
 fn tell_text<S: Storage>(
-    told: &mut String,
+    told: &mut Page,
     alloc: Global,
     text: &str,
     parsed: &ASTWithValidityInfo,
@@ -86,16 +88,17 @@ fn tell_text<S: Storage>(
 
 /// Adds the tables of a text's syntax to those of the text, where they aren't the same.
 fn add_tree<S: Storage>(
-    told: &mut String,
+    told: &mut Page,
     alloc: Global,
     text: &str,
     parsed: &ASTWithValidityInfo,
 ) -> Result<(), AllocError> {
     let of_tree = tree_text::<S>(alloc, text, parsed)?;
-    if *told == of_tree {
+    if told.text()? == of_tree.as_str() {
         return Ok(());
     }
-    write_told(told, "and of its syntax", of_tree.as_str())
+    write_told(told, "and of its syntax", of_tree.as_str());
+    Ok(())
 }
 
 /// The tables of a syntax.
@@ -110,18 +113,19 @@ fn tree_text<S: Storage>(
 
 /// Writes the tables of a syntax over u32.
 pub(crate) fn write_tables_of_tree(
-    out: &mut String,
+    out: &mut Page,
     alloc: Global,
     text: &str,
     parsed: &ASTWithValidityInfo,
 ) -> Result<(), AllocError> {
     let tables = tree_text::<u32>(alloc, text, parsed)?;
-    write_told(out, "grammar over u32", tables.as_str())
+    write_told(out, "grammar over u32", tables.as_str());
+    Ok(())
 }
 
 /// Writes the tables of a text as the kind that it names, where they aren't those of its syntax.
 pub(crate) fn write_tables_by_name(
-    out: &mut String,
+    out: &mut Page,
     alloc: Global,
     text: &str,
     parsed: &ASTWithValidityInfo,
@@ -132,7 +136,7 @@ pub(crate) fn write_tables_by_name(
 }
 
 fn write_unlike_tree(
-    out: &mut String,
+    out: &mut Page,
     alloc: Global,
     text: &str,
     parsed: &ASTWithValidityInfo,
@@ -142,7 +146,8 @@ fn write_unlike_tree(
     if by_name == of_tree.as_str() {
         return Ok(());
     }
-    write_told(out, "and as the kind that it names", by_name)
+    write_told(out, "and as the kind that it names", by_name);
+    Ok(())
 }
 
 /// What a call that makes tables answers.
@@ -152,14 +157,14 @@ fn answer_text<S: Storage>(
     parsed: &ASTWithValidityInfo,
     answer: YaccGrammarResult<YaccGrammar<S>>,
 ) -> Result<String, AllocError> {
-    let mut told = String::new(alloc);
+    let mut told = Page::new(alloc);
     tell_answer(&mut told, alloc, text, parsed, false, answer)?;
-    Ok(told)
+    told.into_text()
 }
 
 /// Tells what a call that makes tables answers, or how much there is in it.
 fn tell_answer<S: Storage>(
-    told: &mut String,
+    told: &mut Page,
     alloc: Global,
     text: &str,
     parsed: &ASTWithValidityInfo,
@@ -185,12 +190,12 @@ struct Asked<'a> {
 }
 
 impl<S: Storage> Writer<YaccGrammar<S>, YaccFault> for Asked<'_> {
-    fn write(&self, told: &mut String, grammar: &YaccGrammar<S>) -> Result<(), AllocError> {
+    fn write(&self, told: &mut Page, grammar: &YaccGrammar<S>) -> Result<(), AllocError> {
         tell_grammar(told, self.alloc, grammar, self.is_brief)
     }
 
     /// Tells why there are no tables: the text's errors, or others, each in a line.
-    fn refuse(&self, told: &mut String, fault: &YaccFault) -> Result<(), AllocError> {
+    fn refuse(&self, told: &mut Page, fault: &YaccFault) -> Result<(), AllocError> {
         match fault {
             YaccFault::Errors(errors) => {
                 tell_errors(told, self.alloc, self.text, self.parsed, errors)
@@ -201,13 +206,13 @@ impl<S: Storage> Writer<YaccGrammar<S>, YaccFault> for Asked<'_> {
 }
 
 fn tell_errors(
-    told: &mut String,
+    told: &mut Page,
     alloc: Global,
     text: &str,
     parsed: &ASTWithValidityInfo,
     errors: &[YaccGrammarError],
 ) -> Result<(), AllocError> {
-    pen::text(told, ": refused\n")?;
+    told.push_str(": refused\n");
     if errors == parsed.errors() {
         return Ok(());
     }
@@ -216,12 +221,12 @@ fn tell_errors(
 
 /// Tells all that a grammar holds, or how much there is in its tables and in its FIRST and FOLLOW sets.
 fn tell_grammar<S: Storage>(
-    told: &mut String,
+    told: &mut Page,
     alloc: Global,
     grammar: &YaccGrammar<S>,
     is_brief: bool,
 ) -> Result<(), AllocError> {
-    pen::end_line(told)?;
+    told.push('\n');
     if is_brief {
         return tell_lengths(told, alloc, grammar);
     }
@@ -229,11 +234,11 @@ fn tell_grammar<S: Storage>(
 }
 
 fn tell_lengths<S: Storage>(
-    told: &mut String,
+    told: &mut Page,
     alloc: Global,
     grammar: &YaccGrammar<S>,
 ) -> Result<(), AllocError> {
-    write_lengths(told, grammar)?;
+    write_lengths(told, grammar);
     firsts::write_lengths(told, alloc, grammar)?;
     follows::write_lengths(told, alloc, grammar)
 }

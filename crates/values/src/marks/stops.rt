@@ -2,6 +2,7 @@
 
 use super::{Key, Maps, merge, play_line};
 use cfgmarks::markmap::MarkMap;
+use rows::page::Page;
 use rows::row::Row;
 use std::alloc::{AllocError, Global};
 
@@ -9,14 +10,14 @@ use std::alloc::{AllocError, Global};
 /// into which just the keys below one of the other map's are merged. A row of which a digest is written doesn't watch
 /// all keys, and isn't looked at.
 pub(super) fn tell_stop<K: Key>(
-    out: &mut String,
+    out: &mut Page,
     alloc: Global,
     row: &Row<'_>,
     place: usize,
     map: &MarkMap<K, u32>,
 ) -> Result<(), AllocError> {
     if row.first("show") != Some("digest") && !is_merged_so_far(alloc, row, place, map)? {
-        out.push_str("other keys are merged, ")?;
+        out.push_str("other keys are merged, ");
     }
     Err(AllocError)
 }
@@ -59,14 +60,14 @@ fn merge_below<K: Key>(
     below: usize,
     maps: &mut Maps<K>,
 ) -> Result<bool, AllocError> {
-    let mut unread = String::new(alloc);
+    let mut unread = Page::new(alloc);
     merge_unread(&mut unread, alloc, row, (place, below), maps)
 }
 
 /// Runs the lines of a script in front of a place, and merges just so many of the keys that are watched. Whether the
 /// next is one of the other map's.
 fn merge_unread<K: Key>(
-    out: &mut String,
+    out: &mut Page,
     alloc: Global,
     row: &Row<'_>,
     (place, below): (usize, usize),
@@ -80,7 +81,7 @@ fn merge_unread<K: Key>(
 
 /// Runs the lines of a script in front of a place.
 fn play_before<K: Key>(
-    out: &mut String,
+    out: &mut Page,
     alloc: Global,
     row: &Row<'_>,
     place: usize,

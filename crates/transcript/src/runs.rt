@@ -3,6 +3,7 @@
 use crate::narrow::Narrow;
 use crate::rooms::{Run, write_rooms};
 use cfgtool::{Counted, Input, Sink, Source, run};
+use rows::page::Page;
 use rows::row::Row;
 use rows::text::{push_turn, write_text};
 use std::alloc::{AllocError, Global};
@@ -25,21 +26,26 @@ impl Source for TwoFiles {
 
 /// Runs the program on the row's words, where its file holds the text or what the row says in place of it, and writes
 /// the status, what was written to the two outputs, and how many faults these had.
-pub fn tell(out: &mut String, alloc: Global, row: &Row<'_>, text: &str) -> Result<(), AllocError> {
+pub(crate) fn tell(
+    out: &mut Page,
+    alloc: Global,
+    row: &Row<'_>,
+    text: &str,
+) -> Result<(), AllocError> {
     let words = row.first("words").unwrap_or("");
     let mut output = Narrow::of_row(alloc, row, "out");
     let mut errors = Narrow::of_row(alloc, row, "err");
     let status = run_over(alloc, row, text, &mut output, &mut errors)?;
-    writeln!(out, "cfgtool {words}")?;
-    writeln!(out, "status {status}")?;
-    write_taken(out, "output", &output)?;
-    write_taken(out, "errors", &errors)?;
+    writeln!(out, "cfgtool {words}");
+    writeln!(out, "status {status}");
+    write_taken(out, "output", &output);
+    write_taken(out, "errors", &errors);
     write_asked_rooms(out, alloc, row, text, (output.bytes(), errors.bytes()))
 }
 
 /// Writes how the program ends on outputs of every room, where the row asks for one of the two.
 fn write_asked_rooms(
-    out: &mut String,
+    out: &mut Page,
     alloc: Global,
     row: &Row<'_>,
     text: &str,
@@ -137,9 +143,14 @@ fn second_input(alloc: Global, row: &Row<'_>) -> Result<Option<Input>, AllocErro
 }
 
 /// Writes what an output took.
-pub(crate) fn write_taken(out: &mut String, name: &str, taken: &Narrow) -> Result<(), AllocError> {
+pub(crate) fn write_taken(out: &mut Page, name: &str, taken: &Narrow) {
     let (bytes, faults) = (taken.bytes(), taken.faults);
-    writeln!(out, "{name} of {} bytes, {faults} faults", bytes.len())?;
+    writeln!(out, "{name} of {} bytes, {faults} faults", bytes.len());
+    write_bytes(out, bytes);
+}
+
+/// Writes bytes as the text that they are.
+pub(crate) fn write_bytes(out: &mut Page, bytes: &[u8]) {
     match std::str::from_utf8(bytes) {
         Ok(text) => write_text(out, text),
         Err(_) => out.push_str("    no text\n"),

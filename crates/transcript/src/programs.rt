@@ -3,9 +3,10 @@
 use crate::desk::Desk;
 use crate::given::Given;
 use crate::narrow::Narrow;
+use crate::runs::write_bytes;
 use cfgtool::run_over;
+use rows::page::Page;
 use rows::row::Row;
-use rows::text::write_text;
 use std::alloc::{AllocError, Global};
 use std::cell::{Cell, RefCell};
 use std::io::ErrorKind;
@@ -13,8 +14,8 @@ use std::rt::Files;
 
 /// Runs the program over a runtime that has the row's words, its text as standard input, and the files of the folder,
 /// and writes the status, what was written to the two outputs, and what was read.
-pub fn tell<R: Files + AllocGlobal>(
-    out: &mut String,
+pub(crate) fn tell<R: Files + AllocGlobal>(
+    out: &mut Page,
     rt: &R,
     row: &Row<'_>,
     text: &str,
@@ -35,11 +36,12 @@ pub fn tell<R: Files + AllocGlobal>(
     if desk.is_wanted(row, ended.status()) {
         return Err(AllocError);
     }
-    writeln!(out, "cfgtool {given}")?;
-    writeln!(out, "status {}", ended.status())?;
-    write_taken(out, "output", &desk.output)?;
-    write_taken(out, "errors", &desk.errors)?;
-    write_read(out, &desk)
+    writeln!(out, "cfgtool {given}");
+    writeln!(out, "status {}", ended.status());
+    write_taken(out, "output", &desk.output);
+    write_taken(out, "errors", &desk.errors);
+    write_read(out, &desk);
+    Ok(())
 }
 
 /// The program's name, and the words. In a word � stands for a byte that is no UTF-8.
@@ -76,23 +78,21 @@ fn input<'a>(row: &Row<'_>, text: &'a str) -> Given<'a> {
 }
 
 /// Writes what an output took.
-fn write_taken(out: &mut String, name: &str, taken: &RefCell<Narrow>) -> Result<(), AllocError> {
+fn write_taken(out: &mut Page, name: &str, taken: &RefCell<Narrow>) {
     let Ok(taken) = taken.try_borrow() else {
-        return writeln!(out, "{name} in use");
+        writeln!(out, "{name} in use");
+        return;
     };
     let bytes = taken.bytes();
-    writeln!(out, "{name} of {} bytes", bytes.len())?;
-    match std::str::from_utf8(bytes) {
-        Ok(text) => write_text(out, text),
-        Err(_) => out.push_str("    no text\n"),
-    }
+    writeln!(out, "{name} of {} bytes", bytes.len());
+    write_bytes(out, bytes);
 }
 
 /// Writes which files were asked for, and how often standard input was.
-fn write_read<R>(out: &mut String, desk: &Desk<'_, R>) -> Result<(), AllocError> {
+fn write_read<R>(out: &mut Page, desk: &Desk<'_, R>) {
     match desk.opened.try_borrow() {
-        Ok(opened) => writeln!(out, "files:{opened}")?,
-        Err(_) => out.push_str("files in use\n")?,
+        Ok(opened) => writeln!(out, "files:{opened}"),
+        Err(_) => out.push_str("files in use\n"),
     }
-    writeln!(out, "standard input: {} times", desk.readers.get())
+    writeln!(out, "standard input: {} times", desk.readers.get());
 }

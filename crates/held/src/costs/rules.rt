@@ -6,6 +6,7 @@ ghost use Rattle.cfgnumbers.specs.Numbered.{core};
 use cfgrammar::yacc::YaccGrammar;
 use cfgrammar::yacc::sentences::{CostError, SentenceError, SentenceGenerator};
 use cfgrammar::{PIdx, RIdx, TIdx};
+use rows::page::Page;
 use rows::row::Row;
 use std::alloc::{AllocError, Global};
 
@@ -14,7 +15,7 @@ const MOST: usize = 20;
 
 /// Writes for each rule a line.
 pub(crate) fn write_rules(
-    out: &mut String,
+    out: &mut Page,
     alloc: Global,
     row: &Row<'_>,
     grammar: &YaccGrammar<u32>,
@@ -28,7 +29,7 @@ pub(crate) fn write_rules(
         if is_asked(row, name) {
             write_sentences(out, generator.min_sentences(alloc, ridx))?;
         }
-        out.push('\n')?;
+        out.push('\n');
     }
     Ok(())
 }
@@ -43,7 +44,7 @@ fn is_asked(row: &Row<'_>, name: &str) -> bool {
 
 /// Writes a rule's costs, its choice, and a minimal sentence.
 fn write_rule(
-    out: &mut String,
+    out: &mut Page,
     alloc: Global,
     name: &str,
     generator: &SentenceGenerator<'_, u32, YaccGrammar<u32>>,
@@ -51,44 +52,43 @@ fn write_rule(
 ) -> Result<(), AllocError>
     requires { ridx.0 < generator.now.grammar.rules }
 {
-    write!(out, "    rule {} {name}: least ", usize::from(ridx))?;
-    write_cost(out, generator.min_sentence_cost(ridx).map(Some))?;
-    out.push_str(", greatest ")?;
-    write_cost(out, generator.max_sentence_cost(ridx))?;
-    write_choice(out, generator.choice(ridx))?;
-    out.push_str("; sentence ")?;
+    write!(out, "    rule {} {name}: least ", usize::from(ridx));
+    write_cost(out, generator.min_sentence_cost(ridx).map(Some));
+    out.push_str(", greatest ");
+    write_cost(out, generator.max_sentence_cost(ridx));
+    write_choice(out, generator.choice(ridx));
+    out.push_str("; sentence ");
     match generator.min_sentence(alloc, ridx) {
-        Ok(sentence) => write_sentence(out, &sentence),
+        Ok(sentence) => {
+            write_sentence(out, &sentence);
+            Ok(())
+        }
         Err(error) => write_refusal(out, error),
     }
 }
 
 /// Writes a cost, or why there is none.
-pub(crate) fn write_cost(
-    out: &mut String,
-    cost: Result<Option<u16>, CostError>,
-) -> Result<(), AllocError> {
+pub(crate) fn write_cost(out: &mut Page, cost: Result<Option<u16>, CostError>) {
     match cost {
         Ok(Some(cost)) => write!(out, "{cost}"),
         Ok(None) => out.push_str("unbounded"),
-        Err(error) => write_refusal(out, SentenceError::from(error)),
+        Err(CostError::NoSentence) => out.push_str("none"),
+        Err(CostError::CostTooLarge) => out.push_str("too large"),
     }
 }
 
-/// Writes why there is no cost or no sentence.
-pub(crate) fn write_refusal(out: &mut String, error: SentenceError) -> Result<(), AllocError> {
-    match error {
-        SentenceError::NoSentence => out.push_str("none"),
-        SentenceError::CostTooLarge => out.push_str("too large"),
-        SentenceError::OutOfMemory => Err(AllocError),
-    }
+/// Writes why there is no sentence.
+pub(crate) fn write_refusal(out: &mut Page, error: SentenceError) -> Result<(), AllocError> {
+    out.push_str(match error {
+        SentenceError::NoSentence => "none",
+        SentenceError::CostTooLarge => "too large",
+        SentenceError::OutOfMemory => return Err(AllocError),
+    });
+    Ok(())
 }
 
 /// Writes a choice: a production, and its number.
-pub(crate) fn write_choice(
-    out: &mut String,
-    choice: Option<(PIdx<u32>, u32)>,
-) -> Result<(), AllocError> {
+pub(crate) fn write_choice(out: &mut Page, choice: Option<(PIdx<u32>, u32)>) {
     match choice {
         Some((pidx, number)) => write!(out, "; production {} at {number}", usize::from(pidx)),
         None => out.push_str("; production none"),
@@ -96,40 +96,46 @@ pub(crate) fn write_choice(
 }
 
 /// Writes a sentence by its tokens' indices, or how many there are.
-fn write_sentence(out: &mut String, sentence: &[TIdx<u32>]) -> Result<(), AllocError> {
+fn write_sentence(out: &mut Page, sentence: &[TIdx<u32>]) {
     if sentence.len() > MOST {
-        return write!(out, "{} tokens", sentence.len());
+        write!(out, "{} tokens", sentence.len());
+        return;
     }
-    out.push('[')?;
+    out.push('[');
     for (place, tidx) in sentence.iter().enumerate() {
-        out.push_str(if place > 0 { " " } else { "" })?;
-        write!(out, "{}", usize::from(*tidx))?;
+        out.push_str(if place > 0 { " " } else { "" });
+        write!(out, "{}", usize::from(*tidx));
     }
-    out.push(']')
+    out.push(']');
 }
 
 /// Writes all minimal sentences, or how many there are, or why there are none.
 fn write_sentences(
-    out: &mut String,
+    out: &mut Page,
     sentences: Result<Vec<Vec<TIdx<u32>>>, SentenceError>,
 ) -> Result<(), AllocError> {
     match sentences {
-        Ok(sentences) if sentences.len() > MOST => write!(out, "; all {}", sentences.len()),
-        Ok(sentences) => write_each(out, &sentences),
+        Ok(sentences) if sentences.len() > MOST => {
+            write!(out, "; all {}", sentences.len());
+            Ok(())
+        }
+        Ok(sentences) => {
+            write_each(out, &sentences);
+            Ok(())
+        }
         Err(SentenceError::OutOfMemory) => Err(AllocError),
         Err(error) => {
-            out.push_str("; all ")?;
+            out.push_str("; all ");
             write_refusal(out, error)
         }
     }
 }
 
 /// Writes sentences, each behind a space.
-fn write_each(out: &mut String, sentences: &[Vec<TIdx<u32>>]) -> Result<(), AllocError> {
-    out.push_str("; all")?;
+fn write_each(out: &mut Page, sentences: &[Vec<TIdx<u32>>]) {
+    out.push_str("; all");
     for sentence in sentences {
-        out.push(' ')?;
-        write_sentence(out, sentence)?;
+        out.push(' ');
+        write_sentence(out, sentence);
     }
-    Ok(())
 }

@@ -3,13 +3,14 @@
 use cfgbase::{Span, Spanned};
 use cfgerrors::{YaccGrammarError, YaccGrammarErrorKind};
 use cfgwarnings::YaccGrammarWarningKind;
+use rows::page::Page;
 use rows::pen;
 use rows::row::{Row, numbers};
 use std::alloc::{AllocError, Global};
 
 /// Writes a line for each error that the row names: its kind, its spans, what they stand for, and its text. A kind that
 /// holds a name holds the row's text, or else `µ`.
-pub fn tell(out: &mut String, alloc: Global, row: &Row<'_>, text: &str) -> Result<(), AllocError> {
+pub fn tell(out: &mut Page, alloc: Global, row: &Row<'_>, text: &str) -> Result<(), AllocError> {
     let held = if text.is_empty() { "µ" } else { text };
     match row.first("show") {
         Some("without-memory") => tell_without_memory(out, alloc, row, held),
@@ -17,12 +18,7 @@ pub fn tell(out: &mut String, alloc: Global, row: &Row<'_>, text: &str) -> Resul
     }
 }
 
-fn tell_lines(
-    out: &mut String,
-    alloc: Global,
-    row: &Row<'_>,
-    held: &str,
-) -> Result<(), AllocError> {
+fn tell_lines(out: &mut Page, alloc: Global, row: &Row<'_>, held: &str) -> Result<(), AllocError> {
     for line in &row.lines {
         tell_line(out, alloc, held, *line)?;
     }
@@ -31,26 +27,21 @@ fn tell_lines(
 
 /// Makes an error of its parts, and writes it.
 fn tell_without_memory(
-    out: &mut String,
+    out: &mut Page,
     alloc: Global,
     row: &Row<'_>,
     held: &str,
 ) -> Result<(), AllocError> {
-    let parts = parts_of(alloc, held, row.first("error").unwrap_or(""))?;
-    let (kind, spans) = behind(out, parts)?;
+    let (kind, spans) = parts_of(alloc, held, row.first("error").unwrap_or(""))?;
+    pen::without_memory(out);
     let error = YaccGrammarError::new(kind, spans);
-    write_parts(out, &error)?;
-    pen::end_line(out)
-}
-
-/// A value, behind the line that no call takes memory.
-fn behind<T: Drop>(out: &mut String, value: T) -> Result<T, AllocError> {
-    pen::without_memory(out)?;
-    Ok(value)
+    write_parts(out, &error);
+    out.push('\n');
+    Ok(())
 }
 
 fn tell_line(
-    out: &mut String,
+    out: &mut Page,
     alloc: Global,
     held: &str,
     (word, rest): (&str, &str),
@@ -62,25 +53,20 @@ fn tell_line(
     }
 }
 
-fn tell_warning(out: &mut String, name: &str) -> Result<(), AllocError> {
+fn tell_warning(out: &mut Page, name: &str) -> Result<(), AllocError> {
     let kind = match name {
         "UnusedRule" => YaccGrammarWarningKind::UnusedRule,
         _ => YaccGrammarWarningKind::UnusedToken,
     };
-    write!(out, "    {kind:?}: {kind}")?;
+    write!(out, "    {kind:?}: {kind}");
     pen::unless_copied(out, &kind, ", and a copy that isn't the same")?;
-    pen::end_line(out)
+    out.push('\n');
+    Ok(())
 }
 
-fn tell_error(out: &mut String, alloc: Global, held: &str, line: &str) -> Result<(), AllocError> {
-    let error = error_of(alloc, held, line)?;
-    write_error(out, &error)
-}
-
-/// The error that a line tells, by its kind and the two ends of its span.
-fn error_of(alloc: Global, held: &str, line: &str) -> Result<YaccGrammarError, AllocError> {
+fn tell_error(out: &mut Page, alloc: Global, held: &str, line: &str) -> Result<(), AllocError> {
     let (kind, spans) = parts_of(alloc, held, line)?;
-    Ok(YaccGrammarError::new(kind, spans))
+    write_error(out, &YaccGrammarError::new(kind, spans))
 }
 
 /// The kind and the spans of the error that a line tells.
@@ -103,23 +89,24 @@ fn spans_of(alloc: Global, (start, end): (usize, usize)) -> Result<Vec<Span>, Al
     [Span::new(start, end), Span::new(end, end)].to_vec(alloc)
 }
 
-fn write_error(out: &mut String, error: &YaccGrammarError) -> Result<(), AllocError> {
-    write_parts(out, error)?;
-    write!(out, ": {error}")?;
+fn write_error(out: &mut Page, error: &YaccGrammarError) -> Result<(), AllocError> {
+    write_parts(out, error);
+    write!(out, ": {error}");
     pen::unless_copied(out, error, ", and a copy that isn't the same")?;
     pen::unless_copied(
         out,
         error.kind(),
         ", and a copy of its kind that isn't the same",
     )?;
-    pen::end_line(out)
+    out.push('\n');
+    Ok(())
 }
 
 /// Writes the kind of an error, its spans, and what they stand for.
-fn write_parts(out: &mut String, error: &YaccGrammarError) -> Result<(), AllocError> {
-    write!(out, "    {:?}", error.kind())?;
-    pen::spans(out, error.spans())?;
-    write!(out, " {:?}", error.spanskind())
+fn write_parts(out: &mut Page, error: &YaccGrammarError) {
+    write!(out, "    {:?}", error.kind());
+    pen::spans(out, error.spans());
+    write!(out, " {:?}", error.spanskind());
 }
 
 /// The kind of this name. A kind that holds a name holds this one; a kind that holds a character, `µ`.

@@ -5,6 +5,7 @@ use crate::rooms::{Run, write_rooms};
 use crate::runs::write_taken;
 use cfgtool::words::{command_of, kind_of};
 use cfgtool::{Counted, KindArg, Outcome, ReportFault, Sink, report, report_lex};
+use rows::page::Page;
 use rows::pen;
 use rows::row::Row;
 use rows::text::push_turn;
@@ -44,7 +45,12 @@ impl Run for Report<'_> {
 
 /// Writes what is answered of the report that the row's words ask for, and what was written; and over writers of every
 /// room, where the row asks for that.
-pub fn tell(out: &mut String, alloc: Global, row: &Row<'_>, text: &str) -> Result<(), AllocError> {
+pub(crate) fn tell(
+    out: &mut Page,
+    alloc: Global,
+    row: &Row<'_>,
+    text: &str,
+) -> Result<(), AllocError> {
     let words = row.first("words").unwrap_or("");
     let (kind, command) = words.split_once(' ').unwrap_or((words, ""));
     let mut names = String::new(alloc);
@@ -61,29 +67,33 @@ pub fn tell(out: &mut String, alloc: Global, row: &Row<'_>, text: &str) -> Resul
             };
             tell_report(out, row, &asked)
         }
-        None => out.push_str("no such kind\n"),
+        None => {
+            out.push_str("no such kind\n");
+            Ok(())
+        }
     }
 }
 
 /// Writes how many faults a writer that takes nothing had before it is asked, and then.
-fn write_counted(out: &mut String, writer: &mut Narrow) -> Result<(), AllocError> {
-    pen::without_memory(out)?;
+fn write_counted(out: &mut Page, writer: &mut Narrow) {
+    pen::without_memory(out);
     let mut counted = Counted::new(writer);
-    write!(out, "    faults {}", counted.faults())?;
+    write!(out, "    faults {}", counted.faults());
     let is_taken = counted.write(b"a").is_ok();
-    pen::flag(out, ", taken: ", is_taken)?;
-    writeln!(out, ", faults {}", counted.faults())
+    pen::flag(out, ", taken: ", is_taken);
+    writeln!(out, ", faults {}", counted.faults());
 }
 
 /// Writes what is answered of a report.
-fn tell_report(out: &mut String, row: &Row<'_>, asked: &Report<'_>) -> Result<(), AllocError> {
+fn tell_report(out: &mut Page, row: &Row<'_>, asked: &Report<'_>) -> Result<(), AllocError> {
     if row.first("show") == Some("without-memory") {
-        return write_counted(out, &mut Narrow::new(asked.alloc, 1, 0, End::Fails));
+        write_counted(out, &mut Narrow::new(asked.alloc, 1, 0, End::Fails));
+        return Ok(());
     }
     let mut output = Narrow::of_row(asked.alloc, row, "out");
     let word = asked.ended(&mut output)?;
-    writeln!(out, "report {}: {word}", asked.command)?;
-    write_taken(out, "output", &output)?;
+    writeln!(out, "report {}: {word}", asked.command);
+    write_taken(out, "output", &output);
     match row.first("rooms") {
         Some(_) => write_rooms(out, asked.alloc, asked, output.bytes()),
         None => Ok(()),

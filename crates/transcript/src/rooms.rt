@@ -1,6 +1,7 @@
 //! Writers of every room.
 
 use crate::narrow::{End, Narrow};
+use rows::page::Page;
 use rows::pen;
 use std::alloc::{AllocError, Global};
 
@@ -13,7 +14,7 @@ pub(crate) trait Run {
 /// Writes how a run ends on writers with room for none of the bytes, for one, and so on up to all of them: how many bytes
 /// each took, and the word. They take one byte at a time, four, or all that they are given.
 pub(crate) fn write_rooms<R: Run>(
-    out: &mut String,
+    out: &mut Page,
     alloc: Global,
     run: &R,
     whole: &[u8],
@@ -28,7 +29,7 @@ pub(crate) fn write_rooms<R: Run>(
 
 /// Writes how a run ends on writers that take so many bytes at a time and end so.
 fn write_ended<R: Run>(
-    out: &mut String,
+    out: &mut Page,
     alloc: Global,
     run: &R,
     (step, end): (usize, End),
@@ -38,13 +39,14 @@ fn write_ended<R: Run>(
     write!(
         out,
         "    at most {step} bytes at a time, and {word} at the end:"
-    )?;
+    );
     for room in 0..=whole.len() {
         let mut writer = Narrow::new(alloc, step, room, end);
         let word = run.ended(&mut writer)?;
-        write_room(out, &writer, word, whole)?;
+        write_room(out, &writer, word, whole);
     }
-    out.push('\n')
+    out.push('\n');
+    Ok(())
 }
 
 /// How a writer ends, in words.
@@ -58,15 +60,10 @@ fn word_of(end: End) -> &'static str {
 
 /// Writes how many bytes a writer took and how the run ended; and what is wrong: that they are no beginning of all
 /// bytes, or that more than one writing went wrong.
-fn write_room(
-    out: &mut String,
-    writer: &Narrow,
-    word: &str,
-    whole: &[u8],
-) -> Result<(), AllocError> {
-    pen::number(out, " ", writer.bytes().len())?;
-    pen::text(out, ":")?;
-    pen::text(out, word)?;
-    pen::text_if(out, !whole.starts_with(writer.bytes()), " (no beginning)")?;
-    pen::text_if(out, writer.faults > 1, " (tried again)")
+fn write_room(out: &mut Page, writer: &Narrow, word: &str, whole: &[u8]) {
+    pen::number(out, " ", writer.bytes().len());
+    out.push_str(":");
+    out.push_str(word);
+    pen::text_if(out, !whole.starts_with(writer.bytes()), " (no beginning)");
+    pen::text_if(out, writer.faults > 1, " (tried again)");
 }

@@ -6,6 +6,7 @@ ghost use Rattle.cfgnumbers.specs.Numbered.{core};
 use cfgrammar::PIdx;
 use cfgrammar::yacc::YaccGrammar;
 use cfgrammar::yacc::sentences::{SentenceGenerator, check_least, check_reached};
+use rows::page::Page;
 use std::alloc::{AllocError, Global};
 
 /// A cost for each rule, or none, and a choice for each rule, or none.
@@ -75,7 +76,7 @@ fn read_choice(word: &str) -> Option<(PIdx<u32>, u32)> {
 
 /// Writes which of the two checkers refuses what the generator answers.
 pub(crate) fn write_failures(
-    out: &mut String,
+    out: &mut Page,
     alloc: Global,
     grammar: &YaccGrammar<u32>,
     generator: &SentenceGenerator<'_, u32, YaccGrammar<u32>>,
@@ -84,10 +85,10 @@ pub(crate) fn write_failures(
 {
     let certificate = Certificate::of_generator(alloc, grammar, generator)?;
     if !certificate.is_least(grammar, generator.token_costs()) {
-        out.push_str("    the least costs don't pass\n")?;
+        out.push_str("    the least costs don't pass\n");
     }
     if !certificate.is_reached(grammar, generator.token_costs()) {
-        out.push_str("    the choices don't pass\n")?;
+        out.push_str("    the choices don't pass\n");
     }
     Ok(())
 }

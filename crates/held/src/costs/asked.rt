@@ -3,16 +3,17 @@
 ghost use Rattle.std.specs.Prelude.{◌≡◌};
 ghost use Rattle.cfgnumbers.specs.Numbered.{core};
 
-use crate::certificate::Certificate;
-use crate::openings;
+use super::certificate::Certificate;
+use super::openings;
 use cfgrammar::yacc::YaccGrammar;
 use cfgrammar::yacc::sentences::SentenceGenerator;
+use rows::page::Page;
 use rows::row::Row;
 use std::alloc::{AllocError, Global};
 
 /// Writes what each line of the row asks for.
 pub(crate) fn write_asked(
-    out: &mut String,
+    out: &mut Page,
     alloc: Global,
     row: &Row<'_>,
     grammar: &YaccGrammar<u32>,
@@ -34,7 +35,7 @@ pub(crate) fn write_asked(
 
 /// Writes what a checker says of the lists of a line.
 fn write_checked(
-    out: &mut String,
+    out: &mut Page,
     alloc: Global,
     grammar: &YaccGrammar<u32>,
     costs: &[u8],
@@ -46,5 +47,6 @@ fn write_checked(
         "least" => certificate.is_least(grammar, costs),
         _ => certificate.is_reached(grammar, costs),
     };
-    writeln!(out, "    {word} {lists}: {passes}")
+    writeln!(out, "    {word} {lists}: {passes}");
+    Ok(())
 }

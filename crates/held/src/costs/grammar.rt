@@ -3,10 +3,11 @@
 ghost use Rattle.std.specs.Prelude.{◌≡◌, ◌<◌};
 ghost use Rattle.cfgnumbers.specs.Numbered.{core};
 
-use crate::{asked, certificate, plain, rules};
+use super::{asked, certificate, plain, rules};
 use cfgrammar::TIdx;
 use cfgrammar::yacc::sentences::SentenceGenerator;
 use cfgrammar::yacc::{YaccFault, YaccGrammar, YaccKind, YaccOriginalActionKind};
+use rows::page::Page;
 use rows::row::Row;
 use rows::{pen, text};
 use std::alloc::{AllocError, Global};
@@ -14,18 +15,18 @@ use std::cell::Cell;
 use trees::read::kind_of;
 
 /// Writes a row's text, where the row isn't brief, and what is answered of its costs.
-pub fn tell(out: &mut String, alloc: Global, row: &Row<'_>, text: &str) -> Result<(), AllocError> {
+pub fn tell(out: &mut Page, alloc: Global, row: &Row<'_>, text: &str) -> Result<(), AllocError> {
     let kind = kind_of(row).unwrap_or(YaccKind::Original(YaccOriginalActionKind::GenericParseTree));
-    writeln!(out, "text of {} bytes, {kind:?}", text.len())?;
+    writeln!(out, "text of {} bytes, {kind:?}", text.len());
     if row.first("show") != Some("brief") {
-        text::write_text(out, text)?;
+        text::write_text(out, text);
     }
     tell_text(out, alloc, row, kind, text)
 }
 
 /// Writes what is answered of the costs of a text's grammar, where it has one.
 fn tell_text(
-    out: &mut String,
+    out: &mut Page,
     alloc: Global,
     row: &Row<'_>,
     kind: YaccKind,
@@ -33,14 +34,17 @@ fn tell_text(
 ) -> Result<(), AllocError> {
     match YaccGrammar::new(alloc, kind, text) {
         Ok(grammar) => tell_grammar(out, alloc, row, &grammar),
-        Err(YaccFault::Errors(_)) => out.push_str("no grammar\n"),
+        Err(YaccFault::Errors(_)) => {
+            out.push_str("no grammar\n");
+            Ok(())
+        }
         Err(YaccFault::OutOfMemory) => Err(AllocError),
     }
 }
 
 /// Writes what is answered of the costs of a grammar.
 fn tell_grammar(
-    out: &mut String,
+    out: &mut Page,
     alloc: Global,
     row: &Row<'_>,
     grammar: &YaccGrammar<u32>,
@@ -48,7 +52,7 @@ fn tell_grammar(
     let asked = Cell::new(0);
     let generator = grammar.sentence_generator(alloc, |tidx| asked_cost(row, &asked, tidx))?;
     if asked.get() != usize::from(grammar.tokens_len()) {
-        out.push_str("    costs aren't asked once of each token, in order\n")?;
+        out.push_str("    costs aren't asked once of each token, in order\n");
     }
     tell_costs(out, alloc, row, grammar, &generator)
 }
@@ -80,7 +84,7 @@ fn cost_of(row: &Row<'_>, tidx: TIdx<u32>) -> u8
 
 /// Writes the tokens' costs and what the generator answers, and what the row asks for.
 fn tell_costs(
-    out: &mut String,
+    out: &mut Page,
     alloc: Global,
     row: &Row<'_>,
     grammar: &YaccGrammar<u32>,
@@ -91,27 +95,23 @@ fn tell_costs(
     if row.first("show") == Some("without-memory") {
         return plain::write_without_memory(out, alloc, grammar, generator);
     }
-    write_tokens(out, grammar, generator.token_costs())?;
+    write_tokens(out, grammar, generator.token_costs());
     rules::write_rules(out, alloc, row, grammar, generator)?;
     certificate::write_failures(out, alloc, grammar, generator)?;
     asked::write_asked(out, alloc, row, grammar, generator)
 }
 
 /// Writes the tokens' names and what each costs.
-fn write_tokens(
-    out: &mut String,
-    grammar: &YaccGrammar<u32>,
-    costs: &[u8],
-) -> Result<(), AllocError> {
-    out.push_str("    tokens:")?;
+fn write_tokens(out: &mut Page, grammar: &YaccGrammar<u32>, costs: &[u8]) {
+    out.push_str("    tokens:");
     for tidx in grammar.iter_tidxs() {
         match grammar.token_name(tidx) {
-            Some(name) => pen::name(out, " ", name)?,
-            None => out.push_str(" end")?,
+            Some(name) => pen::name(out, " ", name),
+            None => out.push_str(" end"),
         }
         if let Some(cost) = costs.get(usize::from(tidx)) {
-            write!(out, " {cost}")?;
+            write!(out, " {cost}");
         }
     }
-    out.push('\n')
+    out.push('\n');
 }

@@ -1,0 +1,10 @@
+//! Rows on what sentences cost: a grammar's costs, its minimal sentences, and what is asked of their checkers.
+
+mod asked;
+mod certificate;
+mod grammar;
+mod openings;
+mod plain;
+mod rules;
+
+pub use grammar::tell;
