@@ -6,7 +6,7 @@ use Rattle.search.specs.Reached.{FoundBy, Reaches}
 use Rattle.cfgast.specs.Inner.Nodes.{HeldAt}
 use Rattle.cfgast.specs.View.{syntax, rule_entry, rule_view}
 use Rattle.cfgast.proofs.Nodes.{leads_to, leads_nowhere, rule_there}
-use Rattle.cfgast.proofs.unused.GrammarASTEdges.reach_from.Goals as goal
+use Rattle.cfgast.proofs.unused.GrammarASTEdgesBits.reach_from.Goals as goal
 
 pub returns-in-Some : goal.returns-in-Some
 unfolding syntax
