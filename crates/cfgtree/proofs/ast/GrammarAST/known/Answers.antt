@@ -10,6 +10,9 @@ use Rattle.cfgtree.proofs.Found.{names_differ, rule_names}
 use Rattle.cfgtree.proofs.Nodes.{knows, nodes_length}
 use Rattle.cfgtree.proofs.ast.GrammarAST.known.Goals as goal
 
+pub go_on-requires-clause-all_wait : goal.go_on-requires-clause-all_wait
+go_on-requires-clause-all_wait c = (begun _ _ _ _ c.in_ok-search.ensures c.in_ok-reach_one.ensures).all_wait
+
 pub returns : goal.returns
 unfolding syntax syntax_view
 returns c =
