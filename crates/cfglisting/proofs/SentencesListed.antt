@@ -8,7 +8,7 @@ use Rattle.derivation.specs.Sentence.{cost_of}
 use Rattle.derivation.specs.Costs.{Minimal}
 use Rattle.cfgleast.specs.Generator.{HasNone, IsTooDear}
 use Rattle.cfgchoices.specs.First.{dictionary}
-use Rattle.cfglisting.specs.SentenceLines.{ListsMinimal}
+use Rattle.cfgcosts.specs.Sentences.{ListsMinimal}
 use Rattle.cfgchoices.proofs.SentenceTokens.{sentence_tokens}
 
 none_sorted : IsStrictlySortedBy dictionary []

@@ -1,31 +1,14 @@
 -- The lines that tell what the sentences of rules cost, where each token costs 1, and the sentences of least cost.
-use Rattle.std.specs.Prelude.{◌≡◌, ◌↔◌, ℕ, ◌+◌, ◌<◌, ◌≤◌, List, [], ◌++◌, Option, Some, None, Result, Ok, Err, EachIndex, All, Contains, length, map, slice_index_or, codes}
+use Rattle.std.specs.Prelude.{◌≡◌, ℕ, ◌+◌, ◌<◌, List, [], ◌++◌, Option, Some, None, Result, Ok, Err, EachIndex, All, length, map, slice_index_or, codes}
 use Rattle.std.specs.List.{concat}
-use Rattle.std.specs.List.Sorted.{IsStrictlySortedBy}
 use Rattle.std.specs.Fmt.{decimal}
-use Rattle.derivation.specs.Grammar.{Sym, Token, HasProduction}
-use Rattle.derivation.specs.Sentence.{cost_of}
-use Rattle.derivation.specs.Costs.{Greatest, Minimal, Unbounded}
-use Rattle.cfgleast.specs.Generator.{AnswersLeast, HasNone}
-use Rattle.cfgchoices.specs.First.{dictionary}
+use Rattle.derivation.specs.Grammar.{Token, HasProduction}
+use Rattle.cfgleast.specs.Generator.{AnswersLeast}
+use Rattle.cfgcosts.specs.Sentences.{AnswersGreatest, ListsMinimal}
 use Rattle.cfgsums.specs.declared.errors.CostError.{CostError}
 use Rattle.cfgsums.specs.declared.errors.CostError.TheVariants.{NoSentence, CostTooLarge}
 use Rattle.cfgnumbers.specs.Numbered.{Numbered, core}
 use Rattle.cfgnumbers.specs.Shown.{rule_part, sym_text}
-
--- the greatest cost of a rule, where it is at most 65535, or that its sentences cost more than any number, or why neither
--- is told
-pub record AnswersGreatest (P : ℕ → List Sym → Type 0) (cost : ℕ → ℕ) (r : ℕ) (answer : Result (Option ℕ) CostError) : Type 0 where
-  pub none : (answer ≡ Err NoSentence) ↔ HasNone P r
-  pub unbounded : (answer ≡ Ok None) ↔ Unbounded P cost r
-  pub greatest : (c : ℕ) → (answer ≡ Ok (Some c)) ↔ (Greatest P cost r c × (c ≤ 65535))
-  pub too_large : (answer ≡ Err CostTooLarge) ↔ ((n : ℕ) × Greatest P cost r n × (65535 < n))
-
--- the sentences of a rule that no other of its sentences costs less than, where they cost at most 65535, each once, in the
--- order of a dictionary
-pub record ListsMinimal (P : ℕ → List Sym → Type 0) (cost : ℕ → ℕ) (r : ℕ) (sentences : List (List ℕ)) : Type 0 where
-  pub all : (w : List ℕ) → Contains sentences w ↔ (Minimal P cost r w × (cost_of cost w ≤ 65535))
-  pub order : IsStrictlySortedBy dictionary sentences
 
 abbrev pub least_word : Result ℕ CostError → List ℕ
 least_word (Ok c) = decimal c

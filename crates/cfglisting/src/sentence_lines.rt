@@ -4,9 +4,9 @@ ghost use Rattle.std.specs.Prelude.{◌≡◌, ◌++◌, ◌<◌, All, length, m
 ghost use Rattle.std.specs.List.{concat};
 ghost use Rattle.derivation.specs.Grammar.{HasProduction};
 ghost use Rattle.cfgleast.specs.Generator.{token_cost};
-ghost use Rattle.cfgcosts.specs.Sentences.{numbers_of};
+ghost use Rattle.cfgcosts.specs.Sentences.{ListsMinimal, numbers_of};
 ghost use Rattle.cfgnumbers.specs.Numbered.{core};
-ghost use Rattle.cfglisting.specs.SentenceLines.{AreNamed, AreSentenceLines, ListsMinimal, TellsEach, TellsRule};
+ghost use Rattle.cfglisting.specs.SentenceLines.{AreNamed, AreSentenceLines, TellsEach, TellsRule};
 ghost use Rattle.cfglisting.specs.SentenceLines.{cost_line, greatest_word, least_word, sentence_line, token_text};
 
 use cfgrammar::yacc::YaccGrammar;

@@ -2,9 +2,9 @@ use Rattle.std.proofs.Common.{◌↔◌, ℕ, List, Contains, Err, map, ap, subs
 use Rattle.derivation.specs.Grammar.{HasProduction}
 use Rattle.derivation.specs.Costs.{Minimal}
 use Rattle.cfgleast.specs.Generator.{token_cost}
-use Rattle.cfgcosts.specs.Sentences.{numbers_of}
+use Rattle.cfgcosts.specs.Sentences.{ListsMinimal, numbers_of}
 use Rattle.cfgnumbers.specs.Numbered.{core}
-use Rattle.cfglisting.specs.SentenceLines.{AreNamed, ListsMinimal}
+use Rattle.cfglisting.specs.SentenceLines.{AreNamed}
 use Rattle.cfglisting.proofs.SentencesListed.{listed, none_there, none_cheap, all_of_none, listed_tokens}
 use Rattle.cfglisting.proofs.sentence_lines.minimal_sentences.Goals as goal
 

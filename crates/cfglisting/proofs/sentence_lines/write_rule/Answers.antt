@@ -3,8 +3,8 @@ use Rattle.std.specs.List.{concat}
 use Rattle.std.proofs.lemmas.Result.{on_ok_weaker}
 use Rattle.derivation.specs.Grammar.{Grammar, HasProduction}
 use Rattle.cfgleast.specs.Generator.{AnswersLeast, token_cost}
-use Rattle.cfgcosts.specs.Sentences.{numbers_of}
-use Rattle.cfglisting.specs.SentenceLines.{AnswersGreatest, TellsRule, cost_line, sentence_line}
+use Rattle.cfgcosts.specs.Sentences.{AnswersGreatest, numbers_of}
+use Rattle.cfglisting.specs.SentenceLines.{TellsRule, cost_line, sentence_line}
 use Rattle.cfglisting.proofs.sentence_lines.write_rule.Goals as goal
 
 pub returns : goal.returns
