@@ -3,18 +3,11 @@ use Rattle.std.proofs.lemmas.Option.{slice_get-map}
 use Rattle.std.proofs.lemmas.Result.{IfOk-weaker}
 use Rattle.lemmas.proofs.Lookups.{lookup-map}
 use Rattle.search.specs.Reached.{FoundBy, Reaches}
-<<<<<<<< HEAD:crates/cfgtree/proofs/unused/GrammarASTEdges/reach_from/Answers.antt
 use Rattle.cfgtree.specs.Inner.Nodes.{HeldAt}
 use Rattle.cfgast.specs.View.{syntax_view, rule_entry, rule_view}
 use Rattle.cfgtree.specs.View.{syntax}
 use Rattle.cfgtree.proofs.Nodes.{leads_to, leads_nowhere, rule_there}
 use Rattle.cfgtree.proofs.unused.GrammarASTEdgesBits.reach_from.Goals as goal
-========
-use Rattle.cfgast.specs.Inner.Nodes.{HeldAt}
-use Rattle.cfgast.specs.View.{syntax, rule_entry, rule_view}
-use Rattle.cfgast.proofs.Nodes.{leads_to, leads_nowhere, rule_there}
-use Rattle.cfgast.proofs.unused.GrammarASTEdgesBits.reach_from.Goals as goal
->>>>>>>> cfa0d188d6fe9e9b778391b7164052d28e4798b0:crates/cfgast/proofs/unused/GrammarASTEdgesBits/reach_from/Answers.antt
 
 pub returns-in-Some : goal.returns-in-Some
 unfolding syntax syntax_view
