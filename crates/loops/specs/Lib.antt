@@ -1,0 +1,4 @@
+pub mod Alone
+pub mod Rows
+pub mod Steps
+pub mod Uses

@@ -1,0 +1,19 @@
+-- Rows of steps from rule to rule, and loops: rows from a rule to itself. `Has a s` says that rule a has the step s.
+use Rattle.std.specs.Prelude.{◌≡◌, ℕ, ◌<◌, ◌≤◌, List, [], ◌∷◌, length}
+use Rattle.loops.specs.declared.rows.Step.{Step}
+
+module _ (Has : ℕ → Step → Type 0) where
+  -- each step is one of the rule to which the one before it leads; the first is one of a, and the last leads to b
+  abbrev pub Leads : ℕ → List Step → ℕ → Type 0
+  Leads a [] b = a ≡ b
+  Leads a (step ∷ row) b = Has a step × Leads step.rule row b
+
+  -- a row of one or more steps from the rule to itself
+  pub record IsLoop (rule : ℕ) (row : List Step) : Type 0 where
+    pub some : 0 < length row
+    pub leads : Leads rule row rule
+
+  -- a loop than which none is shorter
+  pub record IsShortestLoop (rule : ℕ) (row : List Step) : Type 0 where
+    pub itself : IsLoop rule row
+    pub least : (other : List Step) → IsLoop rule other → length row ≤ length other

@@ -1,0 +1,15 @@
+-- The steps of a grammar from rule to rule, by productions in which a rule stands alone.
+use Rattle.std.specs.Prelude.{◌≡◌, ℕ, ◌+◌, ◌<◌, [], Some, drop, length, slice_get, take}
+use Rattle.derivation.specs.Grammar.{Rule, Grammar, HasProduction}
+use Rattle.derivation.specs.Derivation.{Derives}
+use Rattle.cfgtables.specs.Openings.{nth_production}
+use Rattle.loops.specs.declared.rows.Step.{Step}
+
+-- The step's production is one of the rule's, and has the step's rule at its place. What stands before and behind that
+-- derives the empty list.
+pub record IsStep (g : Grammar) (rule : ℕ) (step : Step) : Type 0 where
+  pub there : step.production < length g.productions
+  pub owner : (nth_production g step.production).rule ≡ rule
+  pub holds : slice_get (nth_production g step.production).symbols step.place ≡ Some (Rule step.rule)
+  pub front : Derives (HasProduction g) (take step.place (nth_production g step.production).symbols) []
+  pub back : Derives (HasProduction g) (drop (step.place + 1) (nth_production g step.production).symbols) []
