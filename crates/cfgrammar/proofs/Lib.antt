@@ -1,3 +1,4 @@
+pub mod Among
 pub mod Built
 pub mod Counted
 pub mod OfItself

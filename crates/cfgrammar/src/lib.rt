@@ -16,6 +16,7 @@
 #![tactic(auto)]
 
 pub mod header;
+pub mod lexcheck;
 pub mod yacc;
 
 pub use cfgbase::{Location, Span, Spanned, SpansKind, span};

@@ -1,1 +1,6 @@
 pub mod OfText
+pub mod SentenceTexts
+pub mod SentencesListed
+pub mod Told
+pub mod WarningPlaces
+pub mod Written

@@ -15,10 +15,10 @@ use Rattle.cfgshell.specs.declared.words.Command.{Command}
 use Rattle.cfgshell.specs.declared.words.Command.TheVariants.{Grammar, Firsts, Follows, Sentences, Warnings}
 use Rattle.cfgshell.specs.declared.words.KindArg.{KindArg}
 use Rattle.cfgshell.specs.declared.words.KindArg.TheVariants.{Named, Section}
-use Rattle.cfglisting.specs.FirstLines.{AreFirstLines}
-use Rattle.cfglisting.specs.FollowLines.{AreFollowLines}
-use Rattle.cfglisting.specs.Lines.{AreWarningLines, error_lines, production_lines}
-use Rattle.cfglisting.specs.SentenceLines.{AreSentenceLines}
+use Rattle.cfgtool.specs.FirstLines.{AreFirstLines}
+use Rattle.cfgtool.specs.FollowLines.{AreFollowLines}
+use Rattle.cfgtool.specs.Lines.{AreWarningLines, error_lines, production_lines}
+use Rattle.cfgtool.specs.SentenceLines.{AreSentenceLines}
 use Rattle.cfgtool.specs.LexerLines.{lexer_lines, names_in}
 use Rattle.cfgtool.specs.declared.engine.Request.{Request}
 use Rattle.cfgtool.specs.declared.engine.Request.TheVariants as requests

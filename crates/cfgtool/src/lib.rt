@@ -2,9 +2,14 @@
 #![tactic(auto)]
 
 pub mod engine;
-pub mod lexer_lines;
+mod first_lines;
+mod follow_lines;
+mod lexer_lines;
+mod lines;
 pub mod program;
+mod sentence_lines;
 pub mod system;
+mod token_sets;
 
 pub use cfgshell::{
     Command, Counted, Input, KindArg, Outcome, ReportFault, Sink, SinkFault, Source, laws, sink,

@@ -493,7 +493,6 @@ impl<S: Storage> YaccGrammar<S> {
     }
 
     /// How many conflicts between shifting and reducing the file expects, where it says so (Bison's `%expect`).
-    #[tactic(auto, unfolding(cfgnumbers::specs::View::tables))]
     pub fn expect(&self) -> Option<usize>
         ensures { result ≡ option_map (λ number. number.0) self.now.settings.expect }
     {
@@ -504,7 +503,6 @@ impl<S: Storage> YaccGrammar<S> {
     }
 
     /// How many conflicts between reductions the file expects, where it says so (Bison's `%expect-rr`).
-    #[tactic(auto, unfolding(cfgnumbers::specs::View::tables))]
     pub fn expectrr(&self) -> Option<usize>
         ensures { result ≡ option_map (λ number. number.0) self.now.settings.expect_reduce_reduce }
     {
@@ -515,7 +513,6 @@ impl<S: Storage> YaccGrammar<S> {
     }
 
     /// The parser's generic parameters, as the file gives them.
-    #[tactic(auto, unfolding(cfgnumbers::specs::View::tables))]
     pub fn parse_generics(&self) -> &Option<String>
         ensures { option_map string_bytes result.now ≡ self.now.settings.parse_generics }
     {
@@ -523,7 +520,6 @@ impl<S: Storage> YaccGrammar<S> {
     }
 
     /// The name and the type of the parser's parameter, as the file gives them.
-    #[tactic(auto, unfolding(cfgnumbers::specs::View::tables))]
     pub fn parse_param(&self) -> &Option<(String, String)>
         ensures { option_map pair_view result.now ≡ self.now.settings.parse_param }
     {
@@ -531,7 +527,6 @@ impl<S: Storage> YaccGrammar<S> {
     }
 
     /// The text of the programs part.
-    #[tactic(auto, unfolding(cfgnumbers::specs::View::tables))]
     pub fn programs(&self) -> &Option<String>
         ensures { option_map string_bytes result.now ≡ self.now.settings.programs }
     {

@@ -5,7 +5,7 @@ use Rattle.cfgerrors.specs.declared.error.YaccFault.TheVariants as faults
 use Rattle.cfgsyntax.specs.Spans.{EachErrorSpan}
 use Rattle.cfgrammar.specs.Answer.{WasRead}
 use Rattle.cfgrammar.proofs.OfItself.{parsed_itself, refused_itself}
-use Rattle.cfglisting.specs.Lines.{error_lines}
+use Rattle.cfgtool.specs.Lines.{error_lines}
 use Rattle.cfgtool.specs.Report.{greatest}
 use Rattle.cfgtool.proofs.OfText.{refusal}
 use Rattle.cfgtool.proofs.engine.report_itself.Goals as goal

@@ -6,7 +6,7 @@ use Rattle.cfgtree.specs.View.{syntax}
 use Rattle.cfgsyntax.specs.Spans.{EachErrorSpan}
 use Rattle.cfgnumbers.specs.Numbered.{Numbered}
 use Rattle.cfgrammar.specs.Answer.{WasRead, in_numbers}
-use Rattle.cfglisting.specs.Lines.{error_lines}
+use Rattle.cfgtool.specs.Lines.{error_lines}
 use Rattle.cfgshell.specs.declared.outcome.Outcome.TheVariants.{Done, Refused}
 use Rattle.cfgtool.specs.Report.{AreAskedLines, IsReport}
 use Rattle.cfgtool.proofs.OfText.{ended_told}

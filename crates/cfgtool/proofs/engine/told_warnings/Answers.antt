@@ -2,8 +2,8 @@ use Rattle.std.proofs.Common.{◌≡◌, All, string_bytes, sym, subst, ap, ◌�
 use Rattle.std.proofs.lemmas.Result.{IfOk-weaker}
 use Rattle.cfgwords.specs.Places.{IsPiece, IsWithin}
 use Rattle.cfgtree.specs.View.{syntax}
-use Rattle.cfglisting.specs.Lines.{AreWarningLines, EachWarningSpan, warning_lines}
-use Rattle.cfglisting.proofs.WarningPlaces.{warning_places}
+use Rattle.cfgtool.specs.Lines.{AreWarningLines, EachWarningSpan, warning_lines}
+use Rattle.cfgtool.proofs.WarningPlaces.{warning_places}
 use Rattle.cfgtool.proofs.engine.told_warnings.Goals as goal
 
 pub warning_lines-requires : goal.warning_lines-requires

@@ -1,4 +1,0 @@
-pub mod SentenceTexts
-pub mod SentencesListed
-pub mod Told
-pub mod WarningPlaces

@@ -1,7 +1,0 @@
-use Rattle.std.proofs.Common.{◌≡◌, take, string_bytes}
-use Rattle.cfglisting.specs.Lines.{error_lines}
-use Rattle.cfglisting.proofs.lines.error_lines.Given as goal
-
--- the lines of the errors so far
-abbrev pub invariant-loop-error : goal.invariant-loop-error
-invariant-loop-error l = string_bytes l.lines ≡ error_lines l.text (take l.error-index l.errors)

@@ -1,5 +1,0 @@
-pub mod Lines
-pub mod TokenSets
-pub mod FirstLines
-pub mod FollowLines
-pub mod SentenceLines

@@ -1,0 +1,16 @@
+-- What is told of a production.
+use Rattle.std.proofs.Common.{◌≡◌, ℕ, List, ◌++◌, slice_get, Option, Some, None, option_map, codes}
+use Rattle.std.specs.Fmt.{decimal}
+use Rattle.cfgnumbers.specs.Numbered.{Numbered}
+use Rattle.cfgnumbers.specs.Shown.{production_part, production_text}
+use Rattle.cfgtool.specs.Lines.{production_line}
+
+-- the line of a production
+pub line_shown : (g : Numbered) (n : ℕ) (text : List ℕ) → production_part (production_text g) g n ≡ Some text
+    → production_part (λ production. production_line g (n, production)) g n ≡ Some (decimal n ++ (codes " " ++ (text ++ codes "\n")))
+line_shown g n text shown = lined (production_text g) n (slice_get g.productions n) text shown
+  where
+    lined : {A : Type 0} (text_of : A → List ℕ) (n : ℕ) (o : Option A) (text : List ℕ) → option_map text_of o ≡ Some text
+        → option_map (λ x. decimal n ++ (codes " " ++ (text_of x ++ codes "\n"))) o ≡ Some (decimal n ++ (codes " " ++ (text ++ codes "\n")))
+    lined text_of n None text e = let no : None ≡ Some text = e in cc
+    lined text_of n (Some x) text e = let same : Some (text_of x) ≡ Some text = e in cc

@@ -1,0 +1,32 @@
+-- The spans of a syntax's warnings are spans of the syntax.
+use Rattle.std.proofs.Common.{List, [], All, map, arith}
+use Rattle.std.specs.List.{zip}
+use Rattle.std.proofs.lemmas.List.Elements.{All-nil, All-cons, All-head, All-tail, All-append, All-map}
+use Rattle.lemmas.proofs.Zips.{All-zip}
+use Rattle.cfgbase.specs.declared.span.Span.{Span}
+use Rattle.cfgast.specs.Syntax.{Syntax, EachSpan}
+use Rattle.cfgtree.specs.Unused.{Name, AreWarnings, Warned, none, taken, left, possible_warnings, rule_warning, token_warning}
+use Rattle.cfgwarnings.specs.Warnings.{GrammarWarning, warning_at}
+use Rattle.cfgwarnings.specs.declared.warning.YaccGrammarWarningKind.{YaccGrammarWarningKind}
+use Rattle.cfgwarnings.specs.declared.warning.YaccGrammarWarningKind.TheVariants.{UnusedRule, UnusedToken}
+use Rattle.cfgtool.specs.Lines.{EachWarningSpan}
+
+module _ (P Q : Span → Type 0) where
+  placed : (kind : YaccGrammarWarningKind) (span : Span) → P span → EachWarningSpan P (warning_at kind span)
+  placed kind span here = record { some = omega arith; each = All-cons P span [] here (All-nil P) }
+
+  warned : (s : Syntax) (possible : List (Name × GrammarWarning)) (told : List GrammarWarning) → Warned s possible told
+      → All (λ named. EachWarningSpan P named.1) possible → All (EachWarningSpan P) told
+  warned s _ _ none all = All-nil (EachWarningSpan P)
+  warned s _ _ (taken {name = name} {warning = warning} {rest = rest} {warnings = told} unused w) all =
+      All-cons (EachWarningSpan P) warning told (All-head (λ named. EachWarningSpan P named.1) (name, warning) rest all)
+      (warned s rest told w (All-tail (λ named. EachWarningSpan P named.1) (name, warning) rest all))
+  warned s _ told (left {name = name} {warning = warning} {rest = rest} used w) all =
+      warned s rest told w (All-tail (λ named. EachWarningSpan P named.1) (name, warning) rest all)
+
+  pub warning_places : (s : Syntax) (told : List GrammarWarning) → AreWarnings s told → EachSpan P Q s → All (EachWarningSpan P) told
+  warning_places s told are each = warned s (possible_warnings s) told are
+      (All-append (λ named. EachWarningSpan P named.1) (map rule_warning s.rules) (map token_warning (zip s.tokens s.spans))
+      (All-map (λ named. EachWarningSpan P named.1) rule_warning s.rules (λ k d within. placed UnusedRule _ (each.rules k d within)))
+      (All-map (λ named. EachWarningSpan P named.1) token_warning (zip s.tokens s.spans)
+      (λ k d within. placed UnusedToken _ (All-zip (λ _. Unit {0}) P s.tokens s.spans (λ _ _ _. tt) each.tokens k d within).1)))

@@ -1,0 +1,41 @@
+use Rattle.std.proofs.Common.{ℕ, ◌++◌, map, string_bytes, refl, subst, ap, ◌∙◌, append_assoc}
+use Rattle.std.specs.List.{concat}
+use Rattle.std.proofs.lemmas.Result.{on_ok_weaker}
+use Rattle.derivation.specs.Grammar.{Grammar, HasProduction}
+use Rattle.cfgleast.specs.Generator.{AnswersLeast, token_cost}
+use Rattle.cfgcosts.specs.Sentences.{AnswersGreatest, numbers_of}
+use Rattle.cfgtool.specs.SentenceLines.{TellsRule, cost_line, sentence_line}
+use Rattle.cfgtool.proofs.sentence_lines.write_rule.Goals as goal
+
+pub returns : goal.returns
+returns c =
+    let g = c.args.grammar.now in
+    let x = c.args.generator.now in
+    let r = c.args.ridx.0 in
+    let least = c.min_sentence_cost-least in
+    let greatest = c.max_sentence_cost-greatest in
+    let sentences = map (numbers_of (λ (s : ℕ). s)) c.in_ok-sentences.sentences.items in
+    let line = cost_line c.rule_name_str.result.now least.result greatest.result in
+    let lists = concat (map (sentence_line g) sentences) in
+    let tells_least : AnswersLeast (HasProduction x.grammar) (token_cost x) r least.result =
+    record { least = least.ensures.least; found = least.ensures.found; none = least.ensures.none; dear = least.ensures.dear } in
+    let tells_greatest : AnswersGreatest (HasProduction x.grammar) (token_cost x) r greatest.result =
+    record { none = greatest.ensures.none; unbounded = greatest.ensures.unbounded; greatest = greatest.ensures.greatest; too_large = greatest.ensures.too_large } in
+    let told : TellsRule g (token_cost x) r (line ++ lists) = record {
+      name = c.rule_name_str.result.now;
+      least = least.result;
+      greatest = greatest.result;
+      sentences = sentences;
+      named = c.rule_name_str.ensures;
+      tells_least = subst (λ (h : Grammar). AnswersLeast (HasProduction h) (token_cost x) r least.result) c.requires.same tells_least;
+      tells_greatest = subst (λ (h : Grammar). AnswersGreatest (HasProduction h) (token_cost x) r greatest.result) c.requires.same tells_greatest;
+      tells_sentences = c.in_ok-sentences.ensures.minimal;
+      told = refl;
+    } in
+    on_ok_weaker c.write_sentences.result (λ added. (
+      line ++ lists,
+      told,
+      added ∙ ap (λ ss. string_bytes c.write_costs.new.lines ++ concat (map (sentence_line g) (map (numbers_of (λ (s : ℕ). s)) ss))) c.deref.ensures.value
+          ∙ ap (λ t. t ++ lists) c.in_ok-write_costs.ensures
+          ∙ append_assoc (string_bytes c.args.lines.now) line lists,
+    )) c.write_sentences.ensures

@@ -1,0 +1,115 @@
+//! The lines of a report.
+
+ghost use Rattle.std.specs.Prelude.{◌≡◌, ◌++◌, ◌<◌, All, length, IfOk, OnOk, string_bytes};
+ghost use Rattle.cfgwords.specs.Places.{IsPiece};
+ghost use Rattle.cfgnumbers.specs.Shown.{production_part};
+ghost use Rattle.cfgsyntax.specs.Spans.{EachErrorSpan};
+ghost use Rattle.cfgtool.specs.Lines.{EachWarningSpan, error_line, error_lines, first_place, production_line};
+ghost use Rattle.cfgtool.specs.Lines.{production_lines, warning_line, warning_lines};
+ghost use Rattle.cfgtool.specs.TokenSets.{Adds};
+
+use cfglines::Places;
+use cfgrammar::yacc::{YaccGrammar, YaccGrammarError, YaccGrammarWarning};
+use cfgrammar::{PIdx, Span, Spanned};
+use std::alloc::{AllocError, Global};
+
+/// The productions of a grammar, each as a line: its index, a space and its text.
+pub fn production_lines(alloc: Global, grammar: &YaccGrammar<u32>) -> Result<String, AllocError>
+    ensures { IfOk result (λ lines. string_bytes lines ≡ production_lines grammar.now) }
+{
+    let mut lines = String::new(alloc);
+    for pidx in grammar.iter_pidxs() {
+        write_production(alloc, &mut lines, grammar, pidx)?;
+    }
+    Ok(lines)
+}
+
+/// Writes the line of a production.
+fn write_production(
+    alloc: Global,
+    lines: &mut String,
+    grammar: &YaccGrammar<u32>,
+    pidx: PIdx<u32>,
+) -> Result<(), AllocError>
+    requires { pidx.0 < length grammar.now.productions }
+    ensures { OnOk result (Adds (production_part
+        (λ production. production_line grammar.now (pidx.0, production)) grammar.now pidx.0)
+        (string_bytes lines.old) (string_bytes lines.new)) }
+{
+    let text = grammar.pp_prod(alloc, pidx)?;
+    writeln!(lines, "{} {text}", usize::from(pidx))
+}
+
+/// The errors of a text, each as a line: its place and what it says.
+pub fn error_lines(
+    alloc: Global,
+    text: &str,
+    errors: &[YaccGrammarError],
+) -> Result<String, AllocError>
+    requires { All (EachErrorSpan (IsPiece text.now)) errors.now }
+    ensures { IfOk result (λ lines. string_bytes lines ≡ error_lines text.now errors.now) }
+{
+    let places = Places::new(alloc, text)?;
+    let mut lines = String::new(alloc);
+    for error in errors {
+        write_error(&mut lines, &places, error)?;
+    }
+    Ok(lines)
+}
+
+/// The warnings of a text, each as a line: its place and what it says.
+pub fn warning_lines(
+    alloc: Global,
+    text: &str,
+    warnings: &[YaccGrammarWarning],
+) -> Result<String, AllocError>
+    requires { All (EachWarningSpan (IsPiece text.now)) warnings.now }
+    ensures { IfOk result (λ lines. string_bytes lines ≡ warning_lines text.now warnings.now) }
+{
+    if warnings.is_empty() {
+        return Ok(String::new(alloc));
+    }
+    let places = Places::new(alloc, text)?;
+    let mut lines = String::new(alloc);
+    for warning in warnings {
+        write_warning(&mut lines, &places, warning)?;
+    }
+    Ok(lines)
+}
+
+/// Writes the line of an error.
+fn write_error(
+    lines: &mut String,
+    places: &Places<'_>,
+    error: &YaccGrammarError,
+) -> Result<(), AllocError>
+    requires { EachErrorSpan (IsPiece places.now) error.now }
+    ensures { OnOk result (string_bytes lines.new ≡ string_bytes lines.old ++ error_line places.now error.now) }
+{
+    write_place(lines, places, error.spans())?;
+    writeln!(lines, "{error}")
+}
+
+/// Writes the line of a warning.
+fn write_warning(
+    lines: &mut String,
+    places: &Places<'_>,
+    warning: &YaccGrammarWarning,
+) -> Result<(), AllocError>
+    requires { EachWarningSpan (IsPiece places.now) warning.now }
+    ensures { OnOk result (string_bytes lines.new ≡ string_bytes lines.old ++ warning_line places.now warning.now) }
+{
+    write_place(lines, places, warning.spans())?;
+    writeln!(lines, "{warning}")
+}
+
+/// Writes the line and the column of the first span, and a colon behind each.
+fn write_place(lines: &mut String, places: &Places<'_>, spans: &[Span]) -> Result<(), AllocError>
+    requires some { 0 < length spans.now }
+    requires placed { All (IsPiece places.now) spans.now }
+    ensures { OnOk result (string_bytes lines.new ≡ string_bytes lines.old ++ first_place places.now spans.now) }
+{
+    let start = spans[0].start();
+    let (line, column) = places.line_and_column(start).unwrap();
+    write!(lines, "{line}:{column}: ")
+}
