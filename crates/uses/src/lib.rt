@@ -2,9 +2,9 @@
 #![tactic(auto)]
 
 pub mod answers;
-pub mod errors;
-pub mod productions;
-pub mod repairs;
-pub mod sections;
-pub mod tables;
-pub mod trees;
+mod errors;
+mod productions;
+mod repairs;
+mod sections;
+mod tables;
+mod trees;
