@@ -10,7 +10,7 @@ use Rattle.cfganalysis.specs.Table.{IsTable, Joins}
 use Rattle.cfganalysis.specs.Firsts.{FirstSets, AreFirsts, IsAmongFirsts, IsEpsilon}
 use Rattle.cfganalysis.specs.Inner.GrowingFirsts.{SayFirsts, HaveFirstsOf, BeginsBy, VanishesBy, no_firsts, with_epsilon}
 use Rattle.cfganalysis.specs.Inner.Growth.{CoversEach}
-use Rattle.cfganalysis.proofs.OneBit.{bit-no_bits, IsTable-no_bits}
+use Rattle.cfganalysis.proofs.Joins.{bit-no_bits, IsTable-no_bits}
 
 -- sets to which a production adds what it gives
 module _ (g : Grammar) (rule : ℕ) (symbols : List Sym) (has : HasProduction g rule symbols) where

@@ -11,10 +11,9 @@ use Rattle.cfganalysis.specs.Firsts.{FirstSets, IsAmongFirsts, IsEpsilon, epsilo
 use Rattle.cfganalysis.specs.Inner.GrowingFirsts.{SayFirsts, HasNoMoreFirsts, HaveFirstsOf, HoldsRule, BeginsBy, VanishesBy, count_firsts, is_empty_symbol, with_epsilon}
 use Rattle.cfganalysis.specs.Inner.Growth.{TakesIn}
 use Rattle.cfganalysis.specs.Inner.Waiting.{Waits, NoneWaits}
-use Rattle.cfganalysis.proofs.Noting.{put_waits, put_there}
 use Rattle.lemmas.proofs.Passes.{grown}
-use Rattle.search.proofs.Bits.{bits_on-fewer, bits_on-set}
-use Rattle.cfganalysis.proofs.OneBit.{count_of-fewer}
+use Rattle.search.proofs.Bits.{bit_put, bits_on-fewer, bits_on-set}
+use Rattle.cfganalysis.proofs.Joins.{count_of-fewer}
 use Rattle.cfganalysis.proofs.Fronts.{begins_front, begins_past, vanishes_among, begins_among, vanishes_alone, stays_alone}
 use Rattle.cfganalysis.proofs.FirstBits.{say_first, say_epsilon}
 use Rattle.cfgtables.proofs.Placed.{owner}
@@ -24,24 +23,28 @@ pub record Puts (rule : ℕ) (s : Sym) (old new : FirstSets) (changed : Bool) : 
   pub epsilons : new.epsilons ≡ old.epsilons
   pub joins : Joins (λ r t. (r ≡ rule) × BeginsBy old (s ∷ []) t) old.firsts new.firsts changed
 
--- the first n symbols vanish, and what begins them was put into the rule's set
-pub record Visits (rule : ℕ) (symbols : List Sym) (n : ℕ) (old new : FirstSets) (changed : Bool) : Type 0 where
-  pub vanished : VanishesBy old (take n symbols)
-  pub epsilons : new.epsilons ≡ old.epsilons
+-- no set but the rule's grew, and that by what its production gives
+pub record Grown (rule : ℕ) (symbols : List Sym) (old new : FirstSets) (changed : Bool) : Type 0 where
   pub sound : (g : Grammar) → IsGrammar g → HasProduction g rule symbols → SayFirsts g old → SayFirsts g new
   pub more : changed ≡ true → count_firsts old < count_firsts new
   pub same : changed ≡ false → new ≡ old
   pub others : (r t : ℕ) → IsAmongFirsts new r t → IsAmongFirsts old r t ⊎ (r ≡ rule)
   pub kept : (r t : ℕ) → IsAmongFirsts old r t → IsAmongFirsts new r t
+
+-- what begins the first n symbols was put into the rule's set
+pub record Walked (rule : ℕ) (symbols : List Sym) (n : ℕ) (old new : FirstSets) (changed : Bool) : Type 0 where
+  pub epsilons : new.epsilons ≡ old.epsilons
+  pub growth : Grown rule symbols old new changed
   pub given : (t : ℕ) → BeginsBy old (take n symbols) t → IsAmongFirsts new rule t
+
+-- and they vanish
+pub record Visits (rule : ℕ) (symbols : List Sym) (n : ℕ) (old new : FirstSets) (changed : Bool) : Type 0 where
+  pub vanished : VanishesBy old (take n symbols)
+  pub walked : Walked rule symbols n old new changed
 
 -- the whole production was taken in
 record Taken (rule : ℕ) (symbols : List Sym) (old new : FirstSets) (changed : Bool) : Type 0 where
-  sound : (g : Grammar) → IsGrammar g → HasProduction g rule symbols → SayFirsts g old → SayFirsts g new
-  more : changed ≡ true → count_firsts old < count_firsts new
-  same : changed ≡ false → new ≡ old
-  others : (r t : ℕ) → IsAmongFirsts new r t → IsAmongFirsts old r t ⊎ (r ≡ rule)
-  kept : (r t : ℕ) → IsAmongFirsts old r t → IsAmongFirsts new r t
+  growth : Grown rule symbols old new changed
   given : (t : ℕ) → BeginsBy old symbols t → IsAmongFirsts new rule t
   others_empty : (r : ℕ) → IsEpsilon new r → IsEpsilon old r ⊎ (r ≡ rule)
   kept_empty : (r : ℕ) → IsEpsilon old r → IsEpsilon new r
@@ -65,29 +68,29 @@ module _ (rule : ℕ) (symbols : List Sym) (old new : FirstSets) (changed : Bool
         where
           by : (b : Bool) → changed ≡ b → new ≡ old
           by true is = absurd (none r among (e, is))
-          by false is = w.same is
+          by false is = w.growth.same is
 
       back : (r t : ℕ) → HoldsRule q r → IsAmongFirsts new r t → IsAmongFirsts old r t
-      back r t among on = elim (w.others r t on) [ inl i ↦ i | inr e ↦ subst (λ x. IsAmongFirsts x r t) (unless r among e) on ]
+      back r t among on = elim (w.growth.others r t on) [ inl i ↦ i | inr e ↦ subst (λ x. IsAmongFirsts x r t) (unless r among e) on ]
 
       back_empty : (r : ℕ) → HoldsRule q r → IsEpsilon new r → IsEpsilon old r
       back_empty r among on = elim (w.others_empty r on) [ inl i ↦ i | inr e ↦ subst (λ x. IsEpsilon x r) (unless r among e) on ]
 
   takes : TakesIn SayFirsts HaveFirstsOf count_firsts HoldsRule HasNoMoreFirsts (record { rule = rule; symbols = symbols }) old new (GainsRule rule changed)
   takes = record {
-    sound = w.sound;
+    sound = w.growth.sound;
     no_less = by changed refl;
-    more = λ r h. w.more h.1;
+    more = λ r h. w.growth.more h.1;
     gains = λ r. (gained r, grew r);
     closed = λ none. covered (record { rule = rule; symbols = symbols }) none w.given w.given_empty;
-    stays = λ q none had. covered q none (λ t h. w.kept q.rule t (had.first t h)) (λ h. w.kept_empty q.rule (had.empty h));
+    stays = λ q none had. covered q none (λ t h. w.growth.kept q.rule t (had.first t h)) (λ h. w.kept_empty q.rule (had.empty h));
   }
     where
       -- had the rule no more than before, there would be no more in all
       gained : (r : ℕ) → GainsRule rule changed r → HasNoMoreFirsts r old new → ⊥
       gained r h none =
-          let more = w.more h.1 in
-          let first = count_of-fewer new.firsts old.firsts (λ q t on. elim (w.others q t on) [
+          let more = w.growth.more h.1 in
+          let first = count_of-fewer new.firsts old.firsts (λ q t on. elim (w.growth.others q t on) [
             | inl i ↦ i
             | inr e ↦ subst (λ k. IsAmongFirsts old k t) (h.0 ∙ sym e) (none.first t (subst (λ k. IsAmongFirsts new k t) (e ∙ sym h.0) on))
           ]) in
@@ -101,7 +104,7 @@ module _ (rule : ℕ) (symbols : List Sym) (old new : FirstSets) (changed : Bool
       grew r unless = elim (cases_eq r rule) [
         | inl e ↦ changed_by changed refl e
         | inr ne ↦ absurd (unless (record {
-          first = λ t on. elim (w.others r t on) [ inl i ↦ i | inr e ↦ absurd (ne e) ];
+          first = λ t on. elim (w.growth.others r t on) [ inl i ↦ i | inr e ↦ absurd (ne e) ];
           empty = λ on. elim (w.others_empty r on) [ inl i ↦ i | inr e ↦ absurd (ne e) ];
         }))
       ]
@@ -109,13 +112,13 @@ module _ (rule : ℕ) (symbols : List Sym) (old new : FirstSets) (changed : Bool
           changed_by : (b : Bool) → changed ≡ b → r ≡ rule → GainsRule rule changed r
           changed_by true is e = (e, is)
           changed_by false is e = absurd (unless (record {
-            first = λ t on. subst (λ x. IsAmongFirsts x r t) (w.same is) on;
-            empty = λ on. subst (λ x. IsEpsilon x r) (w.same is) on;
+            first = λ t on. subst (λ x. IsAmongFirsts x r t) (w.growth.same is) on;
+            empty = λ on. subst (λ x. IsEpsilon x r) (w.growth.same is) on;
           }))
 
       by : (b : Bool) → changed ≡ b → count_firsts old ≤ count_firsts new
-      by true e = let h = w.more e in omega (arith, h)
-      by false e = let h = ap count_firsts (w.same e) in omega (arith, h)
+      by true e = let h = w.growth.more e in omega (arith, h)
+      by false e = let h = ap count_firsts (w.growth.same e) in omega (arith, h)
 
 same_sets : (old new : FirstSets) → new.epsilons ≡ old.epsilons → new.firsts ≡ old.firsts → new ≡ old
 same_sets old new e h = ap (λ l. record { firsts = new.firsts; epsilons = l }) e ∙ ap (λ x. record { firsts = x; epsilons = old.epsilons }) h
@@ -124,24 +127,12 @@ module _ (rule : ℕ) (symbols : List Sym) where
   pub visits_none : (x : FirstSets) → Visits rule symbols 0 x x false
   visits_none x = record {
     vanished = tt;
-    epsilons = refl;
-    sound = λ g is has say. say;
-    more = λ e. absurd (true≢false (sym e));
-    same = λ e. refl;
-    others = λ r t h. inl h;
-    kept = λ r t h. h;
-    given = λ t h. absurd h;
+    walked = record {
+      epsilons = refl;
+      growth = record { sound = λ g is has say. say; more = λ e. absurd (true≢false (sym e)); same = λ e. refl; others = λ r t h. inl h; kept = λ r t h. h };
+      given = λ t h. absurd h;
+    };
   }
-
-  -- one symbol more, but for what tells whether it vanishes
-  record Walked (n : ℕ) (old new : FirstSets) (changed : Bool) : Type 0 where
-    epsilons : new.epsilons ≡ old.epsilons
-    sound : (g : Grammar) → IsGrammar g → HasProduction g rule symbols → SayFirsts g old → SayFirsts g new
-    more : changed ≡ true → count_firsts old < count_firsts new
-    same : changed ≡ false → new ≡ old
-    others : (r t : ℕ) → IsAmongFirsts new r t → IsAmongFirsts old r t ⊎ (r ≡ rule)
-    kept : (r t : ℕ) → IsAmongFirsts old r t → IsAmongFirsts new r t
-    given : (t : ℕ) → BeginsBy old (take n symbols) t → IsAmongFirsts new rule t
 
   module _ (n : ℕ) (s : Sym) (old mid new : FirstSets) (c d : Bool) (lt : n < length symbols) (is : s ≡ get_or symbols n s)
       (w : Visits rule symbols n old mid c) (one : Puts rule s mid new d) where
@@ -155,27 +146,29 @@ module _ (rule : ℕ) (symbols : List Sym) where
     begins_symbols : (t : ℕ) → BeginsBy mid (s ∷ []) t → BeginsBy mid symbols t
     begins_symbols t h = subst (λ l. BeginsBy mid l t) (take-append-drop (n + 1) symbols)
         (begins_front _ _ (take (n + 1) symbols) (drop (n + 1) symbols) t (subst (λ l. BeginsBy mid l t) (sym longer)
-        (begins_past _ _ (take n symbols) (s ∷ []) t (subst (λ l. Vanishes (λ r. IsTrue (get_or l r false)) (take n symbols)) (sym w.epsilons) w.vanished) h)))
+        (begins_past _ _ (take n symbols) (s ∷ []) t (subst (λ l. Vanishes (λ r. IsTrue (get_or l r false)) (take n symbols)) (sym w.walked.epsilons) w.vanished) h)))
 
-    walked : Walked (n + 1) old new (c || d)
+    walked : Walked rule symbols (n + 1) old new (c || d)
     walked = record {
-      epsilons = one.epsilons ∙ w.epsilons;
-      sound = λ g isg has say. say_first g rule symbols has mid new _ d (w.sound g isg has say) one.epsilons one.joins
-          (λ r t h. (h.0, begins_symbols t h.1));
-      more = grown count_firsts old mid new c d w.more w.same
-          (λ e. let k = one.joins.more e in let b = ap bits_on one.epsilons in omega (arith, k, b)) unchanged;
-      same = λ e. let b = or_parts c d e in unchanged b.1 ∙ w.same b.0;
-      others = λ r t h. elim ((one.joins.bits r t).0 h) [ inl i ↦ w.others r t i | inr i ↦ inr i.0 ];
-      kept = λ r t h. (one.joins.bits r t).1 (inl (w.kept r t h));
+      epsilons = one.epsilons ∙ w.walked.epsilons;
+      growth = record {
+        sound = λ g isg has say. say_first g rule symbols has mid new _ d (w.walked.growth.sound g isg has say) one.epsilons one.joins
+            (λ r t h. (h.0, begins_symbols t h.1));
+        more = grown count_firsts old mid new c d w.walked.growth.more w.walked.growth.same
+            (λ e. let k = one.joins.more e in let b = ap bits_on one.epsilons in omega (arith, k, b)) unchanged;
+        same = λ e. let b = or_parts c d e in unchanged b.1 ∙ w.walked.growth.same b.0;
+        others = λ r t h. elim ((one.joins.bits r t).0 h) [ inl i ↦ w.walked.growth.others r t i | inr i ↦ inr i.0 ];
+        kept = λ r t h. (one.joins.bits r t).1 (inl (w.walked.growth.kept r t h));
+      };
       given = λ t h. (one.joins.bits rule t).1 (elim (begins_parts _ _ (take n symbols) (s ∷ []) t (subst (λ l. BeginsBy old l t) longer h)) [
-        | inl i ↦ inl (w.given t i)
-        | inr i ↦ inr (refl, begins_map _ _ _ _ (λ r on. subst (λ l. IsTrue (get_or l r false)) (sym w.epsilons) on) w.kept (s ∷ []) t i.1)
+        | inl i ↦ inl (w.walked.given t i)
+        | inr i ↦ inr (refl, begins_map _ _ _ _ (λ r on. subst (λ l. IsTrue (get_or l r false)) (sym w.walked.epsilons) on) w.walked.growth.kept (s ∷ []) t i.1)
       ]);
     }
 
     -- the symbol is an empty rule, or it isn't
     tested : (b : Bool) → is_empty_symbol new s ≡ b → is_empty_symbol old s ≡ b
-    tested b e = subst (λ l. is_empty_symbol (record { firsts = old.firsts; epsilons = l }) s ≡ b) (one.epsilons ∙ w.epsilons) (test_by s e)
+    tested b e = subst (λ l. is_empty_symbol (record { firsts = old.firsts; epsilons = l }) s ≡ b) (one.epsilons ∙ w.walked.epsilons) (test_by s e)
       where
         test_by : (s : Sym) → is_empty_symbol new s ≡ b → is_empty_symbol (record { firsts = old.firsts; epsilons = new.epsilons }) s ≡ b
         test_by (Rule r) h = h
@@ -185,24 +178,14 @@ module _ (rule : ℕ) (symbols : List Sym) where
     visits_one e = record {
       vanished = subst (λ l. VanishesBy old l) (sym longer)
           (vanishes_both _ (take n symbols) (s ∷ []) w.vanished (vanishes_alone old s (tested true e)));
-      epsilons = walked.epsilons;
-      sound = walked.sound;
-      more = walked.more;
-      same = walked.same;
-      others = walked.others;
-      kept = walked.kept;
-      given = walked.given;
+      walked = walked;
     }
 
     -- at a symbol that is no empty rule the visit ends
     pub visits_end : is_empty_symbol new s ≡ false
         → TakesIn SayFirsts HaveFirstsOf count_firsts HoldsRule HasNoMoreFirsts (record { rule = rule; symbols = symbols }) old new (GainsRule rule (c || d))
     visits_end e = takes rule symbols old new (c || d) (record {
-      sound = walked.sound;
-      more = walked.more;
-      same = walked.same;
-      others = walked.others;
-      kept = walked.kept;
+      growth = walked.growth;
       given = λ t h. elim (begins_parts _ _ (take (n + 1) symbols) (drop (n + 1) symbols) t
           (subst (λ l. BeginsBy old l t) (sym (take-append-drop (n + 1) symbols)) h)) [
             | inl i ↦ walked.given t i
@@ -223,21 +206,23 @@ module _ (rule : ℕ) (symbols : List Sym) where
       → MatchBool d (epsilon_bit mid rule ≡ false) (epsilon_bit mid rule ≡ true)
       → TakesIn SayFirsts HaveFirstsOf count_firsts HoldsRule HasNoMoreFirsts (record { rule = rule; symbols = symbols }) old new (GainsRule rule (c || d))
   visits_all g n old mid new c d is has say le w put was = takes rule symbols old new (c || d) (record {
-    sound = λ g' is' has' say'. subst (λ x. SayFirsts g' x) (sym put) (say_epsilon g' rule symbols has' mid (w.sound g' is' has' say')
-        (subst (λ l. Vanishes (λ r. IsTrue (get_or l r false)) symbols) (sym w.epsilons) vanished));
-    more = grown count_firsts old mid new c d w.more w.same
-        (λ e. subst (λ x. count_firsts mid < count_firsts x) (sym put)
-        (let k = bits_on-set mid.epsilons rule within (at d e was) in omega (arith, k))) unchanged;
-    same = λ e. let b = or_parts c d e in unchanged b.1 ∙ w.same b.0;
-    others = λ r t h. w.others r t (subst (λ x. IsAmongFirsts x r t) put h);
-    kept = λ r t h. subst (λ x. IsAmongFirsts x r t) (sym put) (w.kept r t h);
-    given = λ t h. subst (λ x. IsAmongFirsts x rule t) (sym put) (w.given t (subst (λ l. BeginsBy old l t) (sym all) h));
+    growth = record {
+      sound = λ g' is' has' say'. subst (λ x. SayFirsts g' x) (sym put) (say_epsilon g' rule symbols has' mid (w.walked.growth.sound g' is' has' say')
+          (subst (λ l. Vanishes (λ r. IsTrue (get_or l r false)) symbols) (sym w.walked.epsilons) vanished));
+      more = grown count_firsts old mid new c d w.walked.growth.more w.walked.growth.same
+          (λ e. subst (λ x. count_firsts mid < count_firsts x) (sym put)
+          (let k = bits_on-set mid.epsilons rule within (at d e was) in omega (arith, k))) unchanged;
+      same = λ e. let b = or_parts c d e in unchanged b.1 ∙ w.walked.growth.same b.0;
+      others = λ r t h. w.walked.growth.others r t (subst (λ x. IsAmongFirsts x r t) put h);
+      kept = λ r t h. subst (λ x. IsAmongFirsts x r t) (sym put) (w.walked.growth.kept r t h);
+    };
+    given = λ t h. subst (λ x. IsAmongFirsts x rule t) (sym put) (w.walked.given t (subst (λ l. BeginsBy old l t) (sym all) h));
     others_empty = λ r h. elim (get_or-set mid.epsilons rule r true false) [
-      | inl e ↦ inl (subst (λ l. IsTrue (get_or l r false)) w.epsilons (sym e ∙ subst (λ x. IsEpsilon x r) put h))
+      | inl e ↦ inl (subst (λ l. IsTrue (get_or l r false)) w.walked.epsilons (sym e ∙ subst (λ x. IsEpsilon x r) put h))
       | inr e ↦ inr e.0
     ];
     kept_empty = λ r h. subst (λ x. IsEpsilon x r) (sym put) (elim (get_or-set mid.epsilons rule r true false) [
-      | inl e ↦ e ∙ subst (λ l. IsTrue (get_or l r false)) (sym w.epsilons) h
+      | inl e ↦ e ∙ subst (λ l. IsTrue (get_or l r false)) (sym w.walked.epsilons) h
       | inr e ↦ e.1
     ]);
     given_empty = λ h. subst (λ x. IsEpsilon x rule) (sym put) (get_or-set_same mid.epsilons rule true false within);
@@ -250,7 +235,7 @@ module _ (rule : ℕ) (symbols : List Sym) where
       vanished = subst (λ l. VanishesBy old l) all w.vanished
 
       within : rule < length mid.epsilons
-      within = subst (λ k. rule < k) (sym (w.sound g is has say).fits.epsilons) (owner g _ is has)
+      within = subst (λ k. rule < k) (sym (w.walked.growth.sound g is has say).fits.epsilons) (owner g _ is has)
 
       at : (d : Bool) → d ≡ true → MatchBool d (epsilon_bit mid rule ≡ false) (epsilon_bit mid rule ≡ true) → epsilon_bit mid rule ≡ false
       at true e h = h
@@ -282,11 +267,11 @@ pub gains_put : (rule place : ℕ) (p : Production) (old new : FirstSets) (chang
     → TakesIn SayFirsts HaveFirstsOf count_firsts HoldsRule HasNoMoreFirsts p old new (GainsRule rule changed)
     → TakesIn SayFirsts HaveFirstsOf count_firsts HoldsRule HasNoMoreFirsts p old new (Waits waiting')
 gains_put rule place p old new changed waiting waiting' none lt at put on w = gains_rule rule p old new changed (Waits waiting')
-    (λ r h. elim (put_waits waiting place r lt (subst (λ l. Waits l r) put h)) [
+    (λ r h. elim ((bit_put waiting place lt r).0 (subst (λ l. Waits l r) put h)) [
       | inl i ↦ absurd (true≢false (sym i ∙ none r))
       | inr e ↦ (e ∙ at, on)
     ])
-    (λ r h. subst (λ l. Waits l r) (sym put) (put_there waiting place r lt (h.0 ∙ sym at))) w
+    (λ r h. subst (λ l. Waits l r) (sym put) ((bit_put waiting place lt r).1 (inr (h.0 ∙ sym at)))) w
 
 pub gains_none : (rule : ℕ) (p : Production) (old new : FirstSets) (changed : Bool) (waiting : List Bool) → NoneWaits waiting → changed ≡ false
     → TakesIn SayFirsts HaveFirstsOf count_firsts HoldsRule HasNoMoreFirsts p old new (GainsRule rule changed)

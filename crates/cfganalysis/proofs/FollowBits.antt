@@ -12,8 +12,7 @@ use Rattle.cfganalysis.specs.Firsts.{FirstSets, AreFirsts, IsAmongFirsts, IsEpsi
 use Rattle.cfganalysis.specs.Follows.{AreFollows}
 use Rattle.cfganalysis.specs.Inner.GrowingFollows.{FollowSets, SayFollows, HaveFollowsOf, FlowIn}
 use Rattle.cfganalysis.specs.Inner.Growth.{CoversEach}
-use Rattle.cfganalysis.proofs.OneBit.{bit-no_bits, IsTable-with_bit, IsTable-no_bits}
-use Rattle.cfganalysis.proofs.Joins.{joins_bit}
+use Rattle.cfganalysis.proofs.Joins.{bit-no_bits, IsTable-no_bits, joins_bit}
 
 -- exact FIRST sets are closed
 firsts_closed : (g : Grammar) (x : FirstSets) → AreFirsts g x → IsClosed (HasProduction g) (IsEpsilon x) (IsAmongFirsts x)
@@ -51,7 +50,7 @@ say_start g f rules tokens is are e h =
     subst (λ n. SayFollows g (record { firsts = f; follows = with_bit (no_bits n tokens) 0 (tokens - 1) })) (sym e)
     (subst (λ n. SayFollows g (record { firsts = f; follows = with_bit (no_bits g.rules n) 0 (n - 1) })) (sym h) (record {
       firsts = are;
-      fits = IsTable-with_bit g.rules g.tokens (no_bits g.rules g.tokens) 0 (g.tokens - 1) is.start table;
+      fits = one.shape g.rules g.tokens table;
       finish = λ t e. let place : t ≡ g.tokens - 1 = omega (arith, e) in (one.bits 0 t).1 (inr (refl, place));
       follow = λ r t on. elim ((one.bits r t).0 on) [
         | inl i ↦ absurd (true≢false (sym i ∙ bit-no_bits g.rules g.tokens r t))

@@ -13,8 +13,8 @@ use Rattle.cfganalysis.specs.Firsts.{FitsGrammar, AreFirsts, IsAmongFirsts, IsEp
 use Rattle.cfganalysis.specs.Inner.GrowingFollows.{FollowSets, FitFollows, SayFollows, HasNoMoreFollows, HaveFollowsOf, IsOwner, FlowIn, Behind, Puts, PutsBehind, count_follows}
 use Rattle.cfganalysis.specs.Inner.Growth.{TakesIn}
 use Rattle.cfganalysis.specs.Inner.Waiting.{waits, Waits, NoneWaits}
-use Rattle.cfganalysis.proofs.Noting.{put_waits, put_keeps, put_there}
-use Rattle.cfganalysis.proofs.OneBit.{count_of-fewer}
+use Rattle.search.proofs.Bits.{bit_put}
+use Rattle.cfganalysis.proofs.Joins.{count_of-fewer}
 
 pub fits_after : (g : Grammar) (gives : ℕ → ℕ → Type 0) (old new : FollowSets) (changed : Bool)
     → Puts gives old new changed → FitFollows g old → FitFollows g new
@@ -56,12 +56,12 @@ module _ (q : ℕ) (gives : ℕ → Type 0) (old new : FollowSets) (changed : Bo
     bits = bits_behind;
     no_less = let h = w.joins.more on in omega (arith, h);
     rules = ap length put ∙ length-set waiting n true;
-    kept = λ r h. subst (λ l. Waits l r) (sym put) (put_keeps waiting n r h);
+    kept = λ r h. subst (λ l. Waits l r) (sym put) ((bit_put waiting n lt r).1 (inl h));
     gained = λ r h. inr (w.joins.more on);
-    more = λ r h. elim (put_waits waiting n r lt (subst (λ l. Waits l r) put h)) [ inl i ↦ inl i | inr e ↦ inr (λ none. grew r (e ∙ is) none) ];
+    more = λ r h. elim ((bit_put waiting n lt r).0 (subst (λ l. Waits l r) put h)) [ inl i ↦ inl i | inr e ↦ inr (λ none. grew r (e ∙ is) none) ];
     told = λ r t h. elim ((w.joins.bits r t).0 h) [
       | inl i ↦ inl i
-      | inr i ↦ inr (subst (λ l. Waits l r) (sym put) (put_there waiting n r lt (i.0 ∙ sym is)))
+      | inr i ↦ inr (subst (λ l. Waits l r) (sym put) ((bit_put waiting n lt r).1 (inr (i.0 ∙ sym is))))
     ];
   }
     where

@@ -1,9 +1,10 @@
 -- FOLLOW sets: what stands at a front of a production, and what is gathered there.
-use Rattle.std.proofs.Common.{◌≡◌, ◌↔◌, ℕ, ◌+◌, ◌<◌, ◌≤◌, ◌⊎◌, inl, inr, ◌||◌, Bool, true, false, List, [], ◌∷◌, drop, get_or, slice_set, length, replicate, All, refl, sym, ap, ◌∙◌, subst, true≢false, length-set, get_or-set_same}
-use Rattle.std.proofs.lemmas.Bool.{or_cases, or_left, or_right}
+use Rattle.std.proofs.Common.{◌≡◌, ◌↔◌, ℕ, ◌+◌, ◌<◌, ◌≤◌, ◌⊎◌, inl, inr, Bool, true, false, List, [], ◌∷◌, drop, get_or, slice_set, length, replicate, All, refl, sym, ap, ◌∙◌, subst, true≢false, length-set}
 use Rattle.std.proofs.lemmas.List.{drop_all, length-replicate}
-use Rattle.lemmas.proofs.Elements.{get_or-set, get_or-replicate_default}
-use Rattle.cfgindex.proofs.Bits.{length-union, get_or-union}
+use Rattle.lemmas.proofs.Elements.{get_or-replicate_default}
+use Rattle.cfgindex.proofs.Bits.{length-union, union_adds}
+use Rattle.lemmas.proofs.Adding.{adds_as}
+use Rattle.search.proofs.Bits.{bit_put}
 use Rattle.derivation.specs.Grammar.{Sym, Rule, Token, Grammar, IsSymbolOf}
 use Rattle.derivation.specs.FirstSets.{Vanishes, Begins}
 use Rattle.derivation.proofs.Firsts.{vanishes_parts, vanishes_both, begins_parts}
@@ -28,37 +29,18 @@ pub gathers_token : (x : FollowSets) (u : ℕ) (old new : List Bool) → u < len
     → Gathers (BeginsList x (Token u ∷ [])) old new
 gathers_token x u old new lt put = record {
   long = ap length put ∙ length-set old u true;
-  tokens = λ t. (to t, λ h. subst (λ l. IsGathered l t) (sym put) (elim h [ inl i ↦ kept t i | inr e ↦ given t e ]));
+  tokens = subst (λ l. (t : ℕ) → (IsGathered l t ↔ (IsGathered old t ⊎ (u ≡ t)))) (sym put)
+      (adds_as (λ t. u ≡ t) (λ t e. inr (sym e)) (λ t e. inr (sym e)) (bit_put old u lt));
 }
-  where
-    to : (t : ℕ) → IsGathered new t → IsGathered old t ⊎ (u ≡ t)
-    to t h = elim (get_or-set old u t true false) [
-      | inl e ↦ inl (sym e ∙ subst (λ l. IsGathered l t) put h)
-      | inr e ↦ inr (sym e.0)
-    ]
-
-    kept : (t : ℕ) → IsGathered old t → IsGathered (slice_set old u true) t
-    kept t h = elim (get_or-set old u t true false) [ inl e ↦ e ∙ h | inr e ↦ e.1 ]
-
-    given : (t : ℕ) → u ≡ t → IsGathered (slice_set old u true) t
-    given t e = subst (λ k. IsGathered (slice_set old u true) k) e (get_or-set_same old u true false lt)
 
 -- a row was joined
 pub gathers_row : (gives : ℕ → Type 0) (row old new : List Bool) → length old ≡ length row → new ≡ joined old row
     → ((t : ℕ) → IsGathered row t → gives t) → ((t : ℕ) → gives t → IsGathered row t) → Gathers gives old new
 gathers_row gives row old new wide put to from = record {
   long = ap length put ∙ length-union old row wide;
-  tokens = λ t. (
-    (λ h. elim (or_cases (get_or old t false) (get_or row t false) (sym (here t) ∙ h)) [ inl i ↦ inl i | inr i ↦ inr (to t i) ]),
-    (λ h. here t ∙ elim h [
-      | inl i ↦ or_left (get_or old t false) (get_or row t false) i
-      | inr i ↦ or_right (get_or old t false) (get_or row t false) (from t i)
-    ]),
-  );
+  tokens = subst (λ l. (t : ℕ) → (IsGathered l t ↔ (IsGathered old t ⊎ gives t))) (sym put)
+      (adds_as gives (λ t h. inr (to t h)) (λ t h. inr (from t h)) (union_adds old row wide));
 }
-  where
-    here : (t : ℕ) → get_or new t false ≡ (get_or old t false || get_or row t false)
-    here t = ap (λ l. get_or l t false) put ∙ get_or-union old row wide t
 
 -- what begins a rule
 pub gathers_rule : (x : FollowSets) (r : ℕ) (old new : List Bool) → length old ≡ length (row_of x.firsts.firsts r)

@@ -1,4 +1,3 @@
-pub mod OneBit
 pub mod Stacking
 pub mod Noting
 pub mod RuleNotes

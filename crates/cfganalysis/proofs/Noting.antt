@@ -1,46 +1,29 @@
 -- The productions that rest on rules: one noted more, and those let wait that rest on one.
-use Rattle.std.proofs.Common.{◌≡◌, ℕ, ◌+◌, ◌<◌, ◌≤◌, ◌⊎◌, inl, inr, Bool, true, false, List, [], ◌∷◌, ◌++◌, Contains, map, take, get_or, length, slice_set, Vec, Global, arith, refl, sym, ap, ◌∙◌, subst, true≢false, length-set, get_or-set_same, get_or-set_other}
+use Rattle.std.proofs.Common.{◌≡◌, ◌↔◌, ℕ, ◌+◌, ◌<◌, ◌≤◌, ◌⊎◌, inl, inr, Bool, true, false, List, [], ◌∷◌, ◌++◌, Contains, map, take, get_or, length, slice_set, Vec, Global, refl, sym, ap, ◌∙◌, subst, true≢false, length-set, get_or-set_other}
 use Rattle.std.proofs.lemmas.Bool.{cases_eq}
-use Rattle.std.proofs.lemmas.List.{get_or-map, map-set, length-map, take_more, take_all}
+use Rattle.std.proofs.lemmas.List.{get_or-map, map-set, length-map, take_all}
 use Rattle.std.proofs.lemmas.List.Elements.{Contains-append_left, Contains-push, Contains-push_cases}
+use Rattle.lemmas.proofs.Adding.{adds_as, adds_then, set_adds}
+use Rattle.lemmas.proofs.Contained.{contains_none}
 use Rattle.lemmas.proofs.Elements.{get_or-set}
-use Rattle.cfganalysis.specs.Inner.Waiting.{Waits, NoneWaits, WaitsNoMore, waits}
+use Rattle.lemmas.proofs.Taken.{contains_taken}
+use Rattle.search.proofs.Bits.{bit_put}
+use Rattle.cfganalysis.specs.Inner.Waiting.{Waits, NoneWaits, WaitsNoMore}
 use Rattle.cfganalysis.specs.Inner.Work.{users_of, Notes, RestsOnGained, LetsWait}
-
-pub nothing_among : (q : ℕ) → Contains [] q → ⊥
-nothing_among q h = omega (arith, h.1)
 
 -- a production was noted with one rule
 pub notes_one : (users : List (List ℕ)) (rule p : ℕ) → rule < length users
     → Notes p (λ r. r ≡ rule) users (slice_set users rule (users_of users rule ++ p ∷ []))
 notes_one users rule p lt = record {
   shape = length-set users rule _;
-  users = λ r q. (to r q, from r q);
+  users = λ r. adds_as (λ q. (q ≡ p) × (r ≡ rule)) (λ q h. inr (h.1, h.0)) (λ q h. inr (h.1, h.0)) (set_adds Contains (λ q. q ≡ p) users rule (users_of users rule ++ p ∷ []) [] lt (λ q. (
+    (λ h. elim (Contains-push_cases (users_of users rule) p q h) [ inl i ↦ inl i | inr e ↦ inr (sym e) ]),
+    (λ h. elim h [
+      | inl i ↦ Contains-append_left (users_of users rule) (p ∷ []) q i
+      | inr e ↦ subst (Contains (users_of users rule ++ p ∷ [])) (sym e) (Contains-push (users_of users rule) p)
+    ]),
+  )) r);
 }
-  where
-    own : users_of (slice_set users rule (users_of users rule ++ p ∷ [])) rule ≡ users_of users rule ++ p ∷ []
-    own = get_or-set_same users rule _ [] lt
-
-    to : (r q : ℕ) → Contains (users_of (slice_set users rule (users_of users rule ++ p ∷ [])) r) q → Contains (users_of users r) q ⊎ ((q ≡ p) × (r ≡ rule))
-    to r q h = elim (get_or-set users rule r (users_of users rule ++ p ∷ []) []) [
-      | inl e ↦ inl (subst (λ l. Contains l q) e h)
-      | inr e ↦ elim (Contains-push_cases (users_of users rule) p q (subst (λ l. Contains l q) e.1 h)) [
-        | inl i ↦ inl (subst (λ n. Contains (users_of users n) q) (sym e.0) i)
-        | inr i ↦ inr (sym i, e.0)
-      ]
-    ]
-
-    at_rule : (q : ℕ) → Contains (users_of users rule ++ p ∷ []) q → Contains (users_of (slice_set users rule (users_of users rule ++ p ∷ [])) rule) q
-    at_rule q h = subst (λ l. Contains l q) (sym own) h
-
-    from : (r q : ℕ) → Contains (users_of users r) q ⊎ ((q ≡ p) × (r ≡ rule)) → Contains (users_of (slice_set users rule (users_of users rule ++ p ∷ [])) r) q
-    from r q (inl h) = elim (cases_eq r rule) [
-      | inl e ↦ subst (λ n. Contains (users_of (slice_set users rule (users_of users rule ++ p ∷ [])) n) q) (sym e)
-          (at_rule q (Contains-append_left (users_of users rule) (p ∷ []) q (subst (λ n. Contains (users_of users n) q) e h)))
-      | inr ne ↦ subst (λ l. Contains l q) (sym (get_or-set_other users rule r _ [] ne)) h
-    ]
-    from r q (inr h) = subst (λ n. Contains (users_of (slice_set users rule (users_of users rule ++ p ∷ [])) n) q) (sym h.1)
-        (at_rule q (subst (λ n. Contains (users_of users rule ++ p ∷ []) n) (sym h.0) (Contains-push (users_of users rule) p)))
 
 -- a list of the code is what is shown of it
 pub row_shown : (lists : List (Vec ℕ Global)) (users : List (List ℕ)) (rule : ℕ) (x : Vec ℕ Global) → map (λ list. list.items) lists ≡ users → rule < length users
@@ -71,93 +54,47 @@ pub notes_as : (p : ℕ) (rests rests' : ℕ → Type 0) (old new : List (List �
     → Notes p rests old new → Notes p rests' old new
 notes_as p rests rests' old new to from w = record {
   shape = w.shape;
-  users = λ r q. (
-    (λ h. elim ((w.users r q).0 h) [ inl i ↦ inl i | inr i ↦ inr (i.0, to r i.1) ]),
-    (λ h. (w.users r q).1 (elim h [ inl i ↦ inl i | inr i ↦ inr (i.0, from r i.1) ])),
-  );
+  users = λ r. adds_as (λ q. (q ≡ p) × rests' r) (λ q i. inr (i.0, to r i.1)) (λ q i. inr (i.0, from r i.1)) (w.users r);
 }
 
 pub notes_then : (p : ℕ) (rests rests' : ℕ → Type 0) (old mid new : List (List ℕ)) → Notes p rests old mid → Notes p rests' mid new
     → Notes p (λ r. rests r ⊎ rests' r) old new
 notes_then p rests rests' old mid new w v = record {
   shape = v.shape ∙ w.shape;
-  users = λ r q. (
-    (λ h. elim ((v.users r q).0 h) [
-      | inl i ↦ elim ((w.users r q).0 i) [ inl j ↦ inl j | inr j ↦ inr (j.0, inl j.1) ]
-      | inr i ↦ inr (i.0, inr i.1)
-    ]),
-    (λ h. (v.users r q).1 (elim h [
-      | inl i ↦ inl ((w.users r q).1 (inl i))
-      | inr i ↦ elim i.1 [ inl j ↦ inl ((w.users r q).1 (inr (i.0, j))) | inr j ↦ inr (i.0, j) ]
-    ])),
-  );
+  users = λ r. adds_as (λ q. (q ≡ p) × (rests r ⊎ rests' r))
+      (λ q h. elim h [ inl i ↦ inr (i.0, inl i.1) | inr i ↦ inr (i.0, inr i.1) ])
+      (λ q h. elim h.1 [ inl i ↦ inr (inl (h.0, i)) | inr i ↦ inr (inr (h.0, i)) ])
+      (adds_then (w.users r) (v.users r));
 }
-
--- one bit was turned on
-pub put_waits : (x : List Bool) (n q : ℕ) → n < length x → Waits (slice_set x n true) q → Waits x q ⊎ (q ≡ n)
-put_waits x n q lt h = elim (get_or-set x n q true false) [ inl e ↦ inl (sym e ∙ h) | inr e ↦ inr e.0 ]
-
-pub put_keeps : (x : List Bool) (n q : ℕ) → Waits x q → Waits (slice_set x n true) q
-put_keeps x n q h = elim (get_or-set x n q true false) [ inl e ↦ e ∙ h | inr e ↦ e.1 ]
-
-pub put_there : (x : List Bool) (n q : ℕ) → n < length x → q ≡ n → Waits (slice_set x n true) q
-put_there x n q lt e = ap (waits (slice_set x n true)) e ∙ get_or-set_same x n true false lt
 
 -- the first n productions of a list were let wait
 pub record LetsWaitFront (list : List ℕ) (n : ℕ) (old new : List Bool) : Type 0 where
   pub shape : length new ≡ length old
-  pub to : (q : ℕ) → Waits new q → Waits old q ⊎ Contains (take n list) q
-  pub from : (q : ℕ) → Waits old q ⊎ Contains (take n list) q → Waits new q
+  pub waits : (q : ℕ) → (Waits new q ↔ (Waits old q ⊎ Contains (take n list) q))
 
 module _ (list : List ℕ) where
   pub lets_wait_none : (x : List Bool) → LetsWaitFront list 0 x x
-  lets_wait_none x = record {
-    shape = refl;
-    to = λ q h. inl h;
-    from = λ q h. elim h [ inl i ↦ i | inr i ↦ absurd (nothing_among q i) ];
-  }
+  lets_wait_none x = record { shape = refl; waits = λ q. ((λ h. inl h), (λ h. elim h [ inl i ↦ i | inr i ↦ absurd (contains_none q i) ])) }
 
   pub lets_wait_one : (n p : ℕ) (old mid new : List Bool) → n < length list → p ≡ get_or list n p → p < length mid → LetsWaitFront list n old mid
       → new ≡ slice_set mid p true → LetsWaitFront list (n + 1) old new
   lets_wait_one n p old mid new lt is within w put = subst (λ l. LetsWaitFront list (n + 1) old l) (sym put) (record {
     shape = length-set mid p true ∙ w.shape;
-    to = λ q h. elim (put_waits mid p q within h) [
-      | inl i ↦ elim (w.to q i) [ inl j ↦ inl j | inr j ↦ inr (among q (Contains-append_left (take n list) (p ∷ []) q j)) ]
-      | inr e ↦ inr (among q (subst (λ m. Contains (take n list ++ p ∷ []) m) (sym e) (Contains-push (take n list) p)))
-    ];
-    from = λ q h. elim h [
-      | inl i ↦ put_keeps mid p q (w.from q (inl i))
-      | inr i ↦ elim (Contains-push_cases (take n list) p q (subst (λ l. Contains l q) longer i)) [
-        | inl j ↦ put_keeps mid p q (w.from q (inr j))
-        | inr e ↦ put_there mid p q within (sym e)
-      ]
-    ];
+    waits = adds_as (Contains (take (n + 1) list)) (λ q h. inr ((taken q).1 h)) (λ q h. inr ((taken q).0 h)) (adds_then w.waits (bit_put mid p within));
   })
     where
-      longer : take (n + 1) list ≡ take n list ++ p ∷ []
-      longer = take_more list n p lt ∙ ap (λ y. take n list ++ (y ∷ [])) (sym is)
-
-      among : (q : ℕ) → Contains (take n list ++ p ∷ []) q → Contains (take (n + 1) list) q
-      among q h = subst (λ l. Contains l q) (sym longer) h
+      taken : (q : ℕ) → Contains (take (n + 1) list) q ↔ (Contains (take n list) q ⊎ (q ≡ p))
+      taken = contains_taken list n p lt is
 
   pub lets_wait_all : (users : List (List ℕ)) (rule n : ℕ) (old new : List Bool) → length list ≤ n → list ≡ users_of users rule → LetsWaitFront list n old new
       → LetsWait users (λ r. r ≡ rule) old new
   lets_wait_all users rule n old new le is w = record {
     shape = w.shape;
-    waits = λ q. (
-      (λ h. elim (w.to q h) [
-        | inl i ↦ inl i
-        | inr i ↦ inr (record { rule = rule; gains = refl; noted = subst (λ l. Contains l q) (all ∙ is) i })
-      ]),
-      (λ h. w.from q (elim h [
-        | inl i ↦ inl i
-        | inr i ↦ inr (subst (λ l. Contains l q) (sym (all ∙ is)) (subst (λ r. Contains (users_of users r) q) i.gains i.noted))
-      ])),
-    );
+    waits = adds_as (RestsOnGained users (λ r. r ≡ rule))
+        (λ q h. inr (record { rule = rule; gains = refl; noted = subst (λ l. Contains l q) (take_all n list le ∙ is) h }))
+        (λ q h. inr (subst (λ l. Contains l q) (sym (take_all n list le ∙ is)) (subst (λ r. Contains (users_of users r) q) h.gains h.noted)))
+        w.waits;
   }
-    where
-      all : take n list ≡ list
-      all = take_all n list le
 
 -- between two rules that gained: the productions that rest on those that are done wait
 pub record LettingWait (users : List (List ℕ)) (gained left : List Bool) (old new : List Bool) : Type 0 where

@@ -1,7 +1,7 @@
 -- A production is noted with the rules among its symbols.
-use Rattle.std.proofs.Common.{◌≡◌, ℕ, ◌+◌, ◌<◌, ◌≤◌, inl, inr, Result, Ok, Err, IfOk, List, [], ◌∷◌, ◌++◌, Contains, take, get_or, length, arith, sym, ap, ◌∙◌, subst}
-use Rattle.std.proofs.lemmas.List.{take_more, take_all}
-use Rattle.std.proofs.lemmas.List.Elements.{Contains-append_left, Contains-push, Contains-push_cases}
+use Rattle.std.proofs.Common.{◌≡◌, ℕ, ◌+◌, ◌<◌, ◌≤◌, Result, Ok, Err, IfOk, List, Contains, take, get_or, length, arith, sym, ap, ◌∙◌, subst}
+use Rattle.std.proofs.lemmas.List.{take_all}
+use Rattle.lemmas.proofs.Taken.{contains_taken}
 use Rattle.derivation.specs.Grammar.{Sym, Rule, Token}
 use Rattle.cfganalysis.specs.Inner.Work.{Notes}
 use Rattle.cfganalysis.proofs.Noting.{notes_none, notes_as, notes_then}
@@ -26,18 +26,7 @@ module _ (p : ℕ) (a : List Sym) where
   pub front_more : (n : ℕ) (s : Sym) (old mid new : List (List ℕ)) → n < length a → s ≡ get_or a n s → NotesFront p a n old mid
       → Notes p (λ r. Rule r ≡ s) mid new → NotesFront p a (n + 1) old new
   front_more n s old mid new lt is w v = notes_as p _ _ old new
-      (λ r h. subst (λ l. Contains l (Rule r)) (sym longer) (elim h [
-        | inl i ↦ Contains-append_left (take n a) (s ∷ []) (Rule r) i
-        | inr e ↦ subst (λ y. Contains (take n a ++ (s ∷ [])) y) (sym e) (Contains-push (take n a) s)
-      ]))
-      (λ r h. elim (Contains-push_cases (take n a) s (Rule r) (subst (λ l. Contains l (Rule r)) longer h)) [
-        | inl i ↦ inl i
-        | inr e ↦ inr (sym e)
-      ])
-      (notes_then p _ _ old mid new w v)
-    where
-      longer : take (n + 1) a ≡ take n a ++ (s ∷ [])
-      longer = take_more a n s lt ∙ ap (λ y. take n a ++ (y ∷ [])) (sym is)
+      (λ r h. (contains_taken a n s lt is (Rule r)).1 h) (λ r h. (contains_taken a n s lt is (Rule r)).0 h) (notes_then p _ _ old mid new w v)
 
   pub front_all : (n : ℕ) (old new : List (List ℕ)) → length a ≤ n → NotesFront p a n old new → Notes p (λ r. Contains a (Rule r)) old new
   front_all n old new le w = subst (λ l. Notes p (λ r. Contains l (Rule r)) old new) (take_all n a le) w

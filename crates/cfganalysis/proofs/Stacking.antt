@@ -1,7 +1,7 @@
 -- A stack in which each number stands at most once: one number more, and one less.
 use Rattle.std.proofs.Common.{◌≡◌, ℕ, ◌+◌, ◌<◌, Bool, true, false, cond, eqb, List, [], ◌∷◌, ◌++◌, length, get_or, slice_set, slice_get, Some, count_by, arith, refl, sym, ap, ◌∙◌, subst, true≢false, length-set, replicate, zero, suc, eq-eqb, get_or-set_same, get_or-set_other, inl, inr}
 use Rattle.std.proofs.lemmas.Bool.{cases_eq, ne_eqb}
-use Rattle.std.proofs.lemmas.List.{length_push}
+use Rattle.std.proofs.lemmas.List.{length_push, set-get_or, set-set}
 use Rattle.std.proofs.lemmas.List.Sums.{sum_by-cons, sum_by_push, sum_by-set, count_by-le-length}
 use Rattle.std.proofs.lemmas.Option.{get_or_from_slice_get}
 use Rattle.lemmas.proofs.Elements.{get_or-replicate_default, within_from_get_or, set-slice_get}
@@ -20,6 +20,22 @@ pub bits_on-none : (bound : ℕ) → bits_on (replicate bound false) ≡ 0
 bits_on-none zero = refl
 bits_on-none (suc n) = let e = sum_by-cons (λ (b : Bool). cond b 1 0) false (replicate n false) in omega (arith, e, bits_on-none n)
 
+-- how often a number waits, where one is let wait
+turned : (x : List Bool) (n m : ℕ) → n < length x → waits x n ≡ false → ◌≡◌ {A = ℕ} (cond (waits (slice_set x n true) m) 1 0) (cond (waits x m) 1 0 + cond (eqb n m) 1 0)
+turned x n m lt off = elim (cases_eq m n) [
+  | inl e ↦
+      let was : ◌≡◌ {A = ℕ} (cond (waits x m) 1 0) 0 = ap (λ b. cond b 1 0) (ap (waits x) e ∙ off) in
+      let own : ◌≡◌ {A = ℕ} (cond (eqb n m) 1 0) 1 = ap (λ b. cond b 1 0) (eq-eqb n m (sym e)) in
+      let on : ◌≡◌ {A = ℕ} (cond (waits (slice_set x n true) m) 1 0) 1 =
+      ap (λ b. cond b 1 0) (ap (waits (slice_set x n true)) e ∙ get_or-set_same x n true false lt) in
+      omega (arith, was, own, on)
+  | inr ne ↦
+      let other : ◌≡◌ {A = ℕ} (cond (eqb n m) 1 0) 0 = ap (λ b. cond b 1 0) (ne_eqb n m (λ i. ne (sym i))) in
+      let same : ◌≡◌ {A = ℕ} (cond (waits (slice_set x n true) m) 1 0) (cond (waits x m) 1 0) =
+      ap (λ b. cond b 1 0) (get_or-set_other x n m true false ne) in
+      omega (arith, other, same)
+]
+
 pub stack_none : (bound : ℕ) → IsStack (replicate bound false) []
 stack_none bound = record {
   once = λ n. sym (ap (λ b. cond b 1 0) (get_or-replicate_default bound n false));
@@ -37,29 +53,12 @@ module _ (x : List Bool) (stack : List ℕ) (is : IsStack x stack) where
 
   pub stack_put : (n : ℕ) → n < length x → slice_get x n ≡ Some false → IsStack (slice_set x n true) (stack ++ n ∷ [])
   stack_put n lt off = record {
-    once = λ m. sum_by_push (λ k. cond (eqb k m) 1 0) stack n ∙ one m;
+    once = λ m. let k = is.once m in omega (arith, k, sum_by_push (λ k. cond (eqb k m) 1 0) stack n, turned x n m lt here);
     together = let e = bits_on-set x n lt here in let l = length_push stack n in let k = is.together in omega (arith, e, l, k);
   }
     where
       here : waits x n ≡ false
       here = get_or_from_slice_get x n false false off
-
-      one : (m : ℕ) → count_by (λ k. eqb k m) stack + cond (eqb n m) 1 0 ≡ cond (waits (slice_set x n true) m) 1 0
-      one m = elim (cases_eq m n) [
-        | inl e ↦
-            let k = is.once m in
-            let off : ◌≡◌ {A = ℕ} (cond (waits x m) 1 0) 0 = ap (λ b. cond b 1 0) (ap (waits x) e ∙ here) in
-            let own : ◌≡◌ {A = ℕ} (cond (eqb n m) 1 0) 1 = ap (λ b. cond b 1 0) (eq-eqb n m (sym e)) in
-            let on : ◌≡◌ {A = ℕ} (cond (waits (slice_set x n true) m) 1 0) 1 =
-            ap (λ b. cond b 1 0) (ap (waits (slice_set x n true)) e ∙ get_or-set_same x n true false lt) in
-            omega (arith, k, off, own, on)
-        | inr ne ↦
-            let k = is.once m in
-            let other : ◌≡◌ {A = ℕ} (cond (eqb n m) 1 0) 0 = ap (λ b. cond b 1 0) (ne_eqb n m (λ i. ne (sym i))) in
-            let same : ◌≡◌ {A = ℕ} (cond (waits (slice_set x n true) m) 1 0) (cond (waits x m) 1 0) =
-            ap (λ b. cond b 1 0) (get_or-set_other x n m true false ne) in
-            omega (arith, k, other, same)
-      ]
 
   -- a number that waits isn't put there again
   pub stack_again : (n : ℕ) → slice_get x n ≡ Some true → IsStack (slice_set x n true) stack
@@ -91,24 +90,17 @@ module _ (x : List Bool) (stack : List ℕ) (is : IsStack x stack) where
 
     pub stack_next : IsStack (slice_set x n false) rest
     stack_next = record {
-      once = λ m. elim (cases_eq m n) [
-        | inl e ↦
-            let k = counted m in
-            let on : ◌≡◌ {A = ℕ} (cond (waits x m) 1 0) 1 = ap (λ b. cond b 1 0) (ap (waits x) e ∙ last_waits) in
-            let own : ◌≡◌ {A = ℕ} (cond (eqb n m) 1 0) 1 = ap (λ b. cond b 1 0) (eq-eqb n m (sym e)) in
-            let off : ◌≡◌ {A = ℕ} (cond (waits (slice_set x n false) m) 1 0) 0 =
-            ap (λ b. cond b 1 0) (ap (waits (slice_set x n false)) e ∙ get_or-set_same x n false false last_within) in
-            omega (arith, k, on, own, off)
-        | inr ne ↦
-            let k = counted m in
-            let other : ◌≡◌ {A = ℕ} (cond (eqb n m) 1 0) 0 = ap (λ b. cond b 1 0) (ne_eqb n m (λ i. ne (sym i))) in
-            let same : ◌≡◌ {A = ℕ} (cond (waits (slice_set x n false) m) 1 0) (cond (waits x m) 1 0) =
-            ap (λ b. cond b 1 0) (get_or-set_other x n m false false ne) in
-            omega (arith, k, other, same)
-      ];
+      once = λ m. omega (arith, counted m, turned (slice_set x n false) n m within off, ap {B = ℕ} (λ l. cond (waits l m) 1 0) back);
       together =
-          let e = bits_on-clear x n last_within last_waits in
           let k = is.together in
-          let l : length stack ≡ length rest + 1 = ap length last ∙ length_push rest n in
-          omega (arith, e, k, l);
+          omega (arith, bits_on-set (slice_set x n false) n within off, ap bits_on back, k, ap length last, length_push rest n);
     }
+      where
+        within : n < length (slice_set x n false)
+        within = subst (λ k. n < k) (sym (length-set x n false)) last_within
+
+        off : waits (slice_set x n false) n ≡ false
+        off = get_or-set_same x n false false last_within
+
+        back : slice_set (slice_set x n false) n true ≡ x
+        back = set-set x n false true ∙ ap (slice_set x n) (sym last_waits) ∙ set-get_or x n false

@@ -12,7 +12,7 @@ use Rattle.cfganalysis.specs.Table.{bits_on}
 use Rattle.cfganalysis.specs.Inner.Waiting.{waits, Waits, NoneWaits, WaitsNoMore}
 use Rattle.cfganalysis.specs.Inner.Work.{users_of, Notes, LetsWait}
 use Rattle.cfgtables.proofs.Placed.{same_production, at_place}
-use Rattle.cfganalysis.proofs.Noting.{nothing_among}
+use Rattle.lemmas.proofs.Contained.{contains_none}
 use Rattle.cfganalysis.proofs.Stacking.{bits_on-clear, bits_on-none}
 
 -- a number doesn't wait and waits
@@ -355,7 +355,7 @@ module _ {X : Type 0} (holds : Grammar → X → Type 0) (covers : X → Product
     places = ap length ws ∙ length-replicate places false ∙ ps;
     idle = λ r. ap (waits_at r) gs ∙ get_or-replicate_default rules r false;
     noted = λ q r h. absurd (omega (arith, h));
-    within = λ q r h. absurd (nothing_among q (subst (λ l. Contains l q) (ap (λ l. get_or l r []) us ∙ get_or-replicate_default rules r []) h));
+    within = λ q r h. absurd (contains_none q (subst (λ l. Contains l q) (ap (λ l. get_or l r []) us ∙ get_or-replicate_default rules r []) h));
     known = λ q h. absurd (both h (ap (waits_at q) ws ∙ get_or-replicate_default places q false));
     covered = λ q h. absurd (omega (arith, h));
     few = λ q h. absurd (omega (arith, h));

@@ -1,17 +1,17 @@
 //! FIRST: the tokens that rules begin with, and the rules that are empty (Aho, Lam, Sethi and Ullman, 4.4.2).
 
-ghost use Rattle.std.specs.Prelude.{◌≡◌, ◌<◌, ◌≤◌, ◌↔◌, ℕ, [], ◌∷◌, All, Contains, false};
+ghost use Rattle.std.specs.Prelude.{◌≡◌, ◌<◌, ◌↔◌, ℕ, [], ◌∷◌, All, Contains, false};
 ghost use Rattle.std.specs.Prelude.{true, length, map, IfOk, IsTrue, MatchBool};
 ghost use Rattle.derivation.specs.Grammar.{Grammar, IsGrammar, IsSymbolOf, Rule};
 ghost use Rattle.cfganalysis.specs.Firsts.{AreFirsts, FitsGrammar, IsAmongFirsts, IsEpsilon, epsilon_bit, with_first};
 ghost use Rattle.cfganalysis.specs.Inner.GrowingFirsts.{BeginsBy, HasNoMoreFirsts, HaveFirstsOf, HoldsRule, SayFirsts};
 ghost use Rattle.cfganalysis.specs.Inner.GrowingFirsts.{count_firsts, is_empty_symbol, no_firsts, with_epsilon};
 ghost use Rattle.cfgtables.specs.Openings.{AreOpenedAtMost, most_openings};
-ghost use Rattle.cfganalysis.specs.Inner.Growth.{TakesIn};
+ghost use Rattle.cfganalysis.specs.Inner.Growth.{CanNote, CanTakeIn, TakesIn, shown};
 ghost use Rattle.cfgtables.specs.Symbols.{sym_of};
 ghost use Rattle.cfganalysis.specs.Table.{Joins, row_of};
 ghost use Rattle.cfganalysis.specs.Inner.Bounds.{firsts_bounded};
-ghost use Rattle.cfganalysis.specs.Inner.Waiting.{NoneWaits, Waits};
+ghost use Rattle.cfganalysis.specs.Inner.Waiting.{Waits};
 ghost use Rattle.cfganalysis.specs.Inner.Work.{Notes};
 
 use crate::bits::BitTable;
@@ -140,9 +140,9 @@ impl<S: Storage> YaccFirsts<S> {
     /// Adds what a production gives, and tells whether the rule's set gained.
     fn take_in(&mut self, rule: RIdx<S>, symbols: &[Symbol<S>]) -> bool
         requires { (g : Grammar) × IsGrammar g × SayFirsts g self.old
-            × Contains g.productions (record { rule = S.number rule.0; symbols = map (sym_of S.number) symbols.now }) }
+            × Contains g.productions (shown S.number rule symbols.now) }
         ensures { TakesIn SayFirsts HaveFirstsOf count_firsts HoldsRule HasNoMoreFirsts
-            (record { rule = S.number rule.0; symbols = map (sym_of S.number) symbols.now })
+            (shown S.number rule symbols.now)
             self.old self.new (λ r. (r ≡ S.number rule.0) × IsTrue result) }
     {
         let mut changed = false;
@@ -212,23 +212,16 @@ impl<S: Storage> Analysis<S> for YaccFirsts<S> {
         symbols: &[Symbol<S>],
         users: &mut Users,
     ) -> Result<(), AllocError>
-        requires { (g : Grammar) × IsGrammar g × (length users.old ≡ g.rules)
-            × Contains g.productions
-            (record { rule = S.number _rule.0; symbols = map (sym_of S.number) symbols.now }) }
-        ensures { IfOk result (λ _. Notes production
-            (HoldsRule (record { rule = S.number _rule.0; symbols = map (sym_of S.number) symbols.now }))
-            users.old users.new) }
+        requires { CanNote users.old (shown S.number _rule symbols.now) }
+        ensures { IfOk result (λ _. Notes production (HoldsRule (shown S.number _rule symbols.now)) users.old users.new) }
     {
         note_rules(production, symbols, users)
     }
 
     fn visit(&mut self, rule: RIdx<S>, symbols: &[Symbol<S>], gained: &mut Waiting)
-        requires { (g : Grammar) × IsGrammar g × SayFirsts g self.old × NoneWaits gained.old
-            × (length gained.old ≡ g.rules)
-            × Contains g.productions (record { rule = S.number rule.0; symbols = map (sym_of S.number) symbols.now }) }
+        requires { CanTakeIn SayFirsts self.old gained.old (shown S.number rule symbols.now) }
         ensures takes { TakesIn SayFirsts HaveFirstsOf count_firsts HoldsRule HasNoMoreFirsts
-            (record { rule = S.number rule.0; symbols = map (sym_of S.number) symbols.now })
-            self.old self.new (Waits gained.new) }
+            (shown S.number rule symbols.now) self.old self.new (Waits gained.new) }
         ensures rules { length gained.new ≡ length gained.old }
     {
         if self.take_in(rule, symbols) {

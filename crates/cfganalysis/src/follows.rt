@@ -1,6 +1,6 @@
 //! FOLLOW: the tokens that stand right after rules (Aho, Lam, Sethi and Ullman, 4.4.2).
 
-ghost use Rattle.std.specs.Prelude.{◌≡◌, ◌-◌, ◌<◌, ◌≤◌, ◌↔◌, ℕ, [], ◌∷◌, Contains, length, map, IfOk, IsTrue};
+ghost use Rattle.std.specs.Prelude.{◌≡◌, ◌-◌, ◌<◌, ◌≤◌, ◌↔◌, ℕ, [], ◌∷◌, Contains, length, IfOk, IsTrue};
 ghost use Rattle.derivation.specs.Grammar.{Grammar, IsGrammar, IsSymbolOf, Rule};
 ghost use Rattle.cfganalysis.specs.Firsts.{AreFirsts};
 ghost use Rattle.cfganalysis.specs.Follows.{AreFollows};
@@ -8,7 +8,7 @@ ghost use Rattle.cfganalysis.specs.Inner.GrowingFollows.{BeginsList, FitFollows,
 ghost use Rattle.cfganalysis.specs.Inner.GrowingFollows.{HaveFollowsOf, IsFrontOf, IsGathered, IsOwner, Puts};
 ghost use Rattle.cfganalysis.specs.Inner.GrowingFollows.{PutsBehind, SayFollows, StepsBack, count_follows};
 ghost use Rattle.cfgtables.specs.Openings.{AreOpenedAtMost, most_openings};
-ghost use Rattle.cfganalysis.specs.Inner.Growth.{TakesIn};
+ghost use Rattle.cfganalysis.specs.Inner.Growth.{CanNote, CanTakeIn, TakesIn, shown};
 ghost use Rattle.cfgtables.specs.Symbols.{sym_of};
 ghost use Rattle.cfganalysis.specs.Table.{HasBit, no_bits, row_of, with_bit};
 ghost use Rattle.cfganalysis.specs.Inner.Bounds.{follows_bounded};
@@ -241,10 +241,9 @@ impl<'a, S: Storage> GrowingFollows<'a, S> {
         requires { (g : Grammar) × IsGrammar g × SayFollows g self.old × NoneWaits gained.old
             × (length gained.old ≡ g.rules)
             × (length gathered.old ≡ g.tokens)
-            × Contains g.productions (record { rule = S.number rule.0; symbols = map (sym_of S.number) symbols.now }) }
+            × Contains g.productions (shown S.number rule symbols.now) }
         ensures takes { TakesIn SayFollows HaveFollowsOf count_follows IsOwner HasNoMoreFollows
-            (record { rule = S.number rule.0; symbols = map (sym_of S.number) symbols.now })
-            self.old self.new (Waits gained.new) }
+            (shown S.number rule symbols.now) self.old self.new (Waits gained.new) }
         ensures rules { length gained.new ≡ length gained.old }
         ensures columns { self.new.follows.columns ≡ self.old.follows.columns }
         ensures gathered { length gathered.new ≡ length gathered.old }
@@ -320,23 +319,16 @@ impl<'a, S: Storage> Analysis<S> for FollowAnalysis<'a, S> {
         _symbols: &[Symbol<S>],
         users: &mut Users,
     ) -> Result<(), AllocError>
-        requires { (g : Grammar) × IsGrammar g × (length users.old ≡ g.rules)
-            × Contains g.productions
-            (record { rule = S.number rule.0; symbols = map (sym_of S.number) _symbols.now }) }
-        ensures { IfOk result (λ _. Notes production
-            (IsOwner (record { rule = S.number rule.0; symbols = map (sym_of S.number) _symbols.now }))
-            users.old users.new) }
+        requires { CanNote users.old (shown S.number rule _symbols.now) }
+        ensures { IfOk result (λ _. Notes production (IsOwner (shown S.number rule _symbols.now)) users.old users.new) }
     {
         users.note(usize::from(rule), production)
     }
 
     fn visit(&mut self, rule: RIdx<S>, symbols: &[Symbol<S>], gained: &mut Waiting)
-        requires { (g : Grammar) × IsGrammar g × SayFollows g self.old × NoneWaits gained.old
-            × (length gained.old ≡ g.rules)
-            × Contains g.productions (record { rule = S.number rule.0; symbols = map (sym_of S.number) symbols.now }) }
+        requires { CanTakeIn SayFollows self.old gained.old (shown S.number rule symbols.now) }
         ensures takes { TakesIn SayFollows HaveFollowsOf count_follows IsOwner HasNoMoreFollows
-            (record { rule = S.number rule.0; symbols = map (sym_of S.number) symbols.now })
-            self.old self.new (Waits gained.new) }
+            (shown S.number rule symbols.now) self.old self.new (Waits gained.new) }
         ensures rules { length gained.new ≡ length gained.old }
     {
         self.sets.take_in(rule, symbols, &mut self.gathered, gained);

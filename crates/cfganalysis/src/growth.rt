@@ -1,9 +1,8 @@
 //! Sets that grow by what productions give.
 
-ghost use Rattle.std.specs.Prelude.{◌≡◌, ℕ, ◌+◌, ◌*◌, ◌<◌, ◌≤◌, length, map, Contains, IfOk};
+ghost use Rattle.std.specs.Prelude.{◌≡◌, ℕ, ◌+◌, ◌*◌, ◌<◌, ◌≤◌, length, Contains, IfOk};
 ghost use Rattle.derivation.specs.Grammar.{Grammar, Production, IsGrammar};
-ghost use Rattle.cfganalysis.specs.Inner.Growth.{TakesIn, TakesInto};
-ghost use Rattle.cfgtables.specs.Symbols.{sym_of};
+ghost use Rattle.cfganalysis.specs.Inner.Growth.{CanNote, CanTakeIn, TakesIn, TakesInto, shown};
 ghost use Rattle.cfganalysis.specs.Inner.Waiting.{NoneWaits, Waits};
 ghost use Rattle.cfganalysis.specs.Inner.Work.{Notes, users_of};
 
@@ -41,20 +40,14 @@ pub trait Analysis<S: Storage> {
         symbols: &[Symbol<S>],
         users: &mut Users,
     ) -> Result<(), AllocError>
-        requires { (g : Grammar) × IsGrammar g × (length users.old ≡ g.rules)
-            × Contains g.productions (record { rule = S.number rule.0; symbols = map (sym_of S.number) symbols.now }) }
-        ensures { IfOk result (λ _. Notes production
-            (rests_on (record { rule = S.number rule.0; symbols = map (sym_of S.number) symbols.now }))
-            users.old users.new) };
+        requires { CanNote users.old (shown S.number rule symbols.now) }
+        ensures { IfOk result (λ _. Notes production (rests_on (shown S.number rule symbols.now)) users.old users.new) };
 
     /// Adds what a production gives, and lets the rules wait whose sets gained.
     fn visit(&mut self, rule: RIdx<S>, symbols: &[Symbol<S>], gained: &mut Waiting)
-        requires { (g : Grammar) × IsGrammar g × holds g self.old × NoneWaits gained.old
-            × (length gained.old ≡ g.rules)
-            × Contains g.productions (record { rule = S.number rule.0; symbols = map (sym_of S.number) symbols.now }) }
+        requires { CanTakeIn holds self.old gained.old (shown S.number rule symbols.now) }
         ensures takes { TakesIn holds covers bits rests_on no_more
-            (record { rule = S.number rule.0; symbols = map (sym_of S.number) symbols.now })
-            self.old self.new (Waits gained.new) }
+            (shown S.number rule symbols.now) self.old self.new (Waits gained.new) }
         ensures rules { length gained.new ≡ length gained.old };
 
     // No more bits are on than there are.
@@ -70,10 +63,10 @@ pub(crate) fn take_in<S: Storage, A: Analysis<S>>(
 )
     requires grammar { (g : Grammar) × IsGrammar g × A.holds g analysis.old
         × NoneWaits work.old.gained × (length work.old.gained ≡ g.rules) × (length work.old.users ≡ g.rules)
-        × Contains g.productions (record { rule = S.number rule.0; symbols = map (sym_of S.number) symbols.now }) }
+        × Contains g.productions (shown S.number rule symbols.now) }
     requires within { (r p : ℕ) → Contains (users_of work.old.users r) p → p < length work.old.waiting }
     ensures takes { TakesInto A.holds A.covers A.bits A.rests_on A.no_more
-        (record { rule = S.number rule.0; symbols = map (sym_of S.number) symbols.now })
+        (shown S.number rule symbols.now)
         work.old.users analysis.old analysis.new work.old.waiting work.new.waiting }
     ensures users { work.new.users ≡ work.old.users }
     ensures gained { NoneWaits work.new.gained }

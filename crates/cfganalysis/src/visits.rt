@@ -1,8 +1,8 @@
 //! Visits of productions, till none gives more. A production is visited again only where the set of a rule that it
 //! rests on has gained (Nielson, Nielson and Hankin, Principles of Program Analysis, 6.1).
 
-ghost use Rattle.std.specs.Prelude.{◌≡◌, ℕ, ◌+◌, ◌-◌, ◌*◌, ◌^◌, ◌<◌, ◌≤◌, length, IfOk, MatchBool, OnErr, OnOk};
-ghost use Rattle.derivation.specs.Grammar.{Grammar, IsGrammar};
+ghost use Rattle.std.specs.Prelude.{◌≡◌, ℕ, ◌+◌, ◌-◌, ◌^◌, ◌<◌, length, IfOk, MatchBool, OnErr, OnOk};
+ghost use Rattle.derivation.specs.Grammar.{IsGrammar};
 ghost use Rattle.cfganalysis.specs.Inner.Growth.{CanVisit, CoversEach, Visited, left_to_do};
 ghost use Rattle.cfgtables.specs.Openings.{AreOpenedAtMost, OpensOne, most_openings};
 ghost use Rattle.cfganalysis.specs.Inner.Waiting.{NoneWaits};

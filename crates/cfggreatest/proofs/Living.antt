@@ -5,7 +5,7 @@ use Rattle.std.proofs.lemmas.List.{get_or_default, length-replicate}
 use Rattle.std.proofs.lemmas.Option.{unwrap_or-slice_get}
 use Rattle.std.specs.Option.{unwrap_or}
 use Rattle.std.proofs.lemmas.List.Elements.{All-cons, All-head, All-nil, All-tail}
-use Rattle.lemmas.proofs.Elements.{get_or-set, get_or-replicate_default, set-slice_get}
+use Rattle.lemmas.proofs.Elements.{get_or-replicate_default, set-slice_get}
 use Rattle.derivation.specs.Grammar.{Sym, Rule, Token, Grammar, Production, HasProduction}
 use Rattle.derivation.specs.Tree.{Yields, empty, token, opened}
 use Rattle.derivation.proofs.Trees.{trees_join}
@@ -13,8 +13,7 @@ use Rattle.cfganalysis.specs.Inner.Growth.{CoversEach, TakesIn}
 use Rattle.cfganalysis.specs.Inner.GrowingFirsts.{HoldsRule}
 use Rattle.cfganalysis.specs.Inner.Waiting.{NoneWaits, Waits}
 use Rattle.cfganalysis.specs.Table.{bits_on}
-use Rattle.cfganalysis.proofs.Noting.{put_there, put_waits}
-use Rattle.search.proofs.Bits.{bits_on-set}
+use Rattle.search.proofs.Bits.{bit_put, bits_on-set}
 use Rattle.cfggreatest.specs.Inner.AtLeast.{HasWord}
 use Rattle.cfggreatest.specs.Inner.Live.{AreLive, HaveLive, HaveSentences, IsNoMoreLive, SayLive, is_live, is_live_symbol}
 
@@ -60,7 +59,7 @@ module _ (p : Production) (old : List Bool) (waiting : List Bool) (none : NoneWa
     no_less = let k = counted in omega (arith, k);
     more = λ r w. let k = counted in omega (arith, k);
     gains = λ r. (
-      (λ w no_more. elim (put_waits waiting p.rule r among (subst (λ l. Waits l r) waits w)) [
+      (λ w no_more. elim ((bit_put waiting p.rule among r).0 (subst (λ l. Waits l r) waits w)) [
         | inl i ↦ absurd (true≢false (sym i ∙ none r))
         | inr e ↦ absurd (true≢false (sym (no_more (subst (λ q. IsTrue (is_live new q)) (sym e) here)) ∙ ap (is_live old) e ∙ was))
       ]),
@@ -83,16 +82,13 @@ module _ (p : Production) (old : List Bool) (waiting : List Bool) (none : NoneWa
       counted = ap bits_on put ∙ bits_on-set old p.rule within was
 
       back : (r : ℕ) → IsTrue (is_live new r) → IsTrue (is_live old r) ⊎ (r ≡ p.rule)
-      back r on = elim (get_or-set old p.rule r true false) [
-        | inl e ↦ inl (sym e ∙ ap (λ l. is_live l r) (sym put) ∙ on)
-        | inr e ↦ inr e.0
-      ]
+      back r on = (bit_put old p.rule within r).0 (subst (λ l. IsTrue (is_live l r)) put on)
 
       kept : (r : ℕ) → IsTrue (is_live old r) → IsTrue (is_live new r)
-      kept r on = ap (λ l. is_live l r) put ∙ elim (get_or-set old p.rule r true false) [ inl e ↦ e ∙ on | inr e ↦ e.1 ]
+      kept r on = subst (λ l. IsTrue (is_live l r)) (sym put) ((bit_put old p.rule within r).1 (inl on))
 
       gained : (r : ℕ) → r ≡ p.rule → Waits waiting' r
-      gained r e = subst (λ l. Waits l r) (sym waits) (put_there waiting p.rule r among e)
+      gained r e = subst (λ l. Waits l r) (sym waits) ((bit_put waiting p.rule among r).1 (inr e))
 
       still : (s : Sym) → ((r : ℕ) → s ≡ Rule r → IsTrue (is_live new r) → IsTrue (is_live old r)) → IsTrue (is_live_symbol new s) → IsTrue (is_live_symbol old s)
       still (Rule r) h on = h r refl on

@@ -5,6 +5,7 @@ use Rattle.std.proofs.lemmas.Bool.{cases_Bool, cases_eq, cases_lt, lt-ltb}
 use Rattle.std.proofs.lemmas.List.Elements.{All-cons, All-nil}
 use Rattle.derivation.specs.Grammar.{Sym, Rule, Token, Grammar, IsGrammar, IsSymbolOf, HasProduction}
 use Rattle.derivation.specs.Tree.{Yields, empty, token, opened}
+use Rattle.derivation.proofs.Trees.{derivation_from_trees}
 use Rattle.cfgtables.proofs.Placed.{all_symbols}
 use Rattle.cfgsums.specs.declared.errors.CostError.{CostError}
 use Rattle.cfgsums.specs.declared.errors.CostError.TheVariants.{NoSentence, CostTooLarge}
@@ -54,6 +55,13 @@ known_reached P cost start n r (Told (Ok None)) so live word inside = at_least_n
 known_reached P cost start n r (Told (Ok (Some c))) so live word inside = greatest_at_least P cost r c (so (Ok (Some c)) refl).0
 known_reached P cost start n r (Told (Err NoSentence)) so live word inside = absurd (true≢false live)
 known_reached P cost start n r (Told (Err CostTooLarge)) so live word inside = let h = so (Err CostTooLarge) refl in greatest_at_least P cost r h.0 h.1
+
+dead_told : (k : Known) → is_dead k ≡ true → k ≡ Told (Err NoSentence)
+dead_told New e = absurd (true≢false (sym e))
+dead_told (Open place) e = absurd (true≢false (sym e))
+dead_told (Told (Ok c)) e = absurd (true≢false (sym e))
+dead_told (Told (Err NoSentence)) e = refl
+dead_told (Told (Err CostTooLarge)) e = absurd (true≢false (sym e))
 
 -- why a rule stops a sum
 stops_by : (start r : ℕ) (k : Known) (stop : Stop) → read_known start r k ≡ Err stop
@@ -132,7 +140,7 @@ module _ (g : Grammar) (is : IsGrammar g) (cost : ℕ → ℕ) (known : List Kno
   yields_live (token {t = t} {a = a} h) = All-cons (IsLiveSymbol known) (Token t) a tt (yields_live h)
   yields_live (opened {r = r} {a = a} {u = u} has h k e) = All-cons (IsLiveSymbol known) (Rule r) a
       (elim (cases_Bool (is_dead (known_of known r))) [
-        | inl dead ↦ absurd (group.dead r dead u (opened has h empty (sym (append-nil u))))
+        | inl dead ↦ absurd (group.so r (Err NoSentence) (dead_told (known_of known r) dead) u (derivation_from_trees (HasProduction g) (opened has h empty (sym (append-nil u)))))
         | inr live ↦ live
       ]) (yields_live k)
 

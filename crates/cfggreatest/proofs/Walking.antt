@@ -16,7 +16,7 @@ use Rattle.cfggreatest.specs.Inner.Groups.{AreGroups, IsLast}
 use Rattle.cfggreatest.specs.Inner.Known.{AreTrue, IsLiveSymbol, count_new, is_dead, is_inside, is_outside, known_of, no_rule}
 use Rattle.cfggreatest.specs.Inner.Live.{HaveSentences, is_live}
 use Rattle.cfggreatest.specs.Inner.Sums.{IsGroup}
-use Rattle.cfggreatest.specs.Inner.Walk.{CanTell, GoesOn, IsEdge, IsEdgeTo, IsLedOut, IsWalk, IsWayOut, Steps, TellsNoMore, first_known}
+use Rattle.cfggreatest.specs.Inner.Walk.{CanTell, GoesOn, IsEdge, IsEdgeTo, IsLedOut, IsWalk, IsWayOut, Steps, TellsNoMore, first_known, left_to_do}
 use Rattle.cfggreatest.specs.declared.sums.Known.{Known}
 use Rattle.cfggreatest.specs.declared.sums.Known.TheVariants.{New, Open, Told}
 use Rattle.cfggreatest.specs.declared.walk.Walk.{Walk}
@@ -45,66 +45,53 @@ module _ (g : Grammar) where
       }
 
 -- a walk whose rules and path stay as they were
-pub regrouped : (g : Grammar) (old new : Walk) → IsWalk g old → new.known ≡ old.known → new.path ≡ old.path → AreGroups (IsAbove (HasProduction g)) new.path.items new.starts.items
-    → All (IsEdge g) new.edges.items → IsWalk g new
-regrouped g old new walk known path groups edges = subst (IsWalk g) same (record {
+pub regrouped : (g : Grammar) (old new : Walk) → IsWalk g old → new ≡ record old { starts = new.starts; edges = new.edges }
+    → AreGroups (IsAbove (HasProduction g)) old.path.items new.starts.items → All (IsEdge g) new.edges.items → IsWalk g new
+regrouped g old new walk rest groups edges = subst (IsWalk g) (sym rest) (record {
   grammar = walk.grammar;
   rules = walk.rules;
   lives = walk.lives;
-  dead = walk.dead;
   places = walk.places;
   path = walk.path;
-  groups = subst (λ v. AreGroups (IsAbove (HasProduction g)) v.items new.starts.items) path groups;
+  groups = groups;
   edges = edges;
 })
-  where
-    same : record old { starts = new.starts; edges = new.edges } ≡ new
-    same = ap (λ k. record old { starts = new.starts; edges = new.edges; known = k }) (sym known)
-        ∙ ap (λ p. record old { starts = new.starts; edges = new.edges; known = new.known; path = p }) (sym path)
 
-pub edges_less : (g : Grammar) (old new : Walk) → IsWalk g old → new.known ≡ old.known → new.path ≡ old.path → new.starts ≡ old.starts
-    → All (IsEdge g) new.edges.items → IsWalk g new
-edges_less g old new walk known path starts edges = regrouped g old new walk known path
-    (subst (λ v. AreGroups (IsAbove (HasProduction g)) new.path.items v.items) (sym starts) (subst (λ v. AreGroups (IsAbove (HasProduction g)) v.items old.starts.items) (sym path) walk.groups)) edges
+pub edges_less : (g : Grammar) (old new : Walk) → IsWalk g old → new ≡ record old { edges = new.edges } → All (IsEdge g) new.edges.items → IsWalk g new
+edges_less g old new walk rest edges =
+    subst (IsWalk g) (sym rest) (regrouped g old (record old { edges = new.edges }) walk refl walk.groups edges)
 
 -- groups of the path are joined, till none begins behind the place
 pub record JoinsGroups (place : ℕ) (old new : Walk) : Type 0 where
-  pub known : new.known ≡ old.known
-  pub path : new.path ≡ old.path
-  pub edges : new.edges ≡ old.edges
+  pub rest : new ≡ record old { starts = new.starts }
   pub fewer : (new.starts ≡ old.starts) ⊎ (length new.starts.items < length old.starts.items)
   pub groups : (g : Grammar) (rule : ℕ) → IsWalk g old → IsWayOut g old rule → known_of old.known.items rule ≡ Open place
-      → AreGroups (IsAbove (HasProduction g)) new.path.items new.starts.items
+      → AreGroups (IsAbove (HasProduction g)) old.path.items new.starts.items
 
 pub joins_more : (place : ℕ) (old mid new : Walk) → JoinsGroups place old mid → (start : ℕ) → IsLast mid.starts.items start → place < start
-    → new.known ≡ mid.known → new.path ≡ mid.path → new.edges ≡ mid.edges → new.starts.items ≡ take (length mid.starts.items - 1) mid.starts.items
+    → new ≡ record mid { starts = new.starts } → new.starts.items ≡ take (length mid.starts.items - 1) mid.starts.items
     → JoinsGroups place old new
-joins_more place old mid new j start last before known path edges starts = record {
-  known = known ∙ j.known;
-  path = path ∙ j.path;
-  edges = edges ∙ j.edges;
+joins_more place old mid new j start last before rest starts = record {
+  rest = rest ∙ ap (λ (x : Walk). record x { starts = new.starts }) j.rest;
   fewer = inr (let some = last.some in let less = ap length starts in let len = length-take-le (length mid.starts.items - 1) mid.starts.items (omega arith) in elim j.fewer [
     | inl same ↦ omega (arith, some, less, len, ap (λ v. length v.items) same)
     | inr fewer ↦ omega (arith, some, less, len, fewer)
   ]);
   groups = λ g rule walk out e.
       let at = walk.places rule place e in
-      let are = j.groups g rule walk out e in
-      let same = ap (λ v. v.items) j.path in
-      subst (AreGroups (IsAbove (HasProduction g)) new.path.items) (sym starts) (subst (λ v. AreGroups (IsAbove (HasProduction g)) v.items (take (length mid.starts.items - 1) mid.starts.items)) (sym path)
-      (groups_joined (IsAbove (HasProduction g)) mid.path.items mid.starts.items are start last place before (subst (λ l. place < length l) (sym same) at.0) (above_then g)
-      (subst (λ l. (i : ℕ) → i < length l → IsAbove (HasProduction g) (get_or l i 0) (get_or l place 0)) (sym same)
-      (λ i lt. subst (IsAbove (HasProduction g) (get_or old.path.items i 0)) (sym at.1) (out.above i lt)))));
+      subst (AreGroups (IsAbove (HasProduction g)) old.path.items) (sym starts)
+      (groups_joined (IsAbove (HasProduction g)) old.path.items mid.starts.items (j.groups g rule walk out e) start last place before at.0 (above_then g)
+      (λ i lt. subst (IsAbove (HasProduction g) (get_or old.path.items i 0)) (sym at.1) (out.above i lt)));
 }
 
 -- all groups behind the place were joined
 pub joined : (g : Grammar) (place rule : ℕ) (old new : Walk) → IsWalk g old → IsWayOut g old rule → known_of old.known.items rule ≡ Open place → JoinsGroups place old new
     → ((start : ℕ) → IsLast new.starts.items start → start ≤ place) → GoesOn g old new
 joined g place rule old new walk out e j no_more = record {
-  walk = regrouped g old new walk j.known j.path (j.groups g rule walk out e) (subst (λ v. All (IsEdge g) v.items) (sym j.edges) walk.edges);
-  told = λ r answer told. ap (λ v. known_of v.items r) (sym j.known) ∙ told;
+  walk = subst (IsWalk g) (sym j.rest) (regrouped g old (record old { starts = new.starts }) walk refl (j.groups g rule walk out e) walk.edges);
+  told = λ r answer told. ap (λ (x : Walk). known_of x.known.items r) (sym j.rest) ∙ told;
   less = elim j.fewer [
-    | inr fewer ↦ omega (arith, fewer, ap (λ v. sum_by count_new v.items) j.known)
+    | inr fewer ↦ omega (arith, fewer, ap (λ (x : Walk). sum_by count_new x.known.items) j.rest)
     | inl same ↦
         let among = (walk.places rule place e).0 in
         let last : IsLast old.starts.items (get_or old.starts.items (length old.starts.items - 1) 0) = record { some = walk.groups.some (omega (arith, among)); at = refl } in
@@ -123,7 +110,6 @@ first_walk g bits rules x is e have len each path starts edges = (
     grammar = is;
     rules = len ∙ e;
     lives = λ r alive. have.say.lives r (is_on (is_live bits r) (ap is_dead (sym (at r)) ∙ alive));
-    dead = λ r gone. have.none r (is_off (is_live bits r) (ap is_dead (sym (at r)) ∙ gone));
     places = λ r place here. absurd (is_closed place (is_live bits r) (sym (at r) ∙ here));
     path = λ i lt. absurd (omega (arith, lt, ap length path));
     groups = subst (λ l. AreGroups (IsAbove (HasProduction g)) l x.starts.items) (sym path) (subst (AreGroups (IsAbove (HasProduction g)) []) (sym starts) (no_groups (IsAbove (HasProduction g))));
@@ -144,10 +130,6 @@ first_walk g bits rules x is e have len each path starts edges = (
     is_on true alive = refl
     is_on false alive = absurd (true≢false alive)
 
-    is_off : (b : Bool) → is_dead (first_known b) ≡ true → b ≡ false
-    is_off true gone = absurd (true≢false (sym gone))
-    is_off false gone = refl
-
     is_closed : (place : ℕ) (b : Bool) → first_known b ≡ Open place → ⊥
     is_closed place true here = cc
     is_closed place false here = cc
@@ -158,9 +140,7 @@ first_walk g bits rules x is e have len each path starts edges = (
 
 -- this is told of rules behind the start, up to a place
 pub record TellsSome (start place : ℕ) (answer : Result (Option ℕ) CostError) (old new : Walk) : Type 0 where
-  pub path : new.path ≡ old.path
-  pub starts : new.starts ≡ old.starts
-  pub edges : new.edges ≡ old.edges
+  pub rest : new ≡ record old { known = new.known }
   pub len : length new.known.items ≡ length old.known.items
   pub each : (r : ℕ) → (known_of new.known.items r ≡ known_of old.known.items r)
       ⊎ ((known_of new.known.items r ≡ Told answer) × (i : ℕ) × (start ≤ i) × (i < place) × (get_or old.path.items i 0 ≡ r))
@@ -179,10 +159,6 @@ entered g rule old new walk out fresh known path starts edges = record {
     lives = λ r alive. elim (at r) [
       | inl e ↦ walk.lives r (ap is_dead (sym e) ∙ alive)
       | inr h ↦ subst (λ q. HasWord (HasProduction g) (Rule q ∷ [])) (sym h.0) out.word
-    ];
-    dead = λ r gone. elim (at r) [
-      | inl e ↦ walk.dead r (ap is_dead (sym e) ∙ gone)
-      | inr h ↦ absurd (true≢false (sym gone ∙ ap is_dead h.1))
     ];
     places = λ r p here. subst (λ l. (p < length l) × (get_or l p 0 ≡ r)) (sym path) (elim (at r) [
       | inl e ↦ let h = walk.places r p (sym e ∙ here) in
@@ -288,7 +264,6 @@ pub last_group : (g : Grammar) (cost : ℕ → ℕ) (x : Walk) (start : ℕ) →
 last_group g cost x start walk so last = record {
   so = so;
   lives = walk.lives;
-  dead = walk.dead;
   places = walk.places;
   members = λ i le lt. let h = walk.path i lt in (h.1, walk.lives _ (ap is_dead h.1));
   above = λ i j le lt le' lt'. walk.groups.chain i j lt lt' (λ k among _. let below = below_last (IsAbove (HasProduction g)) x.path.items x.starts.items walk.groups start last k among in omega (arith, below, le'));
@@ -303,9 +278,7 @@ true_still g cost old new no_more so r answer told = so r answer (no_more r answ
 -- one rule more of which this is told
 pub tells_none : (start : ℕ) (answer : Result (Option ℕ) CostError) (x : Walk) → TellsSome start start answer x x
 tells_none start answer x = record {
-  path = refl;
-  starts = refl;
-  edges = refl;
+  rest = refl;
   len = refl;
   each = λ r. inl refl;
   told = λ i le lt. absurd (omega (arith, le, lt));
@@ -313,12 +286,10 @@ tells_none start answer x = record {
 }
 
 pub tells_more : (start place : ℕ) (answer : Result (Option ℕ) CostError) (old mid new : Walk) → start ≤ place → TellsSome start place answer old mid
-    → (rule : ℕ) → rule ≡ get_or old.path.items place 0 → rule < length mid.known.items → new.path ≡ mid.path → new.starts ≡ mid.starts → new.edges ≡ mid.edges
+    → (rule : ℕ) → rule ≡ get_or old.path.items place 0 → rule < length mid.known.items → new ≡ record mid { known = new.known }
     → new.known.items ≡ slice_set mid.known.items rule (Told answer) → TellsSome start (place + 1) answer old new
-tells_more start place answer old mid new le t rule at within path starts edges known = record {
-  path = path ∙ t.path;
-  starts = starts ∙ t.starts;
-  edges = edges ∙ t.edges;
+tells_more start place answer old mid new le t rule at within rest known = record {
+  rest = rest ∙ ap (λ (x : Walk). record x { known = new.known }) t.rest;
   len = ap length known ∙ length-set mid.known.items rule (Told answer) ∙ t.len;
   each = λ r. elim (now r) [
     | inl e ↦ elim (t.each r) [
@@ -362,10 +333,6 @@ told_walk g cost start place answer old mid new walk last can t past known edges
       | inl e ↦ walk.lives r (ap is_dead (sym e) ∙ alive)
       | inr h ↦ let m = walk.path h.1 (h.3) in subst (λ q. HasWord (HasProduction g) (Rule q ∷ [])) h.4 (walk.lives _ (ap is_dead m.1))
     ];
-    dead = λ r gone. elim (now r) [
-      | inl e ↦ walk.dead r (ap is_dead (sym e) ∙ gone)
-      | inr h ↦ absurd (true≢false (sym gone ∙ ap is_dead h.0 ∙ can.live))
-    ];
     places = λ r p here. elim (now r) [
       | inl e ↦
           let h = walk.places r p (sym e ∙ here) in
@@ -394,7 +361,7 @@ told_walk g cost start place answer old mid new walk last can t past known edges
         );
     groups = subst (λ l. AreGroups (IsAbove (HasProduction g)) l new.starts.items) (sym front) (subst (AreGroups (IsAbove (HasProduction g)) (take start old.path.items)) (sym fewer)
         (groups_fewer (IsAbove (HasProduction g)) old.path.items old.starts.items walk.groups start last));
-    edges = subst (λ v. All (IsEdge g) v.items) (sym (edges ∙ t.edges)) walk.edges;
+    edges = subst (λ v. All (IsEdge g) v.items) (sym (edges ∙ ap (λ (x : Walk). x.edges) t.rest)) walk.edges;
   };
   so = λ r a told. elim (now r) [
     | inl e ↦ can.so r a (sym e ∙ told)
@@ -413,10 +380,10 @@ told_walk g cost start place answer old mid new walk last can t past known edges
     all = ap (λ v. v.items) known
 
     front : new.path.items ≡ take start old.path.items
-    front = path ∙ ap (λ v. take start v.items) t.path
+    front = path ∙ ap (λ (x : Walk). take start x.path.items) t.rest
 
     fewer : new.starts.items ≡ take (length old.starts.items - 1) old.starts.items
-    fewer = starts ∙ ap (λ v. take (length v.items - 1) v.items) t.starts
+    fewer = starts ∙ ap (λ (x : Walk). take (length x.starts.items - 1) x.starts.items) t.rest
 
     within : start < length old.path.items
     within = start_within g old start walk last
@@ -432,10 +399,10 @@ told_walk g cost start place answer old mid new walk last can t past known edges
     ]
 
 -- a step from there
-pub steps_on : (g : Grammar) (cost : ℕ → ℕ) (old mid new : Walk) → AreTrue g cost old.known.items → mid.known ≡ old.known → mid.starts ≡ old.starts
+pub steps_on : (g : Grammar) (cost : ℕ → ℕ) (old mid new : Walk) → AreTrue g cost old.known.items → mid ≡ record old { edges = mid.edges }
     → GoesOn g mid new → Steps g cost old new
-steps_on g cost old mid new so known starts goes = record {
+steps_on g cost old mid new so rest goes = record {
   walk = goes.walk;
-  so = true_still g cost mid new goes.told (subst (λ v. AreTrue g cost v.items) (sym known) so);
-  less = let less = goes.less in omega (arith, less, ap (λ v. sum_by count_new v.items) known, ap (λ v. length v.items) starts);
+  so = true_still g cost mid new goes.told (subst (λ (x : Walk). AreTrue g cost x.known.items) (sym rest) so);
+  less = let less = goes.less in omega (arith, less, ap left_to_do rest);
 }

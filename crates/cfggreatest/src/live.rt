@@ -1,10 +1,9 @@
 //! Which rules have sentences.
 
-ghost use Rattle.std.specs.Prelude.{◌≡◌, Contains, IfOk, MatchBool, length, map};
-ghost use Rattle.derivation.specs.Grammar.{Grammar, IsGrammar};
-ghost use Rattle.cfganalysis.specs.Inner.Growth.{TakesIn};
+ghost use Rattle.std.specs.Prelude.{◌≡◌, IfOk, MatchBool, length, map};
+ghost use Rattle.cfganalysis.specs.Inner.Growth.{CanNote, CanTakeIn, TakesIn, shown};
 ghost use Rattle.cfganalysis.specs.Inner.GrowingFirsts.{HoldsRule};
-ghost use Rattle.cfganalysis.specs.Inner.Waiting.{NoneWaits, Waits};
+ghost use Rattle.cfganalysis.specs.Inner.Waiting.{Waits};
 ghost use Rattle.cfganalysis.specs.Inner.Work.{Notes};
 ghost use Rattle.cfgtables.specs.Symbols.{sym_of};
 ghost use Rattle.cfganalysis.specs.Table.{bits_on};
@@ -108,23 +107,16 @@ impl<S: Storage> Analysis<S> for Live {
         symbols: &[Symbol<S>],
         users: &mut Users,
     ) -> Result<(), AllocError>
-        requires { (g : Grammar) × IsGrammar g × (length users.old ≡ g.rules)
-            × Contains g.productions
-            (record { rule = S.number _rule.0; symbols = map (sym_of S.number) symbols.now }) }
-        ensures { IfOk result (λ _. Notes production
-            (HoldsRule (record { rule = S.number _rule.0; symbols = map (sym_of S.number) symbols.now }))
-            users.old users.new) }
+        requires { CanNote users.old (shown S.number _rule symbols.now) }
+        ensures { IfOk result (λ _. Notes production (HoldsRule (shown S.number _rule symbols.now)) users.old users.new) }
     {
         note_rules(production, symbols, users)
     }
 
     fn visit(&mut self, rule: RIdx<S>, symbols: &[Symbol<S>], gained: &mut Waiting)
-        requires { (g : Grammar) × IsGrammar g × SayLive g self.old × NoneWaits gained.old
-            × (length gained.old ≡ g.rules)
-            × Contains g.productions (record { rule = S.number rule.0; symbols = map (sym_of S.number) symbols.now }) }
+        requires { CanTakeIn SayLive self.old gained.old (shown S.number rule symbols.now) }
         ensures takes { TakesIn SayLive HaveLive bits_on HoldsRule IsNoMoreLive
-            (record { rule = S.number rule.0; symbols = map (sym_of S.number) symbols.now })
-            self.old self.new (Waits gained.new) }
+            (shown S.number rule symbols.now) self.old self.new (Waits gained.new) }
         ensures rules { length gained.new ≡ length gained.old }
     {
         if !self.has_all(symbols) {

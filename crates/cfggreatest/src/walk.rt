@@ -10,7 +10,7 @@ ghost use Rattle.cfggreatest.specs.Words.{Means};
 ghost use Rattle.cfggreatest.specs.Inner.Groups.{IsLast};
 ghost use Rattle.cfggreatest.specs.Inner.Known.{AreTrue, is_dead, is_inside, is_outside, known_of};
 ghost use Rattle.cfggreatest.specs.Inner.AtLeast.{HasWord};
-ghost use Rattle.cfggreatest.specs.Inner.Live.{HaveSentences, is_live};
+ghost use Rattle.cfggreatest.specs.Inner.Live.{HaveSentences};
 ghost use Rattle.cfggreatest.specs.Inner.Walk.{CanTell, GoesOn, IsEdge, IsEdgeTo, IsLedOut, IsWalk};
 ghost use Rattle.cfggreatest.specs.Inner.Walk.{IsWayOut, Steps, first_known};
 
@@ -209,9 +209,7 @@ impl Walk {
     /// elsewhere wait no longer.
     fn next_out(&mut self, start: usize) -> Option<usize>
         requires { (g : Grammar) × IsWalk g self.old }
-        ensures known { self.new.known ≡ self.old.known }
-        ensures path { self.new.path ≡ self.old.path }
-        ensures starts { self.new.starts ≡ self.old.starts }
+        ensures rest { self.new ≡ record self.old { edges = self.new.edges } }
         ensures edges { (g : Grammar) → All (IsEdge g) self.old.edges.items → All (IsEdge g) self.new.edges.items }
         ensures out { IfSome result (λ r. (g : Grammar) → All (IsEdge g) self.old.edges.items
             → IsLedOut g start self.old.known.items r) }

@@ -1,6 +1,7 @@
 -- Lists of bits that are union place by place.
-use Rattle.std.proofs.Common.{◌≡◌, ℕ, suc, zero, ◌||◌, Bool, false, List, [], ◌∷◌, map, length, get_or, arith, refl, ap}
+use Rattle.std.proofs.Common.{◌≡◌, ◌↔◌, ◌⊎◌, inl, inr, true, sym, ◌∙◌, ℕ, suc, zero, ◌||◌, Bool, false, List, [], ◌∷◌, map, length, get_or, arith, refl, ap}
 use Rattle.std.specs.List.{zip}
+use Rattle.std.proofs.lemmas.Bool.{or_cases, or_left, or_right}
 
 -- each bit is on that is on in a or in b
 abbrev pub union : List Bool → List Bool → List Bool
@@ -17,3 +18,9 @@ get_or-union [] (y ∷ b) e k = absurd (omega (arith, e))
 get_or-union (x ∷ a) [] e k = absurd (omega (arith, e))
 get_or-union (x ∷ a) (y ∷ b) e zero = refl
 get_or-union (x ∷ a) (y ∷ b) e (suc k) = get_or-union a b (omega (arith, e)) k
+
+pub union_adds : (a b : List Bool) → length a ≡ length b → (k : ℕ) → (get_or (union a b) k false ≡ true) ↔ ((get_or a k false ≡ true) ⊎ (get_or b k false ≡ true))
+union_adds a b e k = (
+  (λ h. or_cases (get_or a k false) (get_or b k false) (sym (get_or-union a b e k) ∙ h)),
+  (λ h. get_or-union a b e k ∙ elim h [ inl i ↦ or_left (get_or a k false) (get_or b k false) i | inr i ↦ or_right (get_or a k false) (get_or b k false) i ]),
+)

@@ -2,7 +2,7 @@
 
 ghost use Rattle.std.specs.Prelude.{◌≡◌, ◌≢◌, ◌<◌, ◌==◌, ◌↔◌, ◌||◌, ◌-◌, ◌^◌};
 ghost use Rattle.std.specs.Prelude.{ℕ, Bool, List, Some, false, if◌then◌else◌, length, map, not, replicate};
-ghost use Rattle.std.specs.Prelude.{slice_get, slice_index_or, slice_set, IfOk, IsTrue, MatchBool};
+ghost use Rattle.std.specs.Prelude.{slice_get, slice_set, IfOk, IsTrue, MatchBool};
 ghost use Rattle.std.specs.Bool.{beq};
 ghost use Rattle.std.specs.Cmp.{bool_eq_equiv, partial_equiv_from_equiv};
 ghost use Rattle.std.specs.Cmp.Lexicographic.{lists_equiv, lists_per, pointwise};

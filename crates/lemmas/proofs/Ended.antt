@@ -11,12 +11,6 @@ module _ {A : Type 0} where
       let tails : map Some xs ≡ map Some ys = cc in
       λ i. heads i ∷ somes_same xs ys tails i
 
-  pub some_before_end : (xs : List A) (i : ℕ) (x : A) → slice_get (map Some xs ++ None ∷ []) i ≡ Some (Some x) → slice_get xs i ≡ Some x
-  some_before_end [] zero x at = let no : Some None ≡ Some (Some x) = at in cc
-  some_before_end [] (suc i) x at = let no : None ≡ Some (Some x) = at in cc
-  some_before_end (y ∷ xs) zero x at = let same : Some (Some y) ≡ Some (Some x) = at in cc
-  some_before_end (y ∷ xs) (suc i) x at = some_before_end xs i x at
-
   pub none_at_end : (xs : List A) (i : ℕ) → slice_get (map Some xs ++ None ∷ []) i ≡ Some None → i ≡ length xs
   none_at_end [] zero at = refl
   none_at_end [] (suc i) at = let no : ◌≡◌ {A = Option (Option A)} None (Some None) = at in cc

@@ -1,3 +1,4 @@
+pub mod Adding
 pub mod Contained
 pub mod Copies
 pub mod Elements

@@ -25,12 +25,14 @@ module _ {A : Type 0} (p : A → Bool) where
           ∙ kept (p y) (p x) i (i + 1 + length ys) (places_from (i + 1) p ys)
           ∙ ap (λ j. cond (p x) (places_from i p (y ∷ ys) ++ j ∷ []) (places_from i p (y ∷ ys))) (omega arith)
 
+  pub places_from-none : (i : ℕ) (xs : List A) → list_any p xs ≡ false → places_from i p xs ≡ []
+  places_from-none i [] none = refl
+  places_from-none i (x ∷ xs) none =
+      let both = or_parts (p x) _ none in
+      ap (λ b. cond b (i ∷ places_from (i + 1) p xs) (places_from (i + 1) p xs)) both.0 ∙ places_from-none (i + 1) xs both.1
+
   pub places-none : (xs : List A) → list_any p xs ≡ false → places p xs ≡ []
-  places-none xs none = go 0 xs none
-    where
-      go : (i : ℕ) (ys : List A) → list_any p ys ≡ false → places_from i p ys ≡ []
-      go i [] h = refl
-      go i (y ∷ ys) h = let both = or_parts (p y) _ h in ap (λ b. cond b (i ∷ places_from (i + 1) p ys) (places_from (i + 1) p ys)) both.0 ∙ go (i + 1) ys both.1
+  places-none = places_from-none 0
 
 -- the places where a test passes of which another says the same of each element
 pub places-same : {A : Type 0} (p q : A → Bool) (xs : List A) → All (λ x. p x ≡ q x) xs → places p xs ≡ places q xs

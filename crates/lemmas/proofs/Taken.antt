@@ -1,9 +1,20 @@
 -- The first elements of a list, and one more.
-use Rattle.std.proofs.Common.{◌≡◌, ℕ, ◌+◌, ◌<◌, List, [], ◌∷◌, ◌++◌, length, take, get_or, slice_get, Option, Some, None, option_map, refl, sym, ap, ◌∙◌, arith}
+use Rattle.std.proofs.Common.{◌≡◌, ◌↔◌, ◌⊎◌, inl, inr, ℕ, ◌+◌, ◌<◌, Contains, subst, List, [], ◌∷◌, ◌++◌, length, take, get_or, slice_get, Option, Some, None, option_map, refl, sym, ap, ◌∙◌, arith}
 use Rattle.std.specs.List.{flat_map, enumerate_from}
 use Rattle.std.proofs.lemmas.List.{take_more, flat_map_more}
+use Rattle.std.proofs.lemmas.List.Elements.{Contains-append_left, Contains-push, Contains-push_cases}
 use Rattle.std.proofs.lemmas.List.FromFn.{length-enumerate_from, get_or-enumerate_from}
 use Rattle.std.proofs.lemmas.Option.{slice_get_within, get_or_from_slice_get}
+
+-- what is among them, and the next
+pub contains_taken : {A : Type 0} (xs : List A) (n : ℕ) (x : A) → n < length xs → x ≡ get_or xs n x → (y : A) → Contains (take (n + 1) xs) y ↔ (Contains (take n xs) y ⊎ (y ≡ x))
+contains_taken xs n x lt is y = subst (λ l. Contains l y ↔ (Contains (take n xs) y ⊎ (y ≡ x))) (sym (take_more xs n x lt ∙ ap (λ z. take n xs ++ z ∷ []) (sym is))) (
+  (λ h. elim (Contains-push_cases (take n xs) x y h) [ inl i ↦ inl i | inr e ↦ inr (sym e) ]),
+  (λ h. elim h [
+    | inl i ↦ Contains-append_left (take n xs) (x ∷ []) y i
+    | inr e ↦ subst (Contains (take n xs ++ x ∷ [])) (sym e) (Contains-push (take n xs) x)
+  ]),
+)
 
 -- what each gives, joined, and what the next gives
 pub one_more : {A : Type 0} (line : A → List ℕ) (xs : List A) (n : ℕ) (x : A) → n < length xs → get_or xs n x ≡ x

@@ -1,9 +1,9 @@
 -- What each of some things finds is reached, one thing after another.
-use Rattle.std.proofs.Common.{◌≡◌, ℕ, ◌+◌, ◌<◌, ◌≤◌, inl, inr, List, [], ◌∷◌, ◌++◌, Some, get_or, slice_get, length, map, take, arith, sym, ap, subst, ◌∙◌}
-use Rattle.std.proofs.lemmas.List.{get_or-map, length-map, take_all, take_more}
+use Rattle.std.proofs.Common.{◌≡◌, ◌↔◌, ◌⊎◌, Contains, refl, ℕ, ◌+◌, ◌<◌, ◌≤◌, inl, inr, List, [], Some, get_or, slice_get, length, map, take, arith, sym, ap, subst, ◌∙◌}
+use Rattle.std.proofs.lemmas.List.{get_or-map, length-map, take_all}
 use Rattle.std.proofs.lemmas.Option.{get_or_from_slice_get}
 use Rattle.lemmas.proofs.Elements.{element_at}
-use Rattle.std.proofs.lemmas.List.Elements.{Contains-append_left, Contains-push, Contains-push_cases}
+use Rattle.lemmas.proofs.Taken.{contains_taken}
 use Rattle.search.specs.Reached.{SearchState, Reaches, FoundBy}
 use Rattle.search.proofs.Reaching.{reaches_known, reaches_as, reaches_then}
 
@@ -14,18 +14,18 @@ module _ {A : Type 0} (Finds : A → ℕ → Type 0) (things : List A) where
   pub each_more : (i : ℕ) (thing : A) (old mid new : SearchState) → i < length things → thing ≡ get_or things i thing
       → Reaches (FoundBy Finds (take i things)) old mid → Reaches (Finds thing) mid new → Reaches (FoundBy Finds (take (i + 1) things)) old new
   each_more i thing old mid new lt is w v = reaches_as _ _ old new
-      (λ n h. subst (λ l. FoundBy Finds l n) (sym longer) (elim h [
-        | inl k ↦ record { thing = k.thing; among = Contains-append_left (take i things) (thing ∷ []) k.thing k.among; finds = k.finds }
-        | inr k ↦ record { thing = thing; among = Contains-push (take i things) thing; finds = k }
-      ]))
-      (λ n h. let k = subst (λ l. FoundBy Finds l n) longer h in elim (Contains-push_cases (take i things) thing k.thing k.among) [
+      (λ n h. elim h [
+        | inl k ↦ record { thing = k.thing; among = (taken k.thing).1 (inl k.among); finds = k.finds }
+        | inr k ↦ record { thing = thing; among = (taken thing).1 (inr refl); finds = k }
+      ])
+      (λ n k. elim ((taken k.thing).0 k.among) [
         | inl j ↦ inl (record { thing = k.thing; among = j; finds = k.finds })
-        | inr e ↦ inr (subst (λ t. Finds t n) (sym e) k.finds)
+        | inr e ↦ inr (subst (λ t. Finds t n) e k.finds)
       ])
       (reaches_then _ _ old mid new w v)
     where
-      longer : take (i + 1) things ≡ take i things ++ (thing ∷ [])
-      longer = take_more things i thing lt ∙ ap (λ t. take i things ++ (t ∷ [])) (sym is)
+      taken : (t : A) → Contains (take (i + 1) things) t ↔ (Contains (take i things) t ⊎ (t ≡ thing))
+      taken = contains_taken things i thing lt is
 
   pub each_all : (i : ℕ) (old new : SearchState) → length things ≤ i → Reaches (FoundBy Finds (take i things)) old new → Reaches (FoundBy Finds things) old new
   each_all i old new le w = subst (λ l. Reaches (FoundBy Finds l) old new) (take_all i things le) w

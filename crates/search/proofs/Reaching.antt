@@ -1,12 +1,13 @@
 -- What is reached step by step, and a search from its seeds to its end.
-use Rattle.std.proofs.Common.{◌≡◌, ℕ, ◌+◌, ◌-◌, ◌<◌, ◌⊎◌, ◌↔◌, inl, inr, Bool, true, false, List, [], ◌∷◌, ◌++◌, Contains, get_or, slice_get, slice_set, length, Some, IsTrue, arith, refl, sym, ap, ◌∙◌, subst, true≢false, length-set, get_or-set_same}
+use Rattle.std.proofs.Common.{◌≡◌, ℕ, ◌+◌, ◌-◌, ◌<◌, ◌⊎◌, ◌↔◌, inl, inr, Bool, true, false, List, [], ◌∷◌, ◌++◌, Contains, get_or, slice_get, slice_set, length, Some, IsTrue, arith, refl, sym, ap, ◌∙◌, subst, true≢false, length-set}
 use Rattle.std.proofs.lemmas.List.{length-replicate, length_push}
 use Rattle.std.proofs.lemmas.List.Elements.{Contains-append_left, Contains-push, Contains-push_cases}
 use Rattle.std.proofs.lemmas.List.Sums.{count_by-le-length}
 use Rattle.std.proofs.lemmas.Option.{get_or_from_slice_get}
-use Rattle.lemmas.proofs.Elements.{get_or-set, get_or-replicate_default, set-slice_get, within_from_get_or}
+use Rattle.lemmas.proofs.Elements.{get_or-replicate_default, set-slice_get, within_from_get_or}
 use Rattle.search.specs.Reached.{SearchState, IsReachedIn, Reached, Reaches, count_reached, led, seed, unsearched}
-use Rattle.search.proofs.Bits.{bits_on-fewer, bits_on-set}
+use Rattle.search.proofs.Bits.{bit_put, bits_on-fewer, bits_on-set}
+use Rattle.lemmas.proofs.Adding.{adds_as, adds_then}
 
 -- what is found was reached before
 pub reaches_known : (Found : ℕ → Type 0) (x : SearchState) → ((n : ℕ) → Found n → IsReachedIn x n) → Reaches Found x x
@@ -23,10 +24,7 @@ pub reaches_as : (Found Found' : ℕ → Type 0) (old new : SearchState) → ((n
     → Reaches Found old new → Reaches Found' old new
 reaches_as Found Found' old new to from w = record {
   shape = w.shape;
-  reached = λ n. (
-    (λ h. elim ((w.reached n).0 h) [ inl i ↦ inl i | inr i ↦ inr (to n i) ]),
-    (λ h. (w.reached n).1 (elim h [ inl i ↦ inl i | inr i ↦ inr (from n i) ])),
-  );
+  reached = adds_as Found' (λ n i. inr (to n i)) (λ n i. inr (from n i)) w.reached;
   fresh = w.fresh;
   still = w.still;
   waits = w.waits;
@@ -37,16 +35,7 @@ pub reaches_then : (Found Found' : ℕ → Type 0) (old mid new : SearchState) �
     → Reaches (λ n. Found n ⊎ Found' n) old new
 reaches_then Found Found' old mid new w v = record {
   shape = v.shape ∙ w.shape;
-  reached = λ n. (
-    (λ h. elim ((v.reached n).0 h) [
-      | inl i ↦ elim ((w.reached n).0 i) [ inl j ↦ inl j | inr j ↦ inr (inl j) ]
-      | inr i ↦ inr (inr i)
-    ]),
-    (λ h. (v.reached n).1 (elim h [
-      | inl i ↦ inl ((w.reached n).1 (inl i))
-      | inr i ↦ elim i [ inl j ↦ inl ((w.reached n).1 (inr j)) | inr j ↦ inr j ]
-    ])),
-  );
+  reached = adds_then w.reached v.reached;
   fresh = λ n h. elim (v.fresh n h) [
     | inl i ↦ elim (w.fresh n i) [ inl j ↦ inl j | inr j ↦ inr (v.still n j) ]
     | inr i ↦ inr i
@@ -65,32 +54,20 @@ module _ (x : SearchState) (node : ℕ) (within : node < length x.reached) (bits
       → Reaches (λ n. n ≡ node) x (record { reached = bits; waiting = waiting })
   reaches_new waiting off push = record {
     shape = ap length put ∙ length-set x.reached node true;
-    reached = λ n. (only n, λ h. elim h [ inl i ↦ before n i | inr e ↦ itself n e ]);
-    fresh = λ n h. elim (only n h) [
+    reached = turned;
+    fresh = λ n h. elim ((turned n).0 h) [
       | inl i ↦ inl i
       | inr e ↦ inr (subst (λ l. Contains l n) (sym push) (subst (Contains (x.waiting ++ node ∷ [])) (sym e) (Contains-push x.waiting node)))
     ];
     still = λ n h. subst (λ l. Contains l n) (sym push) (Contains-append_left x.waiting (node ∷ []) n h);
-    waits = λ n h. elim (Contains-push_cases x.waiting node n (subst (λ l. Contains l n) push h)) [ inl i ↦ inl i | inr e ↦ inr (itself n (sym e)) ];
+    waits = λ n h. elim (Contains-push_cases x.waiting node n (subst (λ l. Contains l n) push h)) [ inl i ↦ inl i | inr e ↦ inr ((turned n).1 (inr (sym e))) ];
     once = let one = ap (λ l. count_reached (record { reached = l; waiting = waiting })) put
         ∙ bits_on-set x.reached node within (get_or_from_slice_get x.reached node false false off) in
         let long = ap length push ∙ length_push x.waiting node in omega (arith, one, long);
   }
     where
-      now : (n : ℕ) → IsTrue (get_or (slice_set x.reached node true) n false) → IsTrue (get_or bits n false)
-      now n h = subst (λ l. IsTrue (get_or l n false)) (sym put) h
-
-      before : (n : ℕ) → IsReachedIn x n → IsTrue (get_or bits n false)
-      before n h = now n (elim (get_or-set x.reached node n true false) [ inl e ↦ e ∙ h | inr e ↦ e.1 ])
-
-      itself : (n : ℕ) → n ≡ node → IsTrue (get_or bits n false)
-      itself n e = now n (ap (λ q. get_or (slice_set x.reached node true) q false) e ∙ get_or-set_same x.reached node true false within)
-
-      only : (n : ℕ) → IsTrue (get_or bits n false) → IsReachedIn x n ⊎ (n ≡ node)
-      only n h = elim (get_or-set x.reached node n true false) [
-        | inl e ↦ inl (sym e ∙ subst (λ l. IsTrue (get_or l n false)) put h)
-        | inr e ↦ inr e.0
-      ]
+      turned : (n : ℕ) → IsTrue (get_or bits n false) ↔ (IsReachedIn x n ⊎ (n ≡ node))
+      turned = subst (λ l. (n : ℕ) → IsTrue (get_or l n false) ↔ (IsReachedIn x n ⊎ (n ≡ node))) (sym put) (bit_put x.reached node within)
 
   pub reaches_again : (waiting : List ℕ) → slice_get x.reached node ≡ Some true → waiting ≡ x.waiting → Reaches (λ n. n ≡ node) x (record { reached = bits; waiting = waiting })
   reaches_again waiting on same = subst (Reaches (λ n. n ≡ node) x) back

@@ -1,10 +1,25 @@
 -- Sets that grow by what productions give; what a production gives depends on the sets of the rules on which it rests.
-use Rattle.std.specs.Prelude.{◌≡◌, ℕ, ◌+◌, ◌-◌, ◌*◌, ◌^◌, ◌<◌, ◌≤◌, ◌⊎◌, ◌↔◌, Bool, false, cond, List, length, Contains}
+use Rattle.std.specs.Prelude.{◌≡◌, ℕ, ◌+◌, ◌-◌, ◌*◌, ◌^◌, ◌<◌, ◌≤◌, ◌⊎◌, ◌↔◌, Bool, false, cond, List, map, length, Contains}
 use Rattle.derivation.specs.Grammar.{Grammar, Production, IsGrammar}
+use Rattle.cfgindex.specs.declared.idxnewtype.RIdx.{RIdx}
+use Rattle.cfgindex.specs.declared.idxnewtype.Symbol.{Symbol}
+use Rattle.cfgtables.specs.Symbols.{sym_of}
 use Rattle.cfgtables.specs.Openings.{most_openings, most_openings_all, nth_production}
 use Rattle.cfganalysis.specs.Table.{bits_on}
 use Rattle.cfganalysis.specs.Inner.Waiting.{waits, Waits, NoneWaits}
 use Rattle.cfganalysis.specs.Inner.Work.{users_of, RestsOnGained}
+
+-- a production, as its rule and its symbols show it
+abbrev pub shown : {S : Type 0} → (S → ℕ) → RIdx S → List (Symbol S) → Production
+shown number rule symbols = record { rule = number rule.0; symbols = map (sym_of number) symbols }
+
+-- it is one of a grammar that has these rules
+abbrev pub CanNote : List (List ℕ) → Production → Type 0
+CanNote users p = (g : Grammar) × IsGrammar g × (length users ≡ g.rules) × Contains g.productions p
+
+-- and the sets are of that grammar, and no rule has gained
+abbrev pub CanTakeIn : {X : Type 0} → (Grammar → X → Type 0) → X → List Bool → Production → Type 0
+CanTakeIn holds x gained p = (g : Grammar) × IsGrammar g × holds g x × NoneWaits gained × (length gained ≡ g.rules) × Contains g.productions p
 
 -- of sets: what they say is so, they have all that a production gives, how many bits are on, on which rules a
 -- production rests

@@ -73,7 +73,6 @@ module _ (cost : ℕ → ℕ) (known : List Known) (start : ℕ) where
 pub record IsGroup (g : Grammar) (cost : ℕ → ℕ) (known : List Known) (path : List ℕ) (start : ℕ) : Type 0 where
   pub so : AreTrue g cost known
   pub lives : (r : ℕ) → is_dead (known_of known r) ≡ false → HasWord (HasProduction g) (Rule r ∷ [])
-  pub dead : (r : ℕ) → is_dead (known_of known r) ≡ true → IsDead (HasProduction g) (Rule r ∷ [])
   pub places : (r place : ℕ) → known_of known r ≡ Open place → (place < length path) × (slice_index path place ≡ r)
   pub members : (i : ℕ) → start ≤ i → i < length path → (known_of known (slice_index path i) ≡ Open i) × HasWord (HasProduction g) (Rule (slice_index path i) ∷ [])
   pub above : (i j : ℕ) → start ≤ i → i < length path → start ≤ j → j < length path → IsAbove (HasProduction g) (slice_index path i) (slice_index path j)

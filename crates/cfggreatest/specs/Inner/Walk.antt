@@ -4,7 +4,7 @@ use Rattle.derivation.specs.Grammar.{Sym, Rule, Token, Grammar, HasProduction, I
 use Rattle.cfgsums.specs.declared.errors.CostError.{CostError}
 use Rattle.cfgsums.specs.declared.errors.CostError.TheVariants.{NoSentence}
 use Rattle.cfggreatest.specs.Words.{Means}
-use Rattle.cfggreatest.specs.Inner.AtLeast.{HasWord, IsAbove, IsDead}
+use Rattle.cfggreatest.specs.Inner.AtLeast.{HasWord, IsAbove}
 use Rattle.cfggreatest.specs.Inner.Groups.{AreGroups, IsLast}
 use Rattle.cfggreatest.specs.Inner.Known.{AreTrue, count_new, is_dead, is_inside, is_outside, known_of}
 use Rattle.cfggreatest.specs.declared.sums.Known.{Known}
@@ -27,7 +27,6 @@ pub record IsWalk (g : Grammar) (x : Walk) : Type 0 where
   pub grammar : IsGrammar g
   pub rules : length x.known.items ≡ g.rules
   pub lives : (r : ℕ) → is_dead (known_of x.known.items r) ≡ false → HasWord (HasProduction g) (Rule r ∷ [])
-  pub dead : (r : ℕ) → is_dead (known_of x.known.items r) ≡ true → IsDead (HasProduction g) (Rule r ∷ [])
   pub places : (r place : ℕ) → known_of x.known.items r ≡ Open place → (place < length x.path.items) × (slice_index x.path.items place ≡ r)
   pub path : (i : ℕ) → i < length x.path.items → (slice_index x.path.items i < g.rules) × (known_of x.known.items (slice_index x.path.items i) ≡ Open i)
   pub groups : AreGroups (IsAbove (HasProduction g)) x.path.items x.starts.items

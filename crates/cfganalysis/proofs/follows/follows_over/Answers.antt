@@ -5,16 +5,18 @@ use Rattle.cfganalysis.proofs.Fitting.{openings_fit, still_few}
 use Rattle.cfganalysis.proofs.FollowBits.{are_follows, say_start}
 use Rattle.cfganalysis.proofs.follows.follows_over.Goals as goal
 
-pub visit_all-requires-clause-holds : goal.visit_all-requires-clause-holds
-visit_all-requires-clause-holds g c =
-    subst (SayFollows (g.P.Productions.content c.args.productions.now)) (sym c.in_ok-analysis.ensures)
-    (say_start _ _ _ _ c.rules_len.ensures.content c.requires.firsts (c.to_usize-rules.ensures.value ∙ c.rules_len.ensures.value) (c.to_usize-tokens.ensures.value ∙ c.tokens_len.ensures))
-
-pub visit_all-requires-clause-small : goal.visit_all-requires-clause-small
-visit_all-requires-clause-small g c =
-    openings_fit (g.P.Productions.content c.args.productions.now) c.to_usize-rules.result c.to_usize-tokens.result _
-    (c.to_usize-rules.ensures.value ∙ c.rules_len.ensures.value) (c.to_usize-tokens.ensures.value ∙ c.tokens_len.ensures)
-    c.to_usize-rules.ensures.range c.to_usize-tokens.ensures.range c.to_usize-rules.ensures.limit
+pub visit_all-requires : goal.visit_all-requires
+visit_all-requires g c =
+    let rules = c.to_usize-rules.ensures.value ∙ c.rules_len.ensures.value in
+    let tokens = c.to_usize-tokens.ensures.value ∙ c.tokens_len.ensures in record {
+      grammar = c.rules_len.ensures.content;
+      small = openings_fit (g.P.Productions.content c.args.productions.now) c.to_usize-rules.result c.to_usize-tokens.result _ rules tokens
+          c.to_usize-rules.ensures.range c.to_usize-tokens.ensures.range c.to_usize-rules.ensures.limit;
+      holds = subst (SayFollows (g.P.Productions.content c.args.productions.now)) (sym c.in_ok-analysis.ensures)
+          (say_start _ _ _ _ c.rules_len.ensures.content c.requires.firsts rules tokens);
+      fresh = c.requires.fresh;
+      all_fresh = c.requires.all_fresh;
+    }
 
 pub returns : goal.returns
 returns g c = record {
@@ -24,15 +26,6 @@ returns g c = record {
   content = c.in_ok-visit_all.ensures.content;
   few = c.in_ok-visit_all.ensures.few;
 }
-
-pub visit_all-requires-clause-grammar : goal.visit_all-requires-clause-grammar
-visit_all-requires-clause-grammar g c = c.rules_len.ensures.content
-
-pub visit_all-requires-clause-fresh : goal.visit_all-requires-clause-fresh
-visit_all-requires-clause-fresh g c = c.requires.fresh
-
-pub visit_all-requires-clause-all_fresh : goal.visit_all-requires-clause-all_fresh
-visit_all-requires-clause-all_fresh g c = c.requires.all_fresh
 
 pub returns-in_err-analysis-clause-few : goal.returns-in_err-analysis-clause-few
 returns-in_err-analysis-clause-few g c = still_few _ _ _ _ c.requires.fresh c.requires.all_fresh

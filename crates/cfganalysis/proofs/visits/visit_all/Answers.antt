@@ -6,18 +6,15 @@ use Rattle.cfganalysis.proofs.Fitting.{can_visit, still_few}
 use Rattle.cfganalysis.proofs.Visiting.{visited_all, visited_none, few_opened}
 use Rattle.cfganalysis.proofs.visits.visit_all.Goals as goal
 
-pub visit_each-requires-clause-can : goal.visit_each-requires-clause-can
-visit_each-requires-clause-can g c = can_visit _ _ _ c.requires.grammar (c.to_usize-prods_len.ensures.value ∙ c.prods_len.ensures)
-    c.to_usize-prods_len.ensures.range c.to_usize-prods_len.ensures.limit c.requires.small
-
-pub visit_each-requires-clause-all : goal.visit_each-requires-clause-all
-visit_each-requires-clause-all g c = c.to_usize-prods_len.ensures.value ∙ c.prods_len.ensures
-
-pub visit_each-requires-clause-visited : goal.visit_each-requires-clause-visited
-visit_each-requires-clause-visited g c =
-    visited_none _ _ _ _ _ _ _ _ c.to_usize-rules.result c.to_usize-prods_len.result _ _ _ c.requires.holds
-    (c.to_usize-rules.ensures.value ∙ c.rules_len.ensures.value) (c.to_usize-prods_len.ensures.value ∙ c.prods_len.ensures)
-    c.in_ok-work.ensures.users c.in_ok-work.ensures.waiting c.in_ok-work.ensures.gained c.requires.fresh c.requires.all_fresh
+pub visit_each-requires : goal.visit_each-requires
+visit_each-requires g c =
+    let all = c.to_usize-prods_len.ensures.value ∙ c.prods_len.ensures in record {
+      can = can_visit _ _ _ c.requires.grammar all c.to_usize-prods_len.ensures.range c.to_usize-prods_len.ensures.limit c.requires.small;
+      all = all;
+      visited = visited_none _ _ _ _ _ _ _ _ c.to_usize-rules.result c.to_usize-prods_len.result _ _ _ c.requires.holds
+          (c.to_usize-rules.ensures.value ∙ c.rules_len.ensures.value) all
+          c.in_ok-work.ensures.users c.in_ok-work.ensures.waiting c.in_ok-work.ensures.gained c.requires.fresh c.requires.all_fresh;
+    }
 
 pub loop-init : goal.loop-init
 loop-init g c =
@@ -30,13 +27,12 @@ loop-init g c =
           (g.P.Productions.opened c.visit_each.new.productions) (g.P.Productions.opened_all c.visit_each.new.productions)) all c.in_ok-visit_each.ensures.visited;
     }
 
-pub visit_next-requires-clause-can : goal.visit_next-requires-clause-can
-visit_next-requires-clause-can g c = subst (CanVisit g.S.Storage.MAX) (sym c.loop.invariant.content)
-    (can_visit _ _ _ c.requires.grammar (c.to_usize-prods_len.ensures.value ∙ c.prods_len.ensures)
-    c.to_usize-prods_len.ensures.range c.to_usize-prods_len.ensures.limit c.requires.small)
-
-pub visit_next-requires-clause-visited : goal.visit_next-requires-clause-visited
-visit_next-requires-clause-visited g c = c.loop.invariant.visited
+pub visit_next-requires : goal.visit_next-requires
+visit_next-requires g c = record {
+  can = subst (CanVisit g.S.Storage.MAX) (sym c.loop.invariant.content) (can_visit _ _ _ c.requires.grammar (c.to_usize-prods_len.ensures.value ∙ c.prods_len.ensures)
+      c.to_usize-prods_len.ensures.range c.to_usize-prods_len.ensures.limit c.requires.small);
+  visited = c.loop.invariant.visited;
+}
 
 pub loop-smaller : goal.loop-smaller
 loop-smaller g c = subst (λ b. MatchBool b

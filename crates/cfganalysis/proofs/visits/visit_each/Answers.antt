@@ -25,15 +25,12 @@ returns-in_err-visit_first-clause-refused g c =
 pub returns-in_err-visit_first-clause-content : goal.returns-in_err-visit_first-clause-content
 returns-in_err-visit_first-clause-content g c = c.in_err-visit_first.ensures.opens.stays ∙ c.loop-number.invariant.content
 
-pub visit_first-requires-clause-can : goal.visit_first-requires-clause-can
-visit_first-requires-clause-can g c = subst (CanVisit g.S.Storage.MAX) (sym c.loop-number.invariant.content) c.requires.can
-
-pub visit_first-requires-clause-number : goal.visit_first-requires-clause-number
-visit_first-requires-clause-number g c =
-    subst (λ h. c.loop-number.number < length h.productions) (sym c.loop-number.invariant.content) (omega (arith, c.requires.all, c.loop-number-test.true))
-
-pub visit_first-requires-clause-visited : goal.visit_first-requires-clause-visited
-visit_first-requires-clause-visited g c = c.loop-number.invariant.visited
+pub visit_first-requires : goal.visit_first-requires
+visit_first-requires g c = record {
+  can = subst (CanVisit g.S.Storage.MAX) (sym c.loop-number.invariant.content) c.requires.can;
+  number = subst (λ h. c.loop-number.number < length h.productions) (sym c.loop-number.invariant.content) (omega (arith, c.requires.all, c.loop-number-test.true));
+  visited = c.loop-number.invariant.visited;
+}
 
 pub loop-number-init : goal.loop-number-init
 loop-number-init g c = record { content = refl; visited = c.requires.visited }

@@ -10,7 +10,7 @@ use Rattle.cfganalysis.proofs.firsts.YaccFirsts.take_in.Goals as goal
 pub put_first-changed-requires : goal.put_first-changed-requires
 put_first-changed-requires g c = (
   c.requires.0,
-  (c.loop-symbol.invariant.sound c.requires.0 c.requires.1 c.requires.3 c.requires.2).fits,
+  (c.loop-symbol.invariant.walked.growth.sound c.requires.0 c.requires.1 c.requires.3 c.requires.2).fits,
   owner _ _ c.requires.1 c.requires.3,
   mapped_all (sym_of g.S.Storage.number) _ _ _ c.symbol-item.is (omega (arith, c.loop-symbol-test.true)) (IsSymbolOf c.requires.0)
       (all_symbols c.requires.0 _ c.requires.1 c.requires.3),
@@ -34,7 +34,7 @@ loop-symbol-preserved g c =
 
 pub put_epsilon-requires : goal.put_epsilon-requires
 put_epsilon-requires g c = subst (λ n. g.S.Storage.number c.args.rule.0 < n)
-    (sym (c.loop-symbol.invariant.sound c.requires.0 c.requires.1 c.requires.3 c.requires.2).fits.epsilons) (owner _ _ c.requires.1 c.requires.3)
+    (sym (c.loop-symbol.invariant.walked.growth.sound c.requires.0 c.requires.1 c.requires.3 c.requires.2).fits.epsilons) (owner _ _ c.requires.1 c.requires.3)
 
 pub returns : goal.returns
 returns g c = visits_all _ _ _ _ _ _ _ _ _ c.requires.1 c.requires.3 c.requires.2

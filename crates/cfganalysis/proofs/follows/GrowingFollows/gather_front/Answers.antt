@@ -4,7 +4,7 @@ use Rattle.derivation.specs.Grammar.{Grammar}
 use Rattle.cfganalysis.specs.Table.{HasBit, row_of}
 use Rattle.cfganalysis.specs.Inner.Joined.{joined}
 use Rattle.cfganalysis.specs.Inner.GrowingFollows.{FollowSets, FitFollows, FrontGives, Gathers, IsFrontOf, IsGathered}
-use Rattle.cfganalysis.proofs.OneBit.{row_wide}
+use Rattle.cfganalysis.proofs.Joins.{row_wide}
 use Rattle.cfganalysis.proofs.Gathering.{gathers_row, anew_long, anew_tokens}
 use Rattle.cfganalysis.proofs.follows.GrowingFollows.gather_front.Goals as goal
 

@@ -5,9 +5,7 @@ use Rattle.cfggreatest.proofs.walk.Walk.next_out.Given as goal
 
 abbrev pub invariant-loop-from : goal.invariant-loop-from
 invariant-loop-from l = record {
-  known : l.self.known ≡ l.fn.self.known;
-  path : l.self.path ≡ l.fn.self.path;
-  starts : l.self.starts ≡ l.fn.self.starts;
+  rest : l.self ≡ record l.fn.self { edges = l.self.edges };
   edges : (g : Grammar) → All (IsEdge g) l.fn.self.edges.items → All (IsEdge g) l.self.edges.items;
 }
 
