@@ -1,5 +1,6 @@
 -- What the certificate of least costs says, read from the lists that pass its checks.
 use Rattle.std.proofs.Common.{◌≡◌, ℕ, ◌+◌, ◌<◌, ◌≤◌, inl, inr, ◌⊎◌, List, [], ◌∷◌, length, take, Option, Some, None, All, arith, refl, sym, ap, subst, ◌∙◌}
+use Rattle.std.proofs.lemmas.Option.{same_Some}
 use Rattle.std.specs.Prelude.{IfSome, IsSomeAnd, MatchOption, EachIndex, slice_index}
 use Rattle.std.proofs.lemmas.Bool.{cases_lt}
 use Rattle.std.proofs.lemmas.List.{take_all, get_or_past}
@@ -75,7 +76,7 @@ module _ (g : Grammar) (costs : List ℕ) (least : List (Option ℕ)) where
     ]
     read (Some c) n h range = elim (cases_lt 65535 n) [
       | inl past ↦ omega (arith, past, range)
-      | inr within ↦ let k = h within in let same : Some c ≡ Some k.value = k.is in let is : c ≡ k.value = cc in let w = k.within in omega (arith, is, w)
+      | inr within ↦ let k = h within in let is : c ≡ k.value = same_Some _ _ k.is in omega (arith, is, k.within)
     ]
 
     -- no sentence costs less than the list says

@@ -42,8 +42,7 @@ module _ (g : Grammar) (cost : ℕ → ℕ) where
     number_small =
         let one : unsettled (get_or least r None) ≡ 1 = ap unsettled open' in
         let most = get_or-le-sum_by unsettled least r None in_costs in
-        let counted = state.counted in
-        omega (arith, one, most, counted)
+        omega (arith, one, most, state.counted)
 
     pub gains_one : (c : ℕ) → Gains (rule_cost least) (rule_cost (slice_set least r (Some c))) r c
     gains_one c = record {
@@ -130,8 +129,7 @@ module _ (g : Grammar) (cost : ℕ → ℕ) where
         counted =
             let one : unsettled (get_or least r None) ≡ 1 = ap unsettled open' in
             let change = sum_by-set unsettled least r (Some c) None in_costs in
-            let counted = state.counted in
-            omega (arith, one, change, counted);
+            omega (arith, one, change, state.counted);
         chosen = one_chosen;
         none = one_none;
       }
