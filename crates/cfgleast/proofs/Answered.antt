@@ -1,5 +1,6 @@
 -- Least costs and choices, read from the rules that are settled.
 use Rattle.std.proofs.Common.{◌≡◌, ℕ, ◌<◌, ◌≤◌, min, List, [], ◌∷◌, Option, Some, None, Result, Ok, Err, arith, refl, sym, ap, subst, ◌∙◌}
+use Rattle.std.proofs.lemmas.Option.{none-some, same_Some}
 use Rattle.std.proofs.lemmas.List.{get_or_default}
 use Rattle.std.proofs.lemmas.List.Elements.{All-weaker}
 use Rattle.derivation.specs.Grammar.{Rule, Grammar, HasProduction}
@@ -17,7 +18,7 @@ use Rattle.cfgleast.specs.Certificate.{IsChosenBelow, rule_choice}
 use Rattle.cfgleast.specs.Inner.Settled.{AreSettled}
 use Rattle.cfgsums.specs.declared.errors.CostError.{CostError}
 use Rattle.cfgsums.specs.declared.errors.CostError.TheVariants.{NoSentence, CostTooLarge}
-use Rattle.cfgleast.specs.Generator.{HasNone, IsTooDear, AnswersLeast, IsLeastProduction}
+use Rattle.cfgleast.specs.Generator.{IsTooDear, AnswersLeast, IsLeastProduction}
 use Rattle.cfgsums.proofs.Sums.{plus_zero}
 use Rattle.cfgsums.proofs.Made.{made_row, cut_over}
 use Rattle.cfgleast.proofs.TreeSums.{Choice, reached}
@@ -42,19 +43,15 @@ module _ (g : Grammar) (cost : ℕ → ℕ) (least : List (Option ℕ)) (choices
       → Choice (HasProduction g) cost (symbol_cost cost (rule_cost least)) (λ c n. min c 65536 ≡ min n 65536) (number choices) r c
   chosen r c e =
       let (p, m, by, lt) = state.chosen.chosen r c e in
-      let cut = by.sum.cut in
       record {
         symbols = (nth_production g p).symbols;
         sum = by.sum.total;
         has = at_place g p _ by.place (sym by.owner) refl;
         sum_is = by.sum.is;
-        stands = λ k h. omega (arith, cut, h);
+        stands = λ k h. omega (arith, by.sum.cut, h);
         below = All-weaker (IsChosenBelow choices m) (IsNumberedBelow (number choices) (number choices r))
             (λ s k. subst (λ x. IsNumberedBelow (number choices) x s) (sym (ap number_of by.choice)) (numbered_below choices m s k)) _ by.below;
       }
-
-  cost_limit : (r c : ℕ) → rule_cost least r ≡ Some c → c ≤ 65536
-  cost_limit r c e = let (p, m, by, lt) = state.chosen.chosen r c e in let cut = by.sum.cut in omega (arith, cut)
 
   -- a sentence of that cost, cut down
   some_sentence : (r c : ℕ) → rule_cost least r ≡ Some c → (w : List ℕ) × Sentence (HasProduction g) r w × (min c 65536 ≡ min (cost_of cost w) 65536)
@@ -63,17 +60,12 @@ module _ (g : Grammar) (cost : ℕ → ℕ) (least : List (Option ℕ)) (choices
       (number choices) chosen r c e in
       (made.word, derivation_from_trees (HasProduction g) made.tree, made.stands)
 
-  pub none_settled : (r : ℕ) → rule_cost least r ≡ None → HasNone (HasProduction g) r
-  none_settled r e w s = let b = below r w s in let no : None ≡ Some b.value = sym e ∙ b.is in absurd (cc)
-
   no_less : (r c : ℕ) → rule_cost least r ≡ Some c → (w : List ℕ) → Sentence (HasProduction g) r w → c ≤ cost_of cost w
   no_less r c e w s =
       let b = below r w s in
-      let both : Some c ≡ Some b.value = sym e ∙ b.is in
-      let same : c ≡ b.value = cc in
-      let within = b.within in
-      let limit = cost_limit r c e in
-      omega (arith, same, within, limit)
+      let same : c ≡ b.value = same_Some _ _ (sym e ∙ b.is) in
+      let (p, m, by, lt) = state.chosen.chosen r c e in
+      omega (arith, same, b.within, by.sum.cut)
 
   pub least_settled : (r c : ℕ) → rule_cost least r ≡ Some c → c ≤ 65535 → Least (HasProduction g) cost r c
   least_settled r c e small =
@@ -87,7 +79,7 @@ module _ (g : Grammar) (cost : ℕ → ℕ) (least : List (Option ℕ)) (choices
 
   -- what is answered of a rule
   pub answers_none : (r : ℕ) → rule_cost least r ≡ None → AnswersLeast (HasProduction g) cost r (Err NoSentence)
-  answers_none r e = let none = none_settled r e in record {
+  answers_none r e = let none = λ (w : List ℕ) (s : Sentence (HasProduction g) r w). none-some _ (sym e ∙ (below r w s).is) in record {
     least = tt;
     found = λ c l small. absurd (none l.0.0 l.0.1);
     none = ((λ h. none), (λ h. refl));
@@ -101,14 +93,14 @@ module _ (g : Grammar) (cost : ℕ → ℕ) (least : List (Option ℕ)) (choices
     none = ((λ h. let no : ◌≡◌ {A = Result ℕ CostError} (Ok c) (Err NoSentence) = h in absurd (cc)), (λ h. absurd (h l.0.0 l.0.1)));
     dear = (
       (λ h. let no : ◌≡◌ {A = Result ℕ CostError} (Ok c) (Err CostTooLarge) = h in absurd (cc)),
-      (λ h. let more = h.1 l.0.0 l.0.1 in let is = l.0.2 in absurd (omega (arith, more, is, small))),
+      (λ h. let more = h.1 l.0.0 l.0.1 in absurd (omega (arith, more, l.0.2, small))),
     );
   }
 
   pub answers_dear : (r c : ℕ) → rule_cost least r ≡ Some c → 65535 < c → AnswersLeast (HasProduction g) cost r (Err CostTooLarge)
   answers_dear r c e large = let dear = dear_settled r c e large in record {
     least = tt;
-    found = λ d l small. let more = dear.1 l.0.0 l.0.1 in let is = l.0.2 in absurd (omega (arith, more, is, small));
+    found = λ d l small. let more = dear.1 l.0.0 l.0.1 in absurd (omega (arith, more, l.0.2, small));
     none = ((λ h. let no : ◌≡◌ {A = Result ℕ CostError} (Err CostTooLarge) (Err NoSentence) = h in absurd (cc)), (λ h. absurd (h dear.0.0 dear.0.1)));
     dear = ((λ h. dear), (λ h. refl));
   }
@@ -117,14 +109,11 @@ module _ (g : Grammar) (cost : ℕ → ℕ) (least : List (Option ℕ)) (choices
   pub least_production : (r c p m : ℕ) → rule_cost least r ≡ Some c → c ≤ 65535 → rule_choice choices r ≡ Some (p, m) → IsLeastProduction g cost r p
   least_production r c p m e small k =
       let (p', m', by, lt) = state.chosen.chosen r c e in
-      let both : ◌≡◌ {A = Option (ℕ × ℕ)} (Some (p, m)) (Some (p', m')) = sym k ∙ by.choice in
-      let pairs : ◌≡◌ {A = ℕ × ℕ} (p', m') (p, m) = cc in
+      let pairs : ◌≡◌ {A = ℕ × ℕ} (p', m') (p, m) = sym (same_Some _ _ (sym k ∙ by.choice)) in
       let same : p' ≡ p = ap (λ (x : ℕ × ℕ). x.0) pairs in
-      let cut = by.sum.cut in
       let made = made_row (HasProduction g) cost (symbol_cost cost (rule_cost least)) (λ c n. min c 65536 ≡ min n 65536) (cut_over cost (rule_cost least) 65536)
       (λ s. Unit {0}) (λ q d _ f. reached (HasProduction g) cost (symbol_cost cost (rule_cost least)) (λ c n. min c 65536 ≡ min n 65536)
       (cut_over cost (rule_cost least) 65536) (number choices) chosen q d f) (nth_production g p').symbols by.sum.total (λ i d h. tt) by.sum.is in
-      let is = made.stands in
       let has = at_place g p' (record { rule = r; symbols = (nth_production g p').symbols }) by.place (sym by.owner) refl in
       let derived = derivation_from_trees (HasProduction g) made.tree in
       subst (IsLeastProduction g cost r) same (record {
@@ -134,6 +123,6 @@ module _ (g : Grammar) (cost : ℕ → ℕ) (least : List (Option ℕ)) (choices
         derived = derived;
         minimal = (
           derives_trans (HasProduction g) (derives_production (HasProduction g) r (nth_production g p').symbols has) derived,
-          λ v s. let more = no_less r c e v s in omega (arith, cut, is, small, more),
+          λ v s. let more = no_less r c e v s in omega (arith, by.sum.cut, made.stands, small, more),
         );
       })

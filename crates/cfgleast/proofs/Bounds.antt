@@ -1,5 +1,6 @@
 -- Tables that bound the costs of sentences from below, and tables whose costs are those of sentences.
 use Rattle.std.proofs.Common.{◌≡◌, ℕ, ◌+◌, ◌≤◌, min, List, Option, Some, arith, refl, sym}
+use Rattle.std.proofs.lemmas.Option.{same_Some}
 use Rattle.derivation.specs.Grammar.{Sym}
 use Rattle.derivation.specs.Sentence.{cost_of}
 use Rattle.derivation.specs.Tree.{Yields}
@@ -35,11 +36,11 @@ module _ (P : ℕ → List Sym → Type 0) (cost : ℕ → ℕ) (least : ℕ →
   goes_up h = record {
     none = λ _. record { value = 0; is = refl; within = omega arith };
     both = λ a b m n f g e. let k = f (omega (arith, e)) in let l = g (omega (arith, e)) in
-        record { value = k.value + l.value; is = plus_both a b k.value l.value k.is l.is; within = let p = k.within in let q = l.within in omega (arith, p, q) };
+        record { value = k.value + l.value; is = plus_both a b k.value l.value k.is l.is; within = omega (arith, k.within, l.within) };
     token = λ t _. record { value = cost t; is = refl; within = omega arith };
-    production = λ r symbols n has f e. let k = f e in let w = k.within in
-        let c = h.covers r k.value symbols has k.is (omega (arith, w, e)) in
-        let v = c.within in record { value = c.value; is = c.is; within = omega (arith, v, w) };
+    production = λ r symbols n has f e. let k = f e in
+        let c = h.covers r k.value symbols has k.is (omega (arith, k.within, e)) in
+        record { value = c.value; is = c.is; within = omega (arith, c.within, k.within) };
   }
 
   -- no row of symbols yields words that cost less than the row, and not more than the limit
@@ -56,12 +57,12 @@ module _ (P : ℕ → List Sym → Type 0) (cost : ℕ → ℕ) (least : ℕ →
     both = λ a b m n k l. record {
       value = k.value + l.value;
       is = plus_both a b k.value l.value k.is l.is;
-      within = let p = k.within in let q = l.within in omega (arith, p, q);
+      within = omega (arith, k.within, l.within);
     };
     token = λ t. record { value = cost t; is = refl; within = omega arith };
-    production = λ r symbols n has k. let w = k.within in
+    production = λ r symbols n has k.
         let c = h.covers r k.value symbols has k.is in
-        let v = c.within in record { value = c.value; is = c.is; within = omega (arith, v, w) };
+        record { value = c.value; is = c.is; within = omega (arith, c.within, k.within) };
   }
 
   -- no row of symbols yields words that cost less than the row, cut down to the limit
@@ -73,5 +74,5 @@ pub exactly_over : (cost : ℕ → ℕ) (least : ℕ → Option ℕ) → GoesOve
 exactly_over cost least = record {
   none = refl;
   both = λ a b m n e f. omega (arith, e, f);
-  token = λ t c e. let same : Some (cost t) ≡ Some c = e in let is : cost t ≡ c = cc in sym is;
+  token = λ t c e. let is : cost t ≡ c = same_Some _ _ e in sym is;
 }

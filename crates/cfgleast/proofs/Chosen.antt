@@ -35,15 +35,11 @@ module _ (g : Grammar) (cost : ℕ → ℕ) where
     in_costs : r < length least
     in_costs = subst (λ m. r < m) (sym state.costs) within
 
-    in_choices : r < length choices
-    in_choices = subst (λ m. r < m) (sym state.listed) within
-
     pub number_small : n < g.rules
     number_small =
         let one : unsettled (get_or least r None) ≡ 1 = ap unsettled open' in
         let most = get_or-le-sum_by unsettled least r None in_costs in
-        let counted = state.counted in
-        omega (arith, one, most, counted)
+        omega (arith, one, most, state.counted)
 
     pub gains_one : (c : ℕ) → Gains (rule_cost least) (rule_cost (slice_set least r (Some c))) r c
     gains_one c = record {
@@ -56,9 +52,6 @@ module _ (g : Grammar) (cost : ℕ → ℕ) where
         (sum : IsCutSum cost (rule_cost least) (nth_production g p).symbols c) where
       sum_stays : (a : List Sym) (d : ℕ) → IsCutSum cost (rule_cost least) a d → IsCutSum cost (rule_cost (slice_set least r (Some c))) a d
       sum_stays a d h = record { total = h.total; is = row_kept cost (rule_cost least) (rule_cost (slice_set least r (Some c))) r c (gains_one c) a h.total h.is; cut = h.cut }
-
-      choice_now : rule_choice (slice_set choices r (Some (p, n))) r ≡ Some (p, n)
-      choice_now = get_or-set_same choices r (Some (p, n)) None in_choices
 
       choice_stays : (q : ℕ) (choice : ℕ × ℕ) → rule_choice choices q ≡ Some choice → rule_choice (slice_set choices r (Some (p, n))) q ≡ Some choice
       choice_stays q choice e = elim (get_or-set choices r q (Some (p, n)) None) [
@@ -92,7 +85,7 @@ module _ (g : Grammar) (cost : ℕ → ℕ) where
 
       settled_now : IsSettledBy g cost (slice_set least r (Some c)) (slice_set choices r (Some (p, n))) r c p n
       settled_now = record {
-        choice = choice_now;
+        choice = get_or-set_same choices r (Some (p, n)) None (subst (λ m. r < m) (sym state.listed) within);
         place = place;
         owner = owner;
         sum = sum_stays _ c sum;
@@ -130,8 +123,7 @@ module _ (g : Grammar) (cost : ℕ → ℕ) where
         counted =
             let one : unsettled (get_or least r None) ≡ 1 = ap unsettled open' in
             let change = sum_by-set unsettled least r (Some c) None in_costs in
-            let counted = state.counted in
-            omega (arith, one, change, counted);
+            omega (arith, one, change, state.counted);
         chosen = one_chosen;
         none = one_none;
       }

@@ -18,7 +18,7 @@ module _ (costs : Sym → Option ℕ) (all : List Sym) where
       → SumSoFar costs all rest new
   sum_one s rest sum c new w e made = record {
     so_far = w.so_far + c;
-    cut = let cut = w.cut in omega (arith, cut, made);
+    cut = omega (arith, w.cut, made);
     whole = w.whole ∙ sym (plus_assoc (Some w.so_far) (costs s) (sum_of costs rest)) ∙ ap (λ o. plus (plus (Some w.so_far) o) (sum_of costs rest)) e;
   }
 
@@ -27,4 +27,4 @@ module _ (costs : Sym → Option ℕ) (all : List Sym) where
   sum_missing s rest sum w e = sym (ap (option_map (λ n. min n 65536)) (w.whole ∙ ap (λ o. plus (Some w.so_far) (plus o (sum_of costs rest))) e))
 
   pub sum_all : (sum : ℕ) → SumSoFar costs all [] sum → Some sum ≡ option_map (λ n. min n 65536) (sum_of costs all)
-  sum_all sum w = ap Some (let cut = w.cut in omega (arith, cut)) ∙ sym (ap (option_map (λ n. min n 65536)) w.whole)
+  sum_all sum w = ap Some (omega (arith, w.cut)) ∙ sym (ap (option_map (λ n. min n 65536)) w.whole)

@@ -1,5 +1,6 @@
 -- One rule more is settled: sums that were there stay, and each new sum is at least what the rule costs.
 use Rattle.std.proofs.Common.{◌≡◌, ℕ, zero, suc, ◌<◌, ◌≤◌, ◌⊎◌, inl, inr, List, [], ◌∷◌, length, get_or, Option, Some, None, All, arith, sym, ap, ◌∙◌}
+use Rattle.std.proofs.lemmas.Option.{same_Some}
 use Rattle.std.proofs.lemmas.List.Elements.{All-nil, All-cons}
 use Rattle.derivation.specs.Grammar.{Sym, Rule, Token}
 use Rattle.cfgsums.specs.Sums.{sum_of, symbol_cost}
@@ -15,11 +16,11 @@ module _ (f : Sym → Option ℕ) where
   pub part_at : (a : List Sym) (i : ℕ) (s : Sym) (n : ℕ) → i < length a → get_or a i s ≡ s → sum_of f a ≡ Some n → IsPart f s n
   part_at [] i s n within at e = absurd (omega (arith, within))
   part_at (x ∷ a) zero s n within at e = let p = plus_parts (f x) (sum_of f a) n e in
-      record { value = p.first; is = ap f (sym at) ∙ p.first_is; within = let w = p.whole in omega (arith, w) }
+      record { value = p.first; is = ap f (sym at) ∙ p.first_is; within = omega (arith, p.whole) }
   part_at (x ∷ a) (suc i) s n within at e =
       let p = plus_parts (f x) (sum_of f a) n e in
       let q = part_at a i s p.second (omega (arith, within)) at p.second_is in
-      record { value = q.value; is = q.is; within = let w = p.whole in let v = q.within in omega (arith, w, v) }
+      record { value = q.value; is = q.is; within = omega (arith, p.whole, q.within) }
 
   -- each symbol of a sum has a cost
   pub record HasCost (s : Sym) : Type 0 where
@@ -40,11 +41,11 @@ module _ (f g : Sym → Option ℕ) where
   pub sum_gained : (c : ℕ) → ((s : Sym) (d : ℕ) → g s ≡ Some d → (f s ≡ Some d) ⊎ (c ≤ d)) → (a : List Sym) (n : ℕ) → sum_of g a ≡ Some n
       → (sum_of f a ≡ Some n) ⊎ (c ≤ n)
   sum_gained c one [] n e = inl e
-  sum_gained c one (x ∷ a) n e = let p = plus_parts (g x) (sum_of g a) n e in let w = p.whole in
+  sum_gained c one (x ∷ a) n e = let p = plus_parts (g x) (sum_of g a) n e in
       elim (one x p.first p.first_is) [
-        | inr h ↦ inr (omega (arith, w, h))
+        | inr h ↦ inr (omega (arith, p.whole, h))
         | inl h ↦ elim (sum_gained c one a p.second p.second_is) [
-          | inr k ↦ inr (omega (arith, w, k))
+          | inr k ↦ inr (omega (arith, p.whole, k))
           | inl k ↦ inl (plus_both (f x) (sum_of f a) p.first p.second h k ∙ ap Some (sym p.whole))
         ]
       ]
@@ -65,7 +66,7 @@ module _ (cost : ℕ → ℕ) (old new : ℕ → Option ℕ) (r c : ℕ) (gains 
   pub rule_gained : (q d : ℕ) → new q ≡ Some d → (old q ≡ Some d) ⊎ ((q ≡ r) × (d ≡ c))
   rule_gained q d e = elim (gains.others q) [
     | inl same ↦ inl (sym same ∙ e)
-    | inr is ↦ let both : Some d ≡ Some c = sym e ∙ ap new is ∙ gains.now in let same : d ≡ c = cc in inr (is, same)
+    | inr is ↦ let same : d ≡ c = same_Some _ _ (sym e ∙ ap new is ∙ gains.now) in inr (is, same)
   ]
 
   symbol_kept : (s : Sym) (d : ℕ) → symbol_cost cost old s ≡ Some d → symbol_cost cost new s ≡ Some d
@@ -76,7 +77,7 @@ module _ (cost : ℕ → ℕ) (old new : ℕ → Option ℕ) (r c : ℕ) (gains 
   symbol_gained (Token t) d e = inl e
   symbol_gained (Rule q) d e = elim (rule_gained q d e) [
     | inl k ↦ inl k
-    | inr k ↦ let is = k.1 in inr (omega (arith, is))
+    | inr k ↦ inr (omega (arith, k.1))
   ]
 
   pub row_kept : (a : List Sym) (n : ℕ) → sum_of (symbol_cost cost old) a ≡ Some n → sum_of (symbol_cost cost new) a ≡ Some n

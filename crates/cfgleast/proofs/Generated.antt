@@ -1,5 +1,6 @@
 -- What a generator holds, and what it answers.
 use Rattle.std.proofs.Common.{◌≡◌, ◌↔◌, ℕ, ◌<◌, ◌≤◌, ◌⊎◌, inl, inr, List, [], ◌∷◌, length, get_or, map, cond, Option, Some, None, Ok, Err, All, arith, refl, sym, ap, subst, ◌∙◌}
+use Rattle.std.proofs.lemmas.Option.{same_Some}
 use Rattle.std.specs.Prelude.{IfSome, IsSomeAnd, EachIndex}
 use Rattle.std.proofs.lemmas.Bool.{cases_lt, le-leb}
 use Rattle.std.proofs.lemmas.Bool.Decides.{leb_tells}
@@ -41,7 +42,7 @@ module _ (x : CostTables) (n : ℕ) (is : IsGenerator x n) where
 pub answered_some : (o : Option ℕ) (c : ℕ) → up_to_limit o ≡ Some c → (o ≡ Some c) × (c ≤ 65535)
 answered_some None c e = let no : None ≡ Some c = e in absurd (cc)
 answered_some (Some d) c e = elim (leb_tells d 65535) [
-  | inl h ↦ let same : Some d ≡ Some c = sym (ap (λ b. cond b (Some d) None) h.0) ∙ e in let is : d ≡ c = cc in let small = h.1 in (same, omega (arith, is, small))
+  | inl h ↦ let is : d ≡ c = same_Some _ _ (sym (ap (λ b. cond b (Some d) None) h.0) ∙ e) in (ap Some is, omega (arith, is, h.1))
   | inr h ↦ let no : None ≡ Some c = sym (ap (λ b. cond b (Some d) None) h.0) ∙ e in absurd (cc)
 ]
 
@@ -59,19 +60,13 @@ sum_within f g limit kept (s ∷ a) n e small =
     (sum_within f g limit kept a p.second p.second_is (omega (arith, w, small))) ∙ ap Some (sym w)
 
 module _ (x : CostTables) (n : ℕ) (is : IsGenerator x n) where
-  -- the choice that is read of a rule is of a production of least cost
-  pub choice_read : {S : Type 0} (value : S → ℕ) (items : List (Option (PIdx S × ℕ))) (r i c : ℕ) (entry : Option (PIdx S × ℕ)) → map (choice_of value) items ≡ x.choices
-      → r < x.grammar.rules → i ≡ r → entry ≡ get_or items i entry → Some c ≡ cost_answer x r
+  -- the choice of a rule whose cost is answered is of a production of least cost
+  pub choice_read : {S : Type 0} (value : S → ℕ) (r c : ℕ) (entry : Option (PIdx S × ℕ)) → Some c ≡ cost_answer x r → rule_choice x.choices r ≡ choice_of value entry
       → IfSome entry (λ choice. IsLeastProduction x.grammar (token_cost x) r (value choice.0.0))
-  choice_read {S} value items r i c entry shown within at stands answer =
+  choice_read value r c None answer shown = tt
+  choice_read value r c (Some choice) answer shown =
       let known = answered_some (rule_cost x.least r) c (sym answer) in
-      go entry known.0 known.1 (item_shown (choice_of value) items x.choices r entry None shown (subst (λ m. r < m) (sym is.settled.chosen.listed) within)
-      (subst (λ m. entry ≡ get_or items m entry) at stands))
-    where
-      go : (o : Option (PIdx S × ℕ)) → rule_cost x.least r ≡ Some c → c ≤ 65535 → rule_choice x.choices r ≡ choice_of value o
-          → IfSome o (λ choice. IsLeastProduction x.grammar (token_cost x) r (value choice.0.0))
-      go None e small k = tt
-      go (Some choice) e small k = least_production x.grammar (token_cost x) x.least x.choices n is.settled r c (value choice.0.0) choice.1 e small k
+      least_production x.grammar (token_cost x) x.least x.choices n is.settled r c (value choice.0.0) choice.1 known.0 known.1 shown
 
   -- the entry of a rule in the list of choices
   pub choice_shown : {S : Type 0} (value : S → ℕ) (items : List (Option (PIdx S × ℕ))) (r i : ℕ) (entry : Option (PIdx S × ℕ)) → map (choice_of value) items ≡ x.choices
@@ -91,7 +86,7 @@ module _ (x : CostTables) (n : ℕ) (is : IsGenerator x n) where
         (λ e. let no : ◌≡◌ {A = Option (ℕ × ℕ)} None (Some (p, m)) = sym (shown ∙ ap (choice_of value) e) ∙ by.choice in absurd (cc)),
         (λ h. elim h [
           | inl none ↦ absurd (none least.0.0 least.0.1)
-          | inr dear ↦ let more = dear.1 least.0.0 least.0.1 in let cost = least.0.2 in absurd (omega (arith, more, cost, small))
+          | inr dear ↦ let more = dear.1 least.0.0 least.0.1 in absurd (omega (arith, more, least.0.2, small))
         ]),
       )
 
@@ -101,7 +96,7 @@ module _ (x : CostTables) (n : ℕ) (is : IsGenerator x n) where
     all_answered r = elim (cases_lt r x.grammar.rules) [
       | inl within ↦ answered r within
       | inr end ↦ get_or_past least r None (omega (arith, rules, end))
-          ∙ sym (ap up_to_limit (get_or_past x.least r None (let all = is.settled.chosen.costs in omega (arith, all, end))))
+          ∙ sym (ap up_to_limit (get_or_past x.least r None (omega (arith, is.settled.chosen.costs, end))))
     ]
 
     table_some : (s : Sym) (d : ℕ) → symbol_cost (token_cost x) (rule_cost least) s ≡ Some d → symbol_cost (token_cost x) (rule_cost x.least) s ≡ Some d
@@ -144,8 +139,7 @@ module _ (x : CostTables) (n : ℕ) (is : IsGenerator x n) where
           let known = answered_some (rule_cost x.least r) c (sym (all_answered r) ∙ e) in
           let small = known.1 in
           let (p, m, by, lt) = is.settled.chosen.chosen r c known.0 in
-          let cut = by.sum.cut in
-          let total : by.sum.total ≡ c = omega (arith, cut, small) in
+          let total : by.sum.total ≡ c = omega (arith, by.sum.cut, small) in
           let symbols = (nth_production x.grammar p).symbols in
           let sum = sum_within (symbol_cost (token_cost x) (rule_cost x.least)) (symbol_cost (token_cost x) (rule_cost least)) 65535 answer_some symbols c (by.sum.is ∙ ap Some total) small in
           let costs = all_have_costs (symbol_cost (token_cost x) (rule_cost least)) symbols c sum in

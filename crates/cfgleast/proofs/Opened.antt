@@ -1,9 +1,11 @@
 -- Productions on the way to their sums: one moves on, one leaves the queue, a rule is settled.
 use Rattle.std.proofs.Common.{◌≡◌, ℕ, ◌<◌, ◌≤◌, ◌⊎◌, inl, inr, ◌++◌, min, List, [], ◌∷◌, length, slice_set, Option, Some, None, All, Contains, arith, sym, ap, subst, ◌∙◌}
+use Rattle.std.proofs.lemmas.Option.{same_Some}
 use Rattle.std.specs.List.Sorted.{IsPermutation}
 use Rattle.std.proofs.lemmas.List.{get_or-set_same}
-use Rattle.std.proofs.lemmas.List.Elements.{All-contains, Contains-append_left, Contains-append_right, Contains-append_cases, Contains-push, Contains-push_cases}
+use Rattle.std.proofs.lemmas.List.Elements.{All-contains, Contains-append_left, Contains-push, Contains-push_cases}
 use Rattle.std.proofs.lemmas.List.Sorted.{Contains-permutation, IsPermutation-sym}
+use Rattle.lemmas.proofs.Contained.{contains_cases, contains_first, contains_later, contains_none}
 use Rattle.lemmas.proofs.Elements.{get_or-set}
 use Rattle.derivation.specs.Grammar.{Sym, Rule, Grammar}
 use Rattle.cfgtables.specs.Openings.{nth_production}
@@ -12,37 +14,19 @@ use Rattle.cfgsums.specs.Sums.{sum_of, symbol_cost}
 use Rattle.cfgleast.specs.Inner.Open.{IsCutSum, WaitsFor, MovesOn, enters, waits, Phase, queued, held, past, moved, AreOpen, IsAmong, waiting_for}
 use Rattle.cfgleast.proofs.Gains.{Gains, part_at, rule_kept, rule_gained, row_kept, row_gained}
 
-first_contained : {A : Type 0} (x : A) (xs : List A) → Contains (x ∷ xs) x
-first_contained x xs = Contains-append_left (x ∷ []) xs x (Contains-push [] x)
-
-rest_contained : {A : Type 0} (x y : A) (xs : List A) → Contains xs y → Contains (x ∷ xs) y
-rest_contained x y xs h = Contains-append_right (x ∷ []) xs y h
-
-none_contained : {A : Type 0} (x : A) → Contains [] x → ⊥
-none_contained x h = let k = h.1 in omega (arith, k)
-
-pub contained_cases : {A : Type 0} (x y : A) (xs : List A) → Contains (x ∷ xs) y → (x ≡ y) ⊎ Contains xs y
-contained_cases x y xs h = elim (Contains-append_cases (x ∷ []) xs y h) [
-  | inl k ↦ elim (Contains-push_cases [] x y k) [ inl i ↦ absurd (none_contained y i) | inr e ↦ inl e ]
-  | inr k ↦ inr k
-]
-
 -- the elements of a list that another is, with one more in front
 module _ {A : Type 0} (x : A) (xs ys : List A) (perm : IsPermutation (x ∷ xs) ys) where
   pub top_in : Contains ys x
-  top_in = Contains-permutation (x ∷ xs) ys x perm (first_contained x xs)
+  top_in = Contains-permutation (x ∷ xs) ys x perm (contains_first x xs)
 
   others_in : (y : A) → Contains xs y → Contains ys y
-  others_in y h = Contains-permutation (x ∷ xs) ys y perm (rest_contained x y xs h)
+  others_in y h = Contains-permutation (x ∷ xs) ys y perm (contains_later x y xs h)
 
   cases_in : (y : A) → Contains ys y → (x ≡ y) ⊎ Contains xs y
-  cases_in y h = contained_cases x y xs (Contains-permutation ys (x ∷ xs) y (IsPermutation-sym (x ∷ xs) ys perm) h)
+  cases_in y h = contains_cases x y xs (Contains-permutation ys (x ∷ xs) y (IsPermutation-sym (x ∷ xs) ys perm) h)
 
 -- a production waits for a rule more
 module _ (waiting : List (List Partial)) (r : ℕ) (x : Partial) where
-  added : List (List Partial)
-  added = slice_set waiting r (waiting_for waiting r ++ x ∷ [])
-
   added_old : (s : ℕ) (y : Partial) → Contains (waiting_for waiting s) y → Contains (waiting_for (slice_set waiting r (waiting_for waiting r ++ x ∷ [])) s) y
   added_old s y h = elim (get_or-set waiting r s (waiting_for waiting r ++ x ∷ []) []) [
     | inl e ↦ subst (λ l. Contains l y) (sym e) h
@@ -66,11 +50,8 @@ module _ (waiting : List (List Partial)) (r : ℕ) (x : Partial) where
 -- a cut sum is one number
 cut_is_one : (cost : ℕ → ℕ) (settled : ℕ → Option ℕ) (symbols : List Sym) (c n : ℕ) → IsCutSum cost settled symbols c
     → sum_of (symbol_cost cost settled) symbols ≡ Some n → c ≡ min n 65536
-cut_is_one cost settled symbols c n h e = let both : Some h.total ≡ Some n = sym h.is ∙ e in let same : h.total ≡ n = cc in
+cut_is_one cost settled symbols c n h e = let same : h.total ≡ n = same_Some _ _ (sym h.is ∙ e) in
     h.cut ∙ ap (λ m. min m 65536) same
-
-cut_limit : (cost : ℕ → ℕ) (settled : ℕ → Option ℕ) (symbols : List Sym) (c : ℕ) → IsCutSum cost settled symbols c → c ≤ 65536
-cut_limit cost settled symbols c h = let e = h.cut in omega (arith, e)
 
 module _ (g : Grammar) (cost : ℕ → ℕ) (settled : ℕ → Option ℕ) (floor : ℕ) where
   -- the top of the queue belongs to a rule that is settled
@@ -174,17 +155,14 @@ module _ (g : Grammar) (cost : ℕ → ℕ) (settled : ℕ → Option ℕ) (floo
       → (c : ℕ) → IsCutSum cost settled (nth_production g x.production).symbols c → floor ≤ c
   woken_above r x for now limit c sum =
       let part = part_at (symbol_cost cost settled) (nth_production g x.production).symbols x.taken (Rule r) sum.total for.taken for.symbol sum.is in
-      let both : Some floor ≡ Some part.value = sym now ∙ part.is in
-      let same : floor ≡ part.value = cc in
-      let cut = sum.cut in
-      let within = part.within in
-      omega (arith, same, cut, within, limit)
+      let same : floor ≡ part.value = same_Some _ _ (sym now ∙ part.is) in
+      omega (arith, same, sum.cut, part.within, limit)
 
   -- when the queue is empty, each production whose rules are settled has a settled rule
   module _ (waiting : List (List Partial)) (moving : ℕ → Type 0) (none : (q : ℕ) → moving q → ⊥) (state : AreOpen cost settled g [] waiting moving floor) where
     finish : (p m : ℕ) → Phase cost settled g [] waiting moving p → sum_of (symbol_cost cost settled) (nth_production g p).symbols ≡ Some m
         → (d : ℕ) × (settled (nth_production g p).rule ≡ Some d) × (d ≤ min m 65536)
-    finish p m (queued b h) e = absurd (none_contained (b, p) h)
+    finish p m (queued b h) e = absurd (contains_none (b, p) h)
     finish p m (held r x unset h i) e =
         let for = state.held_for r x h in
         let sum = subst (λ n. sum_of (symbol_cost cost settled) (nth_production g n).symbols ≡ Some m) (sym i) e in
@@ -202,10 +180,10 @@ module _ (g : Grammar) (cost : ℕ → ℕ) (settled : ℕ → Option ℕ) (floo
   pub none_open : (waiting : List (List Partial)) → ((r : ℕ) → settled r ≡ None) → ((r : ℕ) → waiting_for waiting r ≡ [])
       → floor ≤ 65536 → AreOpen cost settled g [] waiting (λ q. 0 ≤ q) floor
   none_open waiting none empty limit = record {
-    queued_sum = λ c p h. absurd (none_contained (c, p) h);
-    queued_place = λ c p h. absurd (none_contained (c, p) h);
-    queued_above = λ c p h. absurd (none_contained (c, p) h);
-    held_for = λ r x h. absurd (none_contained x (subst (λ l. Contains l x) (empty r) h));
+    queued_sum = λ c p h. absurd (contains_none (c, p) h);
+    queued_place = λ c p h. absurd (contains_none (c, p) h);
+    queued_above = λ c p h. absurd (contains_none (c, p) h);
+    held_for = λ r x h. absurd (contains_none x (subst (λ l. Contains l x) (empty r) h));
     phase = λ q h. moved (omega arith);
     settled_below = λ r c e. let no : None ≡ Some c = sym (none r) ∙ e in absurd (cc);
     limit = limit;
@@ -231,12 +209,12 @@ module _ (g : Grammar) (cost : ℕ → ℕ) (old new : ℕ → Option ℕ) (r c 
   floor_below = state.queued_above c p top_queued
 
   cost_limit : c ≤ 65536
-  cost_limit = cut_limit cost old (nth_production g p).symbols c (state.queued_sum c p top_queued)
+  cost_limit = omega (arith, (state.queued_sum c p top_queued).cut)
 
   taken_old : (s : ℕ) (y : Partial) → Contains (waiting_for (slice_set waiting r []) s) y → Contains (waiting_for waiting s) y
   taken_old s y h = elim (get_or-set waiting r s [] []) [
     | inl e ↦ subst (λ l. Contains l y) e h
-    | inr e ↦ absurd (none_contained y (subst (λ l. Contains l y) e.1 h))
+    | inr e ↦ absurd (contains_none y (subst (λ l. Contains l y) e.1 h))
   ]
 
   taken_cases : (s : ℕ) (y : Partial) → Contains (waiting_for waiting s) y → Contains (waiting_for (slice_set waiting r []) s) y ⊎ (s ≡ r)
@@ -260,7 +238,7 @@ module _ (g : Grammar) (cost : ℕ → ℕ) (old new : ℕ → Option ℕ) (r c 
   settled_phase q (past d e f) = past d (rule_kept cost old new r c gains (nth_production g q).rule d e) (λ n k.
       elim (row_gained cost old new r c gains (nth_production g q).symbols n k) [
         | inl h ↦ f n h
-        | inr h ↦ let below = state.settled_below (nth_production g q).rule d e in let low = floor_below in let limit = cost_limit in omega (arith, below, low, limit, h)
+        | inr h ↦ omega (arith, state.settled_below (nth_production g q).rule d e, floor_below, cost_limit, h)
       ])
   settled_phase q (moved m) = absurd (none q m)
 
@@ -272,8 +250,8 @@ module _ (g : Grammar) (cost : ℕ → ℕ) (old new : ℕ → Option ℕ) (r c 
     held_for = λ s y h. wait_kept s y (state.held_for s y (taken_old s y h));
     phase = λ q h. settled_phase q (state.phase q h);
     settled_below = λ q d e. elim (rule_gained cost old new r c gains q d e) [
-      | inl h ↦ let below = state.settled_below q d h in let low = floor_below in omega (arith, below, low)
-      | inr h ↦ let is = h.1 in omega (arith, is)
+      | inl h ↦ omega (arith, state.settled_below q d h, floor_below)
+      | inr h ↦ omega (arith, h.1)
     ];
     limit = cost_limit;
   }

@@ -12,12 +12,10 @@ use Rattle.cfgsums.specs.Sums.{sum_of, symbol_cost}
 use Rattle.cfgsums.specs.Lists.{IsListed}
 use Rattle.cfgleast.specs.Inner.Open.{IsCutSum, StopsAt, IsPartial, WaitsFor, MovesOn, enters, waits, Phase, queued, held, past, moved, AreOpen, AreAllOpen, AreWaking, IsAmong, count_open, waiting_for}
 use Rattle.cfgsums.proofs.Sums.{sum_of-append, plus_both, plus_zero}
-use Rattle.cfgleast.proofs.Opened.{contained_cases, moved_on, woken_above}
+use Rattle.lemmas.proofs.Contained.{contains_cases}
+use Rattle.cfgleast.proofs.Opened.{moved_on, woken_above}
 
 module _ (cost : ℕ → ℕ) (settled : ℕ → Option ℕ) where
-  pub cut_none : IsCutSum cost settled [] 0
-  cut_none = record { total = 0; is = refl; cut = refl }
-
   -- one symbol more
   pub cut_more : (a : List Sym) (i : ℕ) (s : Sym) (sum c new : ℕ) → i < length a → get_or a i s ≡ s → IsCutSum cost settled (take i a) sum
       → symbol_cost cost settled s ≡ Some c → new ≡ min 65536 (sum + c) → IsCutSum cost settled (take (i + 1) a) new
@@ -26,7 +24,7 @@ module _ (cost : ℕ → ℕ) (settled : ℕ → Option ℕ) where
     is = ap (sum_of (symbol_cost cost settled)) (take_more a i s within ∙ ap (λ x. take i a ++ x ∷ []) at)
         ∙ sum_of-append (symbol_cost cost settled) (take i a) (s ∷ [])
         ∙ plus_both _ _ h.total c h.is (plus_zero (symbol_cost cost settled s) ∙ e);
-    cut = let cut = h.cut in omega (arith, cut, made);
+    cut = omega (arith, h.cut, made);
   }
 
   pub cut_all : (a : List Sym) (i sum : ℕ) → length a ≤ i → IsCutSum cost settled (take i a) sum → IsCutSum cost settled a sum
@@ -39,11 +37,11 @@ module _ (cost : ℕ → ℕ) (settled : ℕ → Option ℕ) where
       place = place;
       taken = omega (arith, taken);
       sum = subst (λ n. IsCutSum cost settled (take n (nth_production g x.production).symbols) x.sum) (sym taken)
-          (subst (IsCutSum cost settled []) (sym sum) cut_none);
+          (subst (IsCutSum cost settled []) (sym sum) (record { total = 0; is = refl; cut = refl }));
     }
 
     pub partial_waiting : (r : ℕ) (x : Partial) → WaitsFor cost settled g r x → IsPartial cost settled g x
-    partial_waiting r x h = record { place = h.place; taken = let t = h.taken in omega (arith, t); sum = h.sum }
+    partial_waiting r x h = record { place = h.place; taken = omega (arith, h.taken); sum = h.sum }
 
     -- the rule at which a walk stops is one of the grammar
     pub stop_listed : (a : List Sym) (rules tokens r : ℕ) (x : Partial) → All (IsListed rules tokens) a → StopsAt cost settled a r x → r < rules
@@ -79,11 +77,9 @@ module _ (cost : ℕ → ℕ) (settled : ℕ → Option ℕ) where
         → AreOpen cost settled g queue waiting (λ q. n ≤ q) 0 → MovesOn cost settled g p queue queue' waiting waiting'
         → AreOpen cost settled g queue' waiting' (λ q. n + 1 ≤ q) 0
     start_more n p queue queue' waiting waiting' within is state moves =
-        moved_on g cost settled 0 queue waiting (λ q. n ≤ q) (λ q. n + 1 ≤ q) p (λ q h. next q h)
+        moved_on g cost settled 0 queue waiting (λ q. n ≤ q) (λ q. n + 1 ≤ q) p
+        (λ q h. elim (cases_lt n q) [ inl lt ↦ inr (omega (arith, lt)) | inr le ↦ inl (omega (arith, h, le, is)) ])
         (subst (λ m. m < length g.productions) (sym is) within) (λ c sum. omega arith) state queue' waiting' moves
-      where
-        next : (q : ℕ) → n ≤ q → (q ≡ p) ⊎ (n + 1 ≤ q)
-        next q h = elim (cases_lt n q) [ inl lt ↦ inr (omega (arith, lt)) | inr le ↦ inl (omega (arith, h, le, is)) ]
 
     -- when none is left to move on
     pub all_open : (queue : List (ℕ × ℕ)) (waiting : List (List Partial)) (moving : ℕ → Type 0) (floor : ℕ) → ((q : ℕ) → q < length g.productions → moving q → ⊥)
@@ -124,7 +120,7 @@ module _ (cost : ℕ → ℕ) (settled : ℕ → Option ℕ) where
         for = subst (WaitsFor cost settled g waking.rule) (sym at) (All-get_or (WaitsFor cost settled g waking.rule) woken i x within waking.for)
 
         among : (q : ℕ) → IsAmong (drop i woken) q → (q ≡ x.production) ⊎ IsAmong (drop (i + 1) woken) q
-        among q h = elim (contained_cases x h.entry (drop (i + 1) woken)
+        among q h = elim (contains_cases x h.entry (drop (i + 1) woken)
             (subst (λ l. Contains l h.entry) (drop-cons woken i x within ∙ ap (λ y. y ∷ drop (suc i) woken) (sym at) ∙ ap (λ n. x ∷ drop n woken) (sym (add-one i))) h.among)) [
               | inl e ↦ inl (sym h.is ∙ ap (λ (y : Partial). y.production) (sym e))
               | inr k ↦ inr (record { entry = h.entry; among = k; is = h.is })

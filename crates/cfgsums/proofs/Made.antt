@@ -1,6 +1,7 @@
 -- Words to whose costs the costs of a table stand: what a row of symbols costs is the cost of a word of theirs, if so it is
 -- of each rule in it.
 use Rattle.std.proofs.Common.{◌≡◌, ℕ, ◌+◌, min, List, [], ◌∷◌, ◌++◌, Option, Some, All, arith, refl, sym, ap, subst, ◌∙◌}
+use Rattle.std.proofs.lemmas.Option.{same_Some}
 use Rattle.std.proofs.lemmas.List.Sums.{sum_by-append}
 use Rattle.std.proofs.lemmas.List.Elements.{All-head, All-tail}
 use Rattle.derivation.specs.Grammar.{Sym, Rule, Token}
@@ -48,8 +49,7 @@ module _ (P : ℕ → List Sym → Type 0) (cost : ℕ → ℕ) (costs : Sym →
     pub made_row : (Q : Sym → Type 0) → ((r c : ℕ) → Q (Rule r) → costs (Rule r) ≡ Some c → Made R (Rule r ∷ []) c)
         → (a : List Sym) (c : ℕ) → All Q a → sum_of costs a ≡ Some c → Made R a c
     made_row Q made [] c all e =
-        let same : Some 0 ≡ Some c = e in
-        let none : 0 ≡ c = cc in
+        let none : 0 ≡ c = same_Some _ _ e in
         record { word = []; tree = empty; stands = subst (λ n. R n 0) none over.none }
     made_row Q made (Token t ∷ a) c all e =
         let p = plus_parts (costs (Token t)) (sum_of costs a) c e in
@@ -65,5 +65,5 @@ pub cut_over : (cost : ℕ → ℕ) (least : ℕ → Option ℕ) (limit : ℕ) �
 cut_over cost least limit = record {
   none = refl;
   both = λ a b m n e f. omega (arith, e, f);
-  token = λ t c e. let same : Some (cost t) ≡ Some c = e in let is : cost t ≡ c = cc in ap (λ n. min n limit) (sym is);
+  token = λ t c e. let is : cost t ≡ c = same_Some _ _ e in ap (λ n. min n limit) (sym is);
 }

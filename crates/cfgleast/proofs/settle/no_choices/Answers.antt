@@ -17,7 +17,5 @@ loop-rule-preserved g c =
 pub returns : goal.returns
 returns g c =
     let none : Option (ℕ × ℕ) = None in
-    let past = c.loop-rule-test.false in
-    let within = c.loop-rule.auto._rule-end in
-    let end : c.loop-rule._rule ≡ c.args.rules = omega (arith, past, within) in
+    let end : c.loop-rule._rule ≡ c.args.rules = omega (arith, c.loop-rule-test.false, c.loop-rule.auto._rule-end) in
     c.loop-rule.invariant ∙ ap (λ n. replicate n none) end

@@ -35,8 +35,7 @@ returns-in-Err g c =
 
 pub to_storage-requires : goal.to_storage-requires
 to_storage-requires g c =
-    let place = c.requires.partial.place in
-    omega (arith, place, c.requires.input.places)
+    omega (arith, c.requires.partial.place, c.requires.input.places)
 
 pub prod-symbols-requires : goal.prod-symbols-requires
 prod-symbols-requires g c = subst (λ n. n < length (g.T.Tables.grammar c.args.grm.now).productions) (sym c.to_storage.ensures) c.requires.partial.place

@@ -36,8 +36,7 @@ overflow_add-self g c =
     let at = (goal.at.overflow_add-self g c).After-index_mut in
     let (m, known) = c.invariant_holds.ensures in
     let most = number_fits c.args.tight.now (number c.in-Some.p.0) (offers_of number c.args.self.now) (offers_of number c.next.new.self) (taken g at) c.requires m known (unset g at) (inside g at) in
-    let limit = c.rule_of-rule.ensures.limit in
-    omega (arith, most, limit)
+    omega (arith, most, c.rule_of-rule.ensures.limit)
 
 pub offer_listed-requires-clause-offering : goal.offer_listed-requires-clause-offering
 offer_listed-requires-clause-offering g c =
