@@ -4,9 +4,7 @@ pub mod SectionAnswers
 pub mod SectionElements
 pub mod SectionHeader
 pub mod SectionKept
-pub mod SectionLoops
 pub mod SectionOne
 pub mod SectionParsed
 pub mod SectionPlaces
 pub mod SectionRepeats
-pub mod SectionSteps

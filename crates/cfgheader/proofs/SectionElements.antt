@@ -1,19 +1,17 @@
 -- The settings of an array, one by one; and what stands behind a bracket.
-use Rattle.std.proofs.Common.{◌≡◌, ◌≢◌, ℕ, zero, suc, ◌-◌, ◌<◌, true, false, List, [], ◌∷◌, ◌++◌, length, Some, None, Result, Ok, Err, refl, sym, ap, ◌∙◌, arith, Vec, Global}
+use Rattle.std.proofs.Common.{◌≡◌, ◌≢◌, ℕ, zero, suc, ◌-◌, ◌<◌, true, false, List, [], ◌∷◌, ◌++◌, length, Some, None, Result, Ok, Err, refl, sym, ap, subst, ◌∙◌, arith, Vec, Global}
 use Rattle.std.proofs.lemmas.List.{map-append}
 use Rattle.cfgbase.specs.declared.span.Span.{Span}
-use Rattle.reading.specs.Read.{Read}
 use Rattle.reading.specs.Construct.{while_test, computes}
+use Rattle.reading.specs.Steps.{Fails, Returns, Stops}
 use Rattle.reading.proofs.Agree.{leaves}
+use Rattle.reading.proofs.Steps.{Gathers, gathers_start, gathers_on, many_done, many_stops, while_builds, while_done}
 use Rattle.cfgkinds.specs.declared.value.Setting.{Setting}
 use Rattle.cfgheader.specs.declared.section.fault.ReadFault.{ReadFault}
 use Rattle.cfgheader.specs.declared.section.reader.Reader.{Reader}
 use Rattle.cfgkinds.specs.Values.{ShownSetting, setting_view}
-use Rattle.cfgheader.specs.SectionGrammar.{Entry, Fault, Strict, Turn, goes_on_before, nesting_fault, element, elements, array, setting_by, setting, bracketed}
-use Rattle.cfgheader.specs.declared.section.fault.ReadFault.TheVariants as errors
-use Rattle.cfgheader.specs.Inner.Steps.{Builds, Fails, Grows, noted, entries_of, settings_list}
-use Rattle.cfgheader.proofs.SectionSteps.{noted_none}
-use Rattle.cfgheader.proofs.SectionLoops.{Gathers, gathers_start, gathers_on, many_done, many_fails, while_builds, while_done}
+use Rattle.cfgheader.specs.SectionGrammar.{Fault, Strict, Turn, goes_on_before, nesting_fault, element, elements, array, setting_by, setting, bracketed}
+use Rattle.cfgheader.specs.Inner.Steps.{Builds, fault_of, section_reader, settings_list}
 
 abbrev pub one_element : ℕ → (len : ℕ) → Strict (ShownSetting Span)
 one_element room len = element len (setting len room)
@@ -23,12 +21,12 @@ element_turn room len = while_test (goes_on_before 93) (one_element room len)
 
 -- the loop so far, and its values
 pub record InElements (room : ℕ) (start now : Reader) (values : List (Setting Span)) : Type 0 where
-  pub gathers : Gathers (element_turn room) start now
+  pub gathers : Gathers section_reader (element_turn room) start now
   pub same : gathers.values ≡ settings_list values
 
 pub elements_start : (room : ℕ) (start : Reader) (values : List (Setting Span)) → values ≡ [] → InElements room start start values
 unfolding gathers_start
-elements_start room start values none = record { gathers = gathers_start (element_turn room) start; same = sym (ap settings_list none) }
+elements_start room start values none = record { gathers = gathers_start start; same = sym (ap settings_list none) }
 
 pub elements_smaller : (room : ℕ) (now next : Reader) (x : Setting Span) → Builds setting_view now next (Ok x) (one_element room now.len) → length next.rest.now < length now.rest.now
 elements_smaller room now next x builds = omega (arith, (leaves (one_element room now.len)).least now.rest.now _ _ builds.0)
@@ -38,20 +36,20 @@ module _ (room : ℕ) {start now : Reader} {values : List (Setting Span)} (so_fa
       → (more : List (Setting Span)) → more ≡ values ++ x ∷ [] → InElements room start next more
   unfolding gathers_on
   elements_on next x here builds more e = record {
-    gathers = gathers_on so_far.gathers next (λ x. Some (setting_view x)) x (while_builds (goes_on_before 93) (one_element room) now setting_view next (Ok x) here builds) (setting_view x) refl;
+    gathers = gathers_on so_far.gathers next (λ x. Some (setting_view x)) x (while_builds section_reader (goes_on_before 93) (one_element room) now setting_view next (Ok x) here builds) (setting_view x) refl;
     same = ap (λ vs. vs ++ setting_view x ∷ []) so_far.same ∙ sym (map-append setting_view values (x ∷ [])) ∙ sym (ap settings_list e);
   }
 
-  pub elements_fail : (next : Reader) (e : ReadFault) → goes_on_before 93 now.rest.now ≡ true → Fails now next e (one_element room now.len)
-      → Fails start next e (elements start.len (setting start.len room))
+  pub elements_fail : (next : Reader) (e : ReadFault) → goes_on_before 93 now.rest.now ≡ true → Fails section_reader now next e (one_element room now.len)
+      → Fails section_reader start next e (elements start.len (setting start.len room))
   unfolding elements
-  elements_fail next e here refused = many_fails so_far.gathers next e
-      (while_builds (goes_on_before 93) (one_element room) now {X = Setting Span} setting_view next (Err e) here refused)
+  elements_fail next e here refused = many_stops so_far.gathers next (fault_of e)
+      (while_builds section_reader (goes_on_before 93) (one_element room) now {X = Setting Span} setting_view next (Err e) here refused)
 
   pub elements_done : goes_on_before 93 now.rest.now ≡ false → (list : Vec (Setting Span) Global) → list.items ≡ values
       → Builds (λ (values : Vec (Setting Span) Global). settings_list values.items) start now (Ok list) (elements start.len (setting start.len room))
   unfolding elements
-  elements_done here list e = many_done so_far.gathers now (λ (x : Unit {0}). None) tt (while_done (goes_on_before 93) (one_element room) now here)
+  elements_done here list e = many_done so_far.gathers now (λ (x : Unit {0}). None) tt (while_done section_reader (goes_on_before 93) (one_element room) now here)
       (λ (values : Vec (Setting Span) Global). settings_list values.items) list (so_far.same ∙ sym (ap settings_list e)) refl
 
 -- behind a bracket that may not open, and behind one that may
@@ -69,25 +67,9 @@ bracketed_some len (suc room) opening some text =
 
 -- in the reader's words
 module _ (now next : Reader) (room : ℕ) (opening : Span) where
-  pub bracketed_refused : (shown : Fault) → room ≡ 0 → shown ≡ nesting_fault opening
-      → ((computes (bracketed now.len room opening) now.rest.now).outcome ≡ Err shown) × Grows now now (computes (bracketed now.len room opening) now.rest.now).items
-  bracketed_refused shown none is =
-      let e = bracketed_none now.len room opening none now.rest.now in (
-        ap (λ (r : Read Entry Fault (ShownSetting Span)). r.outcome) e ∙ ap Err (sym is),
-        sym (noted_none (entries_of now)) ∙ ap (λ (r : Read Entry Fault (ShownSetting Span)). noted (entries_of now) r.items) (sym e),
-      )
+  pub bracketed_refused : (shown : Fault) → room ≡ 0 → shown ≡ nesting_fault opening → Stops section_reader now now (Some shown) (computes (bracketed now.len room opening) now.rest.now)
+  bracketed_refused shown none is = subst (Stops section_reader now now (Some shown)) (sym (bracketed_none now.len room opening none now.rest.now)) (ap Err (sym is), refl)
 
   pub bracketed_built : (result : Result (Setting Span) ReadFault) → room ≢ 0 → Builds setting_view now next result (array now.len (setting now.len (room - 1)) opening)
       → Builds setting_view now next result (bracketed now.len room opening)
-  bracketed_built (Ok x) some builds =
-      let e = bracketed_some now.len room opening some now.rest.now in (
-        ap (λ (r : Read Entry Fault (ShownSetting Span)). r.outcome) e ∙ builds.0,
-        builds.1,
-        builds.2 ∙ ap (λ (r : Read Entry Fault (ShownSetting Span)). noted (entries_of now) r.items) (sym e),
-      )
-  bracketed_built (Err errors.OutOfMemory) some builds = tt
-  bracketed_built (Err (errors.Fault fault)) some builds =
-      let e = bracketed_some now.len room opening some now.rest.now in (
-        ap (λ (r : Read Entry Fault (ShownSetting Span)). r.outcome) e ∙ builds.0,
-        builds.1 ∙ ap (λ (r : Read Entry Fault (ShownSetting Span)). noted (entries_of now) r.items) (sym e),
-      )
+  bracketed_built result some builds = subst (Returns section_reader setting_view now next result) (sym (bracketed_some now.len room opening some now.rest.now)) builds

@@ -1,5 +1,5 @@
 -- A text's section has exactly one reading: the one that the functions on lists compute.
-use Rattle.std.proofs.Common.{◌≡◌, ℕ, Bool, List, [], ◌∷◌, length, map, Result, Ok, Err, Bor, Vec, Global, String, subst, refl, sym, ◌∙◌, ap, ap₂}
+use Rattle.std.proofs.Common.{◌≡◌, ℕ, Bool, List, [], ◌∷◌, ◌++◌, length, map, fold, Result, Ok, Err, Bor, Vec, Global, String, subst, refl, sym, ◌∙◌, ap, ap₂, append-nil, append_assoc}
 use Rattle.cfgbase.specs.declared.span.Span.{Span}
 use Rattle.cfgmarks.specs.declared.markmap.MarkMap.{MarkMap}
 use Rattle.cfgwords.specs.Text.{place}
@@ -16,8 +16,7 @@ use Rattle.cfgheader.specs.declared.section.header_fault.HeaderFault.TheVariants
 use Rattle.cfgkinds.specs.declared.value.HeaderValue.{HeaderValue}
 use Rattle.cfgheader.specs.declared.section.entry.Entry.{Entry as CodeEntry}
 use Rattle.cfgheader.specs.declared.section.reader.Reader.{Reader}
-use Rattle.cfgheader.specs.Inner.Steps.{Grows, noted, entry_view, entries_of, end_view}
-use Rattle.cfgheader.proofs.SectionSteps.{noted_behind}
+use Rattle.cfgheader.specs.Inner.Steps.{Grows, entry_view, entries_of, end_view}
 
 pub section_is : (required : Bool) (text : List ℕ) (entries : List Entry) (end : Result (List ℕ) Fault) → IsSection required text entries end
     → ((computes (section (length text) required) text).items ≡ entries) × (end_of (computes (section (length text) required) text).outcome ≡ end)
@@ -57,16 +56,18 @@ by_program required text result answers =
     let one = one_section required text in
     subst (IsSectionAnswer (length text) result) (sym (section_answered required text one.entries one.end one.is)) (answers one.entries one.end one.is)
 
--- what a reader that had noted nothing has noted
-pub noted_from_none : (before items : List Entry) → before ≡ [] → noted before items ≡ items
-noted_from_none before items none = ap (λ b. noted b items) none ∙ noted_behind [] items
+-- entries that are noted one by one
+noted_behind : (entries xs : List Entry) → fold (λ entries entry. entries ++ entry ∷ []) entries xs ≡ entries ++ xs
+noted_behind entries [] = sym (append-nil entries)
+noted_behind entries (x ∷ xs) = noted_behind (entries ++ x ∷ []) xs ∙ append_assoc entries (x ∷ []) xs
 
 -- what a reader of the whole text has noted
 pub entries_read : (required : Bool) (text : List ℕ) (old new : Reader) (entries : List CodeEntry) → old.rest.now ≡ text → old.len ≡ length text → entries_of old ≡ []
     → Grows old new (computes (section old.len required) old.rest.now).items → entries ≡ new.entries.items
     → map entry_view entries ≡ (computes (section (length text) required) text).items
 entries_read required text old new entries whole len none grown e =
-    ap (map entry_view) e ∙ grown ∙ noted_from_none (entries_of old) _ none ∙ (λ i. (computes (section (len i) required) (whole i)).items)
+    let items = (computes (section old.len required) old.rest.now).items in
+    ap (map entry_view) e ∙ grown ∙ noted_behind (entries_of old) items ∙ ap (λ entries. entries ++ items) none ∙ (λ i. (computes (section (len i) required) (whole i)).items)
 
 -- What is answered, from what was read and the errors that were found.
 module _ (required : Bool) (text : List ℕ) (entries : List CodeEntry) (end : Result (Bor (List ℕ)) CodeFault) (errors : Vec (HeaderError Span) Global)

@@ -9,6 +9,9 @@ use Rattle.std.specs.Map as map
 use Rattle.std.proofs.lemmas.Map.Steps.{set_value_same}
 use Rattle.std.specs.BTreeMap.{insert_entry, is_at}
 use Rattle.cfgmarks.specs.declared.markmap.marked.Marked.{Marked}
+use Rattle.cfgmarks.specs.declared.markmap.marked.Mark.{Mark}
+use Rattle.cfgmarks.specs.declared.markmap.marked.Mark.TheVariants.{Used, Required, Merges}
+use Rattle.cfgmarks.specs.Inner.Marking.{set_mark}
 use Rattle.lemmas.proofs.Entries.{lookup_inserted, lookup_congr, inserted_twice, set_value_inserts}
 use Rattle.cfgmarks.specs.Marks.{Marks, entry_at, marks_at, unmarked, value_at, changed, set_value}
 
@@ -26,6 +29,12 @@ pub unchanged_by_write : {K V : Type 0} (cmp : K → K → Ordering) (m : Marks 
     → es ≡ map.set_value (is_at (cmp k)) m.entries w → record { entries = es; behavior = m.behavior } ≡ m
 unchanged_by_write cmp m k x w es found same written =
     ap (λ es. record m { entries = es }) (written ∙ ap (map.set_value (is_at (cmp k)) m.entries) same ∙ set_value_same (is_at (cmp k)) m.entries x found)
+
+-- a mark keeps the value
+pub mark_keeps : (mark : Mark) {V : Type 0} (x : Marked V) → is_some x.value ≡ true → is_some (set_mark mark x).value ≡ true
+mark_keeps Used x held = held
+mark_keeps Required x held = held
+mark_keeps (Merges behavior) x held = held
 
 module _ {K : Type 0} (cmp : K → K → Ordering) (total : IsTotalOrder cmp) where
   -- a change of a key's marks shows at the key

@@ -1,4 +1,5 @@
 pub mod FaultTexts
+pub mod Inner
 pub mod MarkEntry
 pub mod MarkLends
 pub mod MarkSame

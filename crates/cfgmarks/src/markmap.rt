@@ -17,7 +17,7 @@ pub use behavior::MergeBehavior;
 pub use entry::{Entry, OccupiedEntry, VacantEntry};
 pub use fault::{MergeError, MergeFault};
 pub use iter::{Keys, MarkMapIterRef};
-use marked::{Marked, behavior_word};
+use marked::{Mark, Marked, behavior_word};
 use std::alloc::Global;
 use std::collections::BTreeMap;
 

@@ -1,14 +1,14 @@
 -- The reader's loop over a blank.
-use Rattle.std.proofs.Common.{◌≡◌, ℕ, Bool, List, [], Some, None, Ok, Err, sym, ◌∙◌, ap}
+use Rattle.std.proofs.Common.{◌≡◌, ℕ, Bool, List, Some, None, Ok, Err, sym, ◌∙◌, ap}
+use Rattle.reading.specs.Steps.{Fails}
 use Rattle.cfgwords.specs.Blank.{blank, part_of, front_of}
 use Rattle.cfgwords.proofs.Blanks.{blank_next, blank_ends, blank_stops}
 use Rattle.cfgast.specs.View.{syntax_built}
 use Rattle.cfgreader.specs.declared.reader.Reader.{Reader}
 use Rattle.cfgreader.specs.declared.reader.ReadFault.{ReadFault}
 use Rattle.cfgreader.specs.declared.reader.ReadFault.TheVariants as errors
-use Rattle.cfgreader.specs.Inner.Builds.{IsPartHere, Fails, Builds, Grows}
+use Rattle.cfgreader.specs.Inner.Builds.{IsPartHere, Builds, file_reader}
 use Rattle.cfgreader.specs.Here.{blank_here}
-use Rattle.cfgreader.proofs.Steps.{adds_none}
 
 -- the blank that is left, now, ends as the whole one does
 pub record KeepsBlank (lines : Bool) (start now : Reader) : Type 0 where
@@ -16,22 +16,19 @@ pub record KeepsBlank (lines : Bool) (start now : Reader) : Type 0 where
   pub tree : now.tree ≡ start.tree
   pub ends : blank now.len lines now.rest.now ≡ blank now.len lines start.rest.now
 
-grown : (start now : Reader) → now.tree ≡ start.tree → Grows start now []
-grown start now e = ap syntax_built e ∙ sym (adds_none (syntax_built start.tree))
-
 whole : (lines : Bool) (start now : Reader) → KeepsBlank lines start now → blank start.len lines start.rest.now ≡ blank now.len lines now.rest.now
 whole lines start now keeps = ap (λ len. blank len lines start.rest.now) (sym keeps.len) ∙ sym keeps.ends
 
 pub blank_fails : (lines : Bool) (start now : Reader) (e : ReadFault) → KeepsBlank lines start now → IsPartHere lines now (Err e)
-    → Fails start now e (blank_here start.len lines)
+    → Fails file_reader start now e (blank_here start.len lines)
 blank_fails lines start now errors.OutOfMemory keeps here = tt
 blank_fails lines start now (errors.Fault fault) keeps (kind, stops, is) =
-    (whole lines start now keeps ∙ blank_stops now.len lines now.rest.now kind stops ∙ ap Err (sym is), grown start now keeps.tree)
+    (whole lines start now keeps ∙ blank_stops now.len lines now.rest.now kind stops ∙ ap Err (sym is), ap syntax_built keeps.tree)
 
 pub blank_done : (lines : Bool) (start now : Reader) → KeepsBlank lines start now → IsPartHere lines now (Ok None)
     → Builds (λ x. x) start now (Ok tt) (blank_here start.len lines)
 blank_done lines start now keeps here =
-    (whole lines start now keeps ∙ blank_ends now.len lines now.rest.now here, keeps.len, grown start now keeps.tree)
+    (whole lines start now keeps ∙ blank_ends now.len lines now.rest.now here, keeps.len, ap syntax_built keeps.tree)
 
 pub blank_on : (len : ℕ) (lines : Bool) (start now next : List ℕ) → blank len lines now ≡ blank len lines start → part_of lines (front_of now) ≡ Ok (Some next)
     → blank len lines next ≡ blank len lines start

@@ -1,9 +1,9 @@
 -- What the reader built of a file, where it began with no items, and what stopped it.
-use Rattle.std.proofs.Common.{◌≡◌, ℕ, List, [], Option, Result, Ok, Err, IfOk, sym, subst, ◌∙◌, ap}
+use Rattle.std.proofs.Common.{◌≡◌, ℕ, List, [], fold, Option, Result, Ok, Err, IfOk, sym, subst, ◌∙◌, ap}
 use Rattle.reading.specs.Construct.{computes}
 use Rattle.reading.specs.Read.{stop_of}
 use Rattle.cfgwords.specs.declared.fault.Fault.{Fault}
-use Rattle.cfgast.specs.Building.{adds}
+use Rattle.cfgast.specs.Building.{add, adds}
 use Rattle.cfgast.specs.Syntax.{Syntax, syntax_of}
 use Rattle.cfgast.specs.View.{syntax_view, syntax_built}
 use Rattle.cfgast.specs.declared.syntax.Syntax.{Syntax as CodeSyntax}
@@ -16,9 +16,10 @@ use Rattle.cfgreader.specs.Grammar.{file}
 module _ (kind : YaccKind) (len : ℕ) (rest : List ℕ) (old : Reader) (whole : old.rest.now ≡ rest) (long : old.len ≡ len) where
   pub file_built : (new : Reader) (made : Syntax) → syntax_built old.tree ≡ syntax_of [] → made ≡ syntax_built new.tree
       → Grows old new (computes (file kind old.len) old.rest.now).items → made ≡ syntax_of (computes (file kind len) rest).items
+  unfolding adds
   file_built new made tree is grown =
-      is ∙ grown ∙ ap (λ s. adds s (computes (file kind old.len) old.rest.now).items) tree
-      ∙ (λ i. adds (syntax_of []) (computes (file kind (long i)) (whole i)).items) ∙ adds_syntax_of (computes (file kind len) rest).items
+      is ∙ grown ∙ ap (λ s. fold add s (computes (file kind old.len) old.rest.now).items) tree
+      ∙ (λ i. fold add (syntax_of []) (computes (file kind (long i)) (whole i)).items) ∙ adds_syntax_of (computes (file kind len) rest).items
 
   pub file_stopped : (found : Option Fault) → stop_of (computes (file kind old.len) old.rest.now).outcome ≡ found → found ≡ stop_of (computes (file kind len) rest).outcome
   file_stopped found stops = sym stops ∙ (λ i. stop_of (computes (file kind (long i)) (whole i)).outcome)

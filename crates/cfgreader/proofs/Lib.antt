@@ -4,7 +4,5 @@ pub mod Declared
 pub mod Kept
 pub mod KeptDeclarations
 pub mod KeptRules
-pub mod Loops
 mod Parts
-pub mod Steps
 pub mod SyntaxPlaces

@@ -6,29 +6,18 @@ use Rattle.std.proofs.lemmas.List.Elements.{filter_map-append}
 use Rattle.lemmas.specs.Lists.{pushed}
 use Rattle.lemmas.proofs.Elements.{slice_get_push}
 use Rattle.lemmas.proofs.Pushed.{filter_map-pushed}
-use Rattle.reading.specs.Leaves.{Gives, ValueOf, Leaves}
-use Rattle.reading.specs.Read.{gives, follow_outcome}
-use Rattle.reading.specs.Construct.{Construct}
+use Rattle.reading.specs.Steps.{Fails}
 use Rattle.reading.proofs.Agree.{leaves}
-use Rattle.reading.proofs.Loops.{front_done, front_stopped}
-use Rattle.cfgwords.specs.declared.fault.Fault.{Fault}
+use Rattle.reading.proofs.Steps.{Gathers, gathers_start, gathers_on, turn_shorter, many_done, many_stops, returns_then, stops_then}
 use Rattle.cfgwords.specs.Text.{place}
-use Rattle.cfgast.specs.Items.{Item}
 use Rattle.cfgast.specs.Syntax.{last_of}
 use Rattle.cfgreader.specs.declared.bodies.Part.{Part as CodePart}
 use Rattle.cfgreader.specs.declared.bodies.Parts.{Parts as CodeParts}
 use Rattle.cfgreader.specs.declared.reader.Reader.{Reader}
 use Rattle.cfgreader.specs.declared.reader.ReadFault.{ReadFault}
-use Rattle.cfgreader.specs.declared.reader.ReadFault.TheVariants as errors
 use Rattle.cfgreader.specs.Here.{Turn}
 use Rattle.cfgreader.specs.Rules.{Part, Parts, SymbolPart, PrecedencePart, EmptyPart, part_end, precedence_in, parts_row, symbol_in, with_parts}
-use Rattle.cfgreader.specs.Inner.Builds.{Builds, Fails, part_view, parts_view}
-use Rattle.cfgreader.proofs.Loops.{Gathers, gathers_start, gathers_on, turn_shorter, built, stopped, read, grown}
-
--- what was passed leaves no more of the text, so the place behind it isn't before its own
-pub place_on : {l : Leaves} {G : Gives} {X : Type 0} (c : Construct Item Fault l G) (view : X → ValueOf G) (now next : Reader) (x : X)
-    → Builds view now next (Ok x) c → place now.len now.rest.now ≤ place next.len next.rest.now
-place_on c view now next x builds = omega (arith, (leaves c).least now.rest.now (view x) next.rest.now builds.0, builds.1)
+use Rattle.cfgreader.specs.Inner.Builds.{Builds, fault_of, file_reader, part_view, parts_view}
 
 -- the last of a list that grows
 last_of-push : {A : Type 0} (xs : List A) (x : A) → last_of (xs ++ x ∷ []) ≡ Some x
@@ -67,7 +56,7 @@ with_push before parts part = λ i. record { symbols = symbols i; precedence = p
 
 -- the parts so far: none ends before a place that isn't behind the start, where those before the loop don't
 pub record InParts (c : ℕ → Turn Part) (before : Parts) (start now : Reader) (parts : CodeParts) : Type 0 where
-  pub gathers : Gathers c start now
+  pub gathers : Gathers file_reader c start now
   pub values : parts_view parts ≡ with_parts before gathers.values
   pub shorter : length now.rest.now ≤ length start.rest.now
   pub ends : (from : ℕ) → from ≤ place start.len start.rest.now → IfSome before.end (λ end. from ≤ end) → IfSome parts.end (λ end. from ≤ end)
@@ -75,7 +64,7 @@ pub record InParts (c : ℕ → Turn Part) (before : Parts) (start now : Reader)
 pub parts_start : (c : ℕ → Turn Part) (before : Parts) (start : Reader) (parts : CodeParts) → parts_view parts ≡ before → InParts c before start start parts
 unfolding gathers_start
 parts_start c before start parts same = record {
-  gathers = gathers_start c start;
+  gathers = gathers_start start;
   values = same ∙ sym (with_none before);
   shorter = omega arith;
   ends = λ from here before_ends. subst (λ (p : Parts). IfSome p.end (λ end. from ≤ end)) (sym same) before_ends;
@@ -87,7 +76,7 @@ module _ (c : ℕ → Turn Part) (before : Parts) (start now : Reader) (parts : 
   unfolding gathers_on
   parts_on more turn x builds is after added =
       let gave = ap (option_map part_view) is in
-      let less = turn_shorter c (option_map part_view) now next turn (part_view x) builds gave in
+      let less = turn_shorter file_reader c (option_map part_view) now next turn (part_view x) builds gave in
       let behind : place now.len now.rest.now ≤ part_end (part_view x) = subst (λ o. IfSome o (λ x. place now.len now.rest.now ≤ part_end (part_view x))) is after in
       let further : place start.len start.rest.now ≤ place now.len now.rest.now = omega (arith, so_far.shorter, so_far.gathers.len) in
       let ended : more.end ≡ Some (part_end (part_view x)) = ap (λ (p : Parts). p.end) added in
@@ -99,27 +88,18 @@ module _ (c : ℕ → Turn Part) (before : Parts) (start now : Reader) (parts : 
       }
 
   pub parts_smaller : (turn : Option CodePart) (x : CodePart) → Builds (option_map part_view) now next (Ok turn) (c now.len) → turn ≡ Some x → length next.rest.now < length now.rest.now
-  parts_smaller turn x builds is = turn_shorter c (option_map part_view) now next turn (part_view x) builds (ap (option_map part_view) is)
+  parts_smaller turn x builds is = turn_shorter file_reader c (option_map part_view) now next turn (part_view x) builds (ap (option_map part_view) is)
 
   pub parts_done : (turn : Option CodePart) → Builds (option_map part_view) now next (Ok turn) (c now.len) → turn ≡ None → Builds parts_view start next (Ok parts) (parts_row (c start.len) before)
   unfolding parts_row
   parts_done turn builds is =
-      let told = rw so_far.gathers.len at builds in
-      let items = read so_far.gathers next in
-      let all = front_done (leaves (c start.len)) so_far.gathers.front next.rest.now (told.0 ∙ ap (λ o. Ok (o, next.rest.now)) (ap (option_map part_view) is)) in
-      built (parts_row (c start.len) before) start next items (grown so_far.gathers next told.2) parts_view parts
-      (ap (λ r. follow_outcome r.items r.outcome (λ ps. gives (with_parts before ps))) all
-      ∙ ap (λ xs. record { items = xs; outcome = Ok (with_parts before so_far.gathers.values, next.rest.now) }) (append-nil items)
-      ∙ ap (λ p. record { items = items; outcome = Ok (p, next.rest.now) }) (sym so_far.values)) told.1
+      let row = many_done so_far.gathers next (option_map part_view) turn builds (λ (x : Unit {0}). so_far.gathers.values) tt refl (ap (option_map part_view) is) in
+      let told = returns_then file_reader (with_parts before) start next _ (λ (x : Unit {0}). so_far.gathers.values) (Ok tt) row in
+      (told.0 ∙ ap (λ p. Ok (p, next.rest.now)) (sym so_far.values), told.1, told.2)
 
-  pub parts_fail : (e : ReadFault) → Fails now next e (c now.len) → Fails start next e (parts_row (c start.len) before)
+  pub parts_fail : (e : ReadFault) → Fails file_reader now next e (c now.len) → Fails file_reader start next e (parts_row (c start.len) before)
   unfolding parts_row
-  parts_fail errors.OutOfMemory fails = tt
-  parts_fail (errors.Fault fault) fails =
-      let turn = rw so_far.gathers.len at fails in
-      let items = read so_far.gathers next in
-      stopped (parts_row (c start.len) before) start next items (grown so_far.gathers next turn.1) fault
-      (ap (λ r. follow_outcome r.items r.outcome (λ ps. gives (with_parts before ps))) (front_stopped (leaves (c start.len)) so_far.gathers.front fault turn.0))
+  parts_fail e fails = stops_then file_reader (with_parts before) start next _ (fault_of e) (many_stops so_far.gathers next (fault_of e) fails)
 
   pub parts_shorter : (turn : Option CodePart) → Builds (option_map part_view) now next (Ok turn) (c now.len) → length next.rest.now ≤ length start.rest.now
   parts_shorter turn builds = omega (arith, so_far.shorter, (leaves (c now.len)).least now.rest.now _ _ builds.0)

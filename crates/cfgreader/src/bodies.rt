@@ -4,14 +4,14 @@ ghost use Rattle.std.specs.Prelude.{◌≡◌, ◌≤◌, ℕ, [], ◌∷◌, If
 ghost use Rattle.cfgwords.specs.Text.{place, fault_at};
 ghost use Rattle.cfgwords.specs.declared.fault.FaultKind.TheVariants.{NonEmptyProduction};
 ghost use Rattle.cfgreader.specs.Inner.Builds.{part_view, parts_view};
-ghost use Rattle.cfgreader.specs.Rules.{EmptyPart, PrecedencePart, SymbolPart, empty, front_part, front_parts};
-ghost use Rattle.cfgreader.specs.Rules.{part_end, may_follow_empty, misplaced_empty, more_parts, no_parts, part};
+ghost use Rattle.cfgreader.specs.Rules.{EmptyPart, PrecedencePart, empty, front_part, front_parts};
+ghost use Rattle.cfgreader.specs.Rules.{part_end, may_follow_empty, more_parts, part};
 ghost use Rattle.cfgreader.specs.Rules.{precedence, symbol_part, with_parts};
 
 use super::reader::{ReadFault, Reader};
 use cfgwords::fault::FaultKind;
 use cfgwords::words::Token;
-use std::alloc::{AllocError, Global};
+use std::alloc::AllocError;
 
 /// A part of a production.
 #[derive(Clone, Copy)]
@@ -36,17 +36,6 @@ pub(super) struct Parts<'a> {
 }
 
 impl<'a> Parts<'a> {
-    /// No part.
-    pub(super) fn none(alloc: Global) -> Self
-        ensures { parts_view result ≡ no_parts }
-    {
-        Parts {
-            symbols: Vec::new(alloc),
-            precedence: None,
-            end: None,
-        }
-    }
-
     /// Adds a part.
     ///
     /// # Errors
@@ -75,7 +64,7 @@ impl<'a> Reader<'a> {
     ghost use Rattle.cfgast.specs.View.{token_view};
 
     /// Passes what stands behind `%prec`.
-    #[tactic(auto, unfolding(crate::specs::Rules::precedence, cfgast::specs::Building::adds))]
+    #[tactic(auto, unfolding(crate::specs::Rules::precedence))]
     fn precedence(&mut self) -> Result<Token<'a>, ReadFault>
         ensures read { Builds (λ token. PrecedencePart (token_view token)) self.old self.new result
             (precedence self.old.len) }
@@ -95,9 +84,8 @@ impl<'a> Reader<'a> {
         matches!(self.rest.as_bytes(), [b'|' | b';' | b'{', ..]) || self.stands("%prec")
     }
 
-    /// Passes the blank behind the `%empty` that begins at `text`, where no symbol stands before it, and answers where
-    /// the `%empty` ends.
-    #[tactic(auto, unfolding(crate::specs::Rules::empty, cfgast::specs::Building::adds))]
+    /// Passes the blank behind the `%empty` that begins at `text`, and answers where the `%empty` ends.
+    #[tactic(auto, unfolding(crate::specs::Rules::empty))]
     fn empty(&mut self, text: &'a str) -> Result<usize, ReadFault>
         ensures read { Builds EmptyPart self.old self.new result (empty self.old.len text.now) }
         ensures after { IfOk result (λ end. end ≡ place self.old.len self.old.rest.now) }
@@ -111,19 +99,8 @@ impl<'a> Reader<'a> {
         }
     }
 
-    /// Passes the blank behind the `%empty` that begins at `text`, where a symbol stands before it: there it is a
-    /// fault.
-    #[tactic(auto, unfolding(crate::specs::Rules::misplaced_empty, cfgast::specs::Building::adds))]
-    fn misplaced_empty(&mut self, text: &'a str) -> Result<usize, ReadFault>
-        ensures read { Builds EmptyPart self.old self.new result (misplaced_empty self.old.len text.now) }
-        ensures after { IfOk result (λ end. place self.old.len self.old.rest.now ≤ end) }
-    {
-        self.blank(true)?;
-        Err(self.fault_at(FaultKind::NonEmptyProduction, text))
-    }
-
     /// Passes a part of a production before its first symbol, if one stands here.
-    #[tactic(auto, unfolding(crate::specs::Rules::front_part, cfgast::specs::Building::adds))]
+    #[tactic(auto, unfolding(crate::specs::Rules::front_part))]
     fn front_part(&mut self) -> Result<Option<Part<'a>>, ReadFault>
         ensures read { Builds (option_map part_view) self.old self.new result (front_part self.old.len) }
         ensures after { IfOk result (λ part. IfSome part
@@ -140,12 +117,11 @@ impl<'a> Reader<'a> {
     }
 
     /// Passes a symbol, if one stands here, and the blank behind it; a quoted token is noted.
-    #[tactic(auto, unfolding(crate::specs::Rules::symbol_part, cfgast::specs::Building::adds))]
-    fn symbol(&mut self) -> Result<Option<Token<'a>>, ReadFault>
-        ensures read { Builds (option_map (λ token. SymbolPart (token_view token))) self.old self.new result
-            (symbol_part self.old.len) }
-        ensures after { IfOk result (λ symbol. IfSome symbol
-            (λ token. place self.old.len self.old.rest.now ≤ token.end)) }
+    #[tactic(auto, unfolding(crate::specs::Rules::symbol_part))]
+    fn symbol(&mut self) -> Result<Option<Part<'a>>, ReadFault>
+        ensures read { Builds (option_map part_view) self.old self.new result (symbol_part self.old.len) }
+        ensures after { IfOk result (λ part. IfSome part
+            (λ part. place self.old.len self.old.rest.now ≤ part_end (part_view part))) }
     {
         match self.next_token() {
             Some(token) => {
@@ -153,14 +129,14 @@ impl<'a> Reader<'a> {
                 if token.quoted {
                     self.tree.quote_token(self.alloc, token.word())?;
                 }
-                Ok(Some(token))
+                Ok(Some(Part::Symbol(token)))
             }
             None => Ok(None),
         }
     }
 
-    /// Passes a part of a production from its first symbol on, if one stands here.
-    #[tactic(auto, unfolding(crate::specs::Rules::part, cfgast::specs::Building::adds))]
+    /// Passes a part of a production from its first symbol on, if one stands here. There an `%empty` is a fault.
+    #[tactic(auto, unfolding(crate::specs::Rules::part, crate::specs::Rules::misplaced_empty))]
     fn later_part(&mut self) -> Result<Option<Part<'a>>, ReadFault>
         ensures read { Builds (option_map part_view) self.old self.new result (part self.old.len) }
         ensures after { IfOk result (λ part. IfSome part
@@ -170,9 +146,10 @@ impl<'a> Reader<'a> {
         if self.accept("%prec") {
             Ok(Some(Part::Precedence(self.precedence()?)))
         } else if self.accept("%empty") {
-            Ok(Some(Part::Empty(self.misplaced_empty(text)?)))
+            self.blank(true)?;
+            Err(self.fault_at(FaultKind::NonEmptyProduction, text))
         } else {
-            Ok(self.symbol()?.map(Part::Symbol))
+            self.symbol()
         }
     }
 
@@ -182,7 +159,11 @@ impl<'a> Reader<'a> {
         ensures ends { IfOk result (λ parts. IfSome parts.end (λ end. place self.old.len self.old.rest.now ≤ end)) }
         ensures shorter { OnOk result (length self.new.rest.now ≤ length self.old.rest.now) }
     {
-        let mut parts = Parts::none(self.alloc);
+        let mut parts = Parts {
+            symbols: Vec::new(self.alloc),
+            precedence: None,
+            end: None,
+        };
         while let Some(part) = self.front_part()? {
             parts.add(part)?;
         }

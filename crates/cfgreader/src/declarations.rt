@@ -22,7 +22,7 @@ impl<'a> Reader<'a> {
     ghost use Rattle.cfgreader.specs.Inner.Builds.{Builds};
 
     /// Passes a token of a `%token` list and the blank behind it.
-    #[tactic(auto, unfolding(crate::specs::Declarations::listed_token, cfgast::specs::Building::adds))]
+    #[tactic(auto, unfolding(crate::specs::Declarations::listed_token))]
     pub(super) fn listed_token(&mut self) -> Result<(), ReadFault>
         ensures { Builds (λ x. x) self.old self.new result (listed_token self.old.len) }
     {
@@ -32,7 +32,7 @@ impl<'a> Reader<'a> {
     }
 
     /// Passes what follows `%start`.
-    #[tactic(auto, unfolding(crate::specs::Declarations::start_declaration, cfgast::specs::Building::adds))]
+    #[tactic(auto, unfolding(crate::specs::Declarations::start_declaration))]
     fn start_declaration(&mut self) -> Result<(), ReadFault>
         ensures { Builds (λ x. x) self.old self.new result (start_declaration self.old.len) }
     {
@@ -43,7 +43,7 @@ impl<'a> Reader<'a> {
     }
 
     /// Passes what follows `%actiontype`.
-    #[tactic(auto, unfolding(crate::specs::Declarations::action_type_declaration, cfgast::specs::Building::adds))]
+    #[tactic(auto, unfolding(crate::specs::Declarations::action_type_declaration))]
     fn action_type_declaration(&mut self) -> Result<(), ReadFault>
         ensures { Builds (λ x. x) self.old self.new result (action_type_declaration self.old.len) }
     {
@@ -56,7 +56,7 @@ impl<'a> Reader<'a> {
     }
 
     /// Passes the token of an `%epp`, whose span goes from quote to quote.
-    #[tactic(auto, unfolding(crate::specs::Declarations::printed_token, cfgast::specs::Building::adds))]
+    #[tactic(auto, unfolding(crate::specs::Declarations::printed_token))]
     fn printed_token(&mut self) -> Result<Word<'a>, ReadFault>
         ensures { Builds word_view self.old self.new result (printed_token self.old.len) }
     {
@@ -69,7 +69,7 @@ impl<'a> Reader<'a> {
     }
 
     /// Passes the printed form of a token, and answers it with the string's place.
-    #[tactic(auto, unfolding(crate::specs::Declarations::printed_form, cfgast::specs::Building::adds))]
+    #[tactic(auto, unfolding(crate::specs::Declarations::printed_form))]
     fn printed_form(&mut self) -> Result<(String, Span), ReadFault>
         ensures { Builds (λ form. (string_bytes form.0, form.1)) self.old self.new result (printed_form self.old.len) }
     {
@@ -79,7 +79,7 @@ impl<'a> Reader<'a> {
     }
 
     /// Passes what follows `%epp`.
-    #[tactic(auto, unfolding(crate::specs::Declarations::epp_declaration, cfgast::specs::Building::adds))]
+    #[tactic(auto, unfolding(crate::specs::Declarations::epp_declaration))]
     fn epp_declaration(&mut self) -> Result<(), ReadFault>
         ensures { Builds (λ x. x) self.old self.new result (epp_declaration self.old.len) }
     {
@@ -93,7 +93,7 @@ impl<'a> Reader<'a> {
     }
 
     /// Passes what follows `%expect`.
-    #[tactic(auto, unfolding(crate::specs::Declarations::number_declaration, cfgast::specs::Building::adds))]
+    #[tactic(auto, unfolding(crate::specs::Declarations::number_declaration))]
     fn expect_declaration(&mut self) -> Result<(), ReadFault>
         ensures { Builds (λ x. x) self.old self.new result (number_declaration self.old.len ExpectDeclared) }
     {
@@ -104,7 +104,7 @@ impl<'a> Reader<'a> {
     }
 
     /// Passes what follows `%expect-rr`.
-    #[tactic(auto, unfolding(crate::specs::Declarations::number_declaration, cfgast::specs::Building::adds))]
+    #[tactic(auto, unfolding(crate::specs::Declarations::number_declaration))]
     fn expect_rr_declaration(&mut self) -> Result<(), ReadFault>
         ensures { Builds (λ x. x) self.old self.new result
             (number_declaration self.old.len ExpectReduceReduceDeclared) }
@@ -116,7 +116,7 @@ impl<'a> Reader<'a> {
     }
 
     /// Passes a symbol of an `%expect-unused` list and the blank behind it.
-    #[tactic(auto, unfolding(crate::specs::Declarations::unused_symbol, cfgast::specs::Building::adds))]
+    #[tactic(auto, unfolding(crate::specs::Declarations::unused_symbol))]
     pub(super) fn unused_symbol(&mut self) -> Result<(), ReadFault>
         ensures { Builds (λ x. x) self.old self.new result (unused_symbol self.old.len) }
     {
@@ -131,7 +131,7 @@ impl<'a> Reader<'a> {
     }
 
     /// Passes what follows `%parse-param`.
-    #[tactic(auto, unfolding(crate::specs::Declarations::parse_param_declaration, cfgast::specs::Building::adds))]
+    #[tactic(auto, unfolding(crate::specs::Declarations::parse_param_declaration))]
     fn parse_param_declaration(&mut self) -> Result<(), ReadFault>
         ensures { Builds (λ x. x) self.old self.new result (parse_param_declaration self.old.len) }
     {
@@ -145,7 +145,7 @@ impl<'a> Reader<'a> {
     }
 
     /// Passes what follows `%parse-generics`.
-    #[tactic(auto, unfolding(crate::specs::Declarations::parse_generics_declaration, cfgast::specs::Building::adds))]
+    #[tactic(auto, unfolding(crate::specs::Declarations::parse_generics_declaration))]
     fn parse_generics_declaration(&mut self) -> Result<(), ReadFault>
         ensures { Builds (λ x. x) self.old self.new result (parse_generics_declaration self.old.len) }
     {
@@ -174,7 +174,6 @@ impl<'a> Reader<'a> {
     }
 
     /// Passes a declaration, and tells whether one stands here.
-    #[tactic(auto, unfolding(cfgast::specs::Building::adds))]
     fn declaration(&mut self, kind: YaccKind) -> Result<bool, ReadFault>
         ensures { Builds goes_on self.old self.new result (declaration self.old.len kind) }
     {
@@ -194,7 +193,6 @@ impl<'a> Reader<'a> {
     }
 
     /// Passes the `%%` behind the declarations.
-    #[tactic(auto, unfolding(cfgast::specs::Building::adds))]
     pub(super) fn separator(&mut self) -> Result<(), ReadFault>
         ensures { Builds (λ x. x) self.old self.new result (expect (codes "%%") (separator_fault self.old.len)) }
     {

@@ -11,6 +11,7 @@ ghost use Rattle.cfgreader.specs.Inner.Lists.{begun, listed_in, marked, said, tu
 
 use super::reader::{ReadFault, Reader};
 use cfgast::{AssocKind, AstBuilder};
+use cfgwords::blank::passes_line_end;
 use cfgwords::words::Word;
 use std::alloc::{AllocError, Global};
 
@@ -111,7 +112,7 @@ impl Reader<'_> {
     }
 
     /// Passes what follows `%token` or `%expect-unused`.
-    #[tactic(auto, unfolding(crate::specs::Declarations::list_declaration, cfgast::specs::Building::adds))]
+    #[tactic(auto, unfolding(crate::specs::Declarations::list_declaration))]
     pub(super) fn list_declaration(&mut self, list: Listed) -> Result<(), ReadFault>
         ensures { Builds (λ x. x) self.old self.new result
             (list_declaration self.old.len (listed_in self.old.len list)) }
@@ -122,17 +123,19 @@ impl Reader<'_> {
 
     /// Passes a token of the list and the blank behind it, and tells whether the list goes on: where the blank stays on
     /// its line.
-    #[tactic(auto, unfolding(crate::specs::Declarations::line_token, cfgast::specs::Building::adds))]
+    #[tactic(auto, unfolding(crate::specs::Declarations::line_token, crate::specs::Here::line_blank))]
     fn line_token(&mut self, list: LineList) -> Result<bool, ReadFault>
         ensures { Builds goes_on self.old self.new result (line_token self.old.len (said list)) }
     {
         let token = self.token()?;
         list.note(&mut self.tree, self.alloc, token.word())?;
-        self.line_blank()
+        let text = self.rest;
+        self.blank(true)?;
+        Ok(!passes_line_end(text, self.rest))
     }
 
     /// Passes a token of the list, and tells whether the list goes on: the text's end closes one of precedences too.
-    #[tactic(auto, unfolding(crate::specs::Declarations::level_token, cfgast::specs::Building::adds))]
+    #[tactic(auto, unfolding(crate::specs::Declarations::level_token))]
     fn line_turn(&mut self, list: LineList) -> Result<bool, ReadFault>
         ensures { Builds goes_on self.old self.new result (turn_in self.old.len list) }
     {
@@ -151,7 +154,7 @@ impl Reader<'_> {
     }
 
     /// Passes what follows `%left`, `%right` or `%nonassoc`.
-    #[tactic(auto, unfolding(crate::specs::Declarations::precedence_declaration, cfgast::specs::Building::adds))]
+    #[tactic(auto, unfolding(crate::specs::Declarations::precedence_declaration))]
     pub(super) fn precedence_declaration(&mut self, kind: AssocKind) -> Result<(), ReadFault>
         ensures { Builds (λ x. x) self.old self.new result (precedence_declaration self.old.len kind) }
     {
@@ -162,7 +165,7 @@ impl Reader<'_> {
     }
 
     /// Passes what follows `%avoid_insert` or `%implicit_tokens`.
-    #[tactic(auto, unfolding(crate::specs::Declarations::marking_declaration, cfgast::specs::Building::adds))]
+    #[tactic(auto, unfolding(crate::specs::Declarations::marking_declaration))]
     pub(super) fn marking_declaration(&mut self, marking: Marking) -> Result<(), ReadFault>
         ensures { Builds (λ x. x) self.old self.new result
             (marking_declaration self.old.len (begun marking) (marked marking)) }

@@ -5,12 +5,12 @@ ghost use Rattle.std.specs.String.{string_bytes};
 ghost use Rattle.reading.specs.Construct.{expect};
 ghost use Rattle.reading.specs.Pieces.{strip};
 ghost use Rattle.cfgwords.specs.Text.{place, fault_at};
-ghost use Rattle.cfgreader.specs.Here.{is_open, stands, blank_here, line_blank, name_here, token_here, integer_here};
+ghost use Rattle.cfgreader.specs.Here.{is_open, stands, blank_here, name_here, token_here, integer_here};
 ghost use Rattle.cfgreader.specs.Here.{line_rest_here, epp_string_here, colon_text_here};
 
 use cfgast::{AstBuilder, Syntax};
 use cfgbase::Span;
-use cfgwords::blank::{Front, passes_line_end};
+use cfgwords::blank::Front;
 use cfgwords::bytes::ByteClass;
 use cfgwords::colon_text::text_to_colon;
 use cfgwords::fault::{Fault, FaultKind};
@@ -18,7 +18,7 @@ use cfgwords::run::run;
 use cfgwords::strings::{leading_string, unescaped};
 use cfgwords::words::{Token, Word, leading_integer, leading_name, leading_token};
 use reading::after_word;
-use std::alloc::{AllocError, AllocFailed, Global};
+use std::alloc::{AllocError, Global};
 
 /// Why a reader stopped.
 #[derive(Drop)]
@@ -27,32 +27,12 @@ pub(crate) enum ReadFault {
     Fault(Fault),
 }
 
-impl From<Fault> for ReadFault {
-    ghost use Rattle.cfgreader.specs.declared.reader.ReadFault.TheVariants as errors;
-
-    ghost from_gives = { λ fault e. e ≡ errors.Fault fault };
-
-    fn from(fault: Fault) -> ReadFault {
-        ReadFault::Fault(fault)
-    }
-}
-
 impl From<AllocError> for ReadFault {
     ghost use Rattle.cfgreader.specs.declared.reader.ReadFault.TheVariants.{OutOfMemory};
 
     ghost from_gives = { λ _ e. e ≡ OutOfMemory };
 
     fn from(_error: AllocError) -> ReadFault {
-        ReadFault::OutOfMemory
-    }
-}
-
-impl<T: Drop> From<AllocFailed<T>> for ReadFault {
-    ghost use Rattle.cfgreader.specs.declared.reader.ReadFault.TheVariants.{OutOfMemory};
-
-    ghost from_gives = { λ _ e. e ≡ OutOfMemory };
-
-    fn from(_error: AllocFailed<T>) -> ReadFault {
         ReadFault::OutOfMemory
     }
 }
@@ -68,7 +48,7 @@ pub(crate) struct Reader<'a> {
 }
 
 impl<'a> Reader<'a> {
-    ghost use Rattle.cfgreader.specs.Inner.Builds.{Builds, Grows, IsPartHere, IsNameHere, IsTokenHere};
+    ghost use Rattle.cfgreader.specs.Inner.Builds.{Builds, IsPartHere, IsNameHere, IsTokenHere};
     ghost use Rattle.cfgast.specs.View.{syntax_view, syntax_built, word_view, token_view};
     ghost use Rattle.cfgast.specs.Syntax.{syntax_of};
 
@@ -152,7 +132,6 @@ impl<'a> Reader<'a> {
     }
 
     /// Passes the word that must stand here; where another thing does, there is a fault of the kind.
-    #[tactic(auto, unfolding(cfgast::specs::Building::adds))]
     pub(super) fn expect(&mut self, word: &str, kind: FaultKind) -> Result<(), ReadFault>
         ensures { Builds (λ x. x) self.old self.new result (expect word.now (fault_at self.old.len kind)) }
     {
@@ -183,16 +162,6 @@ impl<'a> Reader<'a> {
         Ok(())
     }
 
-    /// Passes the blank that begins here, and tells whether it stays on its line.
-    #[tactic(auto, unfolding(crate::specs::Here::line_blank, cfgast::specs::Building::adds))]
-    pub(super) fn line_blank(&mut self) -> Result<bool, ReadFault>
-        ensures { Builds (λ x. x) self.old self.new result (line_blank self.old.len) }
-    {
-        let text = self.rest;
-        self.blank(true)?;
-        Ok(!passes_line_end(text, self.rest))
-    }
-
     /// Passes the name that stands here, if one does.
     pub(super) fn next_name(&mut self) -> Option<Word<'a>>
         ensures { IsNameHere self.old self.new result }
@@ -209,7 +178,6 @@ impl<'a> Reader<'a> {
     }
 
     /// Passes the name that must stand here.
-    #[tactic(auto, unfolding(cfgast::specs::Building::adds))]
     pub(super) fn name(&mut self) -> Result<Word<'a>, ReadFault>
         ensures { Builds word_view self.old self.new result (name_here self.old.len) }
     {
@@ -220,7 +188,6 @@ impl<'a> Reader<'a> {
     }
 
     /// Passes the integer that must stand here, and answers it with its place.
-    #[tactic(auto, unfolding(cfgast::specs::Building::adds))]
     pub(super) fn integer(&mut self) -> Result<(usize, Span), ReadFault>
         ensures { Builds (λ x. x) self.old self.new result (integer_here self.old.len) }
     {
@@ -235,7 +202,6 @@ impl<'a> Reader<'a> {
     }
 
     /// Passes the rest of the line.
-    #[tactic(auto, unfolding(cfgast::specs::Building::adds))]
     pub(super) fn line_rest(&mut self) -> &'a str
         ensures { Builds (λ x. x.now) self.old self.new (Ok result) (line_rest_here self.old.len) }
     {
@@ -245,7 +211,7 @@ impl<'a> Reader<'a> {
     }
 
     /// Passes the string of an `%epp`, which must stand here, and answers its value.
-    #[tactic(auto, unfolding(cfgwords::specs::Strings::epp_string, cfgast::specs::Building::adds))]
+    #[tactic(auto, unfolding(cfgwords::specs::Strings::epp_string))]
     pub(super) fn epp_string(&mut self) -> Result<String, ReadFault>
         ensures { Builds string_bytes self.old self.new result (epp_string_here self.old.len) }
     {
@@ -260,7 +226,7 @@ impl<'a> Reader<'a> {
     }
 
     /// Passes the text up to a single colon, which must stand behind it, and answers it trimmed.
-    #[tactic(auto, unfolding(cfgwords::specs::ColonText::colon_text, cfgast::specs::Building::adds))]
+    #[tactic(auto, unfolding(cfgwords::specs::ColonText::colon_text))]
     pub(super) fn colon_text(&mut self) -> Result<&'a str, ReadFault>
         ensures { Builds (λ x. x.now) self.old self.new result (colon_text_here self.old.len) }
     {
@@ -295,7 +261,6 @@ impl<'a> Reader<'a> {
     }
 
     /// Passes the token that must stand here.
-    #[tactic(auto, unfolding(cfgast::specs::Building::adds))]
     pub(super) fn token(&mut self) -> Result<Token<'a>, ReadFault>
         ensures read { Builds token_view self.old self.new result (token_here self.old.len) }
         ensures after { IfOk result (λ token. place self.old.len self.old.rest.now ≤ token.end) }

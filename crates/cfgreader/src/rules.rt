@@ -34,7 +34,7 @@ impl<'a> Reader<'a> {
     }
 
     /// Passes the `|` before another production, or the `;` that ends a rule, and tells whether it was `|`.
-    #[tactic(auto, unfolding(crate::specs::Rules::another, cfgast::specs::Building::adds))]
+    #[tactic(auto, unfolding(crate::specs::Rules::another))]
     fn another(&mut self, has_action: bool) -> Result<bool, ReadFault>
         ensures { Builds (λ x. x) self.old self.new result (another self.old.len has_action) }
     {
@@ -48,7 +48,7 @@ impl<'a> Reader<'a> {
     }
 
     /// Notes the production that ends here, and tells whether another one follows.
-    #[tactic(auto, unfolding(crate::specs::Rules::finish, cfgast::specs::Building::adds))]
+    #[tactic(auto, unfolding(crate::specs::Rules::finish))]
     fn finish(&mut self, head: RuleHead<'a>, body: Body<'_, 'a>) -> Result<bool, ReadFault>
         ensures { Builds goes_on self.old self.new result
             (finish self.old.len (is_some (body_view body.entry).action)
@@ -76,7 +76,7 @@ impl<'a> Reader<'a> {
 
     /// Passes the end of the production that begins at `start` and has these parts: its action, if it has one, and what
     /// ends it. It tells whether another production follows.
-    #[tactic(auto, unfolding(crate::specs::Rules::production_end, cfgast::specs::Building::adds))]
+    #[tactic(auto, unfolding(crate::specs::Rules::production_end))]
     fn production_end(
         &mut self,
         head: RuleHead<'a>,
@@ -107,7 +107,7 @@ impl<'a> Reader<'a> {
     }
 
     /// Passes a production of the rule and what ends it, and tells whether another one follows.
-    #[tactic(auto, unfolding(crate::specs::Rules::production, cfgast::specs::Building::adds))]
+    #[tactic(auto, unfolding(crate::specs::Rules::production))]
     fn production(&mut self, head: RuleHead<'a>) -> Result<bool, ReadFault>
         ensures { Builds goes_on self.old self.new result (production self.old.len (head_view head.entry)) }
     {
@@ -126,7 +126,7 @@ impl<'a> Reader<'a> {
     }
 
     /// Passes what stands between a rule's name and its colon in a Grmtools file, and answers the type.
-    #[tactic(auto, unfolding(crate::specs::Rules::rule_type, cfgast::specs::Building::adds))]
+    #[tactic(auto, unfolding(crate::specs::Rules::rule_type))]
     fn rule_type(&mut self) -> Result<&'a str, ReadFault>
         ensures { Builds (λ x. Some x.now) self.old self.new result (rule_type self.old.len) }
     {
@@ -137,7 +137,7 @@ impl<'a> Reader<'a> {
     }
 
     /// Passes what stands behind a rule's name, or behind its type.
-    #[tactic(auto, unfolding(crate::specs::Rules::rule_body, cfgast::specs::Building::adds))]
+    #[tactic(auto, unfolding(crate::specs::Rules::rule_body))]
     fn rule_body(&mut self, head: RuleHead<'a>) -> Result<(), ReadFault>
         ensures { Builds (λ x. x) self.old self.new result (rule_body self.old.len (head_view head.entry)) }
     {
@@ -148,7 +148,7 @@ impl<'a> Reader<'a> {
     }
 
     /// Passes a rule and the blank behind it.
-    #[tactic(auto, unfolding(crate::specs::Rules::rule, cfgast::specs::Building::adds))]
+    #[tactic(auto, unfolding(crate::specs::Rules::rule))]
     fn rule(&mut self, kind: YaccKind) -> Result<(), ReadFault>
         ensures { Builds (λ x. x) self.old self.new result (rule self.old.len kind) }
     {
@@ -182,7 +182,7 @@ impl<'a> Reader<'a> {
     }
 
     /// Passes the second `%%`, if it stands here, and notes the programs behind it.
-    #[tactic(auto, unfolding(crate::specs::Grammar::programs, cfgast::specs::Building::adds))]
+    #[tactic(auto, unfolding(crate::specs::Grammar::programs))]
     fn programs(&mut self) -> Result<(), ReadFault>
         ensures { Builds (λ x. x) self.old self.new result (programs self.old.len) }
     {
@@ -194,7 +194,7 @@ impl<'a> Reader<'a> {
     }
 
     /// Passes a whole file.
-    #[tactic(auto, unfolding(crate::specs::Grammar::file, cfgast::specs::Building::adds))]
+    #[tactic(auto, unfolding(crate::specs::Grammar::file))]
     pub(super) fn file(&mut self, kind: YaccKind) -> Result<(), ReadFault>
         ensures { Builds (λ x. x) self.old self.new result (file kind self.old.len) }
     {

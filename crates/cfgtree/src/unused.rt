@@ -2,6 +2,8 @@
 
 ghost use Rattle.std.specs.Prelude.{◌≡◌, ◌<◌, ◌+◌, ◌↔◌, ℕ, Some, Contains, length, map, option_map, slice_get};
 ghost use Rattle.std.specs.Prelude.{IfOk, IfSome, OnOk};
+ghost use Rattle.std.specs.List.{IsDistinct};
+ghost use Rattle.std.specs.Str.{bytes_eq};
 ghost use Rattle.cfgwarnings.specs.Warnings.{warning_at};
 ghost use Rattle.search.specs.Reached.{FoundBy, Reaches};
 ghost use Rattle.cfgtree.specs.Inner.Nodes.{nodes, node_of, HeldAt, IsNodeOf, Knows};
@@ -33,7 +35,7 @@ impl GrammarAST {
     {
         let known = self.known(alloc)?;
         let mut warnings = Vec::new(alloc);
-        for node in 0..self.syntax.rules.len() + self.syntax.tokens.len() {
+        for node in 0..self.node_count() {
             if !known.is_reached(node) {
                 if let Some((kind, span)) = self.kind_and_span(node) {
                     warnings.push(warning_at(alloc, kind, span)?)?;
@@ -41,6 +43,15 @@ impl GrammarAST {
             }
         }
         Ok(warnings)
+    }
+
+    // How many nodes there are. No two rules or tokens share a name.
+    fn node_count(&self) -> usize
+        ensures count { result ≡ length (nodes (syntax self.now)) }
+        ensures rules { IsDistinct bytes_eq (map (λ rule. rule.0) (syntax self.now).rules) }
+        ensures tokens { IsDistinct bytes_eq (syntax self.now).tokens }
+    {
+        self.syntax.rules.len() + self.syntax.tokens.len()
     }
 
     // What would be warned of at this node: the rules are nodes, and behind them the tokens.
@@ -60,10 +71,7 @@ impl GrammarAST {
     fn known(&self, alloc: Global) -> Result<Search, AllocError>
         ensures { IfOk result (Knows (syntax self.now)) }
     {
-        let mut search = Search::through(
-            alloc,
-            self.syntax.rules.len() + self.syntax.tokens.len(),
-        )?;
+        let mut search = Search::through(alloc, self.node_count())?;
         reach_one(&mut search, self.start_node())?;
         search.go_on(self)?;
         self.reach_expected(&mut search)?;

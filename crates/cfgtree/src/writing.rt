@@ -1,7 +1,8 @@
 //! Writing a tree that is there.
 
-ghost use Rattle.std.specs.Prelude.{◌≡◌, ℕ, List, false, map, option_map, string_bytes, IsSome, IfOk, OnOk};
-ghost use Rattle.std.specs.Prelude.{OnErr};
+ghost use Rattle.std.specs.Prelude.{◌≡◌, ◌<◌, ℕ, List, false, length, map, option_map, string_bytes, IsSome, IfOk};
+ghost use Rattle.std.specs.Prelude.{OnErr, OnOk};
+ghost use Rattle.std.specs.Vec.{vec_len, vec_capacity};
 ghost use Rattle.std.specs.Map.{lookup};
 ghost use Rattle.std.specs.Str.{bytes_eq};
 ghost use Rattle.cfgast.specs.Items.{Item, RuleHead};
@@ -87,21 +88,33 @@ impl GrammarAST {
         ensures unchanged { OnErr result (syntax self.new ≡ syntax self.old) }
     {
         let name = rule.as_str();
-        let place = self.syntax.prods.len();
         let Some(index) = self.syntax.rules.get_index_of(name) else {
             return Ok(());
         };
-        self.syntax.prods.reserve(1)?;
-        self.syntax.prods_rules.reserve(1)?;
-        list_production(&mut self.syntax.rules, name, place)?;
-        self.syntax.prods_rules.push(index)?;
-        self.syntax.prods.push(Production {
+        self.list_next(name)?;
+        self.syntax.prods_rules.push_reserved(index);
+        self.syntax.prods.push_reserved(Production {
             symbols,
             precedence,
             action,
             prod_span,
-        })?;
+        });
         Ok(())
+    }
+
+    // Makes room for another production, and lists it with the rule of this name.
+    fn list_next(&mut self, name: &str) -> Result<(), AllocError>
+        ensures listed { OnOk result (syntax self.new ≡ record (syntax self.old) {
+          rules = map (listed name.now (length (syntax self.old).productions)) (syntax self.old).rules;
+        }) }
+        ensures room { OnOk result ((vec_len self.new.syntax.prods < vec_capacity self.new.syntax.prods)
+            × (vec_len self.new.syntax.prods_rules < vec_capacity self.new.syntax.prods_rules)) }
+        ensures unchanged { OnErr result (syntax self.new ≡ syntax self.old) }
+    {
+        let place = self.syntax.prods.len();
+        self.syntax.prods.reserve(1)?;
+        self.syntax.prods_rules.reserve(1)?;
+        list_production(&mut self.syntax.rules, name, place)
     }
 
     /// Sets the text of the programs part, in place of the one that was there.

@@ -5,5 +5,6 @@ pub mod Lengths
 pub mod Loops
 pub mod PiecesLemmas
 pub mod SilentLemmas
+pub mod Steps
 pub mod TextLemmas
 pub mod Yields

@@ -1,8 +1,7 @@
 -- Repetition turn by turn, as a loop makes it.
-use Rattle.std.proofs.Common.{◌≡◌, ℕ, Bool, true, false, cond, List, [], ◌∷◌, ◌++◌, Option, Some, None, Result, Ok, Err, refl, ap, ap₂, sym, ◌∙◌, append_assoc, append-nil}
-use Rattle.reading.specs.Leaves.{Less, One, OneOrEnd}
-use Rattle.reading.specs.Construct.{Construct, then, again, repeat, while_test, computes}
-use Rattle.reading.specs.Read.{Read, gives, follow_outcome}
+use Rattle.std.proofs.Common.{◌≡◌, ℕ, List, [], ◌∷◌, ◌++◌, Option, Some, None, Result, Ok, Err, refl, ap, ap₂, sym, ◌∙◌, append_assoc, append-nil}
+use Rattle.reading.specs.Leaves.{OneOrEnd}
+use Rattle.reading.specs.Read.{Read, gives}
 use Rattle.reading.specs.Turns.{after, with_value, with_one, turn_outcome, many}
 use Rattle.reading.proofs.Lengths.{weight, Shortens}
 use Rattle.reading.proofs.Graphs.{turns_next, one_of_shrinks}
@@ -67,41 +66,3 @@ module _ {I F A : Type 0} {g : List ℕ → Read I F (Option A)} (p : Shortens (
   -- where a fault stops a turn
   pub front_stopped : (fault : F) → (g now).outcome ≡ Err fault → many g start ≡ record { items = items ++ (g now).items; outcome = Err fault }
   front_stopped fault e = front.so_far ∙ ap (with_front items values) (many_next p now _ e)
-
--- the same where the values don't matter
-module _ {I F A : Type 0} (c : Construct I F Less (OneOrEnd A)) (start : List ℕ) (items : List I) where
-  pub repeat_ended : (values : List A) (rest : List ℕ) → many (computes c) start ≡ record { items = items; outcome = Ok (values, rest) }
-      → computes (repeat c) start ≡ record { items = items; outcome = Ok (tt, rest) }
-  unfolding repeat
-  repeat_ended values rest e = ap (λ r. follow_outcome r.items r.outcome (λ values. gives tt)) e
-      ∙ ap (λ xs. record { items = xs; outcome = Ok (tt, rest) }) (append-nil items)
-
-  pub repeat_stopped : (fault : F) → many (computes c) start ≡ record { items = items; outcome = Err fault }
-      → computes (repeat c) start ≡ record { items = items; outcome = Err fault }
-  unfolding repeat
-  repeat_stopped fault e = ap (λ r. follow_outcome r.items r.outcome (λ values. gives tt)) e
-
--- The turns of a loop with a test.
-
--- where the text passes
-pub while_on : {I F A : Type 0} (test : List ℕ → Bool) (c : Construct I F Less (One A)) (text : List ℕ) (a : A) (rest : List ℕ)
-    → test text ≡ true → (computes c text).outcome ≡ Ok (a, rest)
-    → computes (while_test test c) text ≡ record { items = (computes c text).items; outcome = Ok (Some a, rest) }
-unfolding while_test
-while_on test c text a rest here e = ap (λ t. cond t (computes (then c again) text) (gives None text)) here
-    ∙ ap (λ o. follow_outcome (computes c text).items o (λ a. gives (Some a))) e
-    ∙ ap (λ items. record { items = items; outcome = Ok (Some a, rest) }) (append-nil (computes c text).items)
-
--- where a fault stops it
-pub while_stopped : {I F A : Type 0} (test : List ℕ → Bool) (c : Construct I F Less (One A)) (text : List ℕ) (fault : F)
-    → test text ≡ true → (computes c text).outcome ≡ Err fault
-    → computes (while_test test c) text ≡ record { items = (computes c text).items; outcome = Err fault }
-unfolding while_test
-while_stopped test c text fault here e = ap (λ t. cond t (computes (then c again) text) (gives None text)) here
-    ∙ ap (λ o. follow_outcome (computes c text).items o (λ a. gives (Some a))) e
-
--- where the text doesn't pass
-pub while_ends : {I F A : Type 0} (test : List ℕ → Bool) (c : Construct I F Less (One A)) (text : List ℕ)
-    → test text ≡ false → computes (while_test test c) text ≡ gives None text
-unfolding while_test
-while_ends test c text here = ap (λ t. cond t (computes (then c again) text) (gives None text)) here

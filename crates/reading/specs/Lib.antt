@@ -4,5 +4,6 @@ pub mod Leaves
 pub mod Pieces
 pub mod Read
 pub mod Silent
+pub mod Steps
 pub mod Turns
 pub mod WordKind

@@ -1,5 +1,5 @@
 -- What a step of the section's reader does, told by what reading gives there.
-use Rattle.std.specs.Prelude.{◌≡◌, ℕ, List, [], ◌∷◌, ◌++◌, map, fold, Result, Ok, Err, string_bytes, Vec}
+use Rattle.std.specs.Prelude.{◌≡◌, ℕ, List, [], ◌∷◌, ◌++◌, map, Option, Some, None, Result, Ok, Err, string_bytes, Vec}
 use Rattle.std.specs.BTreeMap.{BTreeMap, get_by}
 use Rattle.std.specs.Cmp.Lexicographic.{slice_cmp}
 use Rattle.std.specs.Option.{option_map_or}
@@ -8,7 +8,9 @@ use Rattle.std.specs.declared.alloc.Global.{Global}
 use denote.Ref.{Bor}
 use Rattle.cfgbase.specs.declared.span.Span.{Span}
 use Rattle.reading.specs.Leaves.{Gives, ValueOf, Leaves}
-use Rattle.reading.specs.Construct.{Construct, computes}
+use Rattle.reading.specs.Construct.{Construct}
+use Rattle.reading.specs.Steps as steps
+use Rattle.reading.specs.Steps.{ReaderKind}
 use Rattle.cfgheader.specs.declared.section.entry.Entry.{Entry as CodeEntry}
 use Rattle.cfgheader.specs.declared.section.reader.Reader.{Reader}
 use Rattle.cfgheader.specs.declared.section.fault.Fault.{Fault as CodeFault}
@@ -28,27 +30,31 @@ fault_view fault = record { kind = error_kind_view fault.kind; locations = fault
 abbrev pub settings_list : List (Setting Span) → List (ShownSetting Span)
 settings_list settings = map setting_view settings
 
--- entries with others behind them
-unfoldable pub noted : List Entry → List Entry → List Entry
-noted before items = fold (λ entries entry. entries ++ entry ∷ []) before items
-
 abbrev pub entries_of : Reader → List Entry
 entries_of reader = map entry_view reader.entries.items
 
+abbrev pub fault_of : ReadFault → Option Fault
+fault_of faults.OutOfMemory = None
+fault_of (faults.Fault fault) = Some (fault_view fault)
+
+-- a reader of sections: it notes entries
+abbrev pub section_reader : ReaderKind Reader ReadFault (List Entry) Entry Fault
+section_reader = record {
+  len = λ reader. reader.len;
+  rest = λ reader. reader.rest.now;
+  made = entries_of;
+  add = λ entries entry. entries ++ entry ∷ [];
+  fault = fault_of;
+}
+
 -- the reader has noted these entries
 abbrev pub Grows : Reader → Reader → List Entry → Type 0
-Grows old new items = entries_of new ≡ noted (entries_of old) items
-
-abbrev pub Fails : {l : Leaves} {G : Gives} → Reader → Reader → ReadFault → Construct Entry Fault l G → Type 0
-Fails old new faults.OutOfMemory c = Unit {0}
-Fails old new (faults.Fault fault) c = ((computes c old.rest.now).outcome ≡ Err (fault_view fault)) × Grows old new (computes c old.rest.now).items
+Grows = steps.Grows section_reader
 
 -- What a step returned, seen by view, is what reading the construct gives, and the reader has noted the entries that were
 -- read, unless memory ran out.
 abbrev pub Builds : {l : Leaves} {G : Gives} {X : Type 0} → (X → ValueOf G) → Reader → Reader → Result X ReadFault → Construct Entry Fault l G → Type 0
-Builds view old new (Ok x) c =
-    ((computes c old.rest.now).outcome ≡ Ok (view x, new.rest.now)) × (new.len ≡ old.len) × Grows old new (computes c old.rest.now).items
-Builds view old new (Err e) c = Fails old new e c
+Builds = steps.Builds section_reader
 
 -- the places that are noted of a key
 abbrev pub spans_at : BTreeMap (Bor (List ℕ)) (Vec Span Global) → List ℕ → List Span

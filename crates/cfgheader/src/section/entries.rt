@@ -3,7 +3,7 @@
 ghost use Rattle.std.specs.Prelude.{◌≡◌, ◌≤◌, Ok, length};
 ghost use Rattle.reading.specs.Construct.{goes_on};
 ghost use Rattle.cfgwords.specs.Text.{place};
-ghost use Rattle.cfgheader.specs.SectionGrammar.{end_fault, negated, value_of, affirmed, entry, entry_turn, entries};
+ghost use Rattle.cfgheader.specs.SectionGrammar.{end_fault, negated, value_of, entry, entry_turn, entries};
 ghost use Rattle.cfgheader.specs.SectionGrammar.{braced, section};
 ghost use Rattle.cfgkinds.specs.Values.{placed_view};
 
@@ -21,7 +21,7 @@ impl<'a> Reader<'a> {
     ghost use Rattle.cfgheader.specs.Inner.Steps.{Builds, entry_view, fault_view};
 
     /// Passes what stands behind a `!` that stood at `start`.
-    #[tactic(auto, unfolding(crate::specs::SectionGrammar::negated, crate::specs::Inner::Steps::noted))]
+    #[tactic(auto, unfolding(crate::specs::SectionGrammar::negated))]
     fn negated(&mut self, start: usize) -> Result<Entry, ReadFault>
         requires { start ≤ place self.old.len self.old.rest.now }
         ensures { Builds entry_view self.old self.new result (negated self.old.len start) }
@@ -36,7 +36,7 @@ impl<'a> Reader<'a> {
     }
 
     /// Passes what stands behind a key.
-    #[tactic(auto, unfolding(crate::specs::SectionGrammar::value_of, crate::specs::Inner::Steps::noted))]
+    #[tactic(auto, unfolding(crate::specs::SectionGrammar::value_of))]
     fn value_of(&mut self, key: (String, Span)) -> Result<Entry, ReadFault>
         ensures { Builds entry_view self.old self.new result (value_of self.old.len (placed_view key)) }
     {
@@ -58,31 +58,22 @@ impl<'a> Reader<'a> {
         })
     }
 
-    /// Passes an entry that begins with its key.
-    #[tactic(auto, unfolding(crate::specs::SectionGrammar::affirmed, crate::specs::Inner::Steps::noted))]
-    fn affirmed(&mut self) -> Result<Entry, ReadFault>
-        ensures { Builds entry_view self.old self.new result (affirmed self.old.len) }
-    {
-        let key = self.name()?;
-        self.white();
-        self.value_of(key)
-    }
-
     /// Passes an entry, and the white space behind it.
-    #[tactic(auto, unfolding(crate::specs::SectionGrammar::entry, crate::specs::Inner::Steps::noted))]
+    #[tactic(auto, unfolding(crate::specs::SectionGrammar::entry, crate::specs::SectionGrammar::affirmed))]
     pub(super) fn entry(&mut self) -> Result<Entry, ReadFault>
         ensures { Builds entry_view self.old self.new result (entry self.old.len) }
     {
         let start = self.place();
         if self.accept("!") {
-            self.negated(start)
-        } else {
-            self.affirmed()
+            return self.negated(start);
         }
+        let key = self.name()?;
+        self.white();
+        self.value_of(key)
     }
 
     /// Notes the entry that stands here, if one does, and tells whether the row of entries goes on behind it.
-    #[tactic(auto, unfolding(crate::specs::SectionGrammar::entry_turn, crate::specs::Inner::Steps::noted))]
+    #[tactic(auto, unfolding(crate::specs::SectionGrammar::entry_turn))]
     fn entry_turn(&mut self) -> Result<bool, ReadFault>
         ensures { Builds goes_on self.old self.new result (entry_turn self.old.len) }
     {
@@ -122,7 +113,7 @@ impl<'a> Reader<'a> {
     }
 
     /// Passes the braces and the entries between them.
-    #[tactic(auto, unfolding(crate::specs::SectionGrammar::braced, crate::specs::Inner::Steps::noted))]
+    #[tactic(auto, unfolding(crate::specs::SectionGrammar::braced))]
     fn braced(&mut self) -> Result<(), ReadFault>
         ensures { Builds (λ x. x) self.old self.new result (braced self.old.len) }
     {
@@ -139,7 +130,7 @@ impl<'a> Reader<'a> {
 
     /// Passes the section, and answers what is left behind it: all of the text where there is none, unless one is
     /// required.
-    #[tactic(auto, unfolding(crate::specs::SectionGrammar::section, crate::specs::SectionGrammar::missing, crate::specs::Inner::Steps::noted))]
+    #[tactic(auto, unfolding(crate::specs::SectionGrammar::section, crate::specs::SectionGrammar::missing))]
     pub(super) fn section(&mut self, required: bool) -> Result<&'a str, ReadFault>
         ensures { Builds (λ rest. rest.now) self.old self.new result (section self.old.len required) }
     {

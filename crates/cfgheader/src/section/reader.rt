@@ -1,8 +1,6 @@
 //! The reader of a section: a place in the text, and the entries that were read.
 
 ghost use Rattle.std.specs.Prelude.{◌≡◌, ◌+◌, ◌≤◌, length, [], Some, None, Ok, MatchBool, IfOk};
-ghost use Rattle.std.specs.Str.{str_to_ascii_lowercase};
-ghost use Rattle.std.specs.String.{string_bytes};
 ghost use Rattle.reading.specs.Construct.{expect, goes_on};
 ghost use Rattle.reading.specs.Pieces.{strip};
 ghost use Rattle.cfgwords.specs.Text.{place};
@@ -18,7 +16,7 @@ use cfgbase::Span;
 use cfgerrors::HeaderErrorKind;
 use cfgwords::section::leading_section_name;
 use reading::after_word;
-use std::alloc::{AllocError, Global};
+use std::alloc::Global;
 
 const GLOB_HINT: &str = "perhaps this is a glob, in which case it requires string quoting.";
 
@@ -27,15 +25,6 @@ pub(super) fn unexpected_star() -> HeaderErrorKind
     ensures { error_kind_view result ≡ unexpected_star }
 {
     HeaderErrorKind::UnexpectedToken('*', GLOB_HINT)
-}
-
-/// The text in lower case.
-fn lowered(alloc: Global, text: &str) -> Result<String, AllocError>
-    ensures { IfOk result (λ lower. string_bytes lower ≡ str_to_ascii_lowercase text.now) }
-{
-    let mut lower = String::from_str(alloc, text)?;
-    lower.make_ascii_lowercase();
-    Ok(lower)
 }
 
 /// Reads a text of `len` bytes: `rest` is left of it, and `entries` were read.
@@ -128,7 +117,6 @@ impl<'a> Reader<'a> {
     }
 
     /// Passes the word that must stand here.
-    #[tactic(auto, unfolding(crate::specs::Inner::Steps::noted))]
     pub(super) fn expect(&mut self, word: &str, kind: HeaderErrorKind) -> Result<(), ReadFault>
         ensures { Builds (λ x. x) self.old self.new result
             (expect word.now (fault_at self.old.len (error_kind_view kind))) }
@@ -141,7 +129,7 @@ impl<'a> Reader<'a> {
     }
 
     /// Passes a character of white space past ASCII, and tells whether one stood here.
-    #[tactic(auto, unfolding(crate::specs::SectionGrammar::wide_character, crate::specs::Inner::Steps::noted))]
+    #[tactic(auto, unfolding(crate::specs::SectionGrammar::wide_character))]
     fn wide_character(&mut self) -> bool
         ensures { Builds goes_on self.old self.new (Ok result) wide_character }
     {
@@ -153,7 +141,7 @@ impl<'a> Reader<'a> {
     }
 
     /// Passes a character of white space, and tells whether one stood here.
-    #[tactic(auto, unfolding(crate::specs::SectionGrammar::white_character, crate::specs::Inner::Steps::noted))]
+    #[tactic(auto, unfolding(crate::specs::SectionGrammar::white_character))]
     fn white_character(&mut self) -> bool
         ensures { Builds goes_on self.old self.new (Ok result) white_character }
     {
@@ -167,7 +155,7 @@ impl<'a> Reader<'a> {
     }
 
     /// Passes a comma or a character of white space, and tells whether one stood here.
-    #[tactic(auto, unfolding(crate::specs::SectionGrammar::separator, crate::specs::Inner::Steps::noted))]
+    #[tactic(auto, unfolding(crate::specs::SectionGrammar::separator))]
     fn separator(&mut self) -> bool
         ensures { Builds goes_on self.old self.new (Ok result) separator }
     {
@@ -189,7 +177,7 @@ impl<'a> Reader<'a> {
     }
 
     /// Passes the comma that stands here and the white space behind it, and tells whether one stood here.
-    #[tactic(auto, unfolding(crate::specs::SectionGrammar::comma, crate::specs::Inner::Steps::noted))]
+    #[tactic(auto, unfolding(crate::specs::SectionGrammar::comma))]
     pub(super) fn comma(&mut self) -> bool
         ensures { Builds (λ x. x) self.old self.new (Ok result) comma }
     {
@@ -213,7 +201,7 @@ impl<'a> Reader<'a> {
     }
 
     /// Passes the name that must stand here, and answers it in lower case with its place.
-    #[tactic(auto, unfolding(crate::specs::SectionGrammar::name, crate::specs::Inner::Steps::noted))]
+    #[tactic(auto, unfolding(crate::specs::SectionGrammar::name))]
     pub(super) fn name(&mut self) -> Result<(String, Span), ReadFault>
         ensures read { Builds placed_view self.old self.new result (name self.old.len) }
         ensures after { IfOk result (λ name. place self.old.len self.old.rest.now ≤ name.1.end) }
@@ -221,7 +209,8 @@ impl<'a> Reader<'a> {
         match leading_section_name(self.rest) {
             Some((word, rest)) => {
                 let start = self.place();
-                let name = lowered(self.alloc, word)?;
+                let mut name = String::from_str(self.alloc, word)?;
+                name.make_ascii_lowercase();
                 self.rest = rest;
                 Ok((name, Span::new(start, start + word.len())))
             }

@@ -1,7 +1,6 @@
 //! Settings: what stands behind a key's colon.
 
-ghost use Rattle.std.specs.Prelude.{◌≡◌};
-ghost use Rattle.cfgheader.specs.SectionGrammar.{number_fault, namespaced, argument, applied, number, element};
+ghost use Rattle.cfgheader.specs.SectionGrammar.{namespaced, argument, applied, number, element};
 ghost use Rattle.cfgheader.specs.SectionGrammar.{elements, array, bare_setting, bracketed, setting};
 ghost use Rattle.cfgkinds.specs.Values.{namespaced_view, setting_view};
 
@@ -16,10 +15,10 @@ use cfgwords::section::leading_text;
 use cfgwords::words::leading_integer;
 
 impl<'a> Reader<'a> {
-    ghost use Rattle.cfgheader.specs.Inner.Steps.{Builds, fault_view, settings_list};
+    ghost use Rattle.cfgheader.specs.Inner.Steps.{Builds, settings_list};
 
     /// Passes a name, or two names that `::` stands between, and the white space behind it.
-    #[tactic(auto, unfolding(crate::specs::SectionGrammar::namespaced, crate::specs::Inner::Steps::noted))]
+    #[tactic(auto, unfolding(crate::specs::SectionGrammar::namespaced))]
     fn namespaced(&mut self) -> Result<Namespaced<Span>, ReadFault>
         ensures { Builds namespaced_view self.old self.new result (namespaced self.old.len) }
     {
@@ -41,7 +40,7 @@ impl<'a> Reader<'a> {
     }
 
     /// Passes such a name and the `)` that must stand behind it.
-    #[tactic(auto, unfolding(crate::specs::SectionGrammar::argument, crate::specs::Inner::Steps::noted))]
+    #[tactic(auto, unfolding(crate::specs::SectionGrammar::argument))]
     fn argument(&mut self) -> Result<Namespaced<Span>, ReadFault>
         ensures { Builds namespaced_view self.old self.new result (argument self.old.len) }
     {
@@ -51,7 +50,7 @@ impl<'a> Reader<'a> {
     }
 
     /// Passes such a name, or two as `a(b)`.
-    #[tactic(auto, unfolding(crate::specs::SectionGrammar::applied, crate::specs::Inner::Steps::noted))]
+    #[tactic(auto, unfolding(crate::specs::SectionGrammar::applied))]
     fn applied(&mut self) -> Result<Setting<Span>, ReadFault>
         ensures { Builds setting_view self.old self.new result (applied self.old.len) }
     {
@@ -63,36 +62,30 @@ impl<'a> Reader<'a> {
         Ok(Setting::Constructor { ctor, arg })
     }
 
-    /// A fault over the digits that stand here.
-    fn number_fault(&self) -> Fault
-        ensures { fault_view result ≡ number_fault self.now.len self.now.rest.now }
-    {
-        let start = self.place();
-        let (digits, _) = run(self.rest, ByteClass::Digit);
-        Fault {
-            kind: HeaderErrorKind::InvalidEntry("number"),
-            span: Span::new(start, start + digits.len()),
-        }
-    }
-
-    /// Passes the number that must stand here.
-    #[tactic(auto, unfolding(crate::specs::SectionGrammar::number, crate::specs::Inner::Steps::noted))]
+    /// Passes the number that must stand here; else there is a fault over the digits.
+    #[tactic(auto, unfolding(crate::specs::SectionGrammar::number))]
     fn number(&mut self) -> Result<Setting<Span>, ReadFault>
         ensures { Builds setting_view self.old self.new result (number self.old.len) }
     {
+        let start = self.place();
         match leading_integer(self.rest) {
             Some((number, rest)) => {
-                let start = self.place();
                 self.rest = rest;
                 Ok(Setting::Num(number as u64, Span::new(start, self.place())))
             }
-            None => Err(ReadFault::Fault(self.number_fault())),
+            None => {
+                let (digits, _) = run(self.rest, ByteClass::Digit);
+                Err(ReadFault::Fault(Fault {
+                    kind: HeaderErrorKind::InvalidEntry("number"),
+                    span: Span::new(start, start + digits.len()),
+                }))
+            }
         }
     }
 
     /// A setting of an array, and what stands between it and the next.
     #[cycle(setting)]
-    #[tactic(auto, unfolding(crate::specs::SectionGrammar::element, crate::specs::Inner::Steps::noted))]
+    #[tactic(auto, unfolding(crate::specs::SectionGrammar::element))]
     fn element(&mut self, room: usize) -> Result<Setting<Span>, ReadFault>
         ensures { Builds setting_view self.old self.new result (element self.old.len (setting self.old.len room)) }
     {
@@ -117,7 +110,7 @@ impl<'a> Reader<'a> {
 
     /// Passes what stands behind the bracket that opens an array.
     #[cycle(setting)]
-    #[tactic(auto, unfolding(crate::specs::SectionGrammar::array, crate::specs::Inner::Steps::noted))]
+    #[tactic(auto, unfolding(crate::specs::SectionGrammar::array))]
     fn array(&mut self, room: usize, opens: Span) -> Result<Setting<Span>, ReadFault>
         ensures { Builds setting_view self.old self.new result (array self.old.len (setting self.old.len room) opens) }
     {
@@ -142,7 +135,7 @@ impl<'a> Reader<'a> {
 
     /// A setting, without the white space behind it.
     #[cycle(setting)]
-    #[tactic(auto, unfolding(crate::specs::SectionGrammar::bare_setting, crate::specs::Inner::Steps::noted))]
+    #[tactic(auto, unfolding(crate::specs::SectionGrammar::bare_setting))]
     fn bare_setting(&mut self, room: usize) -> Result<Setting<Span>, ReadFault>
         ensures { Builds setting_view self.old self.new result
             (bare_setting self.old.len (bracketed self.old.len room)) }
@@ -166,7 +159,7 @@ impl<'a> Reader<'a> {
 
     /// Passes a setting in which `room` brackets may be open at once, and the white space behind it.
     #[cycle(setting)]
-    #[tactic(auto, unfolding(crate::specs::SectionGrammar::setting, crate::specs::SectionGrammar::setting_by, crate::specs::Inner::Steps::noted))]
+    #[tactic(auto, unfolding(crate::specs::SectionGrammar::setting, crate::specs::SectionGrammar::setting_by))]
     pub(super) fn setting(&mut self, room: usize) -> Result<Setting<Span>, ReadFault>
         ensures { Builds setting_view self.old self.new result (setting self.old.len room) }
     {

@@ -13,9 +13,18 @@ pub struct Marked<V> {
     pub(super) value: Option<V>,
 }
 
+/// A mark that a key can be given.
+#[derive(Clone, Copy)]
+pub(super) enum Mark {
+    Used,
+    Required,
+    Merges(MergeBehavior),
+}
+
 impl<V> Marked<V> {
     ghost use Rattle.std.specs.Prelude.{◌≡◌, ◌&&◌, not, is_some, is_none};
     ghost use Rattle.cfgmarks.specs.Marks.{mark_word, unmarked};
+    ghost use Rattle.cfgmarks.specs.Inner.Marking.{set_mark};
     ghost use Rattle.cfgmarks.specs.MarkLends.{lends_value_of};
     ghost use Rattle.std.specs.Borrow.{sem};
 
@@ -28,6 +37,17 @@ impl<V> Marked<V> {
             required: false,
             behavior: None,
             value: None,
+        }
+    }
+
+    /// Sets the mark.
+    pub(super) fn set(&mut self, mark: Mark)
+        ensures { self.new ≡ set_mark mark self.old }
+    {
+        match mark {
+            Mark::Used => self.used = true,
+            Mark::Required => self.required = true,
+            Mark::Merges(behavior) => self.behavior = Some(behavior),
         }
     }
 

@@ -4,12 +4,13 @@ ghost use Rattle.std.specs.Prelude.{if◌then◌else◌};
 ghost use Rattle.std.specs.Borrow.{sem};
 ghost use Rattle.cfgmarks.specs.MarkLends.{lends_put};
 
-use super::{MarkMap, Marked, MergeBehavior};
+use super::{Mark, MarkMap, Marked, MergeBehavior};
 use std::alloc::AllocError;
 
 impl<K: Ord + Clone, V: Drop> MarkMap<K, V> {
     ghost use Rattle.cfgmarks.specs.Marks.{marks, unmarked, entry_at, value_at, changed, without, set_used};
     ghost use Rattle.cfgmarks.specs.Marks.{set_required, set_behavior, set_value, ChangesAt, IsFaithful};
+    ghost use Rattle.cfgmarks.specs.Inner.Marking.{set_mark};
 
     /// Gives the key a value, and answers the value that it held. A stored key stays, and its marks too. Only a key
     /// without an entry can be refused, for want of memory: key and value then come back.
@@ -48,12 +49,7 @@ impl<K: Ord + Clone, V: Drop> MarkMap<K, V> {
         ensures err { OnErr result (marks self.new ≡ marks self.old) }
         ensures absent { OnErr result (entry_at K.cmp (marks self.old) key.now ≡ None) }
     {
-        if self.use_entry(key) {
-            return Ok(());
-        }
-        let mut marked = Marked::new();
-        marked.used = true;
-        self.add(key, marked)
+        self.mark(key, Mark::Used)
     }
 
     /// Marks the key as required. A key without an entry gets one, with a clone of the key, and only that takes memory.
@@ -63,12 +59,7 @@ impl<K: Ord + Clone, V: Drop> MarkMap<K, V> {
         ensures err { OnErr result (marks self.new ≡ marks self.old) }
         ensures absent { OnErr result (entry_at K.cmp (marks self.old) key.now ≡ None) }
     {
-        if self.require_entry(key) {
-            return Ok(());
-        }
-        let mut marked = Marked::new();
-        marked.required = true;
-        self.add(key, marked)
+        self.mark(key, Mark::Required)
     }
 
     /// Sets what merging does at the key, in the place of what was set before. A key without an entry gets one, with a
@@ -80,53 +71,18 @@ impl<K: Ord + Clone, V: Drop> MarkMap<K, V> {
         ensures err { OnErr result (marks self.new ≡ marks self.old) }
         ensures absent { OnErr result (entry_at K.cmp (marks self.old) key.now ≡ None) }
     {
-        if self.set_entry_behavior(key, behavior) {
-            return Ok(());
-        }
-        let mut marked = Marked::new();
-        marked.behavior = Some(behavior);
-        self.add(key, marked)
+        self.mark(key, Mark::Merges(behavior))
     }
 
-    /// Marks the key as used where it has an entry, and answers whether it has one.
-    pub(super) fn use_entry(&mut self, key: &K) -> bool
-        ensures found { result ≡ is_some (entry_at K.cmp (marks self.old) key.now) }
-        ensures map { marks self.new ≡ (if result then changed K.cmp
-            (marks self.old) key.now set_used else marks self.old) }
-    {
-        match self.contents.get_mut(key) {
-            Some(marked) => {
-                marked.used = true;
-                true
-            }
-            None => false,
-        }
-    }
-
-    /// Marks the key as required where it has an entry, and answers whether it has one.
-    pub(super) fn require_entry(&mut self, key: &K) -> bool
-        ensures found { result ≡ is_some (entry_at K.cmp (marks self.old) key.now) }
-        ensures map { marks self.new ≡ (if result then changed K.cmp
-            (marks self.old) key.now set_required else marks self.old) }
-    {
-        match self.contents.get_mut(key) {
-            Some(marked) => {
-                marked.required = true;
-                true
-            }
-            None => false,
-        }
-    }
-
-    /// Sets what merging does at the key where it has an entry, and answers whether it has one.
-    pub(super) fn set_entry_behavior(&mut self, key: &K, behavior: MergeBehavior) -> bool
+    /// Marks the key where it has an entry, and answers whether it has one.
+    pub(super) fn mark_entry(&mut self, key: &K, mark: Mark) -> bool
         ensures found { result ≡ is_some (entry_at K.cmp (marks self.old) key.now) }
         ensures map { marks self.new ≡ (if result then changed K.cmp (marks self.old) key.now
-            (set_behavior behavior) else marks self.old) }
+            (set_mark mark) else marks self.old) }
     {
         match self.contents.get_mut(key) {
             Some(marked) => {
-                marked.behavior = Some(behavior);
+                marked.set(mark);
                 true
             }
             None => false,
@@ -168,13 +124,19 @@ impl<K: Ord + Clone, V: Drop> MarkMap<K, V> {
         }
     }
 
-    /// Adds an entry at a clone of the key, which has none.
-    fn add(&mut self, key: &K, marked: Marked<V>) -> Result<(), AllocError>
-        requires { entry_at K.cmp (marks self.old) key.now ≡ None }
-        ensures ok { OnOk result ((c : K) × K.is_clone key.now c
-            × (marks self.new ≡ changed K.cmp (marks self.old) c (λ _. marked))) }
+    /// Marks the key. Where it has no entry, it gets one at a clone of it.
+    fn mark(&mut self, key: &K, mark: Mark) -> Result<(), AllocError>
+        requires { IsFaithful K.cmp K.is_clone }
+        ensures ok { OnOk result (ChangesAt K.cmp K.is_clone key.now (set_mark mark) (marks self.old)
+            (marks self.new)) }
         ensures err { OnErr result (marks self.new ≡ marks self.old) }
+        ensures absent { OnErr result (entry_at K.cmp (marks self.old) key.now ≡ None) }
     {
+        if self.mark_entry(key, mark) {
+            return Ok(());
+        }
+        let mut marked = Marked::new();
+        marked.set(mark);
         self.contents.insert(key.clone()?, marked)?;
         Ok(())
     }

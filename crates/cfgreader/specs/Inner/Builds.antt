@@ -12,13 +12,15 @@ use Rattle.cfgwords.specs.Words.{TokenText, name_of, token_of, word_at, token_at
 use Rattle.cfgwords.specs.declared.words.Word.{Word as CodeWord}
 use Rattle.cfgwords.specs.declared.words.Token.{Token as CodeToken}
 use Rattle.cfgast.specs.Items.{Item}
-use Rattle.cfgast.specs.Building.{adds}
-use Rattle.cfgast.specs.Syntax.{syntax_of}
+use Rattle.cfgast.specs.Building.{add}
+use Rattle.cfgast.specs.Syntax.{Syntax, syntax_of}
 use Rattle.cfgast.specs.View.{syntax_view, syntax_built, word_view, token_view}
 use Rattle.cfgast.specs.declared.syntax.Syntax.{Syntax as CodeSyntax}
 use Rattle.cfgkinds.specs.declared.kind.YaccKind.{YaccKind}
 use Rattle.reading.specs.Construct.{Construct, computes}
 use Rattle.reading.specs.Read.{stop_of}
+use Rattle.reading.specs.Steps as steps
+use Rattle.reading.specs.Steps.{ReaderKind}
 use Rattle.cfgreader.specs.Grammar.{file}
 use Rattle.cfgreader.specs.declared.bodies.Part.{Part as CodePart}
 use Rattle.cfgreader.specs.declared.bodies.Part.TheVariants as code_parts
@@ -28,20 +30,28 @@ use Rattle.cfgreader.specs.declared.reader.ReadFault.{ReadFault}
 use Rattle.cfgreader.specs.declared.reader.ReadFault.TheVariants as errors
 use Rattle.cfgreader.specs.Rules.{Part, Parts, SymbolPart, PrecedencePart, EmptyPart}
 
+abbrev pub fault_of : ReadFault → Option Fault
+fault_of errors.OutOfMemory = None
+fault_of (errors.Fault fault) = Some fault
+
+-- a reader of files: the tree holds what was made
+abbrev pub file_reader : ReaderKind Reader ReadFault Syntax Item Fault
+file_reader = record {
+  len = λ reader. reader.len;
+  rest = λ reader. reader.rest.now;
+  made = λ reader. syntax_built reader.tree;
+  add = add;
+  fault = fault_of;
+}
+
 -- the tree has grown by the items
 abbrev pub Grows : Reader → Reader → List Item → Type 0
-Grows old new items = syntax_built new.tree ≡ adds (syntax_built old.tree) items
-
-abbrev pub Fails : {l : Leaves} {G : Gives} → Reader → Reader → ReadFault → Construct Item Fault l G → Type 0
-Fails old new errors.OutOfMemory c = Unit {0}
-Fails old new (errors.Fault fault) c = ((computes c old.rest.now).outcome ≡ Err fault) × Grows old new (computes c old.rest.now).items
+Grows = steps.Grows file_reader
 
 -- What a step returned, seen by view, is what reading the construct gives, and the tree has grown by the items that were
 -- read, unless memory ran out.
 abbrev pub Builds : {l : Leaves} {G : Gives} {X : Type 0} → (X → ValueOf G) → Reader → Reader → Result X ReadFault → Construct Item Fault l G → Type 0
-Builds view old new (Ok x) c =
-    ((computes c old.rest.now).outcome ≡ Ok (view x, new.rest.now)) × (new.len ≡ old.len) × Grows old new (computes c old.rest.now).items
-Builds view old new (Err e) c = Fails old new e c
+Builds = steps.Builds file_reader
 
 -- whether a part of a blank stands here, and what is left behind it
 abbrev pub IsPartHere : Bool → Reader → Result (Option (Bor (List ℕ))) ReadFault → Type 0

@@ -2,9 +2,10 @@
 ghost use Rattle.std.specs.Prelude.{◌≡◌, Some};
 ghost use Rattle.cfgmarks.specs.Marks.{mark_word, set_used, set_required, set_behavior, set_value};
 ghost use Rattle.cfgmarks.specs.MarkEntry.{occupied_marks, IsChanged};
+ghost use Rattle.cfgmarks.specs.Inner.Marking.{set_mark};
 
 use super::OccupiedEntry;
-use crate::markmap::MergeBehavior;
+use crate::markmap::{Mark, MergeBehavior};
 
 impl<'a, K: Ord + Clone, V: Drop> OccupiedEntry<'a, K, V> {
     /// The value.
@@ -51,20 +52,27 @@ impl<'a, K: Ord + Clone, V: Drop> OccupiedEntry<'a, K, V> {
     pub fn mark_used(&mut self)
         ensures { IsChanged K.cmp set_used self.old self.new }
     {
-        self.map.use_entry(&self.key);
+        self.mark(Mark::Used);
     }
 
     /// Marks the key as required.
     pub fn mark_required(&mut self)
         ensures { IsChanged K.cmp set_required self.old self.new }
     {
-        self.map.require_entry(&self.key);
+        self.mark(Mark::Required);
     }
 
     /// Sets what merging does at the key, in the place of what was set before.
     pub fn set_merge_behavior(&mut self, behavior: MergeBehavior)
         ensures { IsChanged K.cmp (set_behavior behavior) self.old self.new }
     {
-        self.map.set_entry_behavior(&self.key, behavior);
+        self.mark(Mark::Merges(behavior));
+    }
+
+    /// Marks the key.
+    fn mark(&mut self, mark: Mark)
+        ensures { IsChanged K.cmp (set_mark mark) self.old self.new }
+    {
+        self.map.mark_entry(&self.key, mark);
     }
 }

@@ -1,14 +1,15 @@
 use Rattle.std.proofs.Common.{ap}
 use Rattle.reading.specs.Construct.{goes_on}
 use Rattle.cfgreader.specs.Declarations.{declaration}
-use Rattle.cfgreader.proofs.Loops.{gathers_start, gathers_on, repeat_refused, repeat_done, turn_shorter}
+use Rattle.cfgreader.specs.Inner.Builds.{file_reader}
+use Rattle.reading.proofs.Steps.{gathers_start, gathers_on, repeat_refused, repeat_done, turn_shorter}
 use Rattle.cfgreader.proofs.reader.Reader.declarations.Goals as goal
 
 pub loop-init : goal.loop-init
-loop-init c = gathers_start (λ len. declaration len c.args.kind) c.args.self.now
+loop-init c = gathers_start c.args.self.now
 
 pub loop-smaller : goal.loop-smaller
-loop-smaller c = turn_shorter (λ len. declaration len c.args.kind) goes_on c.loop.self c.declaration.new.self c.in_ok-declaration.field-0 tt
+loop-smaller c = turn_shorter file_reader (λ len. declaration len c.args.kind) goes_on c.loop.self c.declaration.new.self c.in_ok-declaration.field-0 tt
     c.in_ok-declaration.ensures (ap goes_on c.if-branch.true)
 
 pub loop-preserved : goal.loop-preserved

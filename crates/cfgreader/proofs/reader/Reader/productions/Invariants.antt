@@ -1,11 +1,12 @@
 use Rattle.std.proofs.Common.{length}
 use Rattle.cfgast.specs.View.{head_view}
 use Rattle.cfgreader.specs.Rules.{production}
-use Rattle.cfgreader.proofs.Loops.{Gathers}
+use Rattle.reading.proofs.Steps.{Gathers}
+use Rattle.cfgreader.specs.Inner.Builds.{file_reader}
 use Rattle.cfgreader.proofs.reader.Reader.productions.Given as goal
 
 abbrev pub invariant-loop : goal.invariant-loop
-invariant-loop l = Gathers (λ len. production len (head_view l.head)) l.fn.self l.self
+invariant-loop l = Gathers file_reader (λ len. production len (head_view l.head)) l.fn.self l.self
 
 abbrev pub decreases-loop : goal.decreases-loop
 decreases-loop l = length l.self.rest.now

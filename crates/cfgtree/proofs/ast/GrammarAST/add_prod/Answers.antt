@@ -1,10 +1,10 @@
-use Rattle.std.proofs.Common.{arith, ◌≡◌, [], ◌∷◌, ◌++◌, map, length, position, string_bytes, is_some, sym, ap, ◌∙◌, true≢false}
+use Rattle.std.proofs.Common.{◌≡◌, [], ◌∷◌, ◌++◌, map, length, position, string_bytes, is_some, sym, ap, ◌∙◌, true≢false}
 use Rattle.std.specs.Map.{keys_of, lookup}
 use Rattle.std.specs.Str.{bytes_eq}
-use Rattle.std.proofs.lemmas.List.{map-append, length-map}
+use Rattle.std.proofs.lemmas.List.{map-append}
 use Rattle.lemmas.proofs.Lookups.{found-lookup}
 use Rattle.lemmas.proofs.Places.{place_found}
-use Rattle.cfgast.specs.Syntax.{index_of}
+use Rattle.cfgast.specs.Syntax.{Syntax, index_of}
 use Rattle.cfgast.specs.Building.{listed}
 use Rattle.cfgast.specs.View.{syntax_view, rule_entry, rule_view, production_view}
 use Rattle.cfgtree.specs.View.{syntax}
@@ -26,19 +26,17 @@ returns-clause-added c =
     let old = c.args.self.now.syntax in
     let name = string_bytes c.args.rule in
     let named = c.as_str-name.ensures.value in
-    let keys = keys_of old.rules.entries in
-    let before = map rule_entry old.rules.entries in
     let made : Production = record { symbols = c.args.symbols; precedence = c.args.precedence; action = c.args.action; prod_span = c.args.prod_span } in
-    let place : c.len-place.result ≡ length (map production_view old.prods.items) = omega (arith, c.len-place.ensures, length-map old.prods.items production_view) in
-    let rules : map rule_entry c.list_production.new.rules.entries ≡ map (listed name (length (map production_view old.prods.items))) before =
-    c.in_ok-list_production.ensures.listed ∙ (λ i. map (listed (named i) (place i)) before) in
-    let index : c.in-Some.index ≡ index_of name (map (λ rule. rule.0) before) =
-    place_found (is_key name) keys c.in-Some.index (c.in-Some.ensures.index ∙ ap (λ n. position (is_key n) keys) named) ∙ sym (rule_index name old.rules.entries) in
-    let productions : map production_view c.push-2.new.self.items ≡ map production_view old.prods.items ++ production_view made ∷ [] =
-    ap (map production_view) (c.in_ok-push-2.ensures.items ∙ ap (λ items. items ++ made ∷ []) c.in_ok-reserve.ensures.items)
-    ∙ map-append production_view old.prods.items (made ∷ []) in
-    λ i. record (syntax_view old) {
+    let index : c.in-Some.index ≡ index_of name (map (λ rule. rule.0) (map rule_entry old.rules.entries)) =
+    place_found (is_key name) (keys_of old.rules.entries) c.in-Some.index (c.in-Some.ensures.index ∙ ap (λ n. position (is_key n) (keys_of old.rules.entries)) named) ∙ sym (rule_index name old.rules.entries) in
+    let next = c.in_ok-list_next.ensures.listed in
+    let rules : map rule_entry c.list_next.new.self.syntax.rules.entries ≡ map (listed name (length (map production_view old.prods.items))) (map rule_entry old.rules.entries) =
+    ap (λ (s : Syntax). s.rules) next ∙ ap (λ n. map (listed n (length (map production_view old.prods.items))) (map rule_entry old.rules.entries)) named in
+    let productions : map production_view c.push_reserved-2.new.self.items ≡ map production_view old.prods.items ++ production_view made ∷ [] =
+    ap (map production_view) c.push_reserved-2.ensures.items ∙ map-append production_view c.list_next.new.self.syntax.prods.items (made ∷ [])
+    ∙ ap (λ (s : Syntax). s.productions ++ production_view made ∷ []) next in
+    λ i. record (next i) {
       rules = rules i;
       productions = productions i;
-      production_rules = (c.in_ok-push.ensures.items ∙ (λ i. c.in_ok-reserve-2.ensures.items i ++ index i ∷ [])) i;
+      production_rules = (c.push_reserved.ensures.items ∙ (λ i. (next i).production_rules ++ index i ∷ [])) i;
     }

@@ -1,14 +1,15 @@
 use Rattle.std.proofs.Common.{ap}
 use Rattle.reading.specs.Construct.{goes_on}
 use Rattle.cfgheader.specs.SectionGrammar.{white_character, white}
-use Rattle.cfgheader.proofs.SectionLoops.{gathers_start, gathers_on, repeat_done, turn_shorter}
+use Rattle.cfgheader.specs.Inner.Steps.{section_reader}
+use Rattle.reading.proofs.Steps.{gathers_start, gathers_on, repeat_done, turn_shorter}
 use Rattle.cfgheader.proofs.section.reader.Reader.white.Goals as goal
 
 pub loop-init : goal.loop-init
-loop-init c = gathers_start (λ len. white_character) c.args.self.now
+loop-init c = gathers_start c.args.self.now
 
 pub loop-smaller : goal.loop-smaller
-loop-smaller c = turn_shorter (λ len. white_character) goes_on c.loop.self c.white_character.new.self c.white_character.result tt c.white_character.ensures (ap goes_on c.loop-test.true)
+loop-smaller c = turn_shorter section_reader (λ len. white_character) goes_on c.loop.self c.white_character.new.self c.white_character.result tt c.white_character.ensures (ap goes_on c.loop-test.true)
 
 pub loop-preserved : goal.loop-preserved
 loop-preserved c = gathers_on c.loop.invariant c.white_character.new.self goes_on c.white_character.result c.white_character.ensures tt (ap goes_on c.loop-test.true)
