@@ -7,28 +7,21 @@ use cfgrammar::yacc::YaccGrammar;
 use cfgrammar::yacc::firsts::YaccFirsts;
 use cfgrammar::{RIdx, Storage, TIdx, Vob};
 use rows::page::Page;
-use std::alloc::{AllocError, Global};
 
 /// Writes the FIRST sets of a grammar.
-pub fn write_firsts<S: Storage>(
-    out: &mut Page,
-    alloc: Global,
-    grammar: &YaccGrammar<S>,
-) -> Result<(), AllocError> {
-    let firsts = grammar.firsts(alloc)?;
-    write_sets(out, grammar, &firsts);
-    Ok(())
+pub fn write_firsts<S: Storage>(out: &mut Page, grammar: &YaccGrammar<S>) {
+    match grammar.firsts(out.alloc) {
+        Ok(firsts) => write_sets(out, grammar, &firsts),
+        Err(_) => out.tear(),
+    }
 }
 
 /// Writes how many tokens the FIRST sets of a grammar have, all together, and how many rules are empty.
-pub fn write_lengths<S: Storage>(
-    out: &mut Page,
-    alloc: Global,
-    grammar: &YaccGrammar<S>,
-) -> Result<(), AllocError> {
-    let firsts = grammar.firsts(alloc)?;
-    write_counts(out, grammar, &firsts);
-    Ok(())
+pub fn write_lengths<S: Storage>(out: &mut Page, grammar: &YaccGrammar<S>) {
+    match grammar.firsts(out.alloc) {
+        Ok(firsts) => write_counts(out, grammar, &firsts),
+        Err(_) => out.tear(),
+    }
 }
 
 fn write_counts<S: Storage>(out: &mut Page, grammar: &YaccGrammar<S>, firsts: &YaccFirsts<S>) {
@@ -38,14 +31,12 @@ fn write_counts<S: Storage>(out: &mut Page, grammar: &YaccGrammar<S>, firsts: &Y
         tokens = tokens.saturating_add(tokens_in(grammar, firsts, ridx));
         empty = empty.saturating_add(usize::from(firsts.is_epsilon_set(ridx)));
     }
-    pen::pieces(
-        out,
-        &[
-            Piece::Number("    firsts of ", tokens),
-            Piece::Number(" tokens, ", empty),
-            Piece::Text(" rules empty\n"),
-        ],
-    );
+    let pieces = [
+        Piece::Number("    firsts of ", tokens),
+        Piece::Number(" tokens, ", empty),
+        Piece::Text(" rules empty\n"),
+    ];
+    pen::pieces(out, &pieces);
 }
 
 /// How many tokens a rule begins with.
@@ -110,29 +101,17 @@ pub fn write_bit<S: Storage>(out: &mut Page, tidx: TIdx<S>, is_set: bool, listed
 }
 
 /// Sets one bit of the FIRST sets of a grammar twice, and writes whether it was set before, and the sets.
-pub fn write_set(
-    out: &mut Page,
-    alloc: Global,
-    grammar: &YaccGrammar<u32>,
-    (rule, token): (usize, usize),
-) -> Result<(), AllocError> {
+pub fn write_set(out: &mut Page, grammar: &YaccGrammar<u32>, (rule, token): (usize, usize)) {
     match (u32::from_usize(rule), u32::from_usize(token)) {
-        (Some(rule), Some(token)) => write_with_bit(out, alloc, grammar, rule, token),
-        _ => {
-            out.push_str("no such bit\n");
-            Ok(())
-        }
+        (Some(rule), Some(token)) => write_with_bit(out, grammar, rule, token),
+        _ => out.push_str("no such bit\n"),
     }
 }
 
-fn write_with_bit(
-    out: &mut Page,
-    alloc: Global,
-    grammar: &YaccGrammar<u32>,
-    rule: u32,
-    token: u32,
-) -> Result<(), AllocError> {
-    let mut firsts = YaccFirsts::new(alloc, grammar)?;
+fn write_with_bit(out: &mut Page, grammar: &YaccGrammar<u32>, rule: u32, token: u32) {
+    let Ok(mut firsts) = YaccFirsts::new(out.alloc, grammar) else {
+        return out.tear();
+    };
     if rule < grammar.rules_len().0 && token < grammar.tokens_len().0 {
         let was_set = firsts.set(RIdx(rule), TIdx(token));
         let is_set = firsts.set(RIdx(rule), TIdx(token));
@@ -141,17 +120,14 @@ fn write_with_bit(
         write_set_twice(out, "): ", was_set, is_set);
     }
     write_sets(out, grammar, &firsts);
-    Ok(())
 }
 
 /// Writes whether a bit was set before, and again.
 pub(crate) fn write_set_twice(out: &mut Page, before: &str, was_set: bool, is_set: bool) {
-    pen::pieces(
-        out,
-        &[
-            Piece::Flag(before, was_set),
-            Piece::Flag(", and again: ", is_set),
-            Piece::Text("\n"),
-        ],
-    );
+    let pieces = [
+        Piece::Flag(before, was_set),
+        Piece::Flag(", and again: ", is_set),
+        Piece::Text("\n"),
+    ];
+    pen::pieces(out, &pieces);
 }

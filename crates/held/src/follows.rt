@@ -8,17 +8,13 @@ use cfgrammar::yacc::YaccGrammar;
 use cfgrammar::yacc::follows::YaccFollows;
 use cfgrammar::{RIdx, Storage};
 use rows::page::Page;
-use std::alloc::{AllocError, Global};
 
 /// Writes each rule's FOLLOW set: the tokens by their indices, and where the two accessors differ.
-pub fn write_follows<S: Storage>(
-    out: &mut Page,
-    alloc: Global,
-    grammar: &YaccGrammar<S>,
-) -> Result<(), AllocError> {
-    let follows = grammar.follows(alloc)?;
-    write_sets(out, grammar, &follows);
-    Ok(())
+pub fn write_follows<S: Storage>(out: &mut Page, grammar: &YaccGrammar<S>) {
+    match grammar.follows(out.alloc) {
+        Ok(follows) => write_sets(out, grammar, &follows),
+        Err(_) => out.tear(),
+    }
 }
 
 /// Writes each rule's set.
@@ -64,24 +60,20 @@ fn write_tokens<S: Storage>(
 }
 
 /// Writes how many tokens the FOLLOW sets of a grammar have, all together.
-pub fn write_lengths<S: Storage>(
-    out: &mut Page,
-    alloc: Global,
-    grammar: &YaccGrammar<S>,
-) -> Result<(), AllocError> {
-    let follows = YaccFollows::new(alloc, grammar)?;
-    let tokens = tokens_of_all(grammar, &follows);
-    pen::number(out, "    follows of ", tokens);
-    out.push_str(" tokens\n");
-    Ok(())
+pub fn write_lengths<S: Storage>(out: &mut Page, grammar: &YaccGrammar<S>) {
+    match YaccFollows::new(out.alloc, grammar) {
+        Ok(follows) => write_count(out, grammar, &follows),
+        Err(_) => out.tear(),
+    }
 }
 
-fn tokens_of_all<S: Storage>(grammar: &YaccGrammar<S>, follows: &YaccFollows<S>) -> usize {
+fn write_count<S: Storage>(out: &mut Page, grammar: &YaccGrammar<S>, follows: &YaccFollows<S>) {
     let mut tokens = 0usize;
     for ridx in grammar.iter_rules() {
         tokens = tokens.saturating_add(tokens_in(grammar, follows, ridx));
     }
-    tokens
+    pen::number(out, "    follows of ", tokens);
+    out.push_str(" tokens\n");
 }
 
 /// How many tokens follow a rule.

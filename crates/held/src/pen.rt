@@ -1,10 +1,9 @@
 //! Pieces of what is written: those of `rows::pen`, and indices.
 
+use cfgrammar::yacc::grammar::Productions;
 use cfgrammar::{PIdx, RIdx, Storage, TIdx};
 use rows::page::Page;
-pub use rows::pen::{
-    Piece, flag, line, name, number, numbers, pieces, span, text_if, unless_copied, without_memory,
-};
+pub use rows::pen::{Piece, flag, line, name, number, pieces, text_if, without_memory, words};
 
 /// Writes a text and a rule's number.
 pub fn rule<S: Storage>(out: &mut Page, before: &str, ridx: RIdx<S>) {
@@ -14,6 +13,15 @@ pub fn rule<S: Storage>(out: &mut Page, before: &str, ridx: RIdx<S>) {
 /// Writes a text and a production's number.
 pub fn production<S: Storage>(out: &mut Page, before: &str, pidx: PIdx<S>) {
     number(out, before, usize::from(pidx));
+}
+
+/// Writes how often each production was opened.
+pub fn openings<S: Storage, P: Productions<S>>(out: &mut Page, productions: &P) {
+    for number in 0..usize::from(productions.prods_len()) {
+        if let Some(number) = S::from_usize(number) {
+            write!(out, " {}", productions.opened(PIdx(number)));
+        }
+    }
 }
 
 /// Writes a text and a token's number.

@@ -10,32 +10,24 @@ use cfgrammar::{PIdx, RIdx, Storage, Symbol, TIdx};
 use rows::page::Page;
 use rows::said::{write_precedence, write_settings};
 use rows::text::push_pictures;
-use std::alloc::{AllocError, Global};
 
 /// Writes all that a grammar holds.
-pub fn write_grammar<S: Storage>(
-    out: &mut Page,
-    alloc: Global,
-    grammar: &YaccGrammar<S>,
-) -> Result<(), AllocError> {
-    write_tables(out, Some(alloc), grammar)?;
-    write_firsts(out, alloc, grammar)?;
-    write_follows(out, alloc, grammar)
+pub fn write_grammar<S: Storage>(out: &mut Page, grammar: &YaccGrammar<S>) {
+    write_tables(out, grammar, true);
+    write_firsts(out, grammar);
+    write_follows(out, grammar);
 }
 
-/// Writes all that the tables of a grammar hold. Productions as text take memory, and aren't written without.
-pub(crate) fn write_tables<S: Storage>(
-    out: &mut Page,
-    alloc: Option<Global>,
-    grammar: &YaccGrammar<S>,
-) -> Result<(), AllocError> {
+/// Writes all that the tables of a grammar hold, and productions as text, which take memory, where they are asked for.
+pub(crate) fn write_tables<S: Storage>(out: &mut Page, grammar: &YaccGrammar<S>, is_printed: bool) {
     write_lengths(out, grammar);
     write_rules(out, grammar);
-    write_productions(out, alloc, grammar)?;
+    for pidx in grammar.iter_pidxs() {
+        write_production(out, grammar, pidx, is_printed);
+    }
     write_tokens(out, grammar);
     write_rule_names(out, grammar);
     write_token_names(out, grammar);
-    Ok(())
 }
 
 /// Writes how many rules, productions and tokens there are, which of them are the start's and the end's, and what is
@@ -43,27 +35,21 @@ pub(crate) fn write_tables<S: Storage>(
 pub fn write_lengths<S: Storage>(out: &mut Page, grammar: &YaccGrammar<S>) {
     write_counts(out, grammar);
     write_expected(out, grammar);
-    write_settings(
-        out,
-        grammar.parse_param(),
-        grammar.parse_generics(),
-        grammar.programs(),
-    );
+    let (param, generics) = (grammar.parse_param(), grammar.parse_generics());
+    write_settings(out, param, generics, grammar.programs());
 }
 
 /// Writes how many rules, productions and tokens there are, and which of them are the start's and the end's.
 fn write_counts<S: Storage>(out: &mut Page, grammar: &YaccGrammar<S>) {
-    pen::pieces(
-        out,
-        &[
-            Piece::Number("    rules ", usize::from(grammar.rules_len())),
-            Piece::Number(", start ", usize::from(grammar.start_rule_idx())),
-            Piece::Number("; productions ", usize::from(grammar.prods_len())),
-            Piece::Number(", start ", usize::from(grammar.start_prod())),
-            Piece::Number("; tokens ", usize::from(grammar.tokens_len())),
-            Piece::Number(", end ", usize::from(grammar.eof_token_idx())),
-        ],
-    );
+    let pieces = [
+        Piece::Number("    rules ", usize::from(grammar.rules_len())),
+        Piece::Number(", start ", usize::from(grammar.start_rule_idx())),
+        Piece::Number("; productions ", usize::from(grammar.prods_len())),
+        Piece::Number(", start ", usize::from(grammar.start_prod())),
+        Piece::Number("; tokens ", usize::from(grammar.tokens_len())),
+        Piece::Number(", end ", usize::from(grammar.eof_token_idx())),
+    ];
+    pen::pieces(out, &pieces);
 }
 
 /// Writes the rule of the implicit tokens, ends the line, and writes how many conflicts are expected, each where it is
@@ -71,15 +57,13 @@ fn write_counts<S: Storage>(out: &mut Page, grammar: &YaccGrammar<S>) {
 fn write_expected<S: Storage>(out: &mut Page, grammar: &YaccGrammar<S>) {
     let implicit = pen::rule_number(grammar.implicit_rule());
     let (expect, expectrr) = (grammar.expect(), grammar.expectrr());
-    pen::pieces(
-        out,
-        &[
-            Piece::NumberOr("; implicit tokens in ", implicit, ""),
-            Piece::NumberOr("\n    expect ", expect, ""),
-            Piece::NumberOr("\n    expect-rr ", expectrr, ""),
-            Piece::Text("\n"),
-        ],
-    );
+    let pieces = [
+        Piece::NumberOr("; implicit tokens in ", implicit, ""),
+        Piece::NumberOr("\n    expect ", expect, ""),
+        Piece::NumberOr("\n    expect-rr ", expectrr, ""),
+        Piece::Text("\n"),
+    ];
+    pen::pieces(out, &pieces);
 }
 
 /// Writes a line for each rule.
@@ -95,24 +79,20 @@ fn write_rule<S: Storage>(out: &mut Page, grammar: &YaccGrammar<S>, ridx: RIdx<S
     requires { S.number ridx.0 < length grammar.now.rules }
 {
     let name = grammar.rule_name_str(ridx);
-    pen::pieces(
-        out,
-        &[
-            Piece::Number("    rule ", usize::from(ridx)),
-            Piece::Name(" ", name),
-            Piece::Span(grammar.rule_name_span(ridx)),
-            Piece::Text(":"),
-        ],
-    );
+    let pieces = [
+        Piece::Number("    rule ", usize::from(ridx)),
+        Piece::Name(" ", name),
+        Piece::Span(grammar.rule_name_span(ridx)),
+        Piece::Text(":"),
+    ];
+    pen::pieces(out, &pieces);
     write_indices(out, grammar.rule_to_prods(ridx));
-    pen::pieces(
-        out,
-        &[
-            Piece::TextOr(", type ", grammar.actiontype(ridx), ""),
-            Piece::If(grammar.rule_name(ridx) != name, ", another name"),
-            Piece::Text("\n"),
-        ],
-    );
+    let pieces = [
+        Piece::TextOr(", type ", grammar.actiontype(ridx), ""),
+        Piece::If(grammar.rule_name(ridx) != name, ", another name"),
+        Piece::Text("\n"),
+    ];
+    pen::pieces(out, &pieces);
 }
 
 fn write_indices<S: Storage>(out: &mut Page, pidxs: &[PIdx<S>]) {
@@ -121,42 +101,29 @@ fn write_indices<S: Storage>(out: &mut Page, pidxs: &[PIdx<S>]) {
     }
 }
 
-/// Writes a line for each production.
-fn write_productions<S: Storage>(
-    out: &mut Page,
-    alloc: Option<Global>,
-    grammar: &YaccGrammar<S>,
-) -> Result<(), AllocError> {
-    for pidx in grammar.iter_pidxs() {
-        write_production(out, alloc, grammar, pidx)?;
-    }
-    Ok(())
-}
-
 /// Writes a production: its index, its place, its rule, its symbols, itself as text, and its precedence and its action,
 /// where it has them.
 fn write_production<S: Storage>(
     out: &mut Page,
-    alloc: Option<Global>,
     grammar: &YaccGrammar<S>,
     pidx: PIdx<S>,
-) -> Result<(), AllocError>
+    is_printed: bool,
+)
     requires { S.number pidx.0 < length grammar.now.productions }
 {
-    pen::pieces(
-        out,
-        &[
-            Piece::Number("    production ", usize::from(pidx)),
-            Piece::Span(grammar.prod_span(pidx)),
-            Piece::Number(" of rule ", usize::from(grammar.prod_to_rule(pidx))),
-            Piece::Number(", ", usize::from(grammar.prod_len(pidx))),
-            Piece::Text(" symbols:"),
-        ],
-    );
+    let pieces = [
+        Piece::Number("    production ", usize::from(pidx)),
+        Piece::Span(grammar.prod_span(pidx)),
+        Piece::Number(" of rule ", usize::from(grammar.prod_to_rule(pidx))),
+        Piece::Number(", ", usize::from(grammar.prod_len(pidx))),
+        Piece::Text(" symbols:"),
+    ];
+    pen::pieces(out, &pieces);
     write_body(out, grammar.prod(pidx));
-    write_printed(out, alloc, grammar, pidx)?;
+    if is_printed {
+        write_printed(out, grammar, pidx);
+    }
     write_action(out, grammar, pidx);
-    Ok(())
 }
 
 fn write_body<S: Storage>(out: &mut Page, symbols: &[Symbol<S>]) {
@@ -168,22 +135,15 @@ fn write_body<S: Storage>(out: &mut Page, symbols: &[Symbol<S>]) {
     }
 }
 
-/// Writes a production as text, where there may be memory for that.
-fn write_printed<S: Storage>(
-    out: &mut Page,
-    alloc: Option<Global>,
-    grammar: &YaccGrammar<S>,
-    pidx: PIdx<S>,
-) -> Result<(), AllocError>
+/// Writes a production as text.
+fn write_printed<S: Storage>(out: &mut Page, grammar: &YaccGrammar<S>, pidx: PIdx<S>)
     requires { S.number pidx.0 < length grammar.now.productions }
 {
-    let Some(alloc) = alloc else {
-        return Ok(());
-    };
     out.push_str("; ");
-    let printed = grammar.pp_prod(alloc, pidx)?;
-    push_pictures(out, printed.as_str());
-    Ok(())
+    match grammar.pp_prod(out.alloc, pidx) {
+        Ok(printed) => push_pictures(out, printed.as_str()),
+        Err(_) => out.tear(),
+    }
 }
 
 /// Writes a production's precedence and its action, where it has them, and ends the line.
@@ -191,14 +151,12 @@ fn write_action<S: Storage>(out: &mut Page, grammar: &YaccGrammar<S>, pidx: PIdx
     requires { S.number pidx.0 < length grammar.now.productions }
 {
     write_level(out, grammar.prod_precedence(pidx));
-    pen::pieces(
-        out,
-        &[
-            Piece::TextOr(", action ", grammar.action(pidx), ""),
-            Piece::SpanOr(grammar.action_span(pidx), ""),
-            Piece::Text("\n"),
-        ],
-    );
+    let pieces = [
+        Piece::TextOr(", action ", grammar.action(pidx), ""),
+        Piece::SpanOr(grammar.action_span(pidx), ""),
+        Piece::Text("\n"),
+    ];
+    pen::pieces(out, &pieces);
 }
 
 /// Writes a line for each token.
@@ -214,14 +172,12 @@ fn write_token<S: Storage>(out: &mut Page, grammar: &YaccGrammar<S>, tidx: TIdx<
     requires { S.number tidx.0 < length grammar.now.tokens }
 {
     let name = grammar.token_name(tidx);
-    pen::pieces(
-        out,
-        &[
-            Piece::Number("    token ", usize::from(tidx)),
-            Piece::NameOr(" ", name, ""),
-            Piece::SpanOr(grammar.token_span(tidx), ""),
-        ],
-    );
+    let pieces = [
+        Piece::Number("    token ", usize::from(tidx)),
+        Piece::NameOr(" ", name, ""),
+        Piece::SpanOr(grammar.token_span(tidx), ""),
+    ];
+    pen::pieces(out, &pieces);
     write_level(out, grammar.token_precedence(tidx));
     write_epp(out, grammar.token_epp(tidx), name);
     pen::text_if(out, grammar.avoid_insert(tidx), ", avoid_insert");
@@ -262,15 +218,13 @@ fn write_name<S: Storage>(out: &mut Page, grammar: &YaccGrammar<S>, name: &str) 
     let rule = pen::rule_number(grammar.rule_idx(name));
     let token = pen::token_number(grammar.token_idx(name));
     let is_unnamed = rule.is_none() && token.is_none();
-    pen::pieces(
-        out,
-        &[
-            Piece::Name("    name ", name),
-            Piece::Text(":"),
-            Piece::NumberOr(" rule ", rule, ""),
-            Piece::NumberOr(" token ", token, ""),
-            Piece::If(is_unnamed, " nothing"),
-            Piece::Text("\n"),
-        ],
-    );
+    let pieces = [
+        Piece::Name("    name ", name),
+        Piece::Text(":"),
+        Piece::NumberOr(" rule ", rule, ""),
+        Piece::NumberOr(" token ", token, ""),
+        Piece::If(is_unnamed, " nothing"),
+        Piece::Text("\n"),
+    ];
+    pen::pieces(out, &pieces);
 }

@@ -4,19 +4,12 @@ use crate::digest::write_digest;
 use crate::page::Page;
 use crate::row::{Row, rows};
 use crate::text;
-use std::alloc::AllocError;
 use std::{env, fs, io};
 
 /// What a program answers of its rows.
 pub trait Answers {
     /// Writes all that is answered of a row and its text.
-    fn write(
-        &self,
-        out: &mut Page,
-        rt: &HostRuntime,
-        row: &Row<'_>,
-        text: &str,
-    ) -> Result<(), AllocError>;
+    fn write(&self, out: &mut Page, rt: &HostRuntime, row: &Row<'_>, text: &str);
 }
 
 /// Writes the rows of the files that the program's words name, each as its name and what is answered of it.
@@ -70,10 +63,10 @@ fn write_answers<A: Answers>(
     let text = text::of_row(rt, row)?;
     if row.first("show") == Some("digest") {
         let mut whole = Page::new(rt.alloc());
-        answers.write(&mut whole, rt, row, text.as_str())?;
+        answers.write(&mut whole, rt, row, text.as_str());
         write_digest(out, row, whole.text()?);
     } else {
-        answers.write(out, rt, row, text.as_str())?;
+        answers.write(out, rt, row, text.as_str());
     }
     out.text()?;
     Ok(())

@@ -3,6 +3,7 @@
 
 pub mod digest;
 pub mod files;
+pub mod made;
 pub mod page;
 pub mod pen;
 pub mod row;

@@ -3,12 +3,14 @@
 use std::alloc::{AllocError, Global};
 use std::fmt::Display;
 
-/// A text that is written. Once memory ends for it, it takes nothing more, and whoever takes the text is told so: thus
-/// those who write need not ask.
+/// A text that is written. Once memory ends for it, or for something of which it tells, it takes nothing more, and
+/// whoever takes the text is told so: thus those who write need not ask, and need not answer.
 #[derive(Drop)]
 pub struct Page {
     text: String,
     is_torn: bool,
+    /// Of what is made to be written.
+    pub alloc: Global,
 }
 
 impl Page {
@@ -17,6 +19,7 @@ impl Page {
         Page {
             text: String::new(alloc),
             is_torn: false,
+            alloc,
         }
     }
 
@@ -25,6 +28,7 @@ impl Page {
         Ok(Page {
             text: String::with_capacity(alloc, room)?,
             is_torn: false,
+            alloc,
         })
     }
 
@@ -45,9 +49,29 @@ impl Page {
         }
     }
 
+    /// Takes nothing more, since memory ended.
+    pub fn tear(&mut self) {
+        self.is_torn = true;
+    }
+
+    /// Takes nothing more where memory ended.
+    pub fn note(&mut self, done: Result<(), AllocError>) {
+        self.is_torn = self.is_torn || done.is_err();
+    }
+
+    /// Takes nothing more where memory ended for another page.
+    pub fn follow(&mut self, other: &Page) {
+        self.is_torn = self.is_torn || other.is_torn;
+    }
+
     /// Takes more, where memory ended before.
     pub fn mend(&mut self) {
         self.is_torn = false;
+    }
+
+    /// The text, as far as memory was enough for it.
+    pub fn as_str(&self) -> &str {
+        self.text.as_str()
     }
 
     /// The text, where memory was enough for it.

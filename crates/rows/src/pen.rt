@@ -2,7 +2,6 @@
 
 use crate::page::Page;
 use cfgbase::Span;
-use std::alloc::AllocError;
 
 /// A piece of a line, most of them behind a text. Those that may be missing have what is written in their place.
 #[derive(Clone, Copy)]
@@ -50,22 +49,24 @@ pub fn text_if(out: &mut Page, is_so: bool, word: &str) {
     out.push_str(if is_so { word } else { "" });
 }
 
-/// Writes two texts as a line, or as what is left of one.
-pub fn line(out: &mut Page, before: &str, rest: &str) {
+/// Writes two texts.
+pub fn words(out: &mut Page, before: &str, rest: &str) {
     out.push_str(before);
     out.push_str(rest);
+}
+
+/// Writes two texts as a line, or as what is left of one.
+pub fn line(out: &mut Page, before: &str, rest: &str) {
+    words(out, before, rest);
     out.push('\n');
 }
 
 /// Writes a text where a value isn't the same as a copy of it.
-pub fn unless_copied<T: Clone + PartialEq + Drop>(
-    out: &mut Page,
-    value: &T,
-    word: &str,
-) -> Result<(), AllocError> {
-    let is_same = value.clone()? == *value;
-    text_if(out, !is_same, word);
-    Ok(())
+pub fn unless_copied<T: Clone + PartialEq + Drop>(out: &mut Page, value: &T, word: &str) {
+    match value.clone() {
+        Ok(copy) => text_if(out, copy != *value, word),
+        Err(_) => out.tear(),
+    }
 }
 
 /// Writes that no call behind this line takes memory.

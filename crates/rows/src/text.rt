@@ -2,61 +2,69 @@
 
 use crate::page::Page;
 use crate::row::{Row, number};
-use std::alloc::AllocError;
+use std::alloc::{AllocError, Global};
 use std::{fs, io};
 
 /// The text that a row spells, or that of the file which it names.
 pub fn of_row(rt: &HostRuntime, row: &Row<'_>) -> io::Result<String> {
-    let mut text = String::new(rt.alloc());
+    let mut text = Page::new(rt.alloc());
+    push_lines(&mut text, rt, row)?;
+    Ok(text.into_text()?)
+}
+
+fn push_lines(text: &mut Page, rt: &HostRuntime, row: &Row<'_>) -> io::Result<()> {
     let mut has_line = false;
     for (word, rest) in &row.lines {
         match *word {
-            "file" => text.push_str(fs::read_to_string(rt, *rest)?.as_str())?,
-            "text" if has_line => {
-                text.push('\n')?;
-                push_line(&mut text, *rest)?;
+            "file" => text.push_str(fs::read_to_string(rt, *rest)?.as_str()),
+            "text" => {
+                text.push_str(if has_line { "\n" } else { "" });
+                push_line(text, *rest);
             }
-            "text" => push_line(&mut text, *rest)?,
-            "then" => push_line(&mut text, *rest)?,
-            "times" => push_times(&mut text, *rest)?,
+            "then" => push_line(text, *rest),
+            "times" => push_times(text, *rest),
             _ => continue,
         }
         has_line = true;
     }
-    Ok(text)
+    Ok(())
 }
 
 /// Adds what a line of a row spells, in which pictures stand for CR, LF and TAB.
-fn push_line(text: &mut String, line: &str) -> Result<(), AllocError> {
+fn push_line(text: &mut Page, line: &str) {
     for character in line.chars() {
         text.push(match character {
             '␍' => '\r',
             '␊' => '\n',
             '␉' => '\t',
             other => other,
-        })?;
+        });
     }
-    Ok(())
 }
 
 /// Adds a line as many times as the number in front of it says, with the turn's number for each `#`.
-fn push_times(text: &mut String, line: &str) -> Result<(), AllocError> {
+fn push_times(text: &mut Page, line: &str) {
     let (count, line) = line.split_once(' ').unwrap_or(("0", ""));
     for turn in 0..number(count) {
-        push_turn(text, line, turn)?;
+        push_turn(text, line, turn);
     }
-    Ok(())
+}
+
+/// A line, with the turn's number for each `#`.
+pub fn of_turn(alloc: Global, line: &str, turn: usize) -> Result<String, AllocError> {
+    let mut text = Page::new(alloc);
+    push_turn(&mut text, line, turn);
+    text.into_text()
 }
 
 /// Adds a line, with the turn's number for each `#`.
-pub fn push_turn(text: &mut String, line: &str, turn: usize) -> Result<(), AllocError> {
+fn push_turn(text: &mut Page, line: &str, turn: usize) {
     for (place, part) in line.split('#').enumerate() {
         if place > 0 {
-            write!(text, "{turn}")?;
+            write!(text, "{turn}");
         }
-        push_line(text, part)?;
+        push_line(text, part);
     }
-    Ok(())
 }
 
 /// Writes a text, each line behind a bar, with pictures for CR and TAB.

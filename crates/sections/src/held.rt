@@ -5,7 +5,6 @@ use cfgerrors::HeaderError;
 use cfgkinds::{HeaderValue, KindFault, Namespaced, Setting, Value, YaccKind};
 use rows::page::Page;
 use rows::pen;
-use std::alloc::{AllocError, Global};
 
 /// A place of a value.
 pub(crate) trait Place: Clone + Drop {
@@ -29,60 +28,37 @@ impl Place for Location {
     }
 }
 
-/// The place of a key, and what it has.
-pub(crate) fn held_text<T: Place>(
-    alloc: Global,
-    held: &HeaderValue<T>,
-) -> Result<String, AllocError> {
-    let mut out = Page::new(alloc);
-    held.0.write(&mut out);
+/// Writes the place of a key, and what it has.
+pub(crate) fn write_held<T: Place>(out: &mut Page, held: &HeaderValue<T>) {
+    held.0.write(out);
     out.push_str(": ");
-    write_value(&mut out, alloc, &held.1)?;
-    out.into_text()
+    write_value(out, &held.1);
 }
 
-/// What a key has, and the kind that it names, or why it names none.
-pub(crate) fn value_text<T: Place>(alloc: Global, value: &Value<T>) -> Result<String, AllocError> {
-    let mut out = Page::new(alloc);
-    write_value(&mut out, alloc, value)?;
-    out.into_text()
-}
-
-fn write_value<T: Place>(
-    out: &mut Page,
-    alloc: Global,
-    value: &Value<T>,
-) -> Result<(), AllocError> {
+/// Writes what a key has, and the kind that it names, or why it names none.
+pub(crate) fn write_value<T: Place>(out: &mut Page, value: &Value<T>) {
     match value {
-        Value::Flag(on, place) => write_flag(out, *on, place),
-        Value::Setting(setting) => write_setting(out, setting)?,
+        Value::Flag(on, place) => {
+            pen::flag(out, "", *on);
+            place.write(out);
+        }
+        Value::Setting(setting) => write_setting(out, setting),
     }
-    write_kind(out, alloc, value)
-}
-
-fn write_flag<T: Place>(out: &mut Page, on: bool, place: &T) {
-    pen::flag(out, "", on);
-    place.write(out);
+    write_kind(out, value);
 }
 
 /// Writes the kind that a value names, or why it names none.
-fn write_kind<T: Place>(out: &mut Page, alloc: Global, value: &Value<T>) -> Result<(), AllocError> {
-    match YaccKind::try_from_value(alloc, value) {
-        Ok(kind) => {
-            write!(out, "; kind {kind:?}");
-            Ok(())
-        }
+fn write_kind<T: Place>(out: &mut Page, value: &Value<T>) {
+    match YaccKind::try_from_value(out.alloc, value) {
+        Ok(kind) => write!(out, "; kind {kind:?}"),
         Err(fault) => write_fault(out, &fault),
     }
 }
 
-fn write_fault<T: Place>(out: &mut Page, fault: &KindFault<T>) -> Result<(), AllocError> {
+fn write_fault<T: Place>(out: &mut Page, fault: &KindFault<T>) {
     match fault {
-        KindFault::Error(error) => {
-            write_refused(out, error);
-            Ok(())
-        }
-        KindFault::OutOfMemory => Err(AllocError),
+        KindFault::Error(error) => write_refused(out, error),
+        KindFault::OutOfMemory => out.tear(),
     }
 }
 
@@ -94,48 +70,34 @@ fn write_refused<T: Place>(out: &mut Page, error: &HeaderError<T>) {
 }
 
 #[cycle(write_setting)]
-fn write_setting<T: Place>(out: &mut Page, setting: &Setting<T>) -> Result<(), AllocError> {
+fn write_setting<T: Place>(out: &mut Page, setting: &Setting<T>) {
     match setting {
-        Setting::Unitary(name) => {
-            write_namespaced(out, name);
-            Ok(())
-        }
-        Setting::Constructor { ctor, arg } => {
-            write_constructor(out, ctor, arg);
-            Ok(())
-        }
+        Setting::Unitary(name) => write_namespaced(out, name),
+        Setting::Constructor { ctor, arg } => write_constructor(out, ctor, arg),
         Setting::Num(number, place) => {
             write!(out, "{number}");
             place.write(out);
-            Ok(())
         }
         Setting::String(text, place) => {
             pen::name(out, "", text.as_str());
             place.write(out);
-            Ok(())
         }
         Setting::Array(settings, opens, closes) => {
-            write_settings(out, settings)?;
-            write_places(out, opens, closes);
-            Ok(())
+            write_settings(out, settings);
+            opens.write(out);
+            closes.write(out);
         }
     }
 }
 
 #[cycle(write_setting)]
-fn write_settings<T: Place>(out: &mut Page, settings: &Vec<Setting<T>>) -> Result<(), AllocError> {
+fn write_settings<T: Place>(out: &mut Page, settings: &Vec<Setting<T>>) {
     out.push_str("[");
     for (index, setting) in settings.iter().enumerate() {
         pen::text_if(out, index > 0, ", ");
-        write_setting(out, setting)?;
+        write_setting(out, setting);
     }
     out.push_str("]");
-    Ok(())
-}
-
-fn write_places<T: Place>(out: &mut Page, first: &T, second: &T) {
-    first.write(out);
-    second.write(out);
 }
 
 fn write_constructor<T: Place>(out: &mut Page, ctor: &Namespaced<T>, arg: &Namespaced<T>) {

@@ -3,67 +3,46 @@
 use cfgbase::{Location, Span, Spanned};
 use cfgerrors::{HeaderError, YaccGrammarError};
 use cfgheader::{GrmtoolsSectionParser, Header, HeaderFault};
-use cfgkinds::{HeaderValue, KindFault, YaccKind};
+use cfgkinds::{HeaderValue, KindFault, Value, YaccKind};
 use rows::page::Page;
 use rows::pen;
-use std::alloc::{AllocError, Global};
 
 /// Reads a section that must be there, and writes a line for each key, or for each error.
-pub(crate) fn write_section(out: &mut Page, alloc: Global, text: &str) -> Result<(), AllocError> {
-    match GrmtoolsSectionParser::new(text, true).parse(alloc) {
-        Ok(parsed) => write_parsed(out, alloc, &parsed),
-        Err(HeaderFault::Errors(errors)) => {
-            write_each(out, errors);
-            Ok(())
-        }
-        Err(HeaderFault::OutOfMemory) => Err(AllocError),
+pub(crate) fn write_section(out: &mut Page, text: &str) {
+    match GrmtoolsSectionParser::new(text, true).parse(out.alloc) {
+        Ok(parsed) => write_parsed(out, &parsed),
+        Err(HeaderFault::Errors(errors)) => write_each(out, errors),
+        Err(HeaderFault::OutOfMemory) => out.tear(),
     }
 }
 
 /// Writes a line for each key, and how a section begins again to be read.
-fn write_parsed(
-    out: &mut Page,
-    alloc: Global,
-    (header, _): &(Header<Span>, usize),
-) -> Result<(), AllocError> {
+fn write_parsed(out: &mut Page, (header, _): &(Header<Span>, usize)) {
     pen::without_memory(out);
     let _parser = GrmtoolsSectionParser::new("", false);
     for (key, held) in header {
-        write_held(out, alloc, key.as_str(), held)?;
+        write_held(out, key.as_str(), held);
     }
-    Ok(())
 }
 
 /// Writes a key, the place that speaks for its value, and the kind that the value names where the key is `yacckind`.
-fn write_held(
-    out: &mut Page,
-    alloc: Global,
-    key: &str,
-    held: &HeaderValue<Span>,
-) -> Result<(), AllocError> {
+fn write_held(out: &mut Page, key: &str, held: &HeaderValue<Span>) {
     let place = *held.1.primary_location();
     pen::name(out, "    ", key);
     pen::span(out, place);
     write!(out, " {:?}", Location::from(place));
     if key == "yacckind" {
-        write_kind(out, &YaccKind::try_from_value(alloc, &held.1))?;
+        write_kind(out, &held.1);
     }
     out.push('\n');
-    Ok(())
 }
 
-/// Writes a kind.
-fn write_kind(out: &mut Page, kind: &Result<YaccKind, KindFault<Span>>) -> Result<(), AllocError> {
-    match kind {
-        Ok(kind) => {
-            write!(out, "; kind {kind:?}");
-            Ok(())
-        }
-        Err(KindFault::Error(_)) => {
-            out.push_str("; no kind");
-            Ok(())
-        }
-        Err(KindFault::OutOfMemory) => Err(AllocError),
+/// Writes the kind that a value names.
+fn write_kind(out: &mut Page, value: &Value<Span>) {
+    match YaccKind::try_from_value(out.alloc, value) {
+        Ok(kind) => write!(out, "; kind {kind:?}"),
+        Err(KindFault::Error(_)) => out.push_str("; no kind"),
+        Err(KindFault::OutOfMemory) => out.tear(),
     }
 }
 

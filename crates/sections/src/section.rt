@@ -2,216 +2,184 @@
 
 ghost use Rattle.std.specs.Str.{IsCharBoundary};
 
-use crate::held::{held_text, value_text};
+use crate::held::{write_held, write_value};
 use crate::plain;
 use cfgbase::{Location, Span, Spanned};
 use cfgerrors::HeaderError;
 use cfgheader::{GrmtoolsSectionParser, Header, HeaderFault};
 use cfgkinds::{HeaderValue, Value, YaccKind, YaccOriginalActionKind};
 use rows::page::Page;
+use rows::pen::{self, Piece};
 use rows::row::Row;
-use rows::{pen, text};
+use rows::text;
 use std::alloc::{AllocError, Global};
 
 /// Writes what is answered of the section at a text's front, of that of each of its beginnings, or of an entry at each
 /// of its places; or the values of all kinds.
-pub fn tell(out: &mut Page, alloc: Global, row: &Row<'_>, text: &str) -> Result<(), AllocError> {
+pub fn tell(out: &mut Page, row: &Row<'_>, text: &str) {
     pen::number(out, "text of ", text.len());
     out.push_str(" bytes\n");
     text::write_text(out, text);
     match row.first("show") {
-        Some("cuts") => write_cuts(out, alloc, text),
-        Some("entries") => write_entries(out, alloc, text),
-        Some("kinds") => write_kinds(out, alloc),
-        Some("without-memory") => plain::write_section(out, alloc, text),
-        _ => write_whole(out, alloc, text),
+        Some("cuts") => write_cuts(out, text),
+        Some("entries") => write_entries(out, text),
+        Some("kinds") => write_kinds(out),
+        Some("without-memory") => plain::write_section(out, text),
+        _ => {
+            out.push_str("section");
+            write_section(out, text);
+        }
     }
-}
-
-fn write_whole(out: &mut Page, alloc: Global, text: &str) -> Result<(), AllocError> {
-    out.push_str("section");
-    write_section(out, alloc, text)
 }
 
 /// Writes what is answered of each beginning of the text that ends where a character begins or the text ends.
-fn write_cuts(out: &mut Page, alloc: Global, text: &str) -> Result<(), AllocError> {
+fn write_cuts(out: &mut Page, text: &str) {
     for len in 0..=text.len() {
         if let Some(cut) = text.get(..len) {
-            write_cut(out, alloc, cut)?;
+            pen::number(out, "cut ", len);
+            write_section(out, cut);
         }
     }
-    Ok(())
-}
-
-fn write_cut(out: &mut Page, alloc: Global, cut: &str) -> Result<(), AllocError> {
-    pen::number(out, "cut ", cut.len());
-    write_section(out, alloc, cut)
 }
 
 /// Writes what is answered where a section must stand and where none need, once where it is the same.
-fn write_section(out: &mut Page, alloc: Global, text: &str) -> Result<(), AllocError> {
-    let required = section_text(alloc, text, true)?;
-    let optional = section_text(alloc, text, false)?;
+fn write_section(out: &mut Page, text: &str) {
+    let (mut required, mut optional) = (Page::new(out.alloc), Page::new(out.alloc));
+    parse_section(&mut required, text, true);
+    parse_section(&mut optional, text, false);
+    out.follow(&required);
+    out.follow(&optional);
     write_both(out, required.as_str(), optional.as_str());
-    Ok(())
 }
 
 fn write_both(out: &mut Page, required: &str, optional: &str) {
     if required == optional {
-        out.push_str(":");
-        out.push_str(required);
-        return;
+        return pen::pieces(out, &[Piece::Text(":"), Piece::Text(required)]);
     }
-    out.push_str(", required:");
-    out.push_str(required);
-    out.push_str("    not required:");
-    out.push_str(optional);
+    let pieces = [
+        Piece::Text(", required:"),
+        Piece::Text(required),
+        Piece::Text("    not required:"),
+        Piece::Text(optional),
+    ];
+    pen::pieces(out, &pieces);
 }
 
-/// What is answered of a section: where it ends, and a line for each key; or its errors.
-fn section_text(alloc: Global, text: &str, required: bool) -> Result<String, AllocError> {
-    let mut out = Page::new(alloc);
-    parse_section(&mut out, alloc, text, required)?;
-    out.into_text()
-}
-
-fn parse_section(
-    out: &mut Page,
-    alloc: Global,
-    text: &str,
-    required: bool,
-) -> Result<(), AllocError> {
-    match GrmtoolsSectionParser::new(text, required).parse(alloc) {
-        Ok(parsed) => write_parsed(out, alloc, &parsed),
+/// Writes what is answered of a section: where it ends, and a line for each key; or its errors.
+fn parse_section(out: &mut Page, text: &str, required: bool) {
+    match GrmtoolsSectionParser::new(text, required).parse(out.alloc) {
+        Ok(parsed) => write_parsed(out, &parsed),
         Err(fault) => write_fault(out, &fault),
     }
 }
 
-fn write_fault(out: &mut Page, fault: &HeaderFault) -> Result<(), AllocError> {
+fn write_fault(out: &mut Page, fault: &HeaderFault) {
     match fault {
         HeaderFault::Errors(errors) => write_errors(out, errors),
-        HeaderFault::OutOfMemory => Err(AllocError),
+        HeaderFault::OutOfMemory => out.tear(),
     }
 }
 
 /// Writes where a section ends, and a line for each key: its place and what it has.
-fn write_parsed(
-    out: &mut Page,
-    alloc: Global,
-    (header, end): &(Header<Span>, usize),
-) -> Result<(), AllocError> {
+fn write_parsed(out: &mut Page, (header, end): &(Header<Span>, usize)) {
     pen::number(out, " ends at ", *end);
     out.push('\n');
     for (key, held) in header {
-        write_held(out, alloc, key.as_str(), held)?;
+        write_key(out, key.as_str(), held);
     }
-    Ok(())
 }
 
 /// Writes a key, its place and what it has. With locations in place of spans it is the same.
-fn write_held(
-    out: &mut Page,
-    alloc: Global,
-    key: &str,
-    held: &HeaderValue<Span>,
-) -> Result<(), AllocError> {
-    let told = held_text(alloc, held)?;
-    let located = located_text(alloc, held)?;
-    write_told(out, key, told.as_str(), told == located);
-    Ok(())
-}
-
-fn located_text(alloc: Global, held: &HeaderValue<Span>) -> Result<String, AllocError> {
-    let located = held.to_location(alloc)?;
-    held_text(alloc, &located)
-}
-
-fn write_told(out: &mut Page, key: &str, told: &str, is_same: bool) {
+fn write_key(out: &mut Page, key: &str, held: &HeaderValue<Span>) {
+    let (mut told, mut located) = (Page::new(out.alloc), Page::new(out.alloc));
+    write_held(&mut told, held);
+    match held.to_location(out.alloc) {
+        Ok(held) => write_held(&mut located, &held),
+        Err(_) => out.tear(),
+    }
     pen::name(out, "    ", key);
-    out.push_str(told);
+    write_told(out, &told, &located);
     out.push('\n');
-    pen::text_if(out, !is_same, "    and with other locations\n");
+}
+
+/// Writes what is told with spans, and whether something else is with locations.
+fn write_told(out: &mut Page, told: &Page, located: &Page) {
+    out.follow(told);
+    out.follow(located);
+    out.push_str(told.as_str());
+    pen::text_if(
+        out,
+        told.as_str() != located.as_str(),
+        " and with other locations",
+    );
 }
 
 /// Writes what is answered of an entry at each place where a character begins or the text ends.
-fn write_entries(out: &mut Page, alloc: Global, text: &str) -> Result<(), AllocError> {
+fn write_entries(out: &mut Page, text: &str) {
     for place in 0..=text.len() {
         if text.is_char_boundary(place) {
-            parse_entry(out, alloc, text, place)?;
+            parse_entry(out, text, place);
         }
     }
-    Ok(())
 }
 
-fn parse_entry(out: &mut Page, alloc: Global, text: &str, place: usize) -> Result<(), AllocError>
+fn parse_entry(out: &mut Page, text: &str, place: usize)
     requires { IsCharBoundary text.now place }
 {
     pen::number(out, "entry at ", place);
     out.push_str(":");
-    match GrmtoolsSectionParser::new(text, true).parse_key_value(alloc, place) {
-        Ok(entry) => write_entry(out, alloc, &entry),
+    match GrmtoolsSectionParser::new(text, true).parse_key_value(out.alloc, place) {
+        Ok(entry) => write_entry(out, &entry),
         Err(fault) => write_fault(out, &fault),
     }
 }
 
 /// Writes a line for each error: its kind, its spans, what they stand for, and its text.
-fn write_errors(out: &mut Page, errors: &[HeaderError<Span>]) -> Result<(), AllocError> {
+fn write_errors(out: &mut Page, errors: &[HeaderError<Span>]) {
     for (index, error) in errors.iter().enumerate() {
         out.push_str(if index == 0 { " " } else { "    " });
-        write_error(out, error)?;
+        write_error(out, error);
     }
-    Ok(())
 }
 
-fn write_error(out: &mut Page, error: &HeaderError<Span>) -> Result<(), AllocError> {
+fn write_error(out: &mut Page, error: &HeaderError<Span>) {
     write!(out, "{:?}", error.kind);
     pen::spans(out, error.spans());
     writeln!(out, " {:?}: {error}", error.spanskind());
-    let is_same = is_its_copy(error)?;
-    pen::text_if(out, !is_same, "    and a copy that isn't the same\n");
-    Ok(())
+    match error.clone() {
+        Ok(copy) => write_other(out, error, &copy),
+        Err(_) => out.tear(),
+    }
 }
 
-/// Whether a copy of an error has its kind and its spans.
-fn is_its_copy(error: &HeaderError<Span>) -> Result<bool, AllocError> {
-    let copy = error.clone()?;
-    Ok(copy.kind == error.kind && copy.spans() == error.spans())
+/// Writes whether a copy of an error hasn't its kind and its spans.
+fn write_other(out: &mut Page, error: &HeaderError<Span>, copy: &HeaderError<Span>) {
+    let is_same = copy.kind == error.kind && copy.spans() == error.spans();
+    pen::text_if(out, !is_same, "    and a copy that isn't the same\n");
 }
 
 /// Writes a key with its place, what it has, and where it ends. With locations in place of spans it is the same.
-fn write_entry(
-    out: &mut Page,
-    alloc: Global,
-    (key, span, value, end): &(String, Span, Value<Span>, usize),
-) -> Result<(), AllocError> {
+fn write_entry(out: &mut Page, (key, span, value, end): &(String, Span, Value<Span>, usize)) {
     pen::name(out, " ", key.as_str());
     pen::span(out, *span);
-    write_value(out, alloc, value)?;
+    out.push_str(": ");
+    write_both_ways(out, value);
     pen::number(out, ", then ", *end);
     out.push('\n');
-    Ok(())
 }
 
-fn write_value(out: &mut Page, alloc: Global, value: &Value<Span>) -> Result<(), AllocError> {
-    let told = value_text(alloc, value)?;
-    let located = located_value_text(alloc, value)?;
-    write_told_value(out, told.as_str(), told == located);
-    Ok(())
-}
-
-fn write_told_value(out: &mut Page, told: &str, is_same: bool) {
-    out.push_str(": ");
-    out.push_str(told);
-    pen::text_if(out, !is_same, " and with other locations");
-}
-
-fn located_value_text(alloc: Global, value: &Value<Span>) -> Result<String, AllocError> {
-    let located = located(alloc, value)?;
-    value_text(alloc, &located)
+fn write_both_ways(out: &mut Page, value: &Value<Span>) {
+    let (mut told, mut located) = (Page::new(out.alloc), Page::new(out.alloc));
+    write_value(&mut told, value);
+    match to_location(out.alloc, value) {
+        Ok(value) => write_value(&mut located, &value),
+        Err(_) => out.tear(),
+    }
+    write_told(out, &told, &located);
 }
 
 /// A value with locations in place of spans.
-fn located(alloc: Global, value: &Value<Span>) -> Result<Value<Location>, AllocError> {
+fn to_location(alloc: Global, value: &Value<Span>) -> Result<Value<Location>, AllocError> {
     Ok(match value {
         Value::Setting(setting) => Value::Setting(setting.to_location(alloc)?),
         Value::Flag(..) => value.to_location(alloc)?,
@@ -219,7 +187,7 @@ fn located(alloc: Global, value: &Value<Span>) -> Result<Value<Location>, AllocE
 }
 
 /// Writes the value of each kind.
-fn write_kinds(out: &mut Page, alloc: Global) -> Result<(), AllocError> {
+fn write_kinds(out: &mut Page) {
     for kind in &[
         YaccKind::Original(YaccOriginalActionKind::UserAction),
         YaccKind::Original(YaccOriginalActionKind::GenericParseTree),
@@ -227,19 +195,15 @@ fn write_kinds(out: &mut Page, alloc: Global) -> Result<(), AllocError> {
         YaccKind::Grmtools,
         YaccKind::Eco,
     ] {
-        write_kind(out, alloc, *kind)?;
+        write_kind(out, *kind);
     }
-    Ok(())
 }
 
-fn write_kind(out: &mut Page, alloc: Global, kind: YaccKind) -> Result<(), AllocError> {
-    let told = kind_text(alloc, kind)?;
-    write!(out, "{kind:?}");
-    pen::line(out, ": ", told.as_str());
-    Ok(())
-}
-
-fn kind_text(alloc: Global, kind: YaccKind) -> Result<String, AllocError> {
-    let value = Value::try_from_kind(alloc, kind)?;
-    value_text(alloc, &value)
+fn write_kind(out: &mut Page, kind: YaccKind) {
+    write!(out, "{kind:?}: ");
+    match Value::try_from_kind(out.alloc, kind) {
+        Ok(value) => write_value(out, &value),
+        Err(_) => out.tear(),
+    }
+    out.push('\n');
 }

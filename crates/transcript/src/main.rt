@@ -16,7 +16,6 @@ use rows::files::{Answers, write_files};
 use rows::page::Page;
 use rows::row::Row;
 use sections::kinds;
-use std::alloc::{AllocError, Global};
 use std::io;
 use trees::written;
 use values::{lines, marks, numbers};
@@ -26,40 +25,32 @@ use vectors::every;
 struct All;
 
 impl Answers for All {
-    fn write(
-        &self,
-        out: &mut Page,
-        rt: &HostRuntime,
-        row: &Row<'_>,
-        text: &str,
-    ) -> Result<(), AllocError> {
+    fn write(&self, out: &mut Page, rt: &HostRuntime, row: &Row<'_>, text: &str) {
         match row.tries {
-            "row" => vectors::tell(out, rt.alloc(), row, text),
+            "row" => vectors::tell(out, row, text),
             "cuts" => every::tell(out, rt, text),
-            "section" => sections::tell(out, rt.alloc(), row, text),
-            "generator" => costs::tell(out, rt.alloc(), row, text),
-            "lines" => lines::tell(out, rt.alloc(), row, text),
-            "marks" => marks::tell(out, rt.alloc(), row),
-            "values" => numbers::tell(out, rt.alloc(), row, text),
-            "errors" => kinds::tell(out, rt.alloc(), row, text),
-            "tree" => written::tell(out, rt.alloc(), row, text),
-            "report" => reports::tell(out, rt.alloc(), row, text),
-            "run" => runs::tell(out, rt.alloc(), row, text),
+            "section" => sections::tell(out, row, text),
+            "generator" => costs::tell(out, row, text),
+            "lines" => lines::tell(out, row, text),
+            "marks" => marks::tell(out, row),
+            "values" => numbers::tell(out, row, text),
+            "errors" => kinds::tell(out, row, text),
+            "tree" => written::tell(out, row, text),
+            "report" => reports::tell(out, row, text),
+            "run" => runs::tell(out, row, text),
             "program" => programs::tell(out, rt, row, text),
-            "guide" => guide(out, rt.alloc(), row.name, text),
-            _ => {
-                writeln!(out, "no such row: {}", row.tries);
-                Ok(())
-            }
+            "guide" => guide(out, row.name, text),
+            _ => writeln!(out, "no such row: {}", row.tries),
         }
     }
 }
 
 /// Writes what the caller of this name in the guide answers of a text.
-fn guide(out: &mut Page, alloc: Global, call: &str, text: &str) -> Result<(), AllocError> {
-    let answer = uses::answers::tell(alloc, call, text)?;
-    out.push_str(answer.as_str());
-    Ok(())
+fn guide(out: &mut Page, call: &str, text: &str) {
+    match uses::answers::tell(out.alloc, call, text) {
+        Ok(answer) => out.push_str(answer.as_str()),
+        Err(_) => out.tear(),
+    }
 }
 
 fn main(rt: HostRuntime) -> io::Result<()> {

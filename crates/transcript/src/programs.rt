@@ -14,34 +14,29 @@ use std::rt::Files;
 
 /// Runs the program over a runtime that has the row's words, its text as standard input, and the files of the folder,
 /// and writes the status, what was written to the two outputs, and what was read.
-pub(crate) fn tell<R: Files + AllocGlobal>(
-    out: &mut Page,
-    rt: &R,
-    row: &Row<'_>,
-    text: &str,
-) -> Result<(), AllocError> {
-    let alloc = rt.alloc();
+pub(crate) fn tell<R: Files + AllocGlobal>(out: &mut Page, rt: &R, row: &Row<'_>, text: &str) {
     let given = row.first("words").unwrap_or("");
-    let words = words_of(alloc, given)?;
+    let Ok(words) = words_of(out.alloc, given) else {
+        return out.tear();
+    };
     let desk = Desk {
         rt,
         words: words.as_slice(),
         input: input(row, text),
-        output: RefCell::new(Narrow::of_row(alloc, row, "out")),
-        errors: RefCell::new(Narrow::of_row(alloc, row, "err")),
-        opened: RefCell::new(String::new(alloc)),
+        output: RefCell::new(Narrow::of_row(out.alloc, row, "out")),
+        errors: RefCell::new(Narrow::of_row(out.alloc, row, "err")),
+        opened: RefCell::new(String::new(out.alloc)),
         readers: Cell::new(0),
     };
     let ended = run_over(&desk);
     if desk.is_wanted(row, ended.status()) {
-        return Err(AllocError);
+        return out.tear();
     }
     writeln!(out, "cfgtool {given}");
     writeln!(out, "status {}", ended.status());
     write_taken(out, "output", &desk.output);
     write_taken(out, "errors", &desk.errors);
     write_read(out, &desk);
-    Ok(())
 }
 
 /// The program's name, and the words. In a word � stands for a byte that is no UTF-8.

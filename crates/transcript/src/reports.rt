@@ -8,7 +8,7 @@ use cfgtool::{Counted, KindArg, Outcome, ReportFault, Sink, report, report_lex};
 use rows::page::Page;
 use rows::pen;
 use rows::row::Row;
-use rows::text::push_turn;
+use rows::text::of_turn;
 use std::alloc::{AllocError, Global};
 
 /// A report of a text: what the command tells, or else where its tokens and the names differ.
@@ -45,21 +45,17 @@ impl Run for Report<'_> {
 
 /// Writes what is answered of the report that the row's words ask for, and what was written; and over writers of every
 /// room, where the row asks for that.
-pub(crate) fn tell(
-    out: &mut Page,
-    alloc: Global,
-    row: &Row<'_>,
-    text: &str,
-) -> Result<(), AllocError> {
+pub(crate) fn tell(out: &mut Page, row: &Row<'_>, text: &str) {
     let words = row.first("words").unwrap_or("");
     let (kind, command) = words.split_once(' ').unwrap_or((words, ""));
-    let mut names = String::new(alloc);
-    push_turn(&mut names, row.first("names").unwrap_or(""), 0)?;
+    let Ok(names) = of_turn(out.alloc, row.first("names").unwrap_or(""), 0) else {
+        return out.tear();
+    };
     match kind_of(kind) {
         Some(kind) => {
             let names = names.as_str();
             let asked = Report {
-                alloc,
+                alloc: out.alloc,
                 kind,
                 command,
                 names,
@@ -67,10 +63,7 @@ pub(crate) fn tell(
             };
             tell_report(out, row, &asked)
         }
-        None => {
-            out.push_str("no such kind\n");
-            Ok(())
-        }
+        None => out.push_str("no such kind\n"),
     }
 }
 
@@ -85,17 +78,18 @@ fn write_counted(out: &mut Page, writer: &mut Narrow) {
 }
 
 /// Writes what is answered of a report.
-fn tell_report(out: &mut Page, row: &Row<'_>, asked: &Report<'_>) -> Result<(), AllocError> {
+fn tell_report(out: &mut Page, row: &Row<'_>, asked: &Report<'_>) {
     if row.first("show") == Some("without-memory") {
-        write_counted(out, &mut Narrow::new(asked.alloc, 1, 0, End::Fails));
-        return Ok(());
+        return write_counted(out, &mut Narrow::new(asked.alloc, 1, 0, End::Fails));
     }
     let mut output = Narrow::of_row(asked.alloc, row, "out");
-    let word = asked.ended(&mut output)?;
+    let Ok(word) = asked.ended(&mut output) else {
+        return out.tear();
+    };
     writeln!(out, "report {}: {word}", asked.command);
     write_taken(out, "output", &output);
     match row.first("rooms") {
-        Some(_) => write_rooms(out, asked.alloc, asked, output.bytes()),
-        None => Ok(()),
+        Some(_) => write_rooms(out, asked, output.bytes()),
+        None => {}
     }
 }

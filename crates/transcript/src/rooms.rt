@@ -3,7 +3,7 @@
 use crate::narrow::{End, Narrow};
 use rows::page::Page;
 use rows::pen;
-use std::alloc::{AllocError, Global};
+use std::alloc::AllocError;
 
 /// What is run over one writer after the other.
 pub(crate) trait Run {
@@ -13,40 +13,29 @@ pub(crate) trait Run {
 
 /// Writes how a run ends on writers with room for none of the bytes, for one, and so on up to all of them: how many bytes
 /// each took, and the word. They take one byte at a time, four, or all that they are given.
-pub(crate) fn write_rooms<R: Run>(
-    out: &mut Page,
-    alloc: Global,
-    run: &R,
-    whole: &[u8],
-) -> Result<(), AllocError> {
+pub(crate) fn write_rooms<R: Run>(out: &mut Page, run: &R, whole: &[u8]) {
     for step in [1, 4, usize::MAX] {
-        write_ended(out, alloc, run, (step, End::Fails), whole)?;
-        write_ended(out, alloc, run, (step, End::IsInterrupted), whole)?;
-        write_ended(out, alloc, run, (step, End::TakesNone), whole)?;
+        write_ended(out, run, (step, End::Fails), whole);
+        write_ended(out, run, (step, End::IsInterrupted), whole);
+        write_ended(out, run, (step, End::TakesNone), whole);
     }
-    Ok(())
 }
 
 /// Writes how a run ends on writers that take so many bytes at a time and end so.
-fn write_ended<R: Run>(
-    out: &mut Page,
-    alloc: Global,
-    run: &R,
-    (step, end): (usize, End),
-    whole: &[u8],
-) -> Result<(), AllocError> {
+fn write_ended<R: Run>(out: &mut Page, run: &R, (step, end): (usize, End), whole: &[u8]) {
     let word = word_of(end);
     write!(
         out,
         "    at most {step} bytes at a time, and {word} at the end:"
     );
     for room in 0..=whole.len() {
-        let mut writer = Narrow::new(alloc, step, room, end);
-        let word = run.ended(&mut writer)?;
-        write_room(out, &writer, word, whole);
+        let mut writer = Narrow::new(out.alloc, step, room, end);
+        match run.ended(&mut writer) {
+            Ok(word) => write_room(out, &writer, word, whole),
+            Err(_) => out.tear(),
+        }
     }
     out.push('\n');
-    Ok(())
 }
 
 /// How a writer ends, in words.

@@ -5,7 +5,7 @@ use crate::rooms::{Run, write_rooms};
 use cfgtool::{Counted, Input, Sink, Source, run};
 use rows::page::Page;
 use rows::row::Row;
-use rows::text::{push_turn, write_text};
+use rows::text::{of_turn, write_text};
 use std::alloc::{AllocError, Global};
 
 /// Two files, of which the first that is asked for is `first`, under every name.
@@ -26,41 +26,32 @@ impl Source for TwoFiles {
 
 /// Runs the program on the row's words, where its file holds the text or what the row says in place of it, and writes
 /// the status, what was written to the two outputs, and how many faults these had.
-pub(crate) fn tell(
-    out: &mut Page,
-    alloc: Global,
-    row: &Row<'_>,
-    text: &str,
-) -> Result<(), AllocError> {
+pub(crate) fn tell(out: &mut Page, row: &Row<'_>, text: &str) {
     let words = row.first("words").unwrap_or("");
-    let mut output = Narrow::of_row(alloc, row, "out");
-    let mut errors = Narrow::of_row(alloc, row, "err");
-    let status = run_over(alloc, row, text, &mut output, &mut errors)?;
+    let mut output = Narrow::of_row(out.alloc, row, "out");
+    let mut errors = Narrow::of_row(out.alloc, row, "err");
+    let Ok(status) = run_over(out.alloc, row, text, &mut output, &mut errors) else {
+        return out.tear();
+    };
     writeln!(out, "cfgtool {words}");
     writeln!(out, "status {status}");
     write_taken(out, "output", &output);
     write_taken(out, "errors", &errors);
-    write_asked_rooms(out, alloc, row, text, (output.bytes(), errors.bytes()))
+    write_asked_rooms(out, row, text, (output.bytes(), errors.bytes()))
 }
 
 /// Writes how the program ends on outputs of every room, where the row asks for one of the two.
-fn write_asked_rooms(
-    out: &mut Page,
-    alloc: Global,
-    row: &Row<'_>,
-    text: &str,
-    (output, errors): (&[u8], &[u8]),
-) -> Result<(), AllocError> {
+fn write_asked_rooms(out: &mut Page, row: &Row<'_>, text: &str, (output, errors): (&[u8], &[u8])) {
     let is_errors = row.first("rooms") == Some("err");
     let run = OneOutput {
-        alloc,
+        alloc: out.alloc,
         row,
         text,
         is_errors,
     };
     match row.first("rooms") {
-        Some(_) => write_rooms(out, alloc, &run, if is_errors { errors } else { output }),
-        None => Ok(()),
+        Some(_) => write_rooms(out, &run, if is_errors { errors } else { output }),
+        None => {}
     }
 }
 
@@ -134,8 +125,7 @@ fn input(alloc: Global, row: &Row<'_>, text: &str) -> Result<Input, AllocError> 
 fn second_input(alloc: Global, row: &Row<'_>) -> Result<Option<Input>, AllocError> {
     match row.first("names") {
         Some(line) => {
-            let mut names = String::new(alloc);
-            push_turn(&mut names, line, 0)?;
+            let names = of_turn(alloc, line, 0)?;
             Ok(Some(Input::Bytes(names.into_bytes())))
         }
         None => Ok(None),

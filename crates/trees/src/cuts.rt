@@ -1,69 +1,51 @@
 //! Each beginning of a text.
 
 use crate::errors::write_kind;
-use crate::made::{Writer, write_made};
 use crate::read::parse;
 use cfgbase::{Span, Spanned};
 use cfghash::NameHashes;
 use cfgsyntax::yacc::ast::{ASTWithValidityInfo, GrammarAST};
 use cfgsyntax::yacc::{YaccFault, YaccGrammarError, YaccKind};
 use indexmap::IndexMap;
+use rows::made::{Writer, write_made};
 use rows::page::Page;
-use rows::pen;
-use std::alloc::{AllocError, Global};
+use rows::pen::{self, Piece};
 
 /// Writes a line for each beginning of the text that ends where a character begins or the text ends.
-pub fn write_cuts(
-    out: &mut Page,
-    alloc: Global,
-    kind: Option<YaccKind>,
-    text: &str,
-) -> Result<(), AllocError> {
+pub fn write_cuts(out: &mut Page, kind: Option<YaccKind>, text: &str) {
     for len in 0..=text.len() {
         if let Some(cut) = text.get(..len) {
-            write_cut(out, alloc, kind, cut)?;
+            write_cut(out, kind, cut);
         }
     }
-    Ok(())
 }
 
 /// Writes the length of a text, its errors, each as its kind and its spans, and how much was read of it.
-fn write_cut(
-    out: &mut Page,
-    alloc: Global,
-    kind: Option<YaccKind>,
-    text: &str,
-) -> Result<(), AllocError> {
+fn write_cut(out: &mut Page, kind: Option<YaccKind>, text: &str) {
     pen::number(out, "    ", text.len());
     out.push_str(":");
-    write_made(out, &Cut, parse(alloc, kind, text))
+    let parsed = parse(out.alloc, kind, text);
+    write_made(out, &Cut, parsed);
 }
 
 /// Writes what was parsed of a cut.
 struct Cut;
 
 impl Writer<ASTWithValidityInfo, YaccFault> for Cut {
-    fn write(&self, out: &mut Page, parsed: &mut ASTWithValidityInfo) -> Result<(), AllocError> {
+    fn write(&self, out: &mut Page, parsed: &mut ASTWithValidityInfo) {
         write_errors(out, parsed.errors());
         write_read(out, parsed.ast());
-        Ok(())
     }
 
-    fn refuse(&self, out: &mut Page, fault: &YaccFault) -> Result<(), AllocError> {
+    fn refuse(&self, out: &mut Page, fault: &YaccFault) {
         match fault {
             YaccFault::Errors(errors) => {
-                write_refused(out, errors);
-                Ok(())
+                write_errors(out, errors);
+                out.push_str("; no kind\n");
             }
-            YaccFault::OutOfMemory => Err(AllocError),
+            YaccFault::OutOfMemory => out.tear(),
         }
     }
-}
-
-/// Writes the errors that keep a text from naming a kind.
-fn write_refused(out: &mut Page, errors: &[YaccGrammarError]) {
-    write_errors(out, errors);
-    out.push_str("; no kind\n");
 }
 
 /// Writes errors, each as its kind and its spans.
@@ -76,21 +58,21 @@ pub(crate) fn write_errors(out: &mut Page, errors: &[YaccGrammarError]) {
 
 /// Writes how much was read of a text.
 fn write_read(out: &mut Page, ast: &GrammarAST) {
-    write_lengths(out, ast);
+    let lengths = [
+        Piece::Number("; ", ast.rules().len()),
+        Piece::Number(" rules, ", ast.prods().len()),
+        Piece::Number(" productions, ", ast.tokens().len()),
+        Piece::Text(" tokens"),
+    ];
+    pen::pieces(out, &lengths);
     write_said_of_tokens(out, ast);
-    write_said_of_parser(out, ast);
-    out.push('\n');
-}
-
-/// Writes how many rules, productions and tokens were read.
-fn write_lengths(out: &mut Page, ast: &GrammarAST) {
-    pen::numbers(
-        out,
-        ("; ", ast.rules().len()),
-        (" rules, ", ast.prods().len()),
-    );
-    pen::number(out, " productions, ", ast.tokens().len());
-    out.push_str(" tokens");
+    let said_of_parser = [
+        Piece::If(ast.parse_param().is_some(), ", parse-param"),
+        Piece::If(ast.parse_generics().is_some(), ", parse-generics"),
+        Piece::If(ast.programs().is_some(), ", programs"),
+        Piece::Text("\n"),
+    ];
+    pen::pieces(out, &said_of_parser);
 }
 
 /// Writes of how many tokens something was read, where it was of any, and how long the lists are that are there.
@@ -119,11 +101,4 @@ fn write_table(out: &mut Page, table: &Option<IndexMap<String, Span, NameHashes>
 fn write_length(out: &mut Page, length: usize, word: &str) {
     pen::number(out, ", ", length);
     out.push_str(word);
-}
-
-/// Writes what was read of the parser and of the programs.
-fn write_said_of_parser(out: &mut Page, ast: &GrammarAST) {
-    pen::text_if(out, ast.parse_param().is_some(), ", parse-param");
-    pen::text_if(out, ast.parse_generics().is_some(), ", parse-generics");
-    pen::text_if(out, ast.programs().is_some(), ", programs");
 }

@@ -5,34 +5,23 @@ use cfglines::Places;
 use cfgsyntax::yacc::YaccGrammarError;
 use rows::page::Page;
 use rows::pen;
-use std::alloc::{AllocError, Global};
 
 /// Writes whether there are errors, and a line for each.
-pub fn write_errors(
-    out: &mut Page,
-    alloc: Global,
-    text: &str,
-    errors: &[YaccGrammarError],
-) -> Result<(), AllocError> {
+pub fn write_errors(out: &mut Page, text: &str, errors: &[YaccGrammarError]) {
     if errors.is_empty() {
-        out.push_str("errors: none\n");
-        return Ok(());
+        return out.push_str("errors: none\n");
     }
     out.push_str("errors\n");
-    write_error_lines(out, alloc, text, errors)
+    write_error_lines(out, text, errors);
 }
 
 /// Writes a line for each error: its kind, its spans, the line and the column of the first span's start, what the spans
 /// stand for, and its text.
-pub fn write_error_lines(
-    out: &mut Page,
-    alloc: Global,
-    text: &str,
-    errors: &[YaccGrammarError],
-) -> Result<(), AllocError> {
-    let places = Places::new(alloc, text)?;
-    write_placed_errors(out, &places, errors);
-    Ok(())
+pub fn write_error_lines(out: &mut Page, text: &str, errors: &[YaccGrammarError]) {
+    match Places::new(out.alloc, text) {
+        Ok(places) => write_placed_errors(out, &places, errors),
+        Err(_) => out.tear(),
+    }
 }
 
 fn write_placed_errors(out: &mut Page, places: &Places<'_>, errors: &[YaccGrammarError]) {

@@ -5,7 +5,6 @@
 mod copies;
 pub mod cuts;
 pub mod errors;
-mod made;
 pub mod read;
 pub mod syntax;
 pub mod warnings;

@@ -1,28 +1,26 @@
 //! The syntax of a text, by what its readers answer.
 
 use crate::cuts::write_errors;
-use crate::made::{Writer, write_made};
 use cfgast::Precedence;
 use cfgbase::Span;
 use cfghash::NameHashes;
 use cfgsyntax::yacc::ast::{ASTWithValidityInfo, GrammarAST, Production, Rule, Symbol};
 use indexmap::IndexMap;
+use rows::made::{Writer, write_made};
 use rows::page::Page;
 use rows::pen::{self, Piece};
 use rows::said::{write_precedence, write_settings};
-use std::alloc::{AllocError, Global};
+use std::alloc::AllocError;
 
 /// Writes all that a syntax holds: its start, what the declarations say, and a line for each rule, production and
 /// token. A copy holds the same.
-pub fn write_syntax(
-    out: &mut Page,
-    alloc: Global,
-    parsed: &ASTWithValidityInfo,
-) -> Result<(), AllocError> {
-    let shown = syntax_text(alloc, parsed.ast())?;
-    let of_copy = copy_text(alloc, parsed.ast())?;
+pub fn write_syntax(out: &mut Page, parsed: &ASTWithValidityInfo) {
+    let (mut shown, mut of_copy) = (Page::new(out.alloc), Page::new(out.alloc));
+    write_parts(&mut shown, parsed.ast());
+    write_made(&mut of_copy, &Whole, parsed.ast().clone());
+    out.follow(&shown);
+    out.follow(&of_copy);
     write_shown(out, shown.as_str(), of_copy.as_str());
-    Ok(())
 }
 
 /// Writes what is answered of a text that was read, by calls that take no memory: whether it is valid, its kind, its
@@ -46,40 +44,25 @@ fn write_shown(out: &mut Page, shown: &str, of_copy: &str) {
     );
 }
 
-fn copy_text(alloc: Global, ast: &GrammarAST) -> Result<String, AllocError> {
-    let mut out = Page::new(alloc);
-    write_made(&mut out, &Whole, ast.clone())?;
-    out.into_text()
-}
-
 /// Writes all that a tree holds.
 struct Whole;
 
 impl Writer<GrammarAST, AllocError> for Whole {
-    fn write(&self, out: &mut Page, ast: &mut GrammarAST) -> Result<(), AllocError> {
+    fn write(&self, out: &mut Page, ast: &mut GrammarAST) {
         write_parts(out, ast);
-        Ok(())
     }
 }
 
 /// Writes how much there is in a syntax.
 pub fn write_lengths(out: &mut Page, ast: &GrammarAST) {
-    pen::pieces(
-        out,
-        &[
-            Piece::Number("syntax of ", ast.rules().len()),
-            Piece::Number(" rules, ", ast.prods().len()),
-            Piece::Number(" productions, ", ast.tokens().len()),
-            Piece::Number(" tokens, ", ast.token_directives().len()),
-            Piece::Text(" of them declared\n"),
-        ],
-    );
-}
-
-fn syntax_text(alloc: Global, ast: &GrammarAST) -> Result<String, AllocError> {
-    let mut out = Page::new(alloc);
-    write_parts(&mut out, ast);
-    out.into_text()
+    let pieces = [
+        Piece::Number("syntax of ", ast.rules().len()),
+        Piece::Number(" rules, ", ast.prods().len()),
+        Piece::Number(" productions, ", ast.tokens().len()),
+        Piece::Number(" tokens, ", ast.token_directives().len()),
+        Piece::Text(" of them declared\n"),
+    ];
+    pen::pieces(out, &pieces);
 }
 
 fn write_parts(out: &mut Page, ast: &GrammarAST) {

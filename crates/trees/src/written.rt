@@ -1,12 +1,12 @@
 //! Rows on what writes a syntax: another start, rules, productions and programs.
 
-use crate::made::{Writer, write_made};
 use crate::{copies, warnings};
 use cfgbase::Span;
 use cfgsyntax::yacc::ast::{
     ASTModificationError, ASTWithValidityInfo, GrammarAST, Rule, StartFault,
 };
 use cfgsyntax::yacc::{YaccKind, YaccOriginalActionKind};
+use rows::made::{Writer, write_made};
 use rows::page::Page;
 use rows::pen;
 use rows::row::{Row, number, words};
@@ -14,99 +14,73 @@ use std::alloc::{AllocError, Global};
 
 /// Writes what each call of the row answers on the row's text: each `start` on what was read, which stays as it was,
 /// and then the others, one after another on a copy of the tree.
-pub fn tell(out: &mut Page, alloc: Global, row: &Row<'_>, text: &str) -> Result<(), AllocError> {
+pub fn tell(out: &mut Page, row: &Row<'_>, text: &str) {
     let kind = YaccKind::Original(YaccOriginalActionKind::GenericParseTree);
-    let script = Script { alloc, row };
-    write_made(out, &script, ASTWithValidityInfo::new(alloc, kind, text))
+    let parsed = ASTWithValidityInfo::new(out.alloc, kind, text);
+    write_made(out, &Script { row }, parsed);
 }
 
 /// The calls of a row.
 #[derive(Drop)]
 struct Script<'a> {
-    alloc: Global,
     row: &'a Row<'a>,
 }
 
 impl Writer<ASTWithValidityInfo, AllocError> for Script<'_> {
-    fn write(&self, out: &mut Page, parsed: &mut ASTWithValidityInfo) -> Result<(), AllocError> {
-        tell_read(out, self.alloc, self.row, parsed)
+    fn write(&self, out: &mut Page, parsed: &mut ASTWithValidityInfo) {
+        write_start(out, parsed);
+        change_starts(out, self.row, parsed);
+        write_start(out, parsed);
+        copies::write_copies(out, parsed);
+        write_made(out, self, parsed.ast().clone());
     }
 }
 
 impl Writer<GrammarAST, AllocError> for Script<'_> {
-    fn write(&self, out: &mut Page, ast: &mut GrammarAST) -> Result<(), AllocError> {
+    fn write(&self, out: &mut Page, ast: &mut GrammarAST) {
         if self.row.first("show") == Some("without-memory") {
-            return set_programs_twice(out, self.alloc, self.row, ast);
+            return set_programs_twice(out, self.row, ast);
         }
-        change_tree(out, self.alloc, self.row, ast)?;
-        write_tree(out, self.alloc, ast)
+        for line in &self.row.lines {
+            change_told(out, ast, *line);
+        }
+        write_tree(out, ast);
     }
 }
 
-fn tell_read(
-    out: &mut Page,
-    alloc: Global,
-    row: &Row<'_>,
-    parsed: &ASTWithValidityInfo,
-) -> Result<(), AllocError> {
-    write_start(out, alloc, parsed)?;
-    change_starts(out, alloc, row, parsed)?;
-    write_start(out, alloc, parsed)?;
-    copies::write_copies(out, alloc, parsed)?;
-    write_made(out, &Script { alloc, row }, parsed.ast().clone())
-}
-
-fn change_starts(
-    out: &mut Page,
-    alloc: Global,
-    row: &Row<'_>,
-    parsed: &ASTWithValidityInfo,
-) -> Result<(), AllocError> {
+fn change_starts(out: &mut Page, row: &Row<'_>, parsed: &ASTWithValidityInfo) {
     for (word, rest) in &row.lines {
         if *word == "start" {
-            change_start(out, alloc, parsed, *rest)?;
+            let changed = restarted(out.alloc, parsed, *rest);
+            write_made(out, &Start, changed);
         }
     }
-    Ok(())
-}
-
-/// Writes what starts where the rule of this name is the start, or why it can't be.
-fn change_start(
-    out: &mut Page,
-    alloc: Global,
-    parsed: &ASTWithValidityInfo,
-    line: &str,
-) -> Result<(), AllocError> {
-    write_made(out, &Start { alloc }, restarted(alloc, parsed, line))
 }
 
 /// Writes what starts in a tree that has another start.
-#[derive(Drop)]
-struct Start {
-    alloc: Global,
-}
+struct Start;
 
 impl Writer<ASTWithValidityInfo, StartFault> for Start {
-    fn write(&self, out: &mut Page, changed: &mut ASTWithValidityInfo) -> Result<(), AllocError> {
-        write_start(out, self.alloc, changed)
+    fn write(&self, out: &mut Page, changed: &mut ASTWithValidityInfo) {
+        write_start(out, changed);
     }
 
-    fn refuse(&self, out: &mut Page, fault: &StartFault) -> Result<(), AllocError> {
+    fn refuse(&self, out: &mut Page, fault: &StartFault) {
         match fault {
             StartFault::Modification(error) => write_refused(out, error),
-            StartFault::OutOfMemory => Err(AllocError),
+            StartFault::OutOfMemory => out.tear(),
         }
     }
 }
 
-fn write_refused(out: &mut Page, error: &ASTModificationError) -> Result<(), AllocError> {
+fn write_refused(out: &mut Page, error: &ASTModificationError) {
     write!(out, "    {error}");
-    pen::unless_copied(out, error, ", and a copy that isn't the same")?;
+    pen::unless_copied(out, error, ", and a copy that isn't the same");
     out.push('\n');
-    Ok(())
 }
 
-fn restarted(
+/// What was parsed, with the start that a line tells, or why that can't be the start.
+pub fn restarted(
     alloc: Global,
     parsed: &ASTWithValidityInfo,
     line: &str,
@@ -116,15 +90,11 @@ fn restarted(
 }
 
 /// Writes the start, the number of errors, and the warnings.
-fn write_start(
-    out: &mut Page,
-    alloc: Global,
-    parsed: &ASTWithValidityInfo,
-) -> Result<(), AllocError> {
+fn write_start(out: &mut Page, parsed: &ASTWithValidityInfo) {
     write_named(out, parsed.ast().start());
     pen::number(out, ", ", parsed.errors().len());
     out.push_str(" errors, ");
-    warnings::write_warnings(out, alloc, parsed.ast())
+    warnings::write_warnings(out, parsed.ast());
 }
 
 /// Writes the start's name and its place, where there is a start.
@@ -152,61 +122,25 @@ fn rule_of(alloc: Global, line: &str) -> Result<Rule, AllocError> {
     })
 }
 
-/// Makes all calls of the row that write a tree.
-fn change_tree(
-    out: &mut Page,
-    alloc: Global,
-    row: &Row<'_>,
-    ast: &mut GrammarAST,
-) -> Result<(), AllocError> {
-    for line in &row.lines {
-        change_told(out, alloc, ast, *line)?;
-    }
-    Ok(())
-}
-
 /// Makes a call that writes a tree. Where memory ended, the tree is looked at, and the call is made again.
-fn change_told(
-    out: &mut Page,
-    alloc: Global,
-    ast: &mut GrammarAST,
-    line: (&str, &str),
-) -> Result<(), AllocError> {
-    let before = tree_text(alloc, ast)?;
-    if change(alloc, ast, line).is_err() {
-        return change_again(out, alloc, ast, line, before.as_str());
+fn change_told(out: &mut Page, ast: &mut GrammarAST, line: (&str, &str)) {
+    let mut before = Page::new(out.alloc);
+    write_tree(&mut before, ast);
+    out.follow(&before);
+    if change(out.alloc, ast, line).is_err() {
+        out.push_str("out of memory\n");
+        write_difference(out, ast, before.as_str());
+        let changed = change(out.alloc, ast, line);
+        out.note(changed);
     }
-    Ok(())
-}
-
-fn change_again(
-    out: &mut Page,
-    alloc: Global,
-    ast: &mut GrammarAST,
-    line: (&str, &str),
-    before: &str,
-) -> Result<(), AllocError> {
-    out.push_str("out of memory\n");
-    write_difference(out, alloc, ast, before)?;
-    change(alloc, ast, line)
 }
 
 /// Writes whether a tree isn't what it was before.
-fn write_difference(
-    out: &mut Page,
-    alloc: Global,
-    ast: &GrammarAST,
-    before: &str,
-) -> Result<(), AllocError> {
-    let now = tree_text(alloc, ast)?;
+fn write_difference(out: &mut Page, ast: &GrammarAST, before: &str) {
+    let mut now = Page::new(out.alloc);
+    write_tree(&mut now, ast);
+    out.follow(&now);
     pen::text_if(out, now.as_str() != before, "    with another tree\n");
-    Ok(())
-}
-
-pub(crate) fn tree_text(alloc: Global, ast: &GrammarAST) -> Result<String, AllocError> {
-    let mut out = Page::new(alloc);
-    write_tree(&mut out, alloc, ast)?;
-    out.into_text()
 }
 
 fn change(
@@ -223,11 +157,11 @@ fn change(
 }
 
 /// Writes a tree: its rules, how many productions there are, its programs and its warnings.
-fn write_tree(out: &mut Page, alloc: Global, ast: &GrammarAST) -> Result<(), AllocError> {
+pub(crate) fn write_tree(out: &mut Page, ast: &GrammarAST) {
     write_rules(out, ast);
     pen::number(out, "    ", ast.prods().len());
     write!(out, " productions, programs {:?}, ", ast.programs());
-    warnings::write_warnings(out, alloc, ast)
+    warnings::write_warnings(out, ast);
 }
 
 fn add_rule(alloc: Global, ast: &mut GrammarAST, line: &str) -> Result<(), AllocError> {
@@ -241,23 +175,16 @@ fn set_programs(alloc: Global, ast: &mut GrammarAST, text: &str) -> Result<(), A
 }
 
 /// Sets the row's programs, and others in their place, by the two calls that do so.
-fn set_programs_twice(
-    out: &mut Page,
-    alloc: Global,
-    row: &Row<'_>,
-    ast: &mut GrammarAST,
-) -> Result<(), AllocError> {
-    let first = String::from_str(alloc, row.first("programs").unwrap_or(""))?;
-    let second = String::from_str(alloc, row.first("add-programs").unwrap_or(""))?;
-    write_set(out, ast, first);
-    ast.add_programs(second);
-    write_programs(out, ast);
-    Ok(())
-}
-
-fn write_set(out: &mut Page, ast: &mut GrammarAST, text: String) {
+fn set_programs_twice(out: &mut Page, row: &Row<'_>, ast: &mut GrammarAST) {
+    let first = String::from_str(out.alloc, row.first("programs").unwrap_or(""));
+    let second = String::from_str(out.alloc, row.first("add-programs").unwrap_or(""));
+    let (Ok(first), Ok(second)) = (first, second) else {
+        return out.tear();
+    };
     pen::without_memory(out);
-    ast.set_programs(text);
+    ast.set_programs(first);
+    write_programs(out, ast);
+    ast.add_programs(second);
     write_programs(out, ast);
 }
 

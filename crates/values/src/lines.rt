@@ -13,153 +13,119 @@ use std::alloc::{AllocError, Global};
 
 /// Writes what a cache of the text's newlines answers, of the text fed whole; and the ways to feed it in pieces by
 /// which it answers something else.
-pub fn tell(out: &mut Page, alloc: Global, row: &Row<'_>, text: &str) -> Result<(), AllocError> {
+pub fn tell(out: &mut Page, row: &Row<'_>, text: &str) {
     pen::number(out, "text of ", text.len());
     out.push_str(" bytes\n");
     write_text(out, text);
-    match NewlineCache::from_str(alloc, text) {
-        Ok(cache) => tell_cache(out, alloc, row, &cache, text),
-        Err(_) => Err(AllocError),
+    match NewlineCache::from_str(out.alloc, text) {
+        Ok(cache) => tell_cache(out, row, &cache, text),
+        Err(_) => out.tear(),
     }
 }
 
-fn tell_cache(
-    out: &mut Page,
-    alloc: Global,
-    row: &Row<'_>,
-    whole: &NewlineCache,
-    text: &str,
-) -> Result<(), AllocError>
+fn tell_cache(out: &mut Page, row: &Row<'_>, whole: &NewlineCache, text: &str)
     requires { StandsFor whole.now text.now }
 {
     if row.first("show") == Some("without-memory") {
-        tell_without_memory(out, alloc, row, whole, text);
-        return Ok(());
+        return tell_without_memory(out, row, whole, text);
     }
-    let answers = answers(alloc, row, whole, text)?;
-    tell_ways(out, alloc, row, text, answers.as_str())
-}
-
-/// Writes what a cache of a text answers, and what others do that are fed in pieces.
-fn tell_ways(
-    out: &mut Page,
-    alloc: Global,
-    row: &Row<'_>,
-    text: &str,
-    whole: &str,
-) -> Result<(), AllocError> {
-    out.push_str(whole);
-    write_ways(out, alloc, row, text, whole)?;
-    write_joined(out, alloc, text)
+    match answers(out.alloc, row, whole, text) {
+        Ok(answers) => {
+            out.push_str(answers.as_str());
+            write_ways(out, row, text, answers.as_str());
+            write_joined(out, text);
+        }
+        Err(_) => out.tear(),
+    }
 }
 
 /// Writes what a cache of a text answers, and what one does that was fed nothing.
-fn tell_without_memory(
-    out: &mut Page,
-    alloc: Global,
-    row: &Row<'_>,
-    whole: &NewlineCache,
-    text: &str,
-)
+fn tell_without_memory(out: &mut Page, row: &Row<'_>, whole: &NewlineCache, text: &str)
     requires { StandsFor whole.now text.now }
 {
     pen::without_memory(out);
     write_answers(out, row, whole, text);
-    write_answers(out, row, &NewlineCache::new(alloc), "");
+    let unfed = NewlineCache::new(out.alloc);
+    write_answers(out, row, &unfed, "");
 }
 
 /// Writes the ways to feed a text in pieces by which a cache answers something else, and how many ways were tried. A
 /// text of which a digest is written is only fed as the row says.
-fn write_ways(
-    out: &mut Page,
-    alloc: Global,
-    row: &Row<'_>,
-    text: &str,
-    whole: &str,
-) -> Result<(), AllocError> {
+fn write_ways(out: &mut Page, row: &Row<'_>, text: &str, whole: &str) {
     let cuts = match row.first("show") {
         Some("digest") => 0,
-        _ => try_cuts(out, alloc, row, text, whole)?,
+        _ => try_cuts(out, row, text, whole),
     };
-    let told = try_told(out, alloc, row, text, whole)?;
+    let told = try_told(out, row, text, whole);
     pen::number(out, "fed in ", cuts.saturating_add(told));
     out.push_str(" ways\n");
-    Ok(())
 }
 
 /// Feeds a text in two pieces, cut before each character and at the end, and in pieces of one character. How many ways
 /// these are.
-fn try_cuts(
-    out: &mut Page,
-    alloc: Global,
-    row: &Row<'_>,
-    text: &str,
-    whole: &str,
-) -> Result<usize, AllocError> {
+fn try_cuts(out: &mut Page, row: &Row<'_>, text: &str, whole: &str) -> usize {
     for place in 0..=text.len() {
         if text.is_char_boundary(place) {
-            try_way(out, alloc, row, text, &[place], whole)?;
+            try_way(out, row, text, &[place], whole);
         }
     }
-    let lengths = character_lengths(alloc, text)?;
-    try_way(out, alloc, row, text, &lengths, whole)?;
-    Ok(lengths.len().saturating_add(2))
+    let lengths = character_lengths(out.alloc, text);
+    try_lengths(out, row, text, lengths, whole);
+    text.chars().count().saturating_add(2)
 }
 
 /// Feeds a text as the row says. How many ways these are.
-fn try_told(
-    out: &mut Page,
-    alloc: Global,
-    row: &Row<'_>,
-    text: &str,
-    whole: &str,
-) -> Result<usize, AllocError> {
+fn try_told(out: &mut Page, row: &Row<'_>, text: &str, whole: &str) -> usize {
     let mut count = 0usize;
     for (word, rest) in &row.lines {
-        match *word {
-            "pieces" => try_way(out, alloc, row, text, &told_lengths(alloc, *rest)?, whole)?,
-            "every" => {
-                let lengths = even_lengths(alloc, text, number(*rest))?;
-                try_way(out, alloc, row, text, &lengths, whole)?;
-            }
+        let lengths = match *word {
+            "pieces" => told_lengths(out.alloc, *rest),
+            "every" => even_lengths(out.alloc, text, number(*rest)),
             _ => continue,
-        }
+        };
+        try_lengths(out, row, text, lengths, whole);
         count = count.saturating_add(1);
     }
-    Ok(count)
+    count
+}
+
+/// Feeds a text in pieces of lengths, where memory was enough for these.
+fn try_lengths(
+    out: &mut Page,
+    row: &Row<'_>,
+    text: &str,
+    lengths: Result<Vec<usize>, AllocError>,
+    whole: &str,
+) {
+    match lengths {
+        Ok(lengths) => try_way(out, row, text, &lengths, whole),
+        Err(_) => out.tear(),
+    }
 }
 
 /// Feeds a text in pieces of these lengths, and then the rest, and writes so where a cache then answers something else
 /// than where it is fed whole.
-fn try_way(
-    out: &mut Page,
-    alloc: Global,
-    row: &Row<'_>,
-    text: &str,
-    lengths: &[usize],
-    whole: &str,
-) -> Result<(), AllocError> {
-    if answers_same(out, alloc, row, text, lengths, whole)? {
-        return Ok(());
+fn try_way(out: &mut Page, row: &Row<'_>, text: &str, lengths: &[usize], whole: &str) {
+    match answers_same(out, row, text, lengths, whole) {
+        Ok(true) => {}
+        Ok(false) => writeln!(
+            out,
+            "otherwise where it is fed by {lengths:?} bytes and the rest"
+        ),
+        Err(_) => out.tear(),
     }
-    writeln!(
-        out,
-        "otherwise where it is fed by {lengths:?} bytes and the rest"
-    );
-    Ok(())
 }
 
 /// Whether a cache of a text fed in pieces of these lengths, and then the rest, answers what the whole text does.
 fn answers_same(
     out: &mut Page,
-    alloc: Global,
     row: &Row<'_>,
     text: &str,
     lengths: &[usize],
     whole: &str,
 ) -> Result<bool, AllocError> {
-    match feed_pieces(out, alloc, row, text, lengths) {
-        Ok(Some(cache)) => Ok(answers(alloc, row, &cache, text)?.as_str() == whole),
+    match feed_pieces(out, row, text, lengths) {
+        Ok(Some(cache)) => Ok(answers(out.alloc, row, &cache, text)?.as_str() == whole),
         Ok(None) => Ok(false),
         Err(_) => Err(AllocError),
     }
@@ -187,23 +153,22 @@ fn even_lengths(alloc: Global, text: &str, length: usize) -> Result<Vec<usize>, 
 /// be cut.
 fn feed_pieces(
     out: &mut Page,
-    alloc: Global,
     row: &Row<'_>,
     text: &str,
     lengths: &[usize],
 ) -> Result<Option<NewlineCache>, FeedError>
     ensures { IfOk result (λ fed. IfSome fed (λ cache. StandsFor cache text.now)) }
 {
-    let mut cache = NewlineCache::new(alloc);
+    let mut cache = NewlineCache::new(out.alloc);
     let mut rest = text;
     for length in lengths {
         let Some((piece, behind)) = rest.split_at_checked(*length) else {
             return Ok(None);
         };
-        feed(out, alloc, row, &mut cache, before(text, rest), piece)?;
+        feed(out, row, &mut cache, before(text, rest), piece)?;
         rest = behind;
     }
-    feed(out, alloc, row, &mut cache, before(text, rest), rest)?;
+    feed(out, row, &mut cache, before(text, rest), rest)?;
     Ok(Some(cache))
 }
 
@@ -217,7 +182,6 @@ fn before<'a>(text: &'a str, end: &str) -> &'a str {
 /// would hide it.
 fn feed(
     out: &mut Page,
-    alloc: Global,
     row: &Row<'_>,
     cache: &mut NewlineCache,
     fed: &str,
@@ -228,7 +192,7 @@ fn feed(
 {
     match cache.feed(piece) {
         Err(FeedError::OutOfMemory) if row.first("show") != Some("digest") => {
-            write_want(out, alloc, cache, fed)?;
+            write_want(out, cache, fed);
             cache.feed(piece)
         }
         answer => answer,
@@ -236,16 +200,12 @@ fn feed(
 }
 
 /// Writes that memory ended, and whether the cache then isn't that of what was fed before.
-fn write_want(
-    out: &mut Page,
-    alloc: Global,
-    cache: &NewlineCache,
-    fed: &str,
-) -> Result<(), FeedError> {
+fn write_want(out: &mut Page, cache: &NewlineCache, fed: &str) {
     out.push_str("out of memory\n");
-    let other = NewlineCache::from_str(alloc, fed)?;
-    write_differences(out, cache, &other, fed.len());
-    Ok(())
+    match NewlineCache::from_str(out.alloc, fed) {
+        Ok(other) => write_differences(out, cache, &other, fed.len()),
+        Err(_) => out.tear(),
+    }
 }
 
 /// Writes for each byte up to past an end whether two caches differ there.
@@ -314,14 +274,10 @@ fn write_spans(out: &mut Page, row: &Row<'_>, cache: &NewlineCache) {
 }
 
 /// Writes what a cache of the text's lines, joined, answers of the text's end and past it.
-fn write_joined(out: &mut Page, alloc: Global, text: &str) -> Result<(), AllocError> {
-    let lines: Vec<&str> = text.split_inclusive('\n').collect(alloc)?;
-    match NewlineCache::from_pieces(alloc, lines.iter().copied()) {
-        Ok(joined) => {
-            write_end(out, &joined, text.len());
-            Ok(())
-        }
-        Err(_) => Err(AllocError),
+fn write_joined(out: &mut Page, text: &str) {
+    match NewlineCache::from_pieces(out.alloc, text.split_inclusive('\n')) {
+        Ok(joined) => write_end(out, &joined, text.len()),
+        Err(_) => out.tear(),
     }
 }
 

@@ -13,7 +13,7 @@ use cfgmarks::markmap::{MarkMap, MergeBehavior, MergeError, MergeFault};
 use rows::page::Page;
 use rows::pen;
 use rows::row::{Row, number, words};
-use rows::text::push_turn;
+use rows::text::of_turn;
 use std::alloc::{AllocError, Global};
 use std::fmt::Debug;
 use std::mem;
@@ -55,10 +55,10 @@ impl Key for String {
 
 /// Runs the row's script, over keys of the type that the row names, and writes each call, its answer, and the map after
 /// it.
-pub fn tell(out: &mut Page, alloc: Global, row: &Row<'_>) -> Result<(), AllocError> {
+pub fn tell(out: &mut Page, row: &Row<'_>) {
     match row.first("keys") {
-        Some("numbers") => play::<u32>(out, alloc, row),
-        _ => play::<String>(out, alloc, row),
+        Some("numbers") => play::<u32>(out, row),
+        _ => play::<String>(out, row),
     }
 }
 
@@ -79,75 +79,54 @@ impl<K: Key> Maps<K> {
 }
 
 /// Runs a script on two maps, of which the second is merged into the first.
-fn play<K: Key>(out: &mut Page, alloc: Global, row: &Row<'_>) -> Result<(), AllocError> {
-    let mut maps = Maps::<K>::new(alloc);
-    play_lines(out, alloc, row, &mut maps)
-}
-
-/// Runs all lines of a script.
-fn play_lines<K: Key>(
-    out: &mut Page,
-    alloc: Global,
-    row: &Row<'_>,
-    maps: &mut Maps<K>,
-) -> Result<(), AllocError> {
+fn play<K: Key>(out: &mut Page, row: &Row<'_>) {
+    let mut maps = Maps::<K>::new(out.alloc);
     for (place, line) in row.lines.iter().enumerate() {
         match line.0 {
-            "merge" => merge_told(out, alloc, row, place, maps, line.1)?,
-            _ => play_line(out, alloc, row, place, maps, *line)?,
+            "merge" => merge_told(out, row, place, &mut maps, line.1),
+            _ => play_line(out, row, place, &mut maps, *line),
         }
     }
-    Ok(())
 }
 
 /// Merges the other map, and writes how that ended and the map. Where memory ends, what is then there is looked at.
 fn merge_told<K: Key>(
     out: &mut Page,
-    alloc: Global,
     row: &Row<'_>,
     place: usize,
     maps: &mut Maps<K>,
     refused: &str,
-) -> Result<(), AllocError> {
+) {
     write_call(out, "    merge ", refused);
-    match merge(out, alloc, maps, refused) {
-        Ok(()) => write_map(out, alloc, row, &mut maps.map),
-        Err(_) => stops::tell_stop(out, alloc, row, place, &maps.map),
+    match merge(out, maps, refused) {
+        Ok(()) => write_map(out, row, &mut maps.map),
+        Err(_) => stops::tell_stop(out, row, place, &maps.map),
     }
 }
 
 /// Runs a line of a script that merges nothing.
 fn play_line<K: Key>(
     out: &mut Page,
-    alloc: Global,
     row: &Row<'_>,
     place: usize,
     maps: &mut Maps<K>,
     (word, rest): (&str, &str),
-) -> Result<(), AllocError> {
+) {
     match word {
-        "call" => tell_call(out, alloc, row, place, &mut maps.map, rest),
-        "calls" => calls(out, alloc, &mut maps.map, rest),
-        "others" => calls(out, alloc, &mut maps.other, rest),
+        "call" => tell_call(out, row, place, &mut maps.map, rest),
+        "calls" => calls(out, &mut maps.map, rest),
+        "others" => calls(out, &mut maps.other, rest),
         "other" => {
             write_call(out, "    other ", rest);
-            call(out, alloc, &mut maps.other, rest)
+            note_call(out, &mut maps.other, rest);
         }
-        "compare" => {
-            compare(out, "    equal to the other: ", &maps.map, &maps.other);
-            Ok(())
-        }
+        "compare" => compare(out, "    equal to the other: ", &maps.map, &maps.other),
         "show" if rest == "without-memory" => {
             pen::without_memory(out);
-            compare(
-                out,
-                "    equal to a new map: ",
-                &maps.map,
-                &MarkMap::new(alloc),
-            );
-            Ok(())
+            let other = MarkMap::new(out.alloc);
+            compare(out, "    equal to a new map: ", &maps.map, &other);
         }
-        _ => Ok(()),
+        _ => {}
     }
 }
 
@@ -160,34 +139,27 @@ fn compare<K: Key>(out: &mut Page, before: &str, map: &MarkMap<K, u32>, other: &
 /// Makes a call, and writes it, what it answers and what the map then has.
 fn tell_call<K: Key>(
     out: &mut Page,
-    alloc: Global,
     row: &Row<'_>,
     place: usize,
     map: &mut MarkMap<K, u32>,
     line: &str,
-) -> Result<(), AllocError> {
+) {
     write_call(out, "    ", line);
-    if call(out, alloc, map, line).is_err() {
-        write_want(out, alloc, row, place, map)?;
+    if call(out, map, line).is_err() {
+        write_want(out, row, place, map);
         write_call(out, "    ", line);
-        call(out, alloc, map, line)?;
+        note_call(out, map, line);
     }
-    write_map(out, alloc, row, map)
+    write_map(out, row, map);
 }
 
 /// Writes that memory ended in a call, and what the map then has where that stands in front of the call too: behind
 /// another call and behind a merge.
-fn write_want<K: Key>(
-    out: &mut Page,
-    alloc: Global,
-    row: &Row<'_>,
-    place: usize,
-    map: &mut MarkMap<K, u32>,
-) -> Result<(), AllocError> {
+fn write_want<K: Key>(out: &mut Page, row: &Row<'_>, place: usize, map: &mut MarkMap<K, u32>) {
     out.push_str("out of memory\n");
     match row.lines.get(place.wrapping_sub(1)) {
-        Some(("call" | "merge", _)) => write_map(out, alloc, row, map),
-        _ => Ok(()),
+        Some(("call" | "merge", _)) => write_map(out, row, map),
+        _ => {}
     }
 }
 
@@ -200,45 +172,31 @@ fn write_call(out: &mut Page, before: &str, line: &str) {
 
 /// Makes a call as many times as the number in front of it says, with the turn's number for each `#`, and writes what
 /// each answers.
-fn calls<K: Key>(
-    out: &mut Page,
-    alloc: Global,
-    map: &mut MarkMap<K, u32>,
-    line: &str,
-) -> Result<(), AllocError> {
+fn calls<K: Key>(out: &mut Page, map: &mut MarkMap<K, u32>, line: &str) {
     let (count, line) = line.split_once(' ').unwrap_or(("0", ""));
     for turn in 0..number(count) {
-        call_turn(out, alloc, map, line, turn)?;
+        match of_turn(out.alloc, line, turn) {
+            Ok(line) => note_call(out, map, line.as_str()),
+            Err(_) => out.tear(),
+        }
     }
-    Ok(())
 }
 
-fn call_turn<K: Key>(
-    out: &mut Page,
-    alloc: Global,
-    map: &mut MarkMap<K, u32>,
-    line: &str,
-    turn: usize,
-) -> Result<(), AllocError> {
-    let mut turned = String::new(alloc);
-    push_turn(&mut turned, line, turn)?;
-    call(out, alloc, map, turned.as_str())
+/// Makes a call, and writes what it answers, where memory is enough for it.
+fn note_call<K: Key>(out: &mut Page, map: &mut MarkMap<K, u32>, line: &str) {
+    let called = call(out, map, line);
+    out.note(called);
 }
 
 /// Makes a call, and writes what it answers.
-fn call<K: Key>(
-    out: &mut Page,
-    alloc: Global,
-    map: &mut MarkMap<K, u32>,
-    line: &str,
-) -> Result<(), AllocError> {
+fn call<K: Key>(out: &mut Page, map: &mut MarkMap<K, u32>, line: &str) -> Result<(), AllocError> {
     let (name, key, value) = words(line);
     if name == "default" {
         map.set_default_merge_behavior(behavior(key));
         out.push_str("()\n");
         return Ok(());
     }
-    let key = K::of(alloc, key)?;
+    let key = K::of(out.alloc, key)?;
     call_with(out, map, &key, name, value)
 }
 
@@ -297,11 +255,9 @@ fn make_call<K: Key>(
         }
         Act::MarkUsed => write_done(out, map.mark_used(key), "()\n"),
         Act::MarkRequired => write_done(out, map.mark_required(key), "()\n"),
-        Act::SetMergeBehavior(behavior) => write_done(
-            out,
-            map.set_merge_behavior(key, behavior),
-            "()\n",
-        ),
+        Act::SetMergeBehavior(behavior) => {
+            write_done(out, map.set_merge_behavior(key, behavior), "()\n")
+        }
         Act::InsertEntry(_) | Act::Look => Ok(()),
     }
 }
@@ -313,20 +269,12 @@ fn insert<K: Key>(
     key: &K,
     value: u32,
 ) -> Result<(), AllocError> {
-    write_inserted(out, &map.insert(key.clone()?, value), (key, value))
-}
-
-fn write_inserted<K: Key>(
-    out: &mut Page,
-    inserted: &Result<Option<u32>, (K, u32)>,
-    handed: (&K, u32),
-) -> Result<(), AllocError> {
-    match inserted {
+    match map.insert(key.clone()?, value) {
         Ok(old) => {
-            write_old(out, *old);
+            write_old(out, old);
             Ok(())
         }
-        Err(back) => refused(out, back, handed),
+        Err(back) => refused(out, &back, (key, value)),
     }
 }
 
@@ -372,13 +320,8 @@ fn behavior(word: &str) -> MergeBehavior {
 }
 
 /// Merges the other map, where one value isn't converted, and writes how that ended.
-fn merge<K: Key>(
-    out: &mut Page,
-    alloc: Global,
-    maps: &mut Maps<K>,
-    refused: &str,
-) -> Result<(), AllocError> {
-    let theirs = mem::replace(&mut maps.other, MarkMap::new(alloc));
+fn merge<K: Key>(out: &mut Page, maps: &mut Maps<K>, refused: &str) -> Result<(), AllocError> {
+    let theirs = mem::replace(&mut maps.other, MarkMap::new(out.alloc));
     write_merged(out, &merged(&mut maps.map, theirs, number(refused)))
 }
 
@@ -403,20 +346,12 @@ fn write_merged<K: Key>(
     merged: &Result<(), MergeFault<K, u32, &'static str>>,
 ) -> Result<(), AllocError> {
     match merged {
-        Ok(()) => {
-            out.push_str("()\n");
-            Ok(())
-        }
-        Err(MergeFault::Convert(key, refused)) => {
-            writeln!(out, "{refused} at {key:?}");
-            Ok(())
-        }
-        Err(MergeFault::OutOfMemory) => Err(AllocError),
-        Err(MergeFault::Conflict(conflict)) => {
-            write_conflict(out, conflict);
-            Ok(())
-        }
+        Ok(()) => out.push_str("()\n"),
+        Err(MergeFault::Convert(key, refused)) => writeln!(out, "{refused} at {key:?}"),
+        Err(MergeFault::Conflict(conflict)) => write_conflict(out, conflict),
+        Err(MergeFault::OutOfMemory) => return Err(AllocError),
     }
+    Ok(())
 }
 
 fn write_conflict<K: Key>(out: &mut Page, conflict: &MergeError<K, Box<u32>>) {
@@ -425,37 +360,23 @@ fn write_conflict<K: Key>(out: &mut Page, conflict: &MergeError<K, Box<u32>>) {
 }
 
 /// Writes a map: what each of the row's keys has, and its lists of keys.
-fn write_map<K: Key>(
-    out: &mut Page,
-    alloc: Global,
-    row: &Row<'_>,
-    map: &mut MarkMap<K, u32>,
-) -> Result<(), AllocError> {
+fn write_map<K: Key>(out: &mut Page, row: &Row<'_>, map: &mut MarkMap<K, u32>) {
     out.push_str("       ");
-    write_watched(out, alloc, row.first("watch").unwrap_or(""), map)?;
+    write_watched(out, row.first("watch").unwrap_or(""), map);
     write_keys(out, map);
     write_entries(out, map);
     match row.first("show") {
-        Some("without-memory") => {
-            out.push('\n');
-            Ok(())
-        }
-        _ => write_marked(out, alloc, map),
+        Some("without-memory") => out.push('\n'),
+        _ => write_marked(out, map),
     }
 }
 
 /// Writes what each of these keys has.
-fn write_watched<K: Key>(
-    out: &mut Page,
-    alloc: Global,
-    watched: &str,
-    map: &mut MarkMap<K, u32>,
-) -> Result<(), AllocError> {
+fn write_watched<K: Key>(out: &mut Page, watched: &str, map: &mut MarkMap<K, u32>) {
     for word in watched.split_whitespace() {
-        entry::write_key(out, alloc, map, word)?;
+        entry::write_key(out, map, word);
     }
     out.push('\n');
-    Ok(())
 }
 
 /// Writes the keys.
@@ -476,14 +397,15 @@ fn write_entries<K: Key>(out: &mut Page, map: &MarkMap<K, u32>) {
 }
 
 /// Writes the unused keys and the missing ones.
-fn write_marked<K: Key>(
-    out: &mut Page,
-    alloc: Global,
-    map: &MarkMap<K, u32>,
-) -> Result<(), AllocError> {
-    write_unused(out, &map.unused(alloc)?);
-    write_missing(out, &map.missing(alloc)?);
-    Ok(())
+fn write_marked<K: Key>(out: &mut Page, map: &MarkMap<K, u32>) {
+    match map.unused(out.alloc) {
+        Ok(keys) => write_unused(out, &keys),
+        Err(_) => out.tear(),
+    }
+    match map.missing(out.alloc) {
+        Ok(keys) => write_missing(out, &keys),
+        Err(_) => out.tear(),
+    }
 }
 
 fn write_unused<K: Key>(out: &mut Page, keys: &[K]) {

@@ -5,144 +5,96 @@ ghost use Rattle.std.specs.Prelude.{◌≡◌, ◌<◌, length};
 use cfgbase::{Location, Span};
 use cfgindex::{PIdx, RIdx, SIdx, Storage, Symbol, TIdx, Vob};
 use rows::page::Page;
-use rows::pen;
+use rows::pen::{self, Piece};
 use rows::row::{Row, number, numbers};
-use std::alloc::{AllocError, Global};
 
 /// Writes what is answered of each value of the row. The row's text, or else `a script`, is the place that no span is.
-pub fn tell(out: &mut Page, alloc: Global, row: &Row<'_>, text: &str) -> Result<(), AllocError> {
+pub fn tell(out: &mut Page, row: &Row<'_>, text: &str) {
     if row.first("show") == Some("without-memory") {
-        return tell_without_memory(out, alloc, row);
+        return tell_without_memory(out, row);
     }
     let script = if text.is_empty() { "a script" } else { text };
     for line in &row.lines {
-        tell_line(out, alloc, row, script, *line)?;
+        tell_line(out, row, script, *line);
     }
-    Ok(())
 }
 
-fn tell_line(
-    out: &mut Page,
-    alloc: Global,
-    row: &Row<'_>,
-    script: &str,
-    (word, rest): (&str, &str),
-) -> Result<(), AllocError> {
+fn tell_line(out: &mut Page, row: &Row<'_>, script: &str, (word, rest): (&str, &str)) {
     match word {
-        "span" => write_span(out, alloc, script, numbers(rest)),
-        "number" => {
-            write_number(out, number(rest));
-            Ok(())
-        }
-        "bits" => write_bits(out, alloc, row, numbers(rest)),
-        _ => Ok(()),
+        "span" => write_span(out, Some(script), numbers(rest)),
+        "number" => write_number(out, number(rest)),
+        "bits" => write_bits(out, row, numbers(rest)),
+        _ => {}
     }
 }
 
 /// Writes what is answered of each value of the row, and of the row's list of bits, all of them made before.
-fn tell_without_memory(out: &mut Page, alloc: Global, row: &Row<'_>) -> Result<(), AllocError> {
+fn tell_without_memory(out: &mut Page, row: &Row<'_>) {
     let (len, first) = numbers(row.first("bits").unwrap_or(""));
-    let mut bits = Vob::from_elem(alloc, first == 1, len)?;
-    let others = Vob::from_elem(alloc, true, len)?;
-    write_values(out, row, &mut bits, &others)
+    match (
+        Vob::from_elem(out.alloc, first == 1, len),
+        Vob::from_elem(out.alloc, true, len),
+    ) {
+        (Ok(mut bits), Ok(others)) => write_values(out, row, &mut bits, &others),
+        _ => out.tear(),
+    }
 }
 
 /// Writes what is answered of each span and each number of the row, and of a list of bits.
-fn write_values(
-    out: &mut Page,
-    row: &Row<'_>,
-    bits: &mut Vob,
-    others: &Vob,
-) -> Result<(), AllocError> {
+fn write_values(out: &mut Page, row: &Row<'_>, bits: &mut Vob, others: &Vob) {
     pen::without_memory(out);
     for (word, rest) in &row.lines {
-        write_value(out, bits, others, *word, numbers(*rest))?;
-    }
-    Ok(())
-}
-
-fn write_value(
-    out: &mut Page,
-    bits: &mut Vob,
-    others: &Vob,
-    word: &str,
-    (first, second): (usize, usize),
-) -> Result<(), AllocError> {
-    match word {
-        "span" => write_plain_span(out, first, second),
-        "number" => {
-            write_number(out, first);
-            Ok(())
-        }
-        "or" if others.len() == bits.len() => {
-            write_or(out, bits, 1, others);
-            Ok(())
-        }
-        _ => {
-            write_call(out, bits, word, first, second);
-            Ok(())
+        let (first, second) = numbers(*rest);
+        match *word {
+            "span" => write_span(out, None, (first, second)),
+            "number" => write_number(out, first),
+            "or" if others.len() == bits.len() => write_or(out, bits, 1, others),
+            other => write_call(out, bits, other, first, second),
         }
     }
 }
 
-/// Writes the parts of a span, and of the place that it is, as a line.
-fn write_plain_span(out: &mut Page, start: usize, end: usize) -> Result<(), AllocError> {
+/// Writes the parts of a span, and of the place that it is; and whether the place that a script is equals its copy.
+fn write_span(out: &mut Page, script: Option<&str>, (start, end): (usize, usize)) {
     if start > end {
-        out.push_str("    no span\n");
-        return Ok(());
+        return out.push_str("    no span\n");
     }
-    write_parts(out, Span::new(start, end))?;
+    write_parts(out, Span::new(start, end));
+    if let Some(script) = script {
+        write_other(out, script);
+    }
     out.push('\n');
-    Ok(())
 }
 
-/// Writes the parts of a span, and of the place that it is, and whether other places equal their copies.
-fn write_span(
-    out: &mut Page,
-    alloc: Global,
-    script: &str,
-    (start, end): (usize, usize),
-) -> Result<(), AllocError> {
-    if start > end {
-        out.push_str("    no span\n");
-        return Ok(());
+/// Writes the parts of a span, and of the place that it is, and whether that equals a copy, and the command line.
+fn write_parts(out: &mut Page, span: Span) {
+    let pieces = [
+        Piece::Number("    (", span.start()),
+        Piece::Number(",", span.end()),
+        Piece::Number(") has ", span.len()),
+        Piece::Text(" bytes"),
+        Piece::If(span.is_empty(), ", is empty"),
+    ];
+    pen::pieces(out, &pieces);
+    let place = Location::from(span);
+    write!(out, ", as a place {place:?};");
+    write_copied(out, &place);
+    pen::flag(out, " ", place == Location::CommandLine);
+}
+
+fn write_other(out: &mut Page, script: &str) {
+    match String::from_str(out.alloc, script) {
+        Ok(words) => write_copied(out, &Location::Other(words)),
+        Err(_) => out.tear(),
     }
-    write_parts(out, Span::new(start, end))?;
-    write_other(out, &Location::Other(String::from_str(alloc, script)?))
 }
 
-/// Writes the parts of a span, and of the place that it is.
-fn write_parts(out: &mut Page, span: Span) -> Result<(), AllocError> {
-    pen::numbers(out, ("    (", span.start()), (",", span.end()));
-    pen::number(out, ") has ", span.len());
-    out.push_str(" bytes");
-    if span.is_empty() {
-        out.push_str(", is empty");
+/// Writes whether a place equals a copy.
+fn write_copied(out: &mut Page, place: &Location) {
+    match place.clone() {
+        Ok(copy) => pen::flag(out, " ", copy == *place),
+        Err(_) => out.tear(),
     }
-    write_place(out, &Location::from(span))
-}
-
-/// Writes a place that a span is, and whether it equals a copy, and the command line.
-fn write_place(out: &mut Page, place: &Location) -> Result<(), AllocError> {
-    write!(out, ", as a place {place:?}; ");
-    write_copied(out, place)?;
-    pen::flag(out, " ", *place == Location::CommandLine);
-    Ok(())
-}
-
-/// Writes whether another place equals a copy, and ends the line.
-fn write_other(out: &mut Page, place: &Location) -> Result<(), AllocError> {
-    out.push(' ');
-    write_copied(out, place)?;
-    out.push('\n');
-    Ok(())
-}
-
-/// Writes whether a value equals a copy.
-fn write_copied<T: Clone + PartialEq + Drop>(out: &mut Page, value: &T) -> Result<(), AllocError> {
-    let is_same = value.clone()? == *value;
-    pen::flag(out, "", is_same);
-    Ok(())
 }
 
 /// Writes a number as each index type stores it.
@@ -157,12 +109,10 @@ fn write_number(out: &mut Page, number: usize) {
 
 /// Writes a number as one index type stores it, and as the indices of this type tell it.
 fn write_stored<S: Storage>(out: &mut Page, storage: &str, number: usize) {
-    let Some(stored) = S::from_usize(number) else {
-        out.push_str(storage);
-        out.push_str(" none");
-        return;
-    };
     out.push_str(storage);
+    let Some(stored) = S::from_usize(number) else {
+        return out.push_str(" none");
+    };
     pen::number(out, " ", stored.to_usize());
     let (rule, production) = (RIdx(stored), PIdx(stored));
     let (symbol, token) = (SIdx(stored), TIdx(stored));
@@ -186,33 +136,24 @@ fn write_stored<S: Storage>(out: &mut Page, storage: &str, number: usize) {
     }
 }
 
-/// Writes a list of bits that are off, the answers of the row's calls, and the list after each.
-fn write_bits(
-    out: &mut Page,
-    alloc: Global,
-    row: &Row<'_>,
-    (len, first): (usize, usize),
-) -> Result<(), AllocError> {
-    let mut bits = Vob::from_elem(alloc, first == 1, len)?;
-    write_list(out, &bits);
-    write_calls(out, alloc, row, &mut bits)
+/// Writes a list of bits that are all off or all on, the answers of the row's calls, and the list after each.
+fn write_bits(out: &mut Page, row: &Row<'_>, (len, first): (usize, usize)) {
+    match Vob::from_elem(out.alloc, first == 1, len) {
+        Ok(mut bits) => write_calls(out, row, &mut bits),
+        Err(_) => out.tear(),
+    }
 }
 
-/// Writes the answers of the row's calls, and the list after each.
-fn write_calls(
-    out: &mut Page,
-    alloc: Global,
-    row: &Row<'_>,
-    bits: &mut Vob,
-) -> Result<(), AllocError> {
+/// Writes a list of bits, the answers of the row's calls, and the list after each.
+fn write_calls(out: &mut Page, row: &Row<'_>, bits: &mut Vob) {
+    write_list(out, bits);
     for (word, rest) in &row.lines {
         let (place, bit) = numbers(*rest);
         match *word {
-            "or" => write_or_all(out, alloc, bits, place)?,
+            "or" => write_or_all(out, bits, place),
             _ => write_call(out, bits, *word, place, bit),
         }
     }
-    Ok(())
 }
 
 /// Writes what a call on a list of bits answers.
@@ -235,15 +176,11 @@ fn write_set(out: &mut Page, bits: &mut Vob, place: usize, bit: usize)
 }
 
 /// Takes in the bits of a list of bits that are all off or all on.
-fn write_or_all(
-    out: &mut Page,
-    alloc: Global,
-    bits: &mut Vob,
-    bit: usize,
-) -> Result<(), AllocError> {
-    let other = Vob::from_elem(alloc, bit == 1, bits.len())?;
-    write_or(out, bits, bit, &other);
-    Ok(())
+fn write_or_all(out: &mut Page, bits: &mut Vob, bit: usize) {
+    match Vob::from_elem(out.alloc, bit == 1, bits.len()) {
+        Ok(other) => write_or(out, bits, bit, &other),
+        Err(_) => out.tear(),
+    }
 }
 
 /// Takes in the bits of another list as long, and writes whether that changed it, whether they are equal, and the list.
@@ -262,10 +199,10 @@ fn write_list(out: &mut Page, bits: &Vob) {
     pen::number(out, "    ", bits.len());
     out.push_str(" bits ");
     for place in 0..bits.len() {
-        out.push(if bits.get(place) == Some(true) {
-            '1'
+        out.push_str(if bits.get(place) == Some(true) {
+            "1"
         } else {
-            '0'
+            "0"
         });
     }
     out.push('\n');

@@ -27,17 +27,15 @@ fn write_rules(out: &mut Page, grammar: &YaccGrammar<u32>) {
 fn write_rule(out: &mut Page, grammar: &YaccGrammar<u32>, ridx: RIdx<u32>)
     requires { ridx.0 < length grammar.now.rules }
 {
-    pen::pieces(
-        out,
-        &[
-            Piece::Number("    rule ", usize::from(ridx)),
-            Piece::Name(": rule_name ", grammar.rule_name(ridx)),
-            Piece::Name(", rule_name_str ", grammar.rule_name_str(ridx)),
-            Piece::Text(", actiontype"),
-            Piece::TextOr(" ", grammar.actiontype(ridx), " none"),
-            Piece::Text("\n"),
-        ],
-    );
+    let pieces = [
+        Piece::Number("    rule ", usize::from(ridx)),
+        Piece::Name(": rule_name ", grammar.rule_name(ridx)),
+        Piece::Name(", rule_name_str ", grammar.rule_name_str(ridx)),
+        Piece::Text(", actiontype"),
+        Piece::TextOr(" ", grammar.actiontype(ridx), " none"),
+        Piece::Text("\n"),
+    ];
+    pen::pieces(out, &pieces);
 }
 
 fn write_productions(out: &mut Page, grammar: &YaccGrammar<u32>) {
@@ -50,16 +48,14 @@ fn write_productions(out: &mut Page, grammar: &YaccGrammar<u32>) {
 fn write_production(out: &mut Page, grammar: &YaccGrammar<u32>, pidx: PIdx<u32>)
     requires { pidx.0 < length grammar.now.productions }
 {
-    pen::pieces(
-        out,
-        &[
-            Piece::Number("    production ", usize::from(pidx)),
-            Piece::TextOr(": action ", grammar.action(pidx), ": action none"),
-            Piece::Text(", action_span"),
-            Piece::SpanOr(grammar.action_span(pidx), " none"),
-            Piece::Text(", prod_precedence "),
-        ],
-    );
+    let pieces = [
+        Piece::Number("    production ", usize::from(pidx)),
+        Piece::TextOr(": action ", grammar.action(pidx), ": action none"),
+        Piece::Text(", action_span"),
+        Piece::SpanOr(grammar.action_span(pidx), " none"),
+        Piece::Text(", prod_precedence "),
+    ];
+    pen::pieces(out, &pieces);
     write_level(out, grammar.prod_precedence(pidx));
     out.push('\n');
 }
@@ -74,14 +70,12 @@ fn write_tokens(out: &mut Page, grammar: &YaccGrammar<u32>) {
 fn write_token(out: &mut Page, grammar: &YaccGrammar<u32>, tidx: TIdx<u32>)
     requires { tidx.0 < length grammar.now.tokens }
 {
-    pen::pieces(
-        out,
-        &[
-            Piece::Number("    token ", usize::from(tidx)),
-            Piece::NameOr(": token_epp ", grammar.token_epp(tidx), ": token_epp none"),
-            Piece::Text(", token_precedence "),
-        ],
-    );
+    let pieces = [
+        Piece::Number("    token ", usize::from(tidx)),
+        Piece::NameOr(": token_epp ", grammar.token_epp(tidx), ": token_epp none"),
+        Piece::Text(", token_precedence "),
+    ];
+    pen::pieces(out, &pieces);
     write_level(out, grammar.token_precedence(tidx));
     pen::flag(out, ", avoid_insert ", grammar.avoid_insert(tidx));
     out.push('\n');
@@ -90,25 +84,21 @@ fn write_token(out: &mut Page, grammar: &YaccGrammar<u32>, tidx: TIdx<u32>)
 /// Writes what is said of the grammar as a whole.
 fn write_whole(out: &mut Page, grammar: &YaccGrammar<u32>) {
     let implicit = pen::rule_number(grammar.implicit_rule());
-    pen::pieces(
-        out,
-        &[
-            Piece::NumberOr("    implicit_rule ", implicit, "    implicit_rule none"),
-            Piece::NumberOr(", expect ", grammar.expect(), ", expect none"),
-            Piece::NumberOr(", expectrr ", grammar.expectrr(), ", expectrr none"),
-            Piece::Text(", parse_param"),
-        ],
-    );
+    let pieces = [
+        Piece::NumberOr("    implicit_rule ", implicit, "    implicit_rule none"),
+        Piece::NumberOr(", expect ", grammar.expect(), ", expect none"),
+        Piece::NumberOr(", expectrr ", grammar.expectrr(), ", expectrr none"),
+        Piece::Text(", parse_param"),
+    ];
+    pen::pieces(out, &pieces);
     write_param(out, grammar.parse_param());
-    pen::pieces(
-        out,
-        &[
-            Piece::Text(", parse_generics"),
-            Piece::TextOr(" ", grammar.parse_generics(), " none"),
-            Piece::TextOr(", programs ", grammar.programs(), ", programs none"),
-            Piece::Text("\n"),
-        ],
-    );
+    let pieces = [
+        Piece::Text(", parse_generics"),
+        Piece::TextOr(" ", grammar.parse_generics(), " none"),
+        Piece::TextOr(", programs ", grammar.programs(), ", programs none"),
+        Piece::Text("\n"),
+    ];
+    pen::pieces(out, &pieces);
 }
 
 fn write_param(out: &mut Page, param: &Option<(String, String)>) {

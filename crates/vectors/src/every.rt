@@ -4,8 +4,7 @@ use cfgrammar::yacc::{YaccKind, YaccOriginalActionKind};
 use rows::page::Page;
 use rows::row::{Row, rows};
 use rows::text::of_row;
-use std::alloc::{AllocError, Global};
-use std::io::{self, ErrorKind};
+use std::io::ErrorKind;
 use trees::cuts::write_cuts;
 
 /// How many bytes the texts have at most that are cut.
@@ -23,42 +22,29 @@ const KINDS: [Option<YaccKind>; 6] = [
 
 /// Writes what is answered of each beginning of each text that the rows in a file spell, as each kind, and as the one
 /// that it names. Texts without a byte and large ones are passed over.
-pub fn tell(out: &mut Page, rt: &HostRuntime, file: &str) -> Result<(), AllocError> {
-    let rows = rows(rt.alloc(), file)?;
-    tell_rows(out, rt, &rows)
+pub fn tell(out: &mut Page, rt: &HostRuntime, file: &str) {
+    match rows(rt.alloc(), file) {
+        Ok(rows) => tell_rows(out, rt, &rows),
+        Err(_) => out.tear(),
+    }
 }
 
-fn tell_rows(out: &mut Page, rt: &HostRuntime, rows: &[Row<'_>]) -> Result<(), AllocError> {
+fn tell_rows(out: &mut Page, rt: &HostRuntime, rows: &[Row<'_>]) {
     for row in rows {
-        tell_row(out, rt, row)?;
+        match of_row(rt, row) {
+            Ok(text) => tell_text(out, text.as_str()),
+            Err(fault) if fault.kind() == ErrorKind::OutOfMemory => out.tear(),
+            Err(fault) => writeln!(out, "no text: {fault}"),
+        }
     }
-    Ok(())
-}
-
-/// Writes what is answered of each beginning of a row's text.
-fn tell_row(out: &mut Page, rt: &HostRuntime, row: &Row<'_>) -> Result<(), AllocError> {
-    match of_row(rt, row) {
-        Ok(text) => tell_text(out, rt.alloc(), text.as_str()),
-        Err(fault) => tell_fault(out, &fault),
-    }
-}
-
-/// Writes why a row has no text.
-fn tell_fault(out: &mut Page, fault: &io::Error) -> Result<(), AllocError> {
-    if fault.kind() == ErrorKind::OutOfMemory {
-        return Err(AllocError);
-    }
-    writeln!(out, "no text: {fault}");
-    Ok(())
 }
 
 /// Writes what is answered of each beginning of a text, unless it is empty or large.
-fn tell_text(out: &mut Page, alloc: Global, text: &str) -> Result<(), AllocError> {
+fn tell_text(out: &mut Page, text: &str) {
     if text.is_empty() || text.len() > LONGEST {
-        return Ok(());
+        return;
     }
     for kind in &KINDS {
-        write_cuts(out, alloc, *kind, text)?;
+        write_cuts(out, *kind, text);
     }
-    Ok(())
 }

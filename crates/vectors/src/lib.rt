@@ -4,7 +4,6 @@
 mod accessors;
 pub mod every;
 mod grammar;
-mod made;
 mod names;
 mod openings;
 mod paths;

@@ -5,50 +5,44 @@ use cfgrammar::{NameHashes, TIdx};
 use lexcheck::{LexReport, check};
 use rows::page::Page;
 use rows::pen;
-use std::alloc::{AllocError, Global};
 use std::collections::HashMap;
 
 /// Writes where the tokens and these names, which white space parts, differ.
-pub(crate) fn write_names(
-    out: &mut Page,
-    alloc: Global,
-    grammar: &YaccGrammar<u32>,
-    names: &str,
-) -> Result<(), AllocError> {
-    let names: Vec<&str> = names.split_whitespace().collect(alloc)?;
-    write_checked(out, alloc, grammar, &names)
+pub(crate) fn write_names(out: &mut Page, grammar: &YaccGrammar<u32>, names: &str) {
+    match names.split_whitespace().collect::<Vec<&str>>(out.alloc) {
+        Ok(names) => write_checked(out, grammar, &names),
+        Err(_) => out.tear(),
+    }
 }
 
-fn write_checked(
-    out: &mut Page,
-    alloc: Global,
-    grammar: &YaccGrammar<u32>,
-    names: &[&str],
-) -> Result<(), AllocError> {
-    let report = check(alloc, grammar, names)?;
-    write_report(out, alloc, grammar, names, &report)
+fn write_checked(out: &mut Page, grammar: &YaccGrammar<u32>, names: &[&str]) {
+    match check(out.alloc, grammar, names) {
+        Ok(report) => write_report(out, grammar, names, &report),
+        Err(_) => out.tear(),
+    }
 }
 
 fn write_report(
     out: &mut Page,
-    alloc: Global,
     grammar: &YaccGrammar<u32>,
     names: &[&str],
     report: &LexReport<u32>,
-) -> Result<(), AllocError> {
+) {
     write!(out, "names {names:?}: {report:?}");
-    pen::unless_copied(out, report, ", and a copy that isn't the same")?;
-    write_map(out, alloc, grammar)?;
+    pen::unless_copied(out, report, ", and a copy that isn't the same");
+    write_map(out, grammar);
     out.push('\n');
-    Ok(())
 }
 
 /// Writes whether the map of tokens isn't what it says.
-fn write_map(out: &mut Page, alloc: Global, grammar: &YaccGrammar<u32>) -> Result<(), AllocError> {
-    let tokens = grammar.tokens_map(alloc)?;
-    let is_other = !is_mapped(grammar, &tokens);
-    pen::text_if(out, is_other, ", and another map of tokens");
-    Ok(())
+fn write_map(out: &mut Page, grammar: &YaccGrammar<u32>) {
+    match grammar.tokens_map(out.alloc) {
+        Ok(tokens) => {
+            let is_other = !is_mapped(grammar, &tokens);
+            pen::text_if(out, is_other, ", and another map of tokens");
+        }
+        Err(_) => out.tear(),
+    }
 }
 
 /// Whether a map has just the tokens that have a name, each under its name.

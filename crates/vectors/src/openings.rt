@@ -10,24 +10,25 @@ use std::alloc::{AllocError, Global};
 
 /// Writes how often a production of a grammar was opened at the most while the FIRST sets were found, and while the
 /// FOLLOW sets were, where that is never, or more than rules x (tokens + 1) + 1 times.
-pub(crate) fn write_openings(
-    out: &mut Page,
-    alloc: Global,
-    grammar: &YaccGrammar<u32>,
-) -> Result<(), AllocError> {
-    let firsts = opened_by_firsts(alloc, grammar)?;
+pub(crate) fn write_openings(out: &mut Page, grammar: &YaccGrammar<u32>) {
+    let firsts = opened_by_firsts(out.alloc, grammar);
     write_unexpected(out, grammar, firsts, "firsts");
-    let follows = opened_by_follows(alloc, grammar)?;
+    let follows = opened_by_follows(out.alloc, grammar);
     write_unexpected(out, grammar, follows, "follows");
-    Ok(())
 }
 
 /// Writes how often a production was opened at the most, where it may not have been opened so often.
-fn write_unexpected(out: &mut Page, grammar: &YaccGrammar<u32>, most: u64, sets: &str) {
-    if is_expected(grammar, most) {
-        return;
+fn write_unexpected(
+    out: &mut Page,
+    grammar: &YaccGrammar<u32>,
+    most: Result<u64, AllocError>,
+    sets: &str,
+) {
+    match most {
+        Ok(most) if is_expected(grammar, most) => {}
+        Ok(most) => writeln!(out, "    opened {most} times for {sets}"),
+        Err(_) => out.tear(),
     }
-    writeln!(out, "    opened {most} times for {sets}");
 }
 
 /// Whether a production may have been opened so often at the most.

@@ -9,44 +9,41 @@ use cfgrammar::yacc::YaccGrammar;
 use cfgrammar::yacc::sentences::SentenceGenerator;
 use rows::page::Page;
 use rows::row::Row;
-use std::alloc::{AllocError, Global};
 
 /// Writes what each line of the row asks for.
 pub(crate) fn write_asked(
     out: &mut Page,
-    alloc: Global,
     row: &Row<'_>,
     grammar: &YaccGrammar<u32>,
     generator: &SentenceGenerator<'_, u32, YaccGrammar<u32>>,
-) -> Result<(), AllocError>
+)
     requires { generator.now.grammar ≡ core grammar.now }
 {
     let costs = generator.token_costs();
     for (word, rest) in &row.lines {
         match *word {
-            "least" | "choices" => write_checked(out, alloc, grammar, costs, *word, *rest)?,
-            "openings" => openings::write_openings(out, alloc, grammar)?,
-            "opened" => openings::write_opened(out, alloc, grammar, generator, *rest)?,
+            "least" | "choices" => write_checked(out, grammar, costs, *word, *rest),
+            "openings" => openings::write_openings(out, grammar),
+            "opened" => openings::write_opened(out, grammar, generator, *rest),
             _ => {}
         }
     }
-    Ok(())
 }
 
 /// Writes what a checker says of the lists of a line.
 fn write_checked(
     out: &mut Page,
-    alloc: Global,
     grammar: &YaccGrammar<u32>,
     costs: &[u8],
     word: &str,
     lists: &str,
-) -> Result<(), AllocError> {
-    let certificate = Certificate::read(alloc, lists)?;
+) {
+    let Ok(certificate) = Certificate::read(out.alloc, lists) else {
+        return out.tear();
+    };
     let passes = match word {
         "least" => certificate.is_least(grammar, costs),
         _ => certificate.is_reached(grammar, costs),
     };
     writeln!(out, "    {word} {lists}: {passes}");
-    Ok(())
 }

@@ -7,6 +7,7 @@ use cfgrammar::PIdx;
 use cfgrammar::yacc::YaccGrammar;
 use cfgrammar::yacc::sentences::{SentenceGenerator, check_least, check_reached};
 use rows::page::Page;
+use rows::pen::{self, Piece};
 use std::alloc::{AllocError, Global};
 
 /// A cost for each rule, or none, and a choice for each rule, or none.
@@ -35,14 +36,15 @@ impl Certificate {
 
     /// The costs that words spell, and behind `by` the choices.
     pub(crate) fn read(alloc: Global, words: &str) -> Result<Self, AllocError> {
-        let (mut least, mut choices) = (Vec::new(alloc), Vec::new(alloc));
         let (costs, pairs) = words.split_once(" by ").unwrap_or((words, ""));
-        for word in costs.split(' ') {
-            least.push(word.parse().ok())?;
-        }
-        for word in pairs.split(' ') {
-            choices.push(read_choice(word))?;
-        }
+        let least = costs
+            .split(' ')
+            .map(|word| word.parse().ok())
+            .collect(alloc)?;
+        let choices = pairs
+            .split(' ')
+            .map(|word| read_choice(word))
+            .collect(alloc)?;
         Ok(Certificate { least, choices })
     }
 
@@ -77,18 +79,19 @@ fn read_choice(word: &str) -> Option<(PIdx<u32>, u32)> {
 /// Writes which of the two checkers refuses what the generator answers.
 pub(crate) fn write_failures(
     out: &mut Page,
-    alloc: Global,
     grammar: &YaccGrammar<u32>,
     generator: &SentenceGenerator<'_, u32, YaccGrammar<u32>>,
-) -> Result<(), AllocError>
+)
     requires { generator.now.grammar ≡ core grammar.now }
 {
-    let certificate = Certificate::of_generator(alloc, grammar, generator)?;
-    if !certificate.is_least(grammar, generator.token_costs()) {
-        out.push_str("    the least costs don't pass\n");
-    }
-    if !certificate.is_reached(grammar, generator.token_costs()) {
-        out.push_str("    the choices don't pass\n");
-    }
-    Ok(())
+    let Ok(certificate) = Certificate::of_generator(out.alloc, grammar, generator) else {
+        return out.tear();
+    };
+    let is_least = certificate.is_least(grammar, generator.token_costs());
+    let is_reached = certificate.is_reached(grammar, generator.token_costs());
+    let pieces = [
+        Piece::If(!is_least, "    the least costs don't pass\n"),
+        Piece::If(!is_reached, "    the choices don't pass\n"),
+    ];
+    pen::pieces(out, &pieces);
 }

@@ -10,51 +10,37 @@ use cfgrammar::yacc::{YaccFault, YaccGrammar, YaccKind, YaccOriginalActionKind};
 use rows::page::Page;
 use rows::row::Row;
 use rows::{pen, text};
-use std::alloc::{AllocError, Global};
 use std::cell::Cell;
 use trees::read::kind_of;
 
 /// Writes a row's text, where the row isn't brief, and what is answered of its costs.
-pub fn tell(out: &mut Page, alloc: Global, row: &Row<'_>, text: &str) -> Result<(), AllocError> {
+pub fn tell(out: &mut Page, row: &Row<'_>, text: &str) {
     let kind = kind_of(row).unwrap_or(YaccKind::Original(YaccOriginalActionKind::GenericParseTree));
     writeln!(out, "text of {} bytes, {kind:?}", text.len());
     if row.first("show") != Some("brief") {
         text::write_text(out, text);
     }
-    tell_text(out, alloc, row, kind, text)
+    tell_text(out, row, kind, text);
 }
 
 /// Writes what is answered of the costs of a text's grammar, where it has one.
-fn tell_text(
-    out: &mut Page,
-    alloc: Global,
-    row: &Row<'_>,
-    kind: YaccKind,
-    text: &str,
-) -> Result<(), AllocError> {
-    match YaccGrammar::new(alloc, kind, text) {
-        Ok(grammar) => tell_grammar(out, alloc, row, &grammar),
-        Err(YaccFault::Errors(_)) => {
-            out.push_str("no grammar\n");
-            Ok(())
-        }
-        Err(YaccFault::OutOfMemory) => Err(AllocError),
+fn tell_text(out: &mut Page, row: &Row<'_>, kind: YaccKind, text: &str) {
+    match YaccGrammar::new(out.alloc, kind, text) {
+        Ok(grammar) => tell_grammar(out, row, &grammar),
+        Err(YaccFault::Errors(_)) => out.push_str("no grammar\n"),
+        Err(YaccFault::OutOfMemory) => out.tear(),
     }
 }
 
 /// Writes what is answered of the costs of a grammar.
-fn tell_grammar(
-    out: &mut Page,
-    alloc: Global,
-    row: &Row<'_>,
-    grammar: &YaccGrammar<u32>,
-) -> Result<(), AllocError> {
+fn tell_grammar(out: &mut Page, row: &Row<'_>, grammar: &YaccGrammar<u32>) {
     let asked = Cell::new(0);
-    let generator = grammar.sentence_generator(alloc, |tidx| asked_cost(row, &asked, tidx))?;
-    if asked.get() != usize::from(grammar.tokens_len()) {
-        out.push_str("    costs aren't asked once of each token, in order\n");
+    let made = grammar.sentence_generator(out.alloc, |tidx| asked_cost(row, &asked, tidx));
+    let is_asked = asked.get() == usize::from(grammar.tokens_len());
+    match made {
+        Ok(generator) => tell_costs(out, row, grammar, &generator, is_asked),
+        Err(_) => out.tear(),
     }
-    tell_costs(out, alloc, row, grammar, &generator)
 }
 
 /// What a token costs. It is counted where it is the next one to be asked of.
@@ -63,11 +49,12 @@ fn asked_cost(row: &Row<'_>, asked: &Cell<usize>, tidx: TIdx<u32>) -> u8
 {
     let number = usize::from(tidx);
     let is_next = number == asked.get();
-    asked.set(if is_next {
+    let next = if is_next {
         number.saturating_add(1)
     } else {
         usize::MAX
-    });
+    };
+    asked.set(next);
     cost_of(row, tidx)
 }
 
@@ -85,20 +72,25 @@ fn cost_of(row: &Row<'_>, tidx: TIdx<u32>) -> u8
 /// Writes the tokens' costs and what the generator answers, and what the row asks for.
 fn tell_costs(
     out: &mut Page,
-    alloc: Global,
     row: &Row<'_>,
     grammar: &YaccGrammar<u32>,
     generator: &SentenceGenerator<'_, u32, YaccGrammar<u32>>,
-) -> Result<(), AllocError>
+    is_asked: bool,
+)
     requires { generator.now.grammar ≡ core grammar.now }
 {
+    pen::text_if(
+        out,
+        !is_asked,
+        "    costs aren't asked once of each token, in order\n",
+    );
     if row.first("show") == Some("without-memory") {
-        return plain::write_without_memory(out, alloc, grammar, generator);
+        return plain::write_without_memory(out, grammar, generator);
     }
     write_tokens(out, grammar, generator.token_costs());
-    rules::write_rules(out, alloc, row, grammar, generator)?;
-    certificate::write_failures(out, alloc, grammar, generator)?;
-    asked::write_asked(out, alloc, row, grammar, generator)
+    rules::write_rules(out, row, grammar, generator);
+    certificate::write_failures(out, grammar, generator);
+    asked::write_asked(out, row, grammar, generator);
 }
 
 /// Writes the tokens' names and what each costs.

@@ -5,10 +5,9 @@ ghost use Rattle.cfgnumbers.specs.Numbered.{core};
 
 use cfgrammar::yacc::YaccGrammar;
 use cfgrammar::yacc::sentences::{CostError, SentenceError, SentenceGenerator};
-use cfgrammar::{PIdx, RIdx, TIdx};
+use cfgrammar::{RIdx, TIdx};
 use rows::page::Page;
 use rows::row::Row;
-use std::alloc::{AllocError, Global};
 
 /// How many sentences of a rule are written, and how many tokens of a sentence; of more than these their number is.
 const MOST: usize = 20;
@@ -16,22 +15,21 @@ const MOST: usize = 20;
 /// Writes for each rule a line.
 pub(crate) fn write_rules(
     out: &mut Page,
-    alloc: Global,
     row: &Row<'_>,
     grammar: &YaccGrammar<u32>,
     generator: &SentenceGenerator<'_, u32, YaccGrammar<u32>>,
-) -> Result<(), AllocError>
+)
     requires { generator.now.grammar ≡ core grammar.now }
 {
     for ridx in grammar.iter_rules() {
         let name = grammar.rule_name_str(ridx);
-        write_rule(out, alloc, name, generator, ridx)?;
+        write_rule(out, name, generator, ridx);
         if is_asked(row, name) {
-            write_sentences(out, generator.min_sentences(alloc, ridx))?;
+            let sentences = generator.min_sentences(out.alloc, ridx);
+            write_sentences(out, sentences);
         }
         out.push('\n');
     }
-    Ok(())
 }
 
 /// Whether all minimal sentences of a rule are asked for: of each rule where the row doesn't name some.
@@ -45,30 +43,40 @@ fn is_asked(row: &Row<'_>, name: &str) -> bool {
 /// Writes a rule's costs, its choice, and a minimal sentence.
 fn write_rule(
     out: &mut Page,
-    alloc: Global,
     name: &str,
     generator: &SentenceGenerator<'_, u32, YaccGrammar<u32>>,
     ridx: RIdx<u32>,
-) -> Result<(), AllocError>
+)
     requires { ridx.0 < generator.now.grammar.rules }
 {
-    write!(out, "    rule {} {name}: least ", usize::from(ridx));
-    write_cost(out, generator.min_sentence_cost(ridx).map(Some));
-    out.push_str(", greatest ");
-    write_cost(out, generator.max_sentence_cost(ridx));
-    write_choice(out, generator.choice(ridx));
+    write!(out, "    rule {} {name}", usize::from(ridx));
+    write_costs(out, generator, ridx);
     out.push_str("; sentence ");
-    match generator.min_sentence(alloc, ridx) {
-        Ok(sentence) => {
-            write_sentence(out, &sentence);
-            Ok(())
-        }
+    match generator.min_sentence(out.alloc, ridx) {
+        Ok(sentence) => write_sentence(out, &sentence),
         Err(error) => write_refusal(out, error),
     }
 }
 
+/// Writes a rule's costs, and its choice: a production, and its number.
+pub(crate) fn write_costs(
+    out: &mut Page,
+    generator: &SentenceGenerator<'_, u32, YaccGrammar<u32>>,
+    ridx: RIdx<u32>,
+)
+    requires { ridx.0 < generator.now.grammar.rules }
+{
+    write_cost(out, ": least ", generator.min_sentence_cost(ridx).map(Some));
+    write_cost(out, ", greatest ", generator.max_sentence_cost(ridx));
+    match generator.choice(ridx) {
+        Some((pidx, number)) => write!(out, "; production {} at {number}", usize::from(pidx)),
+        None => out.push_str("; production none"),
+    }
+}
+
 /// Writes a cost, or why there is none.
-pub(crate) fn write_cost(out: &mut Page, cost: Result<Option<u16>, CostError>) {
+fn write_cost(out: &mut Page, before: &str, cost: Result<Option<u16>, CostError>) {
+    out.push_str(before);
     match cost {
         Ok(Some(cost)) => write!(out, "{cost}"),
         Ok(None) => out.push_str("unbounded"),
@@ -78,28 +86,18 @@ pub(crate) fn write_cost(out: &mut Page, cost: Result<Option<u16>, CostError>) {
 }
 
 /// Writes why there is no sentence.
-pub(crate) fn write_refusal(out: &mut Page, error: SentenceError) -> Result<(), AllocError> {
+pub(crate) fn write_refusal(out: &mut Page, error: SentenceError) {
     out.push_str(match error {
         SentenceError::NoSentence => "none",
         SentenceError::CostTooLarge => "too large",
-        SentenceError::OutOfMemory => return Err(AllocError),
+        SentenceError::OutOfMemory => return out.tear(),
     });
-    Ok(())
-}
-
-/// Writes a choice: a production, and its number.
-pub(crate) fn write_choice(out: &mut Page, choice: Option<(PIdx<u32>, u32)>) {
-    match choice {
-        Some((pidx, number)) => write!(out, "; production {} at {number}", usize::from(pidx)),
-        None => out.push_str("; production none"),
-    }
 }
 
 /// Writes a sentence by its tokens' indices, or how many there are.
 fn write_sentence(out: &mut Page, sentence: &[TIdx<u32>]) {
     if sentence.len() > MOST {
-        write!(out, "{} tokens", sentence.len());
-        return;
+        return write!(out, "{} tokens", sentence.len());
     }
     out.push('[');
     for (place, tidx) in sentence.iter().enumerate() {
@@ -110,23 +108,14 @@ fn write_sentence(out: &mut Page, sentence: &[TIdx<u32>]) {
 }
 
 /// Writes all minimal sentences, or how many there are, or why there are none.
-fn write_sentences(
-    out: &mut Page,
-    sentences: Result<Vec<Vec<TIdx<u32>>>, SentenceError>,
-) -> Result<(), AllocError> {
+fn write_sentences(out: &mut Page, sentences: Result<Vec<Vec<TIdx<u32>>>, SentenceError>) {
     match sentences {
-        Ok(sentences) if sentences.len() > MOST => {
-            write!(out, "; all {}", sentences.len());
-            Ok(())
-        }
-        Ok(sentences) => {
-            write_each(out, &sentences);
-            Ok(())
-        }
-        Err(SentenceError::OutOfMemory) => Err(AllocError),
+        Ok(sentences) if sentences.len() > MOST => write!(out, "; all {}", sentences.len()),
+        Ok(sentences) => write_each(out, &sentences),
+        Err(SentenceError::OutOfMemory) => out.tear(),
         Err(error) => {
             out.push_str("; all ");
-            write_refusal(out, error)
+            write_refusal(out, error);
         }
     }
 }

@@ -3,8 +3,8 @@
 use super::{Act, Key, refused, write_done};
 use cfgmarks::markmap::{Entry, MarkMap, OccupiedEntry, VacantEntry};
 use rows::page::Page;
-use rows::pen;
-use std::alloc::{AllocError, Global};
+use rows::pen::{self, Piece};
+use std::alloc::AllocError;
 
 /// Makes a call at the place of a key, and writes what it answers.
 pub(super) fn call<K: Key>(
@@ -15,30 +15,31 @@ pub(super) fn call<K: Key>(
 ) -> Result<(), AllocError> {
     match map.entry(key.clone()?) {
         Entry::Occupied(mut entry) => {
-            call_occupied(out, &mut entry, act);
+            let told = call_occupied(&mut entry, act);
+            pen::pieces(out, &[told, Piece::Text("\n")]);
             Ok(())
         }
         Entry::Vacant(entry) => call_vacant(out, entry, key, act),
     }
 }
 
-/// Makes a call at the place of a key that holds a value, and writes what it answers.
-fn call_occupied<K: Key>(out: &mut Page, entry: &mut OccupiedEntry<'_, K, u32>, act: Act) {
+/// Makes a call at the place of a key that holds a value, and answers what is written of it.
+fn call_occupied<K: Key>(entry: &mut OccupiedEntry<'_, K, u32>, act: Act) -> Piece<'static> {
     match act {
-        Act::Insert(value) => end(out, "occupied, ", entry.insert(value) as usize),
+        Act::Insert(value) => Piece::Number("occupied, ", entry.insert(value) as usize),
         Act::MarkUsed => {
             entry.mark_used();
-            end_flag(out, "occupied, used: ", entry.is_used());
+            Piece::Flag("occupied, used: ", entry.is_used())
         }
         Act::MarkRequired => {
             entry.mark_required();
-            end_flag(out, "occupied, required: ", entry.is_required());
+            Piece::Flag("occupied, required: ", entry.is_required())
         }
         Act::SetMergeBehavior(behavior) => {
             entry.set_merge_behavior(behavior);
-            end(out, "occupied, mark ", usize::from(entry.get_mark()));
+            Piece::Number("occupied, mark ", usize::from(entry.get_mark()))
         }
-        _ => end(out, "occupied, ", *entry.get() as usize),
+        _ => Piece::Number("occupied, ", *entry.get() as usize),
     }
 }
 
@@ -87,7 +88,8 @@ fn write_filled<K: Key>(
 ) -> Result<(), AllocError> {
     match filled {
         Ok(number) => {
-            end(out, before, *number);
+            pen::number(out, before, *number);
+            out.push('\n');
             Ok(())
         }
         Err(back) => refused(out, back, handed),
@@ -100,48 +102,27 @@ fn mark_vacant<K: Key>(
     entry: &mut VacantEntry<'_, K, u32>,
     act: Act,
 ) -> Result<(), AllocError> {
-    match act {
-        Act::MarkRequired => write_done(out, entry.mark_required(), "vacant, ()\n"),
-        Act::SetMergeBehavior(behavior) => write_done(
-            out,
-            entry.set_merge_behavior(behavior),
-            "vacant, ()\n",
-        ),
+    let done = match act {
+        Act::MarkRequired => entry.mark_required(),
+        Act::SetMergeBehavior(behavior) => entry.set_merge_behavior(behavior),
         _ => {
-            write_vacant(out, entry.key());
-            Ok(())
+            entry.key().tell(out, "vacant, ");
+            out.push('\n');
+            return Ok(());
         }
-    }
-}
-
-fn write_vacant<K: Key>(out: &mut Page, key: &K) {
-    key.tell(out, "vacant, ");
-    out.push('\n');
-}
-
-/// Writes a text and a number, and ends the line.
-fn end(out: &mut Page, before: &str, number: usize) {
-    pen::number(out, before, number);
-    out.push('\n');
-}
-
-/// Writes a text and whether something is so, and ends the line.
-fn end_flag(out: &mut Page, before: &str, flag: bool) {
-    pen::flag(out, before, flag);
-    out.push('\n');
+    };
+    write_done(out, done, "vacant, ()\n")
 }
 
 /// Writes a key, its value and its marks.
-pub(super) fn write_key<K: Key>(
-    out: &mut Page,
-    alloc: Global,
-    map: &mut MarkMap<K, u32>,
-    word: &str,
-) -> Result<(), AllocError> {
-    let key = K::of(alloc, word)?;
-    write_marks(out, map, &key);
-    write_mark(out, &map.entry(key));
-    Ok(())
+pub(super) fn write_key<K: Key>(out: &mut Page, map: &mut MarkMap<K, u32>, word: &str) {
+    match K::of(out.alloc, word) {
+        Ok(key) => {
+            write_marks(out, map, &key);
+            write_mark(out, &map.entry(key));
+        }
+        Err(_) => out.tear(),
+    }
 }
 
 /// Writes a key, its value, and whether it is used and required.

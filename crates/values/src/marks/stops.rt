@@ -3,6 +3,7 @@
 use super::{Key, Maps, merge, play_line};
 use cfgmarks::markmap::MarkMap;
 use rows::page::Page;
+use rows::pen;
 use rows::row::Row;
 use std::alloc::{AllocError, Global};
 
@@ -11,15 +12,15 @@ use std::alloc::{AllocError, Global};
 /// all keys, and isn't looked at.
 pub(super) fn tell_stop<K: Key>(
     out: &mut Page,
-    alloc: Global,
     row: &Row<'_>,
     place: usize,
     map: &MarkMap<K, u32>,
-) -> Result<(), AllocError> {
-    if row.first("show") != Some("digest") && !is_merged_so_far(alloc, row, place, map)? {
-        out.push_str("other keys are merged, ");
+) {
+    if row.first("show") != Some("digest") {
+        let is_other = matches!(is_merged_so_far(out.alloc, row, place, map), Ok(false));
+        pen::text_if(out, is_other, "other keys are merged, ");
     }
-    Err(AllocError)
+    out.tear();
 }
 
 /// Whether a map is one into which just the keys below one of the other map's are merged. The row watches all keys, in
@@ -49,51 +50,37 @@ fn is_merged_below<K: Key>(
     map: &MarkMap<K, u32>,
 ) -> Result<bool, AllocError> {
     let mut maps = Maps::<K>::new(alloc);
-    let is_theirs = merge_below(alloc, row, place, below, &mut maps)?;
+    let is_theirs = merge_below(alloc, row, (place, below), &mut maps)?;
     Ok(is_theirs && maps.map == *map)
-}
-
-fn merge_below<K: Key>(
-    alloc: Global,
-    row: &Row<'_>,
-    place: usize,
-    below: usize,
-    maps: &mut Maps<K>,
-) -> Result<bool, AllocError> {
-    let mut unread = Page::new(alloc);
-    merge_unread(&mut unread, alloc, row, (place, below), maps)
 }
 
 /// Runs the lines of a script in front of a place, and merges just so many of the keys that are watched. Whether the
 /// next is one of the other map's.
-fn merge_unread<K: Key>(
-    out: &mut Page,
+fn merge_below<K: Key>(
     alloc: Global,
     row: &Row<'_>,
     (place, below): (usize, usize),
     maps: &mut Maps<K>,
 ) -> Result<bool, AllocError> {
-    play_before(out, alloc, row, place, maps)?;
+    let mut unread = Page::new(alloc);
+    play_before(&mut unread, row, place, maps);
     let is_theirs = remove_from(alloc, row, below, &mut maps.other)?;
-    merge(out, alloc, maps, "")?;
+    merge(&mut unread, maps, "")?;
+    unread.text()?;
     Ok(is_theirs)
 }
 
 /// Runs the lines of a script in front of a place.
-fn play_before<K: Key>(
-    out: &mut Page,
-    alloc: Global,
-    row: &Row<'_>,
-    place: usize,
-    maps: &mut Maps<K>,
-) -> Result<(), AllocError> {
+fn play_before<K: Key>(out: &mut Page, row: &Row<'_>, place: usize, maps: &mut Maps<K>) {
     for (place, line) in row.lines.iter().take(place).enumerate() {
         match line.0 {
-            "merge" => merge(out, alloc, maps, line.1)?,
-            _ => play_line(out, alloc, row, place, maps, *line)?,
+            "merge" => {
+                let merged = merge(out, maps, line.1);
+                out.note(merged);
+            }
+            _ => play_line(out, row, place, maps, *line),
         }
     }
-    Ok(())
 }
 
 /// Removes the keys that are watched, but for so many of them, and answers whether the first of these was known.

@@ -1,26 +1,27 @@
 //! Values that are made for the sake of what is written of them. One generic function owns them, so that what writes
 //! only borrows them.
 
-use rows::page::Page;
-use std::alloc::AllocError;
+use crate::page::Page;
 
 /// What is written of a value, or of the fault in its place.
-pub(crate) trait Writer<T, E> {
+pub trait Writer<T, E> {
     /// Writes what is told of a value.
-    fn write(&self, out: &mut Page, value: &T) -> Result<(), AllocError>;
+    fn write(&self, out: &mut Page, value: &mut T);
 
-    /// Writes why there is no value.
-    fn refuse(&self, out: &mut Page, fault: &E) -> Result<(), AllocError>;
+    /// Writes why there is no value, unless that is want of memory.
+    fn refuse(&self, out: &mut Page, _: &E) {
+        out.tear();
+    }
 }
 
 /// Writes what is told of what was made.
-pub(crate) fn write_made<T: Drop, E: Drop, W: Writer<T, E>>(
+pub fn write_made<T: Drop, E: Drop, W: Writer<T, E>>(
     out: &mut Page,
     writer: &W,
     made: Result<T, E>,
-) -> Result<(), AllocError> {
+) {
     match made {
-        Ok(value) => writer.write(out, &value),
+        Ok(mut value) => writer.write(out, &mut value),
         Err(fault) => writer.refuse(out, &fault),
     }
 }
