@@ -1,6 +1,6 @@
 //! What a grammar file says, as the builder keeps it.
 
-ghost use Rattle.std.specs.Prelude.{◌≡◌, []};
+ghost use Rattle.std.specs.Prelude.{◌≡◌, [], Err, IfErr, IfOk, Ok};
 
 use crate::occurrence::Occurrence;
 use crate::production::Production;
@@ -61,6 +61,17 @@ impl Syntax {
             settings: Settings::none(),
             expect_unused: Vec::new(alloc),
             occurrences: Vec::new(alloc),
+        }
+    }
+
+    /// The syntax with how its making ended, or else what failed. It stands here, so that no reader drops a syntax.
+    pub fn with_end<S, E>(self, end: Result<S, E>) -> Result<(Self, S), E>
+        ensures both { IfOk result (λ both. (both.0 ≡ self) × (end ≡ Ok both.1)) }
+        ensures failed { IfErr result (λ fault. end ≡ Err fault) }
+    {
+        match end {
+            Ok(end) => Ok((self, end)),
+            Err(fault) => Err(fault),
         }
     }
 }

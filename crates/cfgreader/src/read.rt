@@ -1,6 +1,6 @@
 //! The reading of a file, behind a text's section.
 
-ghost use Rattle.std.specs.Prelude.{◌≡◌, ◌≤◌, Err, IfErr, IfOk, Ok, length};
+ghost use Rattle.std.specs.Prelude.{◌≡◌, ◌≤◌, IfOk, length};
 ghost use Rattle.reading.specs.Construct.{computes};
 ghost use Rattle.reading.specs.Read.{stop_of};
 ghost use Rattle.cfgreader.specs.Inner.Builds.{Grows, IsFile};
@@ -25,7 +25,7 @@ pub fn read_file(
 {
     let mut reader = Reader::new(alloc, len, rest);
     let stop = stop_in(&mut reader, kind);
-    with_end(reader.into_syntax(), stop)
+    reader.into_syntax().with_end(stop)
 }
 
 /// Passes a whole file, or as much of it as can be read: what stopped the reading, if anything did.
@@ -38,16 +38,5 @@ fn stop_in(reader: &mut Reader<'_>, kind: YaccKind) -> Result<Option<Fault>, All
         Ok(()) => Ok(None),
         Err(ReadFault::Fault(fault)) => Ok(Some(fault)),
         Err(ReadFault::OutOfMemory) => Err(AllocError),
-    }
-}
-
-/// What was made, with how its making ended, or else what failed.
-fn with_end<T: Drop, S, E>(made: T, end: Result<S, E>) -> Result<(T, S), E>
-    ensures both { IfOk result (λ both. (both.0 ≡ made) × (end ≡ Ok both.1)) }
-    ensures failed { IfErr result (λ fault. end ≡ Err fault) }
-{
-    match end {
-        Ok(end) => Ok((made, end)),
-        Err(fault) => Err(fault),
     }
 }
