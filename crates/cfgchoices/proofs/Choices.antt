@@ -1,6 +1,8 @@
 -- What choices give for two lists of symbols they give for the lists joined, and they give no more than one list of tokens.
-use Rattle.std.proofs.Common.{◌≡◌, ℕ, List, [], ◌∷◌, ◌++◌, Option, Some, refl, sym, ap, subst, ◌∙◌, append-nil, append_assoc}
-use Rattle.derivation.specs.Grammar.{Sym, Rule}
+use Rattle.std.proofs.Common.{◌≡◌, ℕ, List, [], ◌∷◌, ◌++◌, Contains, refl, sym, ap, subst, ◌∙◌, append-nil, append_assoc}
+use Rattle.std.proofs.lemmas.Option.{same_Some}
+use Rattle.lemmas.proofs.Contained.{contains_first, contains_later}
+use Rattle.derivation.specs.Grammar.{Sym, Rule, Token}
 use Rattle.cfgtables.specs.Openings.{nth_production}
 use Rattle.cfgleast.specs.Generator.{CostTables}
 use Rattle.cfgchoices.specs.Inner.Choices.{ChoicesGive, empty, token, free, chosen}
@@ -25,6 +27,15 @@ module _ (x : CostTables) where
   choices_join (free nothing h) k = free nothing (choices_join h k)
   choices_join {v = v} (chosen {u = u} {w = w} costly choice h i e) k = chosen costly choice h (choices_join i k) (ap (λ l. l ++ v) e ∙ append_assoc u w v)
 
+  -- they give something for a list, if they do for each rule in it
+  pub choices_row : (a : List Sym) → ((r : ℕ) → Contains a (Rule r) → (w : List ℕ) × ChoicesGive x (Rule r ∷ []) w) → (w : List ℕ) × ChoicesGive x a w
+  choices_row [] one = ([], empty)
+  choices_row (Token t ∷ a) one = let (w, h) = choices_row a (λ r h. one r (contains_later (Token t) (Rule r) a h)) in (t ∷ w, token h)
+  choices_row (Rule q ∷ a) one =
+      let (u, h) = one q (contains_first (Rule q) a) in
+      let (w, k) = choices_row a (λ r h. one r (contains_later (Rule q) (Rule r) a h)) in
+      (u ++ w, choices_join h k)
+
   pub choices_once : {a : List Sym} {v w : List ℕ} → ChoicesGive x a v → ChoicesGive x a w → v ≡ w
   choices_once empty empty = refl
   choices_once (token {t = t} h) (token k) = ap (λ l. t ∷ l) (choices_once h k)
@@ -32,8 +43,7 @@ module _ (x : CostTables) where
   choices_once (free nothing h) (chosen costly choice k l f) = absurd (costly nothing)
   choices_once (chosen costly choice h i e) (free nothing k) = absurd (costly nothing)
   choices_once (chosen {p = p} {m = m} {u = u} {w = w} costly choice h i e) (chosen {p = q} {m = n} {u = u'} {w = w'} also other k l f) =
-      let both : ◌≡◌ {A = Option (ℕ × ℕ)} (Some (p, m)) (Some (q, n)) = sym choice ∙ other in
-      let pairs : ◌≡◌ {A = ℕ × ℕ} (p, m) (q, n) = cc in
+      let pairs : ◌≡◌ {A = ℕ × ℕ} (p, m) (q, n) = same_Some _ _ (sym choice ∙ other) in
       let same : p ≡ q = ap (λ (c : ℕ × ℕ). c.0) pairs in
       let front : u ≡ u' = choices_once (subst (λ (p : ℕ). ChoicesGive x (nth_production x.grammar p).symbols u) same h) k in
       e ∙ ap (λ l. l ++ w) front ∙ ap (λ l. u' ++ l) (choices_once i l) ∙ sym f

@@ -1,6 +1,6 @@
 -- Levels by rising cost: what holds at the beginning of a level, when its own productions are offered, when all was chosen that was
 -- offered, and at the end.
-use Rattle.std.proofs.Common.{◌≡◌, ℕ, zero, suc, ◌+◌, ◌<◌, ◌≤◌, inl, inr, cond, List, [], get_or, length, replicate, Option, Some, None, Contains, arith, refl, sym, ap, subst, ◌∙◌}
+use Rattle.std.proofs.Common.{◌≡◌, ℕ, ◌+◌, ◌<◌, ◌≤◌, inl, inr, cond, List, [], get_or, length, replicate, Option, Some, None, Contains, arith, sym, ap, subst, ◌∙◌}
 use Rattle.std.specs.Prelude.{count_by, is_some}
 use Rattle.std.proofs.lemmas.Bool.{cases_lt}
 use Rattle.std.proofs.lemmas.List.{length-replicate}
@@ -15,12 +15,12 @@ use Rattle.cfgchoices.specs.Inner.Offers.{Adds, Climbed, Going, HasChoice, IsDon
 use Rattle.cfgchoices.specs.Levels.{here}
 use Rattle.cfgchoices.proofs.FirstsMade.{all_chosen, walks}
 use Rattle.cfgchoices.proofs.Offered.{chosen_ready}
-use Rattle.cfgchoices.proofs.Steps.{sum_by-cons}
+use Rattle.std.proofs.lemmas.List.Folds.{sum_by-replicate}
 use Rattle.cfgchoices.proofs.Tight.{one_cost, own_costs, own_less, tight_whatever}
 
 no_wait : (f : Offers) → waiting f ≡ 0 → (q : ℕ) → Waits f q → ⊥
 no_wait f none q (inl ready) = let lt = ready.1 in omega (arith, lt, none)
-no_wait f none q (inr other) = let lt = other.1 in omega (arith, lt, none)
+no_wait f none q (inr other) = omega (arith, other.1, none)
 
 all_done : (x : CostTables) (f : Offers) → waiting f ≡ 0 → (q : ℕ) → IsHandled x f q → IsDone x f.choices q
 all_done x f none q (inl done) = done
@@ -119,7 +119,7 @@ climbed_begins k f choices number ready level foremost = record {
       level = record {
         choosing = record {
           listed = ap length choices ∙ length-replicate k.tables.grammar.rules None;
-          count = ap (count_by is_some) choices ∙ count_none k.tables.grammar.rules ∙ sym number;
+          count = ap (count_by is_some) choices ∙ sum_by-replicate (λ (o : Option (ℕ × ℕ)). cond (is_some o) 1 0) k.tables.grammar.rules None ∙ omega (arith, number);
           each = λ r p m e. absurd (none r ((p, m), e));
         };
         costs = λ r h. absurd (none r h);
@@ -137,7 +137,7 @@ climbed_begins k f choices number ready level foremost = record {
     hands = λ q r heir h. absurd (none r h);
   };
   none = let one = ap length ready in let other = ap length level in omega (arith, one, other);
-  own = λ p own low. let some = own.tight.positive in absurd (omega (arith, low, some));
+  own = λ p own low. absurd (omega (arith, low, own.tight.positive));
   younger = λ r d h e. absurd (none r h);
 }
   where
@@ -150,7 +150,3 @@ climbed_begins k f choices number ready level foremost = record {
     still : (q : ℕ) → Waits f q → ⊥
     still q (inl i) = contains_none q (subst (λ l. Contains l q) ready i)
     still q (inr i) = contains_none q (subst (λ l. Contains l q) level i)
-
-    count_none : (n : ℕ) → count_by is_some (replicate {A = Option (ℕ × ℕ)} n None) ≡ 0
-    count_none zero = refl
-    count_none (suc n) = let one = sum_by-cons (λ (o : Option (ℕ × ℕ)). cond (is_some o) 1 0) None (replicate n None) in let rest = count_none n in omega (arith, one, rest)

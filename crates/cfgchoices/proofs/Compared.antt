@@ -24,6 +24,19 @@ pub record Rests (One Other : List ℕ → Type 0) (u v : List ℕ) : Type 0 whe
   pub second : Other other
   pub same : dictionary u v ≡ dictionary one other
 
+-- words differ here, or these are left to compare
+pub record Next (One Other : List ℕ → Type 0) (u v : List ℕ) (o : Ordering) : Type 0 where
+  pub differs : is_ne o ≡ true → o ≡ dictionary u v
+  pub goes_on : is_ne o ≡ false → Rests One Other u v
+
+-- some words are left
+module _ {One Other G H : List ℕ → Type 0} (all : (u v : List ℕ) → G u → H v → Rests One Other u v) (one : (u : List ℕ) × G u) (other : (v : List ℕ) × H v) where
+  pub some_first : (w : List ℕ) × One w
+  some_first = let r = all one.0 other.0 one.1 other.1 in (r.one, r.first)
+
+  pub some_second : (w : List ℕ) × Other w
+  some_second = let r = all one.0 other.0 one.1 other.1 in (r.other, r.second)
+
 then_equal : (o r : Ordering) → is_ne o ≡ false → ordering_then o r ≡ r
 then_equal Less r e = absurd (true≢false e)
 then_equal Equal r e = refl
@@ -40,25 +53,20 @@ module _ {X : Type 0} (number : X → ℕ) (cmp : X → X → Ordering) (shown :
       let whole : dictionary u v ≡ ordering_then (nat_cmp (number t) (number s)) (dictionary u' v') = ap (λ w. dictionary w v) h ∙ ap (dictionary (number t ∷ u')) k in
       whole ∙ ap (λ o. ordering_then o (dictionary u' v')) (sym (shown t s))
 
-  -- a token of each: they differ there
-  pub differs : (t : X) (other : Option X) (u v : List ℕ) (r : Rests One Other u v) → Begins number One' r.one (Some t) → Begins number Other' r.other other
-      → is_ne (option_cmp cmp (Some t) other) ≡ true → option_cmp cmp (Some t) other ≡ dictionary u v
-  differs t None u v r h k e =
-      let whole : dictionary r.one r.other ≡ dictionary (number t ∷ h.0) [] = ap (λ w. dictionary w r.other) h.1 ∙ ap (dictionary (number t ∷ h.0)) k in
-      sym (r.same ∙ whole)
-  differs t (Some s) u v r h k e = sym (r.same ∙ both t s r.one r.other h.0 k.0 h.1 k.1 ∙ then_other (cmp t s) (dictionary h.0 k.0) e)
-
-  -- or they don't
-  pub goes_on : (t : X) (other : Option X) (u v : List ℕ) (r : Rests One Other u v) → Begins number One' r.one (Some t) → Begins number Other' r.other other
-      → is_ne (option_cmp cmp (Some t) other) ≡ false → Rests One' Other' u v
-  goes_on t None u v r h k e = absurd (true≢false e)
-  goes_on t (Some s) u v r h k e = record {
-    one = h.0;
-    other = k.0;
-    first = h.2;
-    second = k.2;
-    same = r.same ∙ both t s r.one r.other h.0 k.0 h.1 k.1 ∙ then_equal (cmp t s) (dictionary h.0 k.0) e;
+  -- a token of each
+  pub next : (t : X) (other : Option X) (u v : List ℕ) (r : Rests One Other u v) → Begins number One' r.one (Some t) → Begins number Other' r.other other → Next One' Other' u v (option_cmp cmp (Some t) other)
+  next t None u v r h k = record {
+    differs = λ e.
+        let whole : dictionary r.one r.other ≡ dictionary (number t ∷ h.0) [] = ap (λ w. dictionary w r.other) h.1 ∙ ap (dictionary (number t ∷ h.0)) k in
+        sym (r.same ∙ whole);
+    goes_on = λ e. absurd (true≢false e);
   }
+  next t (Some s) u v r h k =
+      let whole = r.same ∙ both t s r.one r.other h.0 k.0 h.1 k.1 in
+      record {
+        differs = λ e. sym (whole ∙ then_other (cmp t s) (dictionary h.0 k.0) e);
+        goes_on = λ e. record { one = h.0; other = k.0; first = h.2; second = k.2; same = whole ∙ then_equal (cmp t s) (dictionary h.0 k.0) e };
+      }
 
   -- the first one ends
   pub ended : (other : Option X) (u v : List ℕ) (r : Rests One Other u v) → r.one ≡ [] → Begins number Other' r.other other → option_cmp cmp None other ≡ dictionary u v

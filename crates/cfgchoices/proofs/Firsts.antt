@@ -11,7 +11,7 @@ use Rattle.derivation.specs.Costs.{Minimal}
 use Rattle.cfgchoices.specs.Splits.{Split, done, itself, part}
 use Rattle.cfgchoices.specs.First.{FirstMinimal, dictionary}
 use Rattle.cfgchoices.proofs.Lengths.{IsPaid, dear_back, dear_empty, sentence_dear}
-use Rattle.cfgchoices.proofs.Dictionary.{dictionary_same}
+use Rattle.std.proofs.lemmas.Map.Lookups.{exact_bytes}
 
 -- what stands first by a difference does so with anything behind it
 less_front : (u u' w w' : List ℕ) → dictionary u u' ≡ Less → ((z : List ℕ) → u' ≡ u ++ z → z ≡ []) → dictionary (u ++ w) (u' ++ w') ≡ Less
@@ -55,7 +55,7 @@ module _ (P : ℕ → List Sym → Type 0) (cost : ℕ → ℕ) (paid : (r : ℕ
       let one = each r u u' f m in
       by_order (dictionary u u')
       (λ less. let no : ◌≡◌ {A = Ordering} Less Greater = sym (less_front u u' w w' less one.1) ∙ apart in cc)
-      (λ equal. row_before G H each s k (sym (same_front u w w') ∙ ap (λ l. dictionary (u ++ w) (l ++ w')) (dictionary_same u u' equal) ∙ apart))
+      (λ equal. row_before G H each s k (sym (same_front u w w') ∙ ap (λ l. dictionary (u ++ w) (l ++ w')) (exact_bytes u u' equal) ∙ apart))
       one.0
 
   pub first_of_row : {a : List Sym} {w v : List ℕ} → Split (FirstMinimal P cost) a w → Split (Minimal P cost) a v → dictionary w v ≡ Greater → ⊥

@@ -1,5 +1,6 @@
 -- When all own productions were gone through, each rule that costs something has a choice, and a walk by the choices ends.
 use Rattle.std.proofs.Common.{◌≡◌, ℕ, ◌<◌, ◌≤◌, [], Option, Some, None, arith, refl, sym, ap, subst, ◌∙◌}
+use Rattle.std.proofs.lemmas.Option.{same_Some}
 use Rattle.derivation.specs.Grammar.{IsGrammar}
 use Rattle.derivation.specs.Sentence.{cost_of}
 use Rattle.cfgtables.specs.Openings.{nth_production}
@@ -43,8 +44,7 @@ module _ (x : CostTables) (n : ℕ) (is : IsGenerator x n) (grammar : IsGrammar 
     opens q d p m e small choice =
         let c = (state.each q p m choice).0 in
         let less = (state.each q p m choice).1 in
-        let both : Some c.tight.cost ≡ Some d = sym (subst (λ r. cost_answer x r ≡ Some c.tight.cost) c.owner c.tight.rule) ∙ some_answered (rule_cost x.least q) d e small in
-        let same : c.tight.cost ≡ d = cc in
+        let same : c.tight.cost ≡ d = same_Some _ _ (sym (subst (λ r. cost_answer x r ≡ Some c.tight.cost) c.owner c.tight.rule) ∙ some_answered (rule_cost x.least q) d e small) in
         record {
           choice = choice;
           place = c.tight.place;

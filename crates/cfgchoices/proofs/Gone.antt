@@ -42,7 +42,7 @@ module _ {S : Type 0} (number : S → ℕ) (x : CostTables) (listed : Listed S) 
     from = 0;
     within = omega arith;
     first = first;
-    adds = record { choices = refl; number = refl; cost = refl; handles = λ q h. elim h [ inl old ↦ old | inr none ↦ let lt = none.1 in absurd (omega (arith, lt)) ]; together = omega arith };
+    adds = record { choices = refl; number = refl; cost = refl; handles = λ q h. elim h [ inl old ↦ old | inr none ↦ absurd (omega (arith, none.1)) ]; together = omega arith };
   }
 
   pub gone_more : (mid f' : Offers) (p : PIdx S) (next : Option (PIdx S)) → Gone mid (Some p) → Adds x (λ q. q ≡ number p.0) 1 mid f' → IsFirstFrom number Is (number p.0 + 1) next → Gone f' next
@@ -59,22 +59,21 @@ module _ {S : Type 0} (number : S → ℕ) (x : CostTables) (listed : Listed S) 
           cost = b.cost ∙ a.cost;
           handles = λ q h. elim h [
             | inl old ↦ b.handles q (inl (a.handles q (inl old)))
-            | inr among ↦ let lt = among.1 in elim (cases_lt q g.from) [
+            | inr among ↦ elim (cases_lt q g.from) [
               | inl less ↦ b.handles q (inl (a.handles q (inr (among.0, less))))
               | inr ge ↦ elim (cases_lt q (number p.0)) [
                 | inl before ↦ absurd (none q ge before among.0)
-                | inr behind ↦ b.handles q (inr (omega (arith, lt, behind)))
+                | inr behind ↦ b.handles q (inr (omega (arith, among.1, behind)))
               ]
             ]
           ];
-          together = let one = a.together in let more = b.together in omega (arith, one, more, le);
+          together = omega (arith, a.together, b.together, le);
         };
       }
 
   pub gone_ends : (f' : Offers) → Gone f' None → Adds x Is places f f'
   gone_ends f' g =
-      let a = g.adds in
-      let within = g.within in record {
+      let a = g.adds in record {
         choices = a.choices;
         number = a.number;
         cost = a.cost;
@@ -82,7 +81,7 @@ module _ {S : Type 0} (number : S → ℕ) (x : CostTables) (listed : Listed S) 
           | inl old ↦ a.handles q (inl old)
           | inr among ↦ elim (cases_lt q g.from) [ inl less ↦ a.handles q (inr (among, less)) | inr ge ↦ absurd (g.first q ge among) ]
         ];
-        together = let all = a.together in omega (arith, all, within);
+        together = omega (arith, a.together, g.within);
       }
 
   pub gone_less : (f' : Offers) (p : PIdx S) (next : Option (PIdx S)) → Gone f' (Some p) → IsFirstFrom number Is (number p.0 + 1) next → left_from number places next < left_from number places (Some p)
@@ -92,7 +91,7 @@ module _ {S : Type 0} (number : S → ℕ) (x : CostTables) (listed : Listed S) 
     where
       go : (next : Option (PIdx S)) → IsFirstFrom number Is (number p.0 + 1) next → number p.0 < places → left_from number places next < places - number p.0
       go None first place = omega (arith, place)
-      go (Some q) first place = let le = first.0 in omega (arith, le, place)
+      go (Some q) first place = omega (arith, first.0, place)
 
 -- what could be offered still can
 pub offered_still : (k : Known) (Is : ℕ → Type 0) (n : ℕ) (f f' : Offers) → Adds k.tables Is n f f' → (q : ℕ) → IsOffered k f.choices f.number f.cost q → IsOffered k f'.choices f'.number f'.cost q

@@ -42,7 +42,7 @@ module _ (P : ℕ → List Sym → Type 0) (cost : ℕ → ℕ) where
   pub made_minimal : (r : ℕ) (symbols : List Sym) (c : ℕ) (w : List ℕ) → CostsAsItsRule P cost r symbols c → Cut symbols w → Minimal P cost r w
   made_minimal r symbols c w tight s = (
     derivation_from_trees P (opened tight.has (trees_of_cut s) empty (sym (append-nil w))),
-    (λ v d. let least = tight.least.1 v d in let same = same_cost s tight.parts in let is = tight.is in omega (arith, least, same, is)),
+    (λ v d. let least = tight.least.1 v d in let same = same_cost s tight.parts in omega (arith, least, same, tight.is)),
   )
 
   -- a row costs at least what a rule in it does
@@ -97,9 +97,8 @@ module _ (P : ℕ → List Sym → Type 0) (cost : ℕ → ℕ) where
     along_back w here m = m
     along_back {r = r} w (next {b = b} h k) m =
         let tight = h.tight in
-        let is = tight.is in
         made_minimal r h.symbols h.level w tight
-        (handed_back b h.level w tight.parts (paid r h.symbols tight.has) h.among h.same (omega (arith, is)) (along_back w k m))
+        (handed_back b h.level w tight.parts (paid r h.symbols tight.has) h.among h.same (omega (arith, tight.is)) (along_back w k m))
 
     pub handed_down_minimal : (r : ℕ) (w : List ℕ) → IsHandedDown P cost r w → Minimal P cost r w
     handed_down_minimal r w h = along_back w h.leads (made_minimal h.owner h.symbols h.own.level w h.own.tight h.parts)

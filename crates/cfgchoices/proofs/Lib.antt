@@ -1,4 +1,3 @@
-pub mod Dictionary
 pub mod SentenceTokens
 pub mod Lengths
 pub mod Splits

@@ -1,5 +1,6 @@
 -- Lists of productions, to whose fronts productions are put from the last one down.
 use Rattle.std.proofs.Common.{◌≡◌, ℕ, ◌+◌, ◌<◌, ◌≤◌, ◌⊎◌, inl, inr, List, get_or, length, replicate, slice_set, Option, Some, None, arith, sym, ap, subst, ◌∙◌}
+use Rattle.std.proofs.lemmas.Option.{same_Some}
 use Rattle.std.proofs.lemmas.Bool.{cases_lt}
 use Rattle.std.proofs.lemmas.List.{get_or_default, get_or-set_same, get_or-set_other}
 use Rattle.lemmas.proofs.Elements.{get_or-replicate_default}
@@ -85,6 +86,5 @@ listed_none number Is n lists firsts next below none = record {
 pub own_cost_told : (x : CostTables) (n : ℕ) → IsGenerator x n → (p i c : ℕ) (own : HasNoHeir x p) (o : Option ℕ) → i ≡ owner x p → o ≡ get_or x.least i o → o ≡ Some c → own.tight.cost ≡ c
 own_cost_told x n is p i c own o at read some =
     let within = subst (λ m. owner x p < m) (sym is.settled.chosen.costs) (answered_within x n is (owner x p) own.tight.cost own.tight.rule) in
-    let both : Some own.tight.cost ≡ Some c = sym (answered_some (rule_cost x.least (owner x p)) own.tight.cost own.tight.rule).0
-    ∙ sym (read ∙ ap (λ n. get_or x.least n o) at ∙ get_or_default x.least (owner x p) o None within) ∙ some in
-    cc
+    same_Some _ _ (sym (answered_some (rule_cost x.least (owner x p)) own.tight.cost own.tight.rule).0
+    ∙ sym (read ∙ ap (λ n. get_or x.least n o) at ∙ get_or_default x.least (owner x p) o None within) ∙ some)

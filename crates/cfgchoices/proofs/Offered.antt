@@ -3,8 +3,7 @@ use Rattle.std.proofs.Common.{◌≡◌, ℕ, ◌+◌, ◌<◌, ◌⊎◌, inl, 
 use Rattle.std.specs.Prelude.{IsSomeAnd}
 use Rattle.std.specs.declared.cmp.Ordering.{Ordering}
 use Rattle.std.specs.declared.cmp.Ordering.TheVariants.{Equal, Greater}
-use Rattle.std.specs.Ordering.{nat_cmp, ordering_then}
-use Rattle.std.specs.Cmp.{nat_cmp_is}
+use Rattle.std.proofs.lemmas.Cmp.{nat_list_cmp_total, tied_itself}
 use Rattle.std.proofs.lemmas.List.Elements.{Contains-get_or}
 use Rattle.lemmas.proofs.Elements.{get_or-set}
 use Rattle.derivation.specs.Grammar.{Sym, Rule}
@@ -17,22 +16,15 @@ use Rattle.cfgchoices.specs.Inner.Kinds.{IsHeir, IsTight}
 use Rattle.cfgchoices.specs.First.{dictionary}
 use Rattle.cfgchoices.specs.Inner.Offers.{Choices, Choosing, Handles, HasChoice, IsDone, IsFloor, IsHandled, IsKnown, IsNext, IsOffered, IsReady, Known, Level, NotAfter, Offering, Offers, StandsFor, Waits, by, is_alone, owner, row}
 use Rattle.cfgchoices.proofs.Choices.{choices_once}
-use Rattle.cfgchoices.proofs.ChoosingFirsts.{answer_chosen, choosing_more, chosen_now, gives_ready, handed_gives, heir_ready, later, paid_chosen, ready_kept}
+use Rattle.cfgchoices.proofs.ChoosingFirsts.{answer_chosen, choosing_more, chosen_now, gives_ready, heir_gives, heir_ready, later, paid_chosen, ready_kept}
 use Rattle.lemmas.proofs.Contained.{contains_one}
 use Rattle.cfgchoices.proofs.FirstChosen.{not_after}
 use Rattle.cfgchoices.proofs.GrowingChoices.{Keeps, gives_kept, keeps_one}
 use Rattle.cfgchoices.proofs.Lengths.{IsPaid}
-use Rattle.cfgchoices.proofs.Tight.{one_cost, paid}
-
-itself_equal : (u : List ℕ) → dictionary u u ≡ Equal
-itself_equal [] = refl
-itself_equal (t ∷ u) =
-    let same : nat_cmp t t ≡ Equal = sym (nat_cmp_is t t Equal refl) in
-    let one : dictionary (t ∷ u) (t ∷ u) ≡ dictionary u u = ap (λ r. ordering_then r (dictionary u u)) same in
-    one ∙ itself_equal u
+use Rattle.cfgchoices.proofs.Tight.{hands_heir, one_cost, paid}
 
 not_greater : (u v : List ℕ) → u ≡ v → dictionary u v ≡ Greater → ⊥
-not_greater u v e g = let no : ◌≡◌ {A = Ordering} Equal Greater = sym (itself_equal u) ∙ ap (dictionary u) e ∙ g in cc
+not_greater u v e g = let no : ◌≡◌ {A = Ordering} Equal Greater = sym (tied_itself nat_list_cmp_total u) ∙ ap (dictionary u) e ∙ g in cc
 
 module _ (x : CostTables) where
   abbrev pub IsGiven : Choices → List Sym → Type 0
@@ -220,7 +212,7 @@ module _ (k : Known) (n : ℕ) (is : IsKnown k n) where
       cost = one_cost x (owner x p) heir.tight.cost f.cost heir.same costs_now;
       ready = heir_ready x chosen q (owner x p) (f.number + 1) heir (subst (λ (o : Option (ℕ × ℕ)). IsSomeAnd o (λ choice. choice.1 < f.number + 1)) (sym now) (omega arith));
       floor = λ r has costs several u v g h.
-          let back = handed_gives x chosen q (owner x p) v heir (paid_row q heir.tight) h in
+          let back = heir_gives x chosen (owner x p) v (hands_heir x q (owner x p) heir) (paid_row q heir.tight) h in
           elim (cases r has) [
             | inl old ↦ not_after_kept x l chosen keeps (Rule r ∷ []) (row x p) (choice_given x l f.number level.choosing r old) mine (next.offered.floor r old costs several)
                 u v g (row_gives x chosen (f.number + 1) choosing (owner x p) p f.number now v back)

@@ -1,24 +1,23 @@
 -- Rows of symbols that pend, the first one last: what the choices make of them, token by token.
-use Rattle.std.proofs.Common.{◌≡◌, ℕ, ◌+◌, ◌<◌, get_or, length, List, [], ◌∷◌, ◌++◌, map, reverse, Option, Some, None, arith, refl, sym, ap, subst, ◌∙◌}
-use Rattle.std.specs.Prelude.{sum_by}
+use Rattle.std.proofs.Common.{◌≡◌, ℕ, ◌+◌, ◌<◌, ◌≤◌, get_or, length, List, [], ◌∷◌, ◌++◌, map, reverse, Option, Some, None, arith, refl, sym, ap, subst, ◌∙◌}
+use Rattle.std.proofs.lemmas.Option.{same_Some}
 use Rattle.cfgindex.specs.declared.idxnewtype.PIdx.{PIdx}
-use Rattle.cfgindex.specs.declared.idxnewtype.RIdx.{RIdx}
 use Rattle.cfgindex.specs.declared.idxnewtype.Symbol.{Symbol}
-use Rattle.cfgindex.specs.declared.idxnewtype.Symbol.TheVariants as symbols
 use Rattle.cfgtables.specs.Symbols.{sym_of}
 use Rattle.lemmas.proofs.Elements.{within_from_get_or}
 use Rattle.cfgchoices.proofs.Tight.{answered_within}
-use Rattle.std.proofs.lemmas.List.{get_or-map, length-map, map-append, reverse-append, reverse-reverse}
-use Rattle.std.proofs.lemmas.List.Sums.{sum_by-append}
+use Rattle.std.proofs.lemmas.List.{get_or-map, map-append, reverse-append, reverse-reverse}
+use Rattle.std.proofs.lemmas.List.Sorted.{IsPermutation-reverse, sum_by-IsPermutation}
+use Rattle.std.proofs.lemmas.List.Sums.{sum_by-append, sum_by-cons}
 use Rattle.derivation.specs.Grammar.{Sym, Rule, Token}
 use Rattle.cfgtables.specs.Openings.{nth_production}
 use Rattle.cfgleast.specs.Certificate.{choice_of, rule_choice}
 use Rattle.cfgchoices.specs.Inner.Choices.{ChoicesGive, empty, token, free, chosen}
 use Rattle.cfgleast.specs.Generator.{CostTables, IsGenerator, choice_answer, cost_answer, where_some}
-use Rattle.cfgchoices.specs.Inner.Offers.{AreMade, Choices, Choosing, IsKnown, Known, Pends, by, left_to_open, row, steps}
+use Rattle.cfgchoices.specs.Inner.Offers.{Choices, Choosing, Pends, by, left_to_open, row, steps}
 use Rattle.cfgchoices.proofs.Choices.{choices_join}
 use Rattle.cfgchoices.proofs.ChoosingFirsts.{answer_chosen, few, paid_chosen, row_not_above}
-use Rattle.cfgchoices.proofs.Steps.{steps_opened, steps_positive, sum_by-cons}
+use Rattle.cfgchoices.proofs.Steps.{steps_opened, steps_positive}
 
 last_first : {A : Type 0} (rest : List A) (s : A) → reverse (rest ++ s ∷ []) ≡ s ∷ reverse rest
 last_first rest s = reverse-append rest (s ∷ [])
@@ -33,15 +32,6 @@ map_reverse f (x ∷ xs) = ap (map f) (reverse-append (x ∷ []) xs) ∙ map-app
 
 pub reverse_map : {A B : Type 0} (f : A → B) (xs : List A) → reverse (map f (reverse xs)) ≡ map f xs
 reverse_map f xs = ap reverse (map_reverse f xs) ∙ reverse-reverse (map f xs)
-
-sum_by-reverse : {A : Type 0} (f : A → ℕ) (xs : List A) → sum_by f (reverse xs) ≡ sum_by f xs
-sum_by-reverse f [] = refl
-sum_by-reverse f (x ∷ xs) =
-    let turned = ap (sum_by f) (reverse-append (x ∷ []) xs) ∙ sum_by-append f (reverse xs) (x ∷ []) in
-    let rest = sum_by-reverse f xs in
-    let one = sum_by-cons f x xs in
-    let last = sum_by-cons f x [] in
-    omega (arith, turned, rest, one, last)
 
 where_none : (c : Option ℕ) → where_some c None ≡ None
 where_none None = refl
@@ -60,16 +50,16 @@ module _ (x : CostTables) where
       → ChoicesGive x ((nth_production x.grammar p).symbols ++ a) w
   rule_front r p m a w paid answer (free nothing h) = absurd (paid nothing)
   rule_front r p m a w paid answer (chosen {p = q} {m = n} also other h k e) =
-      let both : ◌≡◌ {A = Option (ℕ × ℕ)} (Some (q, n)) (Some (p, m)) = sym other ∙ answer in
-      let pairs : ◌≡◌ {A = ℕ × ℕ} (q, n) (p, m) = cc in
+      let pairs : ◌≡◌ {A = ℕ × ℕ} (q, n) (p, m) = same_Some _ _ (sym other ∙ answer) in
       let same : q ≡ p = ap (λ (c : ℕ × ℕ). c.0) pairs in
       subst (λ (i : ℕ). ChoicesGive x ((nth_production x.grammar i).symbols ++ a) w) same
       (subst (ChoicesGive x ((nth_production x.grammar q).symbols ++ a)) (sym e) (choices_join x h k))
 
 -- the last symbol, in numbers
-pub last_shown : {S : Type 0} (number : S → ℕ) (pending rest : List (Symbol S)) (symbol : Symbol S) → pending ≡ rest ++ symbol ∷ []
-    → map (sym_of number) pending ≡ map (sym_of number) rest ++ sym_of number symbol ∷ []
-last_shown number pending rest symbol e = ap (map (sym_of number)) e ∙ map-append (sym_of number) rest (symbol ∷ [])
+pub last_shown : {S : Type 0} (number : S → ℕ) (items rest : List (Symbol S)) (symbol is : Symbol S) → items ≡ rest ++ symbol ∷ [] → symbol ≡ is
+    → map (sym_of number) items ≡ map (sym_of number) rest ++ sym_of number is ∷ []
+last_shown number items rest symbol is e f =
+    ap (map (sym_of number)) e ∙ map-append (sym_of number) rest (symbol ∷ []) ∙ ap (λ s. map (sym_of number) rest ++ sym_of number s ∷ []) f
 
 -- and symbols that are put behind others, turned
 pub turned_shown : {S : Type 0} (number : S → ℕ) (pending rest symbols : List (Symbol S)) (a : List Sym) → pending ≡ rest ++ reverse symbols → map (sym_of number) symbols ≡ a
@@ -84,6 +74,11 @@ entry_shown f xs i r d o e at within is = get_or-map f xs r d e within ∙ ap f 
 pub choice_shown : {S : Type 0} (number : S → ℕ) (xs : List (Option (PIdx S × ℕ))) (i r : ℕ) (d o : Option (PIdx S × ℕ)) → i ≡ r → r < length xs → get_or xs i d ≡ o
     → rule_choice (map (choice_of number) xs) r ≡ choice_of number o
 choice_shown number xs i r d o = entry_shown (choice_of number) xs i r d o None
+
+-- what pends now makes the same, in no more steps
+pub record GoesOn (x : CostTables) (l : Choices) (old pending : List Sym) : Type 0 where
+  pub same : (w : List ℕ) → Pends x l old w → Pends x l pending w
+  pub left : left_to_open x l pending ≤ left_to_open x l old
 
 module _ (x : CostTables) (l : Choices) (n : ℕ) (state : Choosing x l n) (rest : List Sym) where
   first_pending : (s : Sym) (w : List ℕ) → Pends x l (rest ++ s ∷ []) w → ChoicesGive (by x l) (s ∷ reverse rest) w
@@ -106,15 +101,6 @@ module _ (x : CostTables) (l : Choices) (n : ℕ) (state : Choosing x l n) (rest
   pub token_pending : (t : ℕ) (w : List ℕ) → Pends x l (rest ++ Token t ∷ []) w → (v : List ℕ) × (w ≡ t ∷ v) × Pends x l rest v
   token_pending t w h = token_front (by x l) t (reverse rest) w (first_pending (Token t) w h)
 
-  pub free_pending : (r : ℕ) (w : List ℕ) → rule_choice l r ≡ None → Pends x l (rest ++ Rule r ∷ []) w → Pends x l rest w
-  free_pending r w none h = free_front (by x l) r (reverse rest) w none (first_pending (Rule r) w h)
-
-  pub rule_pending : (r p m : ℕ) (w : List ℕ) → rule_choice l r ≡ Some (p, m) → Pends x l (rest ++ Rule r ∷ []) w → Pends x l (rest ++ reverse (row x p)) w
-  rule_pending r p m w e h =
-      let c = (state.each r p m e).0 in
-      subst (λ a. ChoicesGive (by x l) a w) (sym (turned_first rest (row x p)))
-      (rule_front (by x l) r p m (reverse rest) w (paid_chosen x l n state r p m c) (answer_chosen x l n state r p m e c) (first_pending (Rule r) w h))
-
   abbrev size : Sym → ℕ
   size = steps x.grammar l 1 x.grammar.rules
 
@@ -131,18 +117,21 @@ module _ (x : CostTables) (l : Choices) (n : ℕ) (state : Choosing x l n) (rest
       let all = longer (Rule r) in
       let one = steps_opened x.grammar l 1 (λ q i j is. row_not_above x l n state j (row x i) (state.each q i j is).0.ready) x.grammar.rules r p m e (omega (arith, deep, below)) in
       let new = sum_by-append size rest (reverse (row x p)) in
-      let turned = sum_by-reverse size (row x p) in
+      let turned = sum_by-IsPermutation size (row x p) (reverse (row x p)) (IsPermutation-reverse (row x p)) in
       omega (arith, all, one, new, turned)
 
--- the rule that pends last is one of the choices
-pub index_within : {S : Type 0} (number : S → ℕ) (k : Known) (choices : List (Option (PIdx S × ℕ))) (old pending rest : List (Symbol S)) (symbol : Symbol S) (rule : RIdx S) (i : ℕ)
-    → AreMade k.tables (map (choice_of number) choices) → ((n : ℕ) × IsKnown k n) → ((w : List ℕ) × Pends k.tables (map (choice_of number) choices) (map (sym_of number) old) w)
-    → ((w : List ℕ) → Pends k.tables (map (choice_of number) choices) (map (sym_of number) old) w → Pends k.tables (map (choice_of number) choices) (map (sym_of number) pending) w)
-    → pending ≡ rest ++ symbol ∷ [] → symbol ≡ symbols.Rule rule → i ≡ number rule.0 → i < length choices
-index_within number k choices old pending rest symbol rule i (n, state) (m, known) (w, h) same e is at =
-    let x = k.tables in
-    let l = map (choice_of number) choices in
-    let split = last_shown number pending rest symbol e ∙ ap (λ s. map (sym_of number) rest ++ sym_of number s ∷ []) is in
-    let lt = rule_within x l n state (map (sym_of number) rest) m known.generator (number rule.0) w (subst (λ a. Pends x l a w) split (same w h)) in
-    let len = length-map choices (choice_of number) in
-    omega (arith, lt, len, at)
+  -- a rule that has no choice is passed over
+  pub goes_on_free : (old : List Sym) (r : ℕ) → rule_choice l r ≡ None → GoesOn x l old (rest ++ Rule r ∷ []) → GoesOn x l old rest
+  goes_on_free old r none g = record {
+    same = λ w h. free_front (by x l) r (reverse rest) w none (first_pending (Rule r) w (g.same w h));
+    left = omega (arith, g.left, symbol_less (Rule r));
+  }
+
+  -- another one is replaced by what was chosen for it
+  pub goes_on_opened : (old : List Sym) (r p m : ℕ) → rule_choice l r ≡ Some (p, m) → GoesOn x l old (rest ++ Rule r ∷ []) → GoesOn x l old (rest ++ reverse (row x p))
+  goes_on_opened old r p m e g =
+      let c = (state.each r p m e).0 in record {
+        same = λ w h. subst (λ a. ChoicesGive (by x l) a w) (sym (turned_first rest (row x p)))
+            (rule_front (by x l) r p m (reverse rest) w (paid_chosen x l n state r p m c) (answer_chosen x l n state r p m e c) (first_pending (Rule r) w (g.same w h)));
+        left = omega (arith, g.left, rule_less r p m e);
+      }

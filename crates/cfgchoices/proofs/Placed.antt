@@ -1,7 +1,8 @@
 -- The place of a production among others that are in order, the greatest first, and what waits when it was put there.
 use Rattle.std.proofs.Common.{◌≡◌, ◌↔◌, ℕ, ◌+◌, ◌<◌, ◌≤◌, ◌⊎◌, inl, inr, true, false, List, [], ◌∷◌, ◌++◌, get_or, length, map, take, drop, slice_set, Option, Some, None, Contains, arith, refl, sym, ap, subst, ◌∙◌, true≢false}
+use Rattle.std.proofs.lemmas.Option.{same_Some}
 use Rattle.std.specs.List.{insert}
-use Rattle.std.specs.Ordering.{is_le, is_lt, ordering_reverse}
+use Rattle.std.specs.Ordering.{is_lt, ordering_reverse}
 use Rattle.std.specs.declared.cmp.Ordering.{Ordering}
 use Rattle.std.proofs.lemmas.Bool.{cases_lt}
 use Rattle.std.proofs.lemmas.Cmp.{nat_list_cmp_total}
@@ -10,12 +11,11 @@ use Rattle.std.proofs.lemmas.List.{get_or-map, take-append-drop, take-map, drop-
 use Rattle.lemmas.proofs.Elements.{get_or-set}
 use Rattle.std.proofs.lemmas.List.Edits.{length-insert}
 use Rattle.std.proofs.lemmas.List.Elements.{Contains-append_left, Contains-append_right, Contains-append_cases, Contains-get_or, Contains-push, Contains-push_cases}
-use Rattle.derivation.specs.Grammar.{Sym}
 use Rattle.cfgchoices.specs.Inner.Choices.{ChoicesGive}
 use Rattle.cfgleast.specs.Generator.{CostTables}
 use Rattle.cfgchoices.specs.First.{dictionary}
 use Rattle.cfgchoices.specs.Inner.Kinds.{places_of}
-use Rattle.cfgchoices.specs.Inner.Offers.{Adds, Choices, Handles, HasChoice, IsHandled, IsOffered, Known, Level, NotAfter, Offering, Offers, StandsFor, Waits, by, is_alone, owner, place_of, row}
+use Rattle.cfgchoices.specs.Inner.Offers.{Adds, Handles, HasChoice, IsHandled, IsOffered, Known, Level, NotAfter, Offering, Offers, StandsFor, Waits, by, is_alone, owner, place_of, row}
 use Rattle.lemmas.proofs.Contained.{contains_cases, contains_first, contains_later}
 use Rattle.cfgchoices.proofs.Offered.{IsGiven, handled_wider, not_after_both, offered_given, stands_itself}
 use Rattle.cfgchoices.proofs.RowsInOrder.{insert_in_order}
@@ -43,19 +43,6 @@ pub insert_shown : {A B : Type 0} (f : A → B) (xs : List A) (at : ℕ) (y : A)
 insert_shown f xs at y = map-append f (take at xs) (y ∷ drop at xs) ∙ ap (λ l. l ++ f y ∷ map f (drop at xs)) (sym (take-map f at xs))
     ∙ ap (λ l. take at (map f xs) ++ f y ∷ l) (sym (drop-map f at xs))
 
--- an order that was found tells which isn't after the other
-module _ (x : CostTables) (l : Choices) (a b : List Sym) (o : Ordering)
-    (told : (u v : List ℕ) → ChoicesGive (by x l) a u → ChoicesGive (by x l) b v → o ≡ dictionary u v) where
-  pub not_after_less : is_lt o ≡ true → NotAfter x l a b
-  not_after_less less u v h k greater = true≢false (sym less ∙ ap is_lt (told u v h k ∙ greater))
-
-  pub not_after_le : is_le o ≡ true → NotAfter x l a b
-  not_after_le le u v h k greater = true≢false (sym le ∙ ap is_le (told u v h k ∙ greater))
-
-  pub not_after_other : is_lt o ≡ false → NotAfter x l b a
-  not_after_other other v u k h greater =
-      true≢false (sym (ap is_lt (told u v h k ∙ nat_list_cmp_total.antisymm u v ∙ ap ordering_reverse greater)) ∙ other)
-
 -- a row in order, where what stands below `low` isn't before the production, nor behind it what stands from `high` on
 pub record Between (k : Known) (f : Offers) (p low high : ℕ) : Type 0 where
   pub within : high ≤ length f.level
@@ -75,7 +62,7 @@ module _ (k : Known) (f : Offers) (level : Level k f) (p : ℕ) (given : IsGiven
 
   module _ (low high middle : ℕ) (b : Between k f p low high) (from : low ≤ middle) (to : middle < high) where
     inside : middle < length f.level
-    inside = let le = b.within in omega (arith, to, le)
+    inside = omega (arith, to, b.within)
 
     pub front_half : NotAfter x f.choices (row x (nth middle)) (row x p) → Between k f p low middle
     front_half here = record {
@@ -108,10 +95,7 @@ module _ (k : Known) (f : Offers) (level : Level k f) (p : ℕ) (offered : IsOff
     (from : low ≤ middle) (to : middle < high) (at : get_or f.level middle 0 ≡ q) where
   pub middle_offered : IsOffered k f.choices f.number f.cost q
   middle_offered = subst (IsOffered k f.choices f.number f.cost) at
-      (level.offered (get_or f.level middle 0) (inr (Contains-get_or f.level middle 0 (let le = b.within in omega (arith, to, le)))))
-
-  pub middle_given : IsGiven k.tables f.choices (row k.tables q)
-  middle_given = offered_given k f.choices f.number level.choosing f.cost q middle_offered
+      (level.offered (get_or f.level middle 0) (inr (Contains-get_or f.level middle 0 (omega (arith, to, b.within)))))
 
   module _ (o : Ordering) (told : (u v : List ℕ) → ChoicesGive (by k.tables f.choices) (row k.tables q) u → ChoicesGive (by k.tables f.choices) (row k.tables p) v → o ≡ dictionary u v) where
     mine : IsGiven k.tables f.choices (row k.tables p)
@@ -119,11 +103,11 @@ module _ (k : Known) (f : Offers) (level : Level k f) (p : ℕ) (offered : IsOff
 
     pub to_front : is_lt o ≡ true → Between k f p low middle
     to_front e = front_half k f level p mine low high middle b from to
-        (subst (λ i. NotAfter k.tables f.choices (row k.tables i) (row k.tables p)) (sym at) (not_after_less k.tables f.choices (row k.tables q) (row k.tables p) o told e))
+        (subst (λ i. NotAfter k.tables f.choices (row k.tables i) (row k.tables p)) (sym at) (λ u v h k greater. true≢false (sym e ∙ ap is_lt (told u v h k ∙ greater))))
 
     pub to_back : is_lt o ≡ false → Between k f p (middle + 1) high
     to_back e = back_half k f level p mine low high middle b from to
-        (subst (λ i. NotAfter k.tables f.choices (row k.tables p) (row k.tables i)) (sym at) (not_after_other k.tables f.choices (row k.tables q) (row k.tables p) o told e))
+        (subst (λ i. NotAfter k.tables f.choices (row k.tables p) (row k.tables i)) (sym at) (λ u v h k greater. true≢false (sym (ap is_lt (told v u k h ∙ nat_list_cmp_total.antisymm v u ∙ ap ordering_reverse greater)) ∙ e)))
 
 -- one more waits, or one that stands for it
 module _ (k : Known) (f : Offers) (o : Offering k f) (p : ℕ) (offered : IsOffered k f.choices f.number f.cost p) where
@@ -194,11 +178,7 @@ module _ (k : Known) (f : Offers) (o : Offering k f) (p : ℕ) (offered : IsOffe
     }
 
   abbrev with_level : List ℕ → Offers
-  with_level list = record {
-    choices = f.choices;
-    number = f.number;
-    cost = f.cost;
-    ready = f.ready;
+  with_level list = record f {
     level = list;
     foremost = slice_set f.foremost (owner k.tables p) (Some p);
   }
@@ -236,8 +216,7 @@ module _ (k : Known) (f : Offers) (o : Offering k f) (p : ℕ) (offered : IsOffe
             let (owned, where_is) = o.foremost r q (sym same ∙ e) in
             (owned, elim where_is [ inl waits ↦ inl (put_wider q waits) | inr has ↦ inr has ])
         | inr new ↦
-            let both : ◌≡◌ {A = Option ℕ} (Some p) (Some q) = sym new.1 ∙ e in
-            let is : p ≡ q = cc in
+            let is : p ≡ q = same_Some _ _ (sym new.1 ∙ e) in
             (ap (owner k.tables) (sym is) ∙ sym new.0, inl (subst (Waits (with_level put)) is put_now))
       ];
     }

@@ -1,5 +1,5 @@
 -- Words cut into what the symbols of a row stand for, and induction over parse trees by such cuts.
-use Rattle.std.proofs.Common.{◌≡◌, ℕ, List, [], ◌∷◌, ◌++◌, append-nil, refl, sym, ap, subst, ◌∙◌}
+use Rattle.std.proofs.Common.{ℕ, List, [], ◌∷◌, append-nil, sym, subst, ◌∙◌}
 use Rattle.derivation.specs.Grammar.{Sym, Rule}
 use Rattle.derivation.specs.Tree.{Yields, empty, token, opened}
 use Rattle.derivation.proofs.Trees.{trees_join}
@@ -9,6 +9,9 @@ pub Split-map : (F G : ℕ → List ℕ → Type 0) → ((r : ℕ) (u : List ℕ
 Split-map F G f done = done
 Split-map F G f (itself s) = itself (Split-map F G f s)
 Split-map F G f (part {r = r} {u = u} h s e) = part (f r u h) (Split-map F G f s) e
+
+pub split_one : (F : ℕ → List ℕ → Type 0) (r : ℕ) (w : List ℕ) → Split F (Rule r ∷ []) w → F r w
+split_one F r w (part {u = u} h done e) = subst (F r) (sym (e ∙ append-nil u)) h
 
 module _ (P : ℕ → List Sym → Type 0) where
   abbrev pub IsYielded : ℕ → List ℕ → Type 0
@@ -37,9 +40,5 @@ module _ (P : ℕ → List Sym → Type 0) where
       by_trees (opened {r = r} {symbols = symbols} {u = u} has h k e) =
           part (opened has h empty (sym (append-nil u)), goes_up r symbols u has h (by_trees h)) (by_trees k) e
 
-      none_yielded : (w : List ℕ) → Yields P [] w → w ≡ []
-      none_yielded w empty = refl
-
       pub by_rules : (r : ℕ) (w : List ℕ) → IsYielded r w → F r w
-      by_rules r w (opened {symbols = symbols} {u = u} {w = v} has h k e) =
-          subst (F r) (sym (e ∙ ap (λ l. u ++ l) (none_yielded v k) ∙ append-nil u)) (goes_up r symbols u has h (by_trees h))
+      by_rules r w tree = (split_one IsYieldedAnd r w (by_trees tree)).1

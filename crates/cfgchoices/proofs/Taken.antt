@@ -105,9 +105,8 @@ module _ (k : Known) (p : ℕ) (f f' : Offers) (t : Takes k p f f') where
 
   pub taken_less : left_to_choose k f' < left_to_choose k f
   taken_less =
-      let one = t.together in
       let same = ap (λ n. (k.tables.grammar.rules - n) * (length k.tables.grammar.productions + 1)) taken_number in
-      omega (arith, one, same)
+      omega (arith, t.together, same)
 
   module _ (g : Going k f) where
     hands : (q r : ℕ) → IsHeir k.tables q r → HasChoice f'.choices r → IsHandled k.tables f' q ⊎ StandsFor k.tables f'.choices p q
@@ -177,10 +176,8 @@ module _ (k : Known) (p : ℕ) (f f' : Offers) (t : Takes k p f f') where
 
           pub chosen_left : left_to_choose k f'' < left_to_choose k f
           chosen_left =
-              let all = adds.together in
-              let one = t.together in
               product k.tables.grammar.rules f.number f''.number (length k.tables.grammar.productions) (waiting f) (waiting f'')
-              (let most = number_fits in let number = taken_number in omega (arith, most, number)) (adds.number ∙ ap (λ n. n + 1) taken_number) (omega (arith, all, one))
+              (let most = number_fits in let number = taken_number in omega (arith, most, number)) (adds.number ∙ ap (λ n. n + 1) taken_number) (omega (arith, adds.together, t.together))
             where
               spread : (d c w v whole : ℕ) → whole ≡ (d + 1) * (c + 1) → v + 1 ≤ w + c → d * (c + 1) + v < whole + w
               spread d c w v whole is all = omega (arith, is, all)

@@ -1,10 +1,10 @@
 -- What the generator's tables tell of productions that cost what their rules do, and what derivations tell of them.
-use Rattle.std.proofs.Common.{◌≡◌, ℕ, ◌<◌, ◌≤◌, inl, inr, List, [], ◌∷◌, ◌++◌, length, get_or, Option, Some, None, Result, Ok, Err, All, Contains, arith, refl, sym, ap, subst, ◌∙◌}
+use Rattle.std.proofs.Common.{◌≡◌, ℕ, ◌<◌, ◌≤◌, ◌⊎◌, inl, inr, List, [], ◌∷◌, ◌++◌, length, get_or, Option, Some, None, Result, Ok, Err, All, Contains, arith, refl, sym, ap, subst, ◌∙◌}
+use Rattle.std.proofs.lemmas.Option.{none-some, same_Some}
 use Rattle.std.proofs.lemmas.Bool.{cases_lt}
-use Rattle.std.proofs.Math.Seq.{get_or-append_seam}
-use Rattle.std.proofs.lemmas.List.{get_or_append_left, get_or_default, get_or_past, length_push}
+use Rattle.std.proofs.lemmas.List.{get_or_default, get_or_past}
 use Rattle.lemmas.proofs.Elements.{within_from_get_or}
-use Rattle.std.proofs.lemmas.List.Elements.{All-get_or}
+use Rattle.std.proofs.lemmas.List.Elements.{All-nil, All-cons, All-contains}
 use Rattle.std.proofs.lemmas.List.Sums.{sum_by-append}
 use Rattle.derivation.specs.Grammar.{Sym, Rule, Token, Production, IsGrammar, HasProduction}
 use Rattle.derivation.specs.Sentence.{cost_of}
@@ -27,65 +27,66 @@ use Rattle.cfgchoices.specs.declared.kinds.Kind.{Kind}
 use Rattle.cfgchoices.specs.declared.kinds.Kind.TheVariants as kinds
 use Rattle.cfgleast.specs.declared.partial.Partial.{Partial}
 use Rattle.lemmas.proofs.Contained.{contains_cases, contains_none}
-use Rattle.cfgleast.proofs.Gains.{HasCost, all_have_costs}
+use Rattle.cfgleast.proofs.Gains.{part_at}
 use Rattle.cfgleast.proofs.Generated.{answered_some, some_answered, reads_cost, reads_dear, reads_none}
 use Rattle.cfgchoices.proofs.Lengths.{IsPaid, productions_paid}
 use Rattle.cfgchoices.proofs.Levels.{at_least, handed_down_minimal, minimal_handed_down, rule_nothing}
 
 -- where a rule has no cost, the row has none
-pub stops_none : (cost : ℕ → ℕ) (settled : ℕ → Option ℕ) (symbols : List Sym) (r : ℕ) (x : Partial) → StopsAt cost settled symbols r x → sum_of (symbol_cost cost settled) symbols ≡ None
-stops_none cost settled symbols r x stop = go (sum_of (symbol_cost cost settled) symbols) refl
-  where
-    go : (o : Option ℕ) → sum_of (symbol_cost cost settled) symbols ≡ o → o ≡ None
-    go None e = refl
-    go (Some n) e =
-        let here = All-get_or (HasCost (symbol_cost cost settled)) symbols x.taken (Rule r) stop.taken (all_have_costs (symbol_cost cost settled) symbols n e) in
-        let rule = subst (HasCost (symbol_cost cost settled)) stop.symbol here in
-        let no : None ≡ Some rule.value = sym stop.unset ∙ rule.is in absurd (cc)
+pub stops_none : (cost : ℕ → ℕ) (settled : ℕ → Option ℕ) (symbols : List Sym) (r n : ℕ) (x : Partial) → StopsAt cost settled symbols r x → sum_of (symbol_cost cost settled) symbols ≡ Some n → ⊥
+stops_none cost settled symbols r n x stop e =
+    let part = part_at (symbol_cost cost settled) symbols x.taken (Rule r) n stop.taken stop.symbol e in none-some _ (sym stop.unset ∙ part.is)
 
 -- a rule and its production cost the same, whoever tells it
 pub one_cost : (x : CostTables) (r c d : ℕ) → cost_answer x r ≡ Some c → cost_answer x r ≡ Some d → c ≡ d
-one_cost x r c d e f = let both : Some c ≡ Some d = sym e ∙ f in cc
+one_cost x r c d e f = same_Some _ _ (sym e ∙ f)
 
--- where a row costs something, it has one symbol at most that costs as much
+-- Where a rule in a row costs as much as the row, nothing else in it costs anything.
 module _ (x : CostTables) where
   abbrev costs : Sym → Option ℕ
   costs = symbol_cost (token_cost x) (rule_cost x.least)
 
-  pub rule_within : (a : List Sym) (q c m : ℕ) → sum_of costs a ≡ Some m → Contains a (Rule q) → rule_cost x.least q ≡ Some c → c ≤ m
-  rule_within [] q c m e h k = absurd (contains_none (Rule q) h)
-  rule_within (s ∷ a) q c m e h k =
+  abbrev pub CostsNothing : Sym → Type 0
+  CostsNothing s = costs s ≡ Some 0
+
+  pub data HandsTo (q : ℕ) : List Sym → Type 0 where
+    in_front : {a : List Sym} → All CostsNothing a → HandsTo q (Rule q ∷ a)
+    further : {s : Sym} {a : List Sym} → CostsNothing s → HandsTo q a → HandsTo q (s ∷ a)
+
+  none_costs : (a : List Sym) (m : ℕ) → sum_of costs a ≡ Some m → m ≤ 0 → All CostsNothing a
+  none_costs [] m e none = All-nil CostsNothing
+  none_costs (s ∷ a) m e none =
       let p = plus_parts (costs s) (sum_of costs a) m e in
-      let whole = p.whole in
+      All-cons CostsNothing s a (p.first_is ∙ ap Some (omega (arith, p.whole, none))) (none_costs a p.second p.second_is (omega (arith, p.whole, none)))
+
+  hands_row : (a : List Sym) (q c m : ℕ) → sum_of costs a ≡ Some m → m ≤ c → Contains a (Rule q) → rule_cost x.least q ≡ Some c → HandsTo q a
+  hands_row [] q c m e small h k = absurd (contains_none (Rule q) h)
+  hands_row (s ∷ a) q c m e small h k =
+      let p = plus_parts (costs s) (sum_of costs a) m e in
       elim (contains_cases s (Rule q) a h) [
         | inl same ↦
-            let both : Some c ≡ Some p.first = sym k ∙ ap costs (sym same) ∙ p.first_is in
-            let is : c ≡ p.first = cc in omega (arith, is, whole)
-        | inr later ↦ let rest = rule_within a q c p.second p.second_is later k in omega (arith, rest, whole)
+            let first : c ≡ p.first = same_Some _ _ (sym k ∙ ap costs (sym same) ∙ p.first_is) in
+            subst (λ t. HandsTo q (t ∷ a)) (sym same) (in_front (none_costs a p.second p.second_is (omega (arith, p.whole, small, first))))
+        | inr behind ↦
+            let part = part_at costs a behind.0 (Rule q) p.second behind.1 behind.2 p.second_is in
+            let value : c ≡ part.value = same_Some _ _ (sym k ∙ part.is) in
+            further (p.first_is ∙ ap Some (omega (arith, p.whole, small, value, part.within))) (hands_row a q c p.second p.second_is (omega (arith, p.whole, small)) behind k)
       ]
 
-  one_rule : (a : List Sym) (q r c m : ℕ) → sum_of costs a ≡ Some m → m ≤ c → 0 < c → Contains a (Rule q) → Contains a (Rule r)
-      → rule_cost x.least q ≡ Some c → rule_cost x.least r ≡ Some c → q ≡ r
-  one_rule [] q r c m e small some h h' k k' = absurd (contains_none (Rule q) h)
-  one_rule (s ∷ a) q r c m e small some h h' k k' =
-      let p = plus_parts (costs s) (sum_of costs a) m e in
-      let whole = p.whole in
-      elim (contains_cases s (Rule q) a h) [
-        | inl same ↦ elim (contains_cases s (Rule r) a h') [
-          | inl same' ↦ let rules : Rule q ≡ Rule r = sym same ∙ same' in cc
-          | inr later ↦
-              let both : Some c ≡ Some p.first = sym k ∙ ap costs (sym same) ∙ p.first_is in
-              let is : c ≡ p.first = cc in
-              let rest = rule_within a r c p.second p.second_is later k' in absurd (omega (arith, is, whole, rest, small, some))
-        ]
-        | inr later ↦ elim (contains_cases s (Rule r) a h') [
-          | inl same' ↦
-              let both : Some c ≡ Some p.first = sym k' ∙ ap costs (sym same') ∙ p.first_is in
-              let is : c ≡ p.first = cc in
-              let rest = rule_within a q c p.second p.second_is later k in absurd (omega (arith, is, whole, rest, small, some))
-          | inr later' ↦ one_rule a q r c p.second p.second_is (omega (arith, whole, small)) some later later' k k'
-        ]
-      ]
+  pub hands_heir : (p q : ℕ) → IsHeir x p q → HandsTo q (nth_production x.grammar p).symbols
+  hands_heir p q heir =
+      let c = heir.tight.cost in
+      hands_row (nth_production x.grammar p).symbols q c c heir.tight.sum (omega arith) heir.among (answered_some (rule_cost x.least q) c heir.same).0
+
+  pub others_free : {q : ℕ} {a : List Sym} → HandsTo q a → (s : ℕ) → Contains a (Rule s) → (q ≡ s) ⊎ CostsNothing (Rule s)
+  others_free {q} (in_front {a = a} free) s h = elim (contains_cases (Rule q) (Rule s) a h) [
+    | inl same ↦ inl (cc)
+    | inr behind ↦ inr (All-contains CostsNothing a (Rule s) free behind)
+  ]
+  others_free (further {s = y} {a = a} free hands) s h = elim (contains_cases y (Rule s) a h) [
+    | inl same ↦ inr (ap costs (sym same) ∙ free)
+    | inr behind ↦ others_free hands s behind
+  ]
 
 -- a production is tight whatever is chosen
 pub tight_whatever : (x : CostTables) (choices : List (Option (ℕ × ℕ))) (p : ℕ) → IsTight x p
@@ -95,7 +96,7 @@ tight_whatever x choices p t = record { place = t.place; cost = t.cost; positive
 -- what a production is to its rule is told by its symbols, where the rule has a cost that is answered and isn't 0
 module _ (x : CostTables) (p c : ℕ) (place : p < length x.grammar.productions) (rule : rule_cost x.least (nth_production x.grammar p).rule ≡ Some c) where
   cost_is : (tight : IsTight x p) → tight.cost ≡ c
-  cost_is tight = let both : Some c ≡ Some tight.cost = sym rule ∙ (answered_some (rule_cost x.least (nth_production x.grammar p).rule) tight.cost tight.rule).0 in cc
+  cost_is tight = same_Some _ _ (sym (answered_some (rule_cost x.least (nth_production x.grammar p).rule) tight.cost tight.rule).0 ∙ rule)
 
   module _ (some : 0 < c) (small : c < 65536) where
     tight_now : sum_of (symbol_cost (token_cost x) (rule_cost x.least)) (nth_production x.grammar p).symbols ≡ Some c → IsTight x p
@@ -120,24 +121,12 @@ module _ (x : CostTables) (p c : ℕ) (place : p < length x.grammar.productions)
       same = some_answered (rule_cost x.least (number r.0)) c h.2 (omega (arith, small)) ∙ ap Some (sym (cost_is (tight_now h.0)));
     }
 
--- the kind that is read of a production, and kinds with one more
+-- the kind that is read of a production
 module _ {S : Type 0} (number : S → ℕ) (x : CostTables) where
   pub kind_read : (listed : List (Kind S)) (p i : ℕ) (kind : Kind S) → AreKinds number x listed → i ≡ p → p < length x.grammar.productions → kind ≡ get_or listed i kind → IsKind number x p kind
   kind_read listed p i kind are at within is =
       let there : p < length listed = subst (λ n. p < n) (sym are.all) within in
       subst (IsKind number x p) (get_or_default listed p kinds.Slack kind there ∙ sym (subst (λ n. kind ≡ get_or listed n kind) at is)) (are.each p there)
-
-  pub kinds_more : (listed listed' : List (Kind S)) (n : ℕ) (kind : Kind S) → length listed ≡ n → listed' ≡ listed ++ kind ∷ [] → IsKind number x n kind
-      → ((p : ℕ) → p < length listed → IsKind number x p (get_or listed p kinds.Slack)) → (p : ℕ) → p < length listed' → IsKind number x p (get_or listed' p kinds.Slack)
-  kinds_more listed listed' n kind len e one before p within = subst (λ l. IsKind number x p (get_or l p kinds.Slack)) (sym e) (
-      let longer = ap length e ∙ length_push listed kind in
-      elim (cases_lt p (length listed)) [
-        | inl lt ↦ subst (IsKind number x p) (sym (get_or_append_left listed (kind ∷ []) kinds.Slack p lt)) (before p lt)
-        | inr ge ↦
-            let is : p ≡ length listed = omega (arith, ge, within, longer) in
-            subst (λ m. IsKind number x m (get_or (listed ++ kind ∷ []) m kinds.Slack)) (sym is)
-            (subst (IsKind number x (length listed)) (sym (get_or-append_seam listed kind [] kinds.Slack)) (subst (λ m. IsKind number x m kind) (sym len) one))
-      ])
 
 -- what has a cost is a rule of the grammar
 pub answered_within : (x : CostTables) (n : ℕ) → IsGenerator x n → (q c : ℕ) → cost_answer x q ≡ Some c → q < x.grammar.rules
@@ -147,11 +136,12 @@ answered_within x n is q c e =
 
 -- a production has one heir at most
 pub one_heir : (x : CostTables) (p q r : ℕ) → IsHeir x p q → IsHeir x p r → q ≡ r
-one_heir x p q r h k =
-    let c = h.tight.cost in
-    let same = subst (λ d. cost_answer x r ≡ Some d) (one_cost x (nth_production x.grammar p).rule k.tight.cost c k.tight.rule h.tight.rule) k.same in
-    one_rule x (nth_production x.grammar p).symbols q r c c h.tight.sum (omega arith) h.tight.positive h.among k.among
-    (answered_some (rule_cost x.least q) c h.same).0 (answered_some (rule_cost x.least r) c same).0
+one_heir x p q r h k = elim (others_free x (hands_heir x p q h) r k.among) [
+  | inl same ↦ same
+  | inr free ↦
+      let none : 0 ≡ k.tight.cost = same_Some _ _ (sym free ∙ (answered_some (rule_cost x.least r) k.tight.cost k.same).0) in
+      absurd (omega (arith, none, k.tight.positive))
+]
 
 module _ (x : CostTables) (n : ℕ) (is : IsGenerator x n) (grammar : IsGrammar x.grammar) where
   abbrev P : ℕ → List Sym → Type 0
@@ -186,24 +176,21 @@ module _ (x : CostTables) (n : ℕ) (is : IsGenerator x n) (grammar : IsGrammar 
       ]
 
   -- a row that has a cost has minimal sentences of that cost
-  cut_of_sum : (a : List Sym) (m : ℕ) → sum_of sums a ≡ Some m → m ≤ 65535 → (w : List ℕ) × Cut a w × (cost_of cost w ≡ m)
+  pub cut_of_sum : (a : List Sym) (m : ℕ) → sum_of sums a ≡ Some m → m ≤ 65535 → (w : List ℕ) × Cut a w × (cost_of cost w ≡ m)
   cut_of_sum [] m e small = let is : 0 ≡ m = cc in ([], done, is)
   cut_of_sum (Token t ∷ a) m e small =
       let p = plus_parts (Some (cost t)) (sum_of sums a) m e in
-      let whole = p.whole in
-      let one : Some (cost t) ≡ Some p.first = p.first_is in
-      let first : cost t ≡ p.first = cc in
-      let (w, cut, costs) = cut_of_sum a p.second p.second_is (omega (arith, whole, small)) in
+      let first : cost t ≡ p.first = same_Some _ _ p.first_is in
+      let (w, cut, costs) = cut_of_sum a p.second p.second_is (omega (arith, p.whole, small)) in
       let both = cost_of-token cost t w in
-      (t ∷ w, itself cut, omega (arith, both, costs, first, whole))
+      (t ∷ w, itself cut, omega (arith, both, costs, first, p.whole))
   cut_of_sum (Rule r ∷ a) m e small =
       let p = plus_parts (rule_cost x.least r) (sum_of sums a) m e in
-      let whole = p.whole in
-      let least = (reads_cost x n is r p.first p.first_is (omega (arith, whole, small))).least in
+      let least = (reads_cost x n is r p.first p.first_is (omega (arith, p.whole, small))).least in
       let (u, s, costs) = least.0 in
-      let (w, cut, rest) = cut_of_sum a p.second p.second_is (omega (arith, whole, small)) in
+      let (w, cut, rest) = cut_of_sum a p.second p.second_is (omega (arith, p.whole, small)) in
       let both = sum_by-append cost u w in
-      (u ++ w, part (s, λ v t. subst (λ k. k ≤ cost_of cost v) (sym costs) (least.1 v t)) cut refl, omega (arith, both, costs, rest, whole))
+      (u ++ w, part (s, λ v t. subst (λ k. k ≤ cost_of cost v) (sym costs) (least.1 v t)) cut refl, omega (arith, both, costs, rest, p.whole))
 
   pub sum_of_cut : {a : List Sym} {w : List ℕ} → Cut a w → cost_of cost w ≤ 65535 → sum_of sums a ≡ Some (cost_of cost w)
   sum_of_cut done small = refl
@@ -274,11 +261,10 @@ module _ (x : CostTables) (n : ℕ) (is : IsGenerator x n) (grammar : IsGrammar 
         tight = told;
         less = λ q d h l.
             let low = at_least P cost q d told.parts h l in
-            let costs = told.is in
             elim (cases_lt d tight.cost) [
               | inl lt ↦ lt
               | inr ge ↦
-                  let same : d ≡ tight.cost = omega (arith, ge, low, costs) in
+                  let same : d ≡ tight.cost = omega (arith, ge, low, told.is) in
                   absurd (own.none q (record { tight = tight; among = h; same = answer_of q tight.cost (subst (Least P cost q) same l) known.1 }))
             ];
       }
@@ -317,17 +303,8 @@ module _ (x : CostTables) (n : ℕ) (is : IsGenerator x n) (grammar : IsGrammar 
   own_costs p s own h =
       let tight = own.tight in
       let known = answered_some (rule_cost x.least (nth_production x.grammar p).rule) tight.cost tight.rule in
-      go (nth_production x.grammar p).symbols tight.cost tight.sum known.1 h
-    where
-      go : (a : List Sym) (m : ℕ) → sum_of sums a ≡ Some m → m ≤ 65535 → Contains a (Rule s) → (d : ℕ) × (cost_answer x s ≡ Some d)
-      go [] m e small h = absurd (contains_none (Rule s) h)
-      go (y ∷ a) m e small h =
-          let p = plus_parts (sums y) (sum_of sums a) m e in
-          let whole = p.whole in
-          elim (contains_cases y (Rule s) a h) [
-            | inl same ↦ (p.first, some_answered (rule_cost x.least s) p.first (ap sums (sym same) ∙ p.first_is) (omega (arith, whole, small)))
-            | inr later ↦ go a p.second p.second_is (omega (arith, whole, small)) later
-          ]
+      let part = part_at sums (nth_production x.grammar p).symbols h.0 (Rule s) tight.cost h.1 h.2 tight.sum in
+      (part.value, some_answered (rule_cost x.least s) part.value part.is (omega (arith, part.within, known.1)))
 
   -- a minimal sentence of a rule that costs something is made by an own production below the rule
   pub record IsMade (r : ℕ) (w : List ℕ) : Type 0 where
@@ -345,7 +322,7 @@ module _ (x : CostTables) (n : ℕ) (is : IsGenerator x n) (grammar : IsGrammar 
         heir = record {
           tight = t.tight;
           among = subst (λ (p : Production). Contains p.symbols (Rule b)) (sym t.production) h.among;
-          same = answer_of b t.tight.cost (subst (Least P cost b) (sym t.costs) h.same) (let same = t.costs in omega (arith, same, one, small));
+          same = answer_of b t.tight.cost (subst (Least P cost b) (sym t.costs) h.same) (omega (arith, t.costs, one, small));
         };
       }
 
@@ -360,8 +337,7 @@ module _ (x : CostTables) (n : ℕ) (is : IsGenerator x n) (grammar : IsGrammar 
       → (p : ℕ) × (nth_production x.grammar p ≡ record { rule = r; symbols = symbols }) × HasNoHeir x p
   own_placed r symbols c own l some small =
       let one = least_is_one P cost r own.level c own.tight.least l in
-      let t = tight_placed r symbols own.level own.tight (omega (arith, one, some)) (omega (arith, one, small)) in
-      let costs = t.costs in (
+      let t = tight_placed r symbols own.level own.tight (omega (arith, one, some)) (omega (arith, one, small)) in (
         t.place,
         t.production,
         record {
@@ -369,7 +345,7 @@ module _ (x : CostTables) (n : ℕ) (is : IsGenerator x n) (grammar : IsGrammar 
           none = λ q heir.
               let same = one_cost x (nth_production x.grammar t.place).rule heir.tight.cost t.tight.cost heir.tight.rule t.tight.rule in
               let less = own.less q heir.tight.cost (subst (λ (p : Production). Contains p.symbols (Rule q)) t.production heir.among) (least_of q heir.tight.cost heir.same) in
-              omega (arith, less, same, costs);
+              omega (arith, less, same, t.costs);
         },
       )
 

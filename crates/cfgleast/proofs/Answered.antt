@@ -1,6 +1,6 @@
 -- Least costs and choices, read from the rules that are settled.
 use Rattle.std.proofs.Common.{◌≡◌, ℕ, ◌<◌, ◌≤◌, min, List, [], ◌∷◌, Option, Some, None, Result, Ok, Err, arith, refl, sym, ap, subst, ◌∙◌}
-use Rattle.std.proofs.lemmas.Option.{same_Some}
+use Rattle.std.proofs.lemmas.Option.{none-some, same_Some}
 use Rattle.std.proofs.lemmas.List.{get_or_default}
 use Rattle.std.proofs.lemmas.List.Elements.{All-weaker}
 use Rattle.derivation.specs.Grammar.{Rule, Grammar, HasProduction}
@@ -18,7 +18,7 @@ use Rattle.cfgleast.specs.Certificate.{IsChosenBelow, rule_choice}
 use Rattle.cfgleast.specs.Inner.Settled.{AreSettled}
 use Rattle.cfgsums.specs.declared.errors.CostError.{CostError}
 use Rattle.cfgsums.specs.declared.errors.CostError.TheVariants.{NoSentence, CostTooLarge}
-use Rattle.cfgleast.specs.Generator.{HasNone, IsTooDear, AnswersLeast, IsLeastProduction}
+use Rattle.cfgleast.specs.Generator.{IsTooDear, AnswersLeast, IsLeastProduction}
 use Rattle.cfgsums.proofs.Sums.{plus_zero}
 use Rattle.cfgsums.proofs.Made.{made_row, cut_over}
 use Rattle.cfgleast.proofs.TreeSums.{Choice, reached}
@@ -53,9 +53,6 @@ module _ (g : Grammar) (cost : ℕ → ℕ) (least : List (Option ℕ)) (choices
             (λ s k. subst (λ x. IsNumberedBelow (number choices) x s) (sym (ap number_of by.choice)) (numbered_below choices m s k)) _ by.below;
       }
 
-  cost_limit : (r c : ℕ) → rule_cost least r ≡ Some c → c ≤ 65536
-  cost_limit r c e = let (p, m, by, lt) = state.chosen.chosen r c e in omega (arith, by.sum.cut)
-
   -- a sentence of that cost, cut down
   some_sentence : (r c : ℕ) → rule_cost least r ≡ Some c → (w : List ℕ) × Sentence (HasProduction g) r w × (min c 65536 ≡ min (cost_of cost w) 65536)
   some_sentence r c e =
@@ -63,15 +60,12 @@ module _ (g : Grammar) (cost : ℕ → ℕ) (least : List (Option ℕ)) (choices
       (number choices) chosen r c e in
       (made.word, derivation_from_trees (HasProduction g) made.tree, made.stands)
 
-  pub none_settled : (r : ℕ) → rule_cost least r ≡ None → HasNone (HasProduction g) r
-  none_settled r e w s = let b = below r w s in let no : None ≡ Some b.value = sym e ∙ b.is in absurd (cc)
-
   no_less : (r c : ℕ) → rule_cost least r ≡ Some c → (w : List ℕ) → Sentence (HasProduction g) r w → c ≤ cost_of cost w
   no_less r c e w s =
       let b = below r w s in
       let same : c ≡ b.value = same_Some _ _ (sym e ∙ b.is) in
-      let limit = cost_limit r c e in
-      omega (arith, same, b.within, limit)
+      let (p, m, by, lt) = state.chosen.chosen r c e in
+      omega (arith, same, b.within, by.sum.cut)
 
   pub least_settled : (r c : ℕ) → rule_cost least r ≡ Some c → c ≤ 65535 → Least (HasProduction g) cost r c
   least_settled r c e small =
@@ -85,7 +79,7 @@ module _ (g : Grammar) (cost : ℕ → ℕ) (least : List (Option ℕ)) (choices
 
   -- what is answered of a rule
   pub answers_none : (r : ℕ) → rule_cost least r ≡ None → AnswersLeast (HasProduction g) cost r (Err NoSentence)
-  answers_none r e = let none = none_settled r e in record {
+  answers_none r e = let none = λ (w : List ℕ) (s : Sentence (HasProduction g) r w). none-some _ (sym e ∙ (below r w s).is) in record {
     least = tt;
     found = λ c l small. absurd (none l.0.0 l.0.1);
     none = ((λ h. none), (λ h. refl));

@@ -1,6 +1,6 @@
 -- What the certificate of least costs says, read from the lists that pass its checks.
 use Rattle.std.proofs.Common.{◌≡◌, ℕ, ◌+◌, ◌<◌, ◌≤◌, inl, inr, ◌⊎◌, List, [], ◌∷◌, length, take, Option, Some, None, All, arith, refl, sym, ap, subst, ◌∙◌}
-use Rattle.std.proofs.lemmas.Option.{same_Some}
+use Rattle.std.proofs.lemmas.Option.{none-some, same_Some}
 use Rattle.std.specs.Prelude.{IfSome, IsSomeAnd, MatchOption, EachIndex, slice_index}
 use Rattle.std.proofs.lemmas.Bool.{cases_lt}
 use Rattle.std.proofs.lemmas.List.{take_all, get_or_past}
@@ -118,13 +118,10 @@ module _ (g : Grammar) (costs : List ℕ) (least : List (Option ℕ)) (choices :
         (λ s k. subst (λ n. IsNumberedBelow (number choices) n s) (sym (ap number_of e)) (numbered_below choices choice.1 s k)) _ h.below;
   }
 
-  listed : (r c : ℕ) → rule_cost least r ≡ Some c → r < length least
-  listed r c e = within_from_get_or least r None (λ k. let no : None ≡ Some c = sym k ∙ e in absurd (cc))
-
   chosen : (r c : ℕ) → rule_cost least r ≡ Some c
       → Choice (HasProduction g) (slice_index costs) (symbol_cost (slice_index costs) (rule_cost least)) (λ c n. c ≡ n) (number choices) r c
   chosen r c e = choice_from r c (rule_choice choices r) refl
-      (subst (λ o. IfSome o (λ c. IsSomeAnd (rule_choice choices r) (λ choice. IsShown g costs least choices (claim_of r c choice)))) e (each r (listed r c e)))
+      (subst (λ o. IfSome o (λ c. IsSomeAnd (rule_choice choices r) (λ choice. IsShown g costs least choices (claim_of r c choice)))) e (each r (within_from_get_or least r None (λ k. none-some _ (sym k ∙ e)))))
 
   -- each cost of the list is that of a sentence
   pub certified_sentence : (r c : ℕ) → rule_cost least r ≡ Some c → HasSentenceOf (HasProduction g) (slice_index costs) r c

@@ -35,9 +35,6 @@ module _ (g : Grammar) (cost : ℕ → ℕ) where
     in_costs : r < length least
     in_costs = subst (λ m. r < m) (sym state.costs) within
 
-    in_choices : r < length choices
-    in_choices = subst (λ m. r < m) (sym state.listed) within
-
     pub number_small : n < g.rules
     number_small =
         let one : unsettled (get_or least r None) ≡ 1 = ap unsettled open' in
@@ -55,9 +52,6 @@ module _ (g : Grammar) (cost : ℕ → ℕ) where
         (sum : IsCutSum cost (rule_cost least) (nth_production g p).symbols c) where
       sum_stays : (a : List Sym) (d : ℕ) → IsCutSum cost (rule_cost least) a d → IsCutSum cost (rule_cost (slice_set least r (Some c))) a d
       sum_stays a d h = record { total = h.total; is = row_kept cost (rule_cost least) (rule_cost (slice_set least r (Some c))) r c (gains_one c) a h.total h.is; cut = h.cut }
-
-      choice_now : rule_choice (slice_set choices r (Some (p, n))) r ≡ Some (p, n)
-      choice_now = get_or-set_same choices r (Some (p, n)) None in_choices
 
       choice_stays : (q : ℕ) (choice : ℕ × ℕ) → rule_choice choices q ≡ Some choice → rule_choice (slice_set choices r (Some (p, n))) q ≡ Some choice
       choice_stays q choice e = elim (get_or-set choices r q (Some (p, n)) None) [
@@ -91,7 +85,7 @@ module _ (g : Grammar) (cost : ℕ → ℕ) where
 
       settled_now : IsSettledBy g cost (slice_set least r (Some c)) (slice_set choices r (Some (p, n))) r c p n
       settled_now = record {
-        choice = choice_now;
+        choice = get_or-set_same choices r (Some (p, n)) None (subst (λ m. r < m) (sym state.listed) within);
         place = place;
         owner = owner;
         sum = sum_stays _ c sum;

@@ -60,19 +60,13 @@ sum_within f g limit kept (s ∷ a) n e small =
     (sum_within f g limit kept a p.second p.second_is (omega (arith, w, small))) ∙ ap Some (sym w)
 
 module _ (x : CostTables) (n : ℕ) (is : IsGenerator x n) where
-  -- the choice that is read of a rule is of a production of least cost
-  pub choice_read : {S : Type 0} (value : S → ℕ) (items : List (Option (PIdx S × ℕ))) (r i c : ℕ) (entry : Option (PIdx S × ℕ)) → map (choice_of value) items ≡ x.choices
-      → r < x.grammar.rules → i ≡ r → entry ≡ get_or items i entry → Some c ≡ cost_answer x r
+  -- the choice of a rule whose cost is answered is of a production of least cost
+  pub choice_read : {S : Type 0} (value : S → ℕ) (r c : ℕ) (entry : Option (PIdx S × ℕ)) → Some c ≡ cost_answer x r → rule_choice x.choices r ≡ choice_of value entry
       → IfSome entry (λ choice. IsLeastProduction x.grammar (token_cost x) r (value choice.0.0))
-  choice_read {S} value items r i c entry shown within at stands answer =
+  choice_read value r c None answer shown = tt
+  choice_read value r c (Some choice) answer shown =
       let known = answered_some (rule_cost x.least r) c (sym answer) in
-      go entry known.0 known.1 (item_shown (choice_of value) items x.choices r entry None shown (subst (λ m. r < m) (sym is.settled.chosen.listed) within)
-      (subst (λ m. entry ≡ get_or items m entry) at stands))
-    where
-      go : (o : Option (PIdx S × ℕ)) → rule_cost x.least r ≡ Some c → c ≤ 65535 → rule_choice x.choices r ≡ choice_of value o
-          → IfSome o (λ choice. IsLeastProduction x.grammar (token_cost x) r (value choice.0.0))
-      go None e small k = tt
-      go (Some choice) e small k = least_production x.grammar (token_cost x) x.least x.choices n is.settled r c (value choice.0.0) choice.1 e small k
+      least_production x.grammar (token_cost x) x.least x.choices n is.settled r c (value choice.0.0) choice.1 known.0 known.1 shown
 
   -- the entry of a rule in the list of choices
   pub choice_shown : {S : Type 0} (value : S → ℕ) (items : List (Option (PIdx S × ℕ))) (r i : ℕ) (entry : Option (PIdx S × ℕ)) → map (choice_of value) items ≡ x.choices

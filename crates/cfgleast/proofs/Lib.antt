@@ -4,6 +4,7 @@ pub mod Cut
 pub mod Certified
 pub mod Gains
 pub mod Queued
+pub mod Pushed
 pub mod Opened
 pub mod Chosen
 pub mod Walked

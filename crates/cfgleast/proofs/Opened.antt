@@ -27,9 +27,6 @@ module _ {A : Type 0} (x : A) (xs ys : List A) (perm : IsPermutation (x ∷ xs) 
 
 -- a production waits for a rule more
 module _ (waiting : List (List Partial)) (r : ℕ) (x : Partial) where
-  added : List (List Partial)
-  added = slice_set waiting r (waiting_for waiting r ++ x ∷ [])
-
   added_old : (s : ℕ) (y : Partial) → Contains (waiting_for waiting s) y → Contains (waiting_for (slice_set waiting r (waiting_for waiting r ++ x ∷ [])) s) y
   added_old s y h = elim (get_or-set waiting r s (waiting_for waiting r ++ x ∷ []) []) [
     | inl e ↦ subst (λ l. Contains l y) (sym e) h
@@ -55,9 +52,6 @@ cut_is_one : (cost : ℕ → ℕ) (settled : ℕ → Option ℕ) (symbols : List
     → sum_of (symbol_cost cost settled) symbols ≡ Some n → c ≡ min n 65536
 cut_is_one cost settled symbols c n h e = let same : h.total ≡ n = same_Some _ _ (sym h.is ∙ e) in
     h.cut ∙ ap (λ m. min m 65536) same
-
-cut_limit : (cost : ℕ → ℕ) (settled : ℕ → Option ℕ) (symbols : List Sym) (c : ℕ) → IsCutSum cost settled symbols c → c ≤ 65536
-cut_limit cost settled symbols c h = omega (arith, h.cut)
 
 module _ (g : Grammar) (cost : ℕ → ℕ) (settled : ℕ → Option ℕ) (floor : ℕ) where
   -- the top of the queue belongs to a rule that is settled
@@ -215,7 +209,7 @@ module _ (g : Grammar) (cost : ℕ → ℕ) (old new : ℕ → Option ℕ) (r c 
   floor_below = state.queued_above c p top_queued
 
   cost_limit : c ≤ 65536
-  cost_limit = cut_limit cost old (nth_production g p).symbols c (state.queued_sum c p top_queued)
+  cost_limit = omega (arith, (state.queued_sum c p top_queued).cut)
 
   taken_old : (s : ℕ) (y : Partial) → Contains (waiting_for (slice_set waiting r []) s) y → Contains (waiting_for waiting s) y
   taken_old s y h = elim (get_or-set waiting r s [] []) [

@@ -8,7 +8,7 @@ use Rattle.derivation.specs.Grammar.{Grammar, IsGrammar}
 use Rattle.cfgtables.specs.Openings.{nth_production}
 use Rattle.cfgleast.specs.declared.partial.Partial.{Partial}
 use Rattle.cfgsums.specs.Lists.{rule_cost}
-use Rattle.cfgleast.specs.Inner.Open.{IsCutSum, WaitsFor, AreAllOpen, AreWaking, waiting_for}
+use Rattle.cfgleast.specs.Inner.Open.{WaitsFor, AreAllOpen, AreWaking, waiting_for}
 use Rattle.cfgleast.specs.Inner.Settled.{AreChosen, HasPopped}
 use Rattle.cfgleast.proofs.Opened.{top_in, popped_past, settled_open, woken_wait}
 use Rattle.cfgleast.proofs.Chosen.{gains_one, chosen_more}
@@ -20,9 +20,6 @@ module _ (g : Grammar) (cost : ℕ → ℕ) (least : List (Option ℕ)) (top : �
 
   pub popped_place : top.1 < length g.productions
   popped_place = popped.state.1.queued_place top.0 top.1 top_queued
-
-  popped_sum : IsCutSum cost (rule_cost least) (nth_production g top.1).symbols top.0
-  popped_sum = popped.state.1.queued_sum top.0 top.1 top_queued
 
   pub popped_again : (r d : ℕ) → (nth_production g top.1).rule ≡ r → rule_cost least r ≡ Some d → AreAllOpen cost (rule_cost least) g queue waiting
   popped_again r d owner e = (
@@ -37,7 +34,7 @@ module _ (g : Grammar) (cost : ℕ → ℕ) (least : List (Option ℕ)) (top : �
         → choices' ≡ slice_set choices r (Some (top.1, n)) → n' ≡ n + 1 → AreChosen g cost least' choices' n'
     settles_chosen least' choices' n' e f h = subst (λ l. AreChosen g cost l choices' n') (sym e) (subst (λ l. AreChosen g cost (slice_set least r (Some top.0)) l n') (sym f)
         (subst (AreChosen g cost (slice_set least r (Some top.0)) (slice_set choices r (Some (top.1, n)))) (sym h)
-        (chosen_more g cost least choices n chosen r within unset top.0 top.1 popped_place owner popped_sum)))
+        (chosen_more g cost least choices n chosen r within unset top.0 top.1 popped_place owner (popped.state.1.queued_sum top.0 top.1 top_queued))))
 
     settles_waking : AreWaking cost (rule_cost (slice_set least r (Some top.0))) g queue (slice_set waiting r []) (waiting_for waiting r) 0
     settles_waking =

@@ -16,9 +16,6 @@ use Rattle.lemmas.proofs.Contained.{contains_cases}
 use Rattle.cfgleast.proofs.Opened.{moved_on, woken_above}
 
 module _ (cost : ℕ → ℕ) (settled : ℕ → Option ℕ) where
-  pub cut_none : IsCutSum cost settled [] 0
-  cut_none = record { total = 0; is = refl; cut = refl }
-
   -- one symbol more
   pub cut_more : (a : List Sym) (i : ℕ) (s : Sym) (sum c new : ℕ) → i < length a → get_or a i s ≡ s → IsCutSum cost settled (take i a) sum
       → symbol_cost cost settled s ≡ Some c → new ≡ min 65536 (sum + c) → IsCutSum cost settled (take (i + 1) a) new
@@ -40,7 +37,7 @@ module _ (cost : ℕ → ℕ) (settled : ℕ → Option ℕ) where
       place = place;
       taken = omega (arith, taken);
       sum = subst (λ n. IsCutSum cost settled (take n (nth_production g x.production).symbols) x.sum) (sym taken)
-          (subst (IsCutSum cost settled []) (sym sum) cut_none);
+          (subst (IsCutSum cost settled []) (sym sum) (record { total = 0; is = refl; cut = refl }));
     }
 
     pub partial_waiting : (r : ℕ) (x : Partial) → WaitsFor cost settled g r x → IsPartial cost settled g x
@@ -80,11 +77,9 @@ module _ (cost : ℕ → ℕ) (settled : ℕ → Option ℕ) where
         → AreOpen cost settled g queue waiting (λ q. n ≤ q) 0 → MovesOn cost settled g p queue queue' waiting waiting'
         → AreOpen cost settled g queue' waiting' (λ q. n + 1 ≤ q) 0
     start_more n p queue queue' waiting waiting' within is state moves =
-        moved_on g cost settled 0 queue waiting (λ q. n ≤ q) (λ q. n + 1 ≤ q) p (λ q h. next q h)
+        moved_on g cost settled 0 queue waiting (λ q. n ≤ q) (λ q. n + 1 ≤ q) p
+        (λ q h. elim (cases_lt n q) [ inl lt ↦ inr (omega (arith, lt)) | inr le ↦ inl (omega (arith, h, le, is)) ])
         (subst (λ m. m < length g.productions) (sym is) within) (λ c sum. omega arith) state queue' waiting' moves
-      where
-        next : (q : ℕ) → n ≤ q → (q ≡ p) ⊎ (n + 1 ≤ q)
-        next q h = elim (cases_lt n q) [ inl lt ↦ inr (omega (arith, lt)) | inr le ↦ inl (omega (arith, h, le, is)) ]
 
     -- when none is left to move on
     pub all_open : (queue : List (ℕ × ℕ)) (waiting : List (List Partial)) (moving : ℕ → Type 0) (floor : ℕ) → ((q : ℕ) → q < length g.productions → moving q → ⊥)

@@ -65,10 +65,6 @@ owner x p = (nth_production x.grammar p).rule
 abbrev pub Gives : CostTables → Choices → List Sym → List ℕ → Type 0
 Gives x l = ChoicesGive (by x l)
 
--- these choices were made one by one
-abbrev pub AreMade : CostTables → Choices → Type 0
-AreMade x l = (n : ℕ) × Choosing x l n
-
 -- what the choices make of the pending symbols, the last of which comes first
 abbrev pub Pends : CostTables → Choices → List Sym → List ℕ → Type 0
 Pends x l pending w = ChoicesGive (by x l) (reverse pending) w

@@ -3,11 +3,12 @@
 ghost use Rattle.std.specs.Prelude.{◌≡◌, ℕ, ◌<◌, ◌++◌, ◌∷◌, [], List, IfOk, IfSome, MatchOption, OnOk, length, map};
 ghost use Rattle.std.specs.Prelude.{reverse, true};
 ghost use Rattle.cfgtables.specs.Symbols.{sym_of};
-ghost use Rattle.cfgleast.specs.Certificate.{choice_of};
 ghost use Rattle.cfgchoices.specs.First.{dictionary};
-ghost use Rattle.cfgchoices.specs.Inner.Offers.{AreMade, FirstTokensAre, Gives, Pends, left_to_open, row};
+ghost use Rattle.cfgchoices.specs.Inner.Offers.{Choosing, FirstTokensAre, Gives, IsOffered, Pends, left_to_open};
+ghost use Rattle.cfgchoices.specs.Inner.Offers.{offers_of, row};
 ghost use Rattle.std.specs.Ordering.{is_ne};
 
+use crate::first::offers::Firsts;
 use crate::first::tight::TightTables;
 use cfgindex::{PIdx, Storage, Symbol, TIdx};
 use cfgtables::Tables;
@@ -59,38 +60,40 @@ impl<'a, S: Storage, T: Tables<S>> TightTables<'a, S, T> {
         push_turned(&mut pending, self.symbols(p))?;
         Ok(pending)
     }
+}
 
+impl<S: Storage> Firsts<S> {
     /// The next token of what the choices make of the pending symbols, the last of which comes first.
     ///
     /// # Errors
     ///
     /// Want of memory.
-    fn next_token(
+    fn next_token<T: Tables<S>>(
         &self,
-        choices: &[Option<(PIdx<S>, u32)>],
+        tight: &TightTables<S, T>,
         pending: &mut Vec<Symbol<S>>,
     ) -> Result<Option<TIdx<S>>, AllocError>
-        requires choosing { AreMade self.now.tables (map (choice_of S.number) choices.now) }
-        requires given { (w : List ℕ) × Pends self.now.tables (map (choice_of S.number) choices.now)
+        requires choosing { Choosing tight.now.tables (offers_of S.number self.now).choices self.now.number }
+        requires given { (w : List ℕ) × Pends tight.now.tables (offers_of S.number self.now).choices
             (map (sym_of S.number) pending.old.items) w }
         ensures next { IfOk result (λ token. (w : List ℕ)
-            → Pends self.now.tables (map (choice_of S.number) choices.now) (map (sym_of S.number) pending.old.items) w
+            → Pends tight.now.tables (offers_of S.number self.now).choices (map (sym_of S.number) pending.old.items) w
             → MatchOption token (w ≡ []) (λ t. (v : List ℕ) × (w ≡ S.number t.0 ∷ v)
-            × Pends self.now.tables (map (choice_of S.number) choices.now)
+            × Pends tight.now.tables (offers_of S.number self.now).choices
             (map (sym_of S.number) pending.new.items) v)) }
         ensures less { IfOk result (λ token. IfSome token (λ _.
-            left_to_open self.now.tables (map (choice_of S.number) choices.now)
+            left_to_open tight.now.tables (offers_of S.number self.now).choices
             (map (sym_of S.number) pending.new.items)
-            < left_to_open self.now.tables (map (choice_of S.number) choices.now)
+            < left_to_open tight.now.tables (offers_of S.number self.now).choices
             (map (sym_of S.number) pending.old.items))) }
     {
-        self.invariant_holds();
+        tight.invariant_holds();
         while let Some(symbol) = pending.pop() {
             match symbol {
                 Symbol::Token(token) => return Ok(Some(token)),
                 Symbol::Rule(rule) => {
-                    if let Some((p, _)) = choices[usize::from(rule)] {
-                        push_turned(pending, self.symbols(p))?;
+                    if let Some((p, _)) = self.choices[usize::from(rule)] {
+                        push_turned(pending, tight.symbols(p))?;
                     }
                 }
             }
@@ -98,42 +101,41 @@ impl<'a, S: Storage, T: Tables<S>> TightTables<'a, S, T> {
         Ok(None)
     }
 
-    /// How what the choices make of two productions stands in a dictionary.
+    /// How what the choices make of two productions that are offered stands in a dictionary.
     ///
     /// # Errors
     ///
     /// Want of memory.
-    pub(crate) fn compare(
+    pub(crate) fn compare<T: Tables<S>>(
         &self,
-        alloc: Global,
-        choices: &[Option<(PIdx<S>, u32)>],
+        tight: &TightTables<S, T>,
         one: PIdx<S>,
         other: PIdx<S>,
     ) -> Result<Ordering, AllocError>
-        requires choosing { AreMade self.now.tables (map (choice_of S.number) choices.now) }
-        requires place { S.number one.0 < length self.now.tables.grammar.productions }
-        requires other { S.number other.0 < length self.now.tables.grammar.productions }
-        requires given { (u : List ℕ)
-            × Gives self.now.tables (map (choice_of S.number) choices.now) (row self.now.tables (S.number one.0)) u }
-        requires also { (v : List ℕ)
-            × Gives self.now.tables (map (choice_of S.number) choices.now) (row self.now.tables (S.number other.0)) v }
+        requires choosing { Choosing tight.now.tables (offers_of S.number self.now).choices self.now.number }
+        requires one { IsOffered tight.now (offers_of S.number self.now).choices self.now.number self.now.cost
+            (S.number one.0) }
+        requires other { IsOffered tight.now (offers_of S.number self.now).choices self.now.number self.now.cost
+            (S.number other.0) }
         ensures { IfOk result (λ ordering. (u v : List ℕ)
-            → Gives self.now.tables (map (choice_of S.number) choices.now) (row self.now.tables (S.number one.0)) u
-            → Gives self.now.tables (map (choice_of S.number) choices.now) (row self.now.tables (S.number other.0)) v
+            → Gives tight.now.tables (offers_of S.number self.now).choices
+            (row tight.now.tables (S.number one.0)) u
+            → Gives tight.now.tables (offers_of S.number self.now).choices
+            (row tight.now.tables (S.number other.0)) v
             → ordering ≡ dictionary u v) }
     {
-        let first = first_tokens(self.symbols(one), self.symbols(other));
+        let first = first_tokens(tight.symbols(one), tight.symbols(other));
         if first.is_ne() {
             return Ok(first);
         }
-        let mut ones = self.pending(alloc, one)?;
-        let mut others = self.pending(alloc, other)?;
-        while let Some(token) = self.next_token(choices, &mut ones)? {
-            let ordering = Some(token).cmp(&self.next_token(choices, &mut others)?);
+        let mut ones = tight.pending(self.alloc, one)?;
+        let mut others = tight.pending(self.alloc, other)?;
+        while let Some(token) = self.next_token(tight, &mut ones)? {
+            let ordering = Some(token).cmp(&self.next_token(tight, &mut others)?);
             if ordering.is_ne() {
                 return Ok(ordering);
             }
         }
-        Ok(None.cmp(&self.next_token(choices, &mut others)?))
+        Ok(None.cmp(&self.next_token(tight, &mut others)?))
     }
 }

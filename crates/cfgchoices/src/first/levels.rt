@@ -77,15 +77,16 @@ pub fn first_choices<S: Storage, T: Tables<S>>(
     ensures first { IfOk result (λ firsts. AreFirst (tables_of S.number (T.grammar tables.now) costs.now
         settled.now.least.items firsts.items)) }
 {
+    let rules_len = usize::from(tables.rules_len());
     let tight = TightTables::new(alloc, tables, costs, settled, kinds)?;
     let mut firsts = Firsts {
         alloc,
-        choices: no_choices(alloc, tight.rules_len())?,
+        choices: no_choices(alloc, rules_len)?,
         number: 0,
         cost: 0,
         ready: Vec::new(alloc),
         level: VecDeque::new(alloc),
-        foremost: no_productions(alloc, tight.rules_len())?,
+        foremost: no_productions(alloc, rules_len)?,
     };
     firsts.choose_by_cost(&tight)?;
     Ok(firsts.choices)

@@ -73,10 +73,7 @@ impl<S: Storage> Firsts<S> {
         let mut high = self.level.len();
         while low < high {
             let middle = probe(low, high, self.level.len());
-            if tight
-                .compare(self.alloc, &self.choices, self.level[middle], p)?
-                .is_lt()
-            {
+            if self.compare(tight, self.level[middle], p)?.is_lt() {
                 high = middle;
             } else {
                 low = middle + 1;
@@ -109,7 +106,7 @@ impl<S: Storage> Firsts<S> {
         }
         match self.foremost[rule] {
             Some(foremost) => {
-                let ordering = tight.compare(self.alloc, &self.choices, foremost, p)?;
+                let ordering = self.compare(tight, foremost, p)?;
                 Ok(ordering.is_le())
             }
             None => Ok(false),

@@ -122,13 +122,6 @@ impl<'a, S: Storage, T: Tables<S>> TightTables<'a, S, T> {
         let _costs = &self.costs;
     }
 
-    /// How many rules there are.
-    pub(crate) fn rules_len(&self) -> usize
-        ensures { result ≡ self.now.tables.grammar.rules }
-    {
-        usize::from(self.tables.rules_len())
-    }
-
     /// One more than the greatest least cost of a rule.
     pub(crate) fn costs_len(&self) -> usize
         ensures { result ≡ self.now.limit }

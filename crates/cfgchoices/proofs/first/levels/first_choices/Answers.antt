@@ -1,4 +1,4 @@
-use Rattle.std.proofs.Common.{◌≡◌, ℕ, zero, suc, ◌∷◌, Option, None, map, replicate, refl, ap, subst, ◌∙◌}
+use Rattle.std.proofs.Common.{◌≡◌, ℕ, zero, suc, ◌∷◌, Option, None, map, replicate, refl, sym, ap, subst, ◌∙◌}
 use Rattle.cfgindex.specs.declared.idxnewtype.PIdx.{PIdx}
 use Rattle.cfgleast.specs.Certificate.{choice_of}
 use Rattle.cfgchoices.specs.Inner.FirstChoices.{AreFirst, Walks}
@@ -15,11 +15,12 @@ no_places number (suc n) = ap (λ l. None ∷ l) (no_places number n)
 pub choose_by_cost-requires : goal.choose_by_cost-requires
 choose_by_cost-requires g c =
     let number = g.S.Storage.number in
+    let rules = c.from-rules_len.ensures ∙ c.rules_len.ensures.value ∙ sym (ap (λ (x : CostTables). x.grammar.rules) c.in_ok-tight.ensures) in
     climbed_begins c.in_ok-tight.tight
     (offers_of number (record { alloc = c.args.alloc; choices = c.in_ok-no_choices.field-0; number = 0; cost = 0; ready = c.new-2.result; level = c.new-3.result; foremost = c.in_ok-no_productions.field-0 }))
-    (c.in_ok-no_choices.ensures ∙ ap (λ (n : ℕ). replicate {A = Option (ℕ × ℕ)} n None) c.rules_len.ensures) refl
+    (c.in_ok-no_choices.ensures ∙ ap (λ (n : ℕ). replicate {A = Option (ℕ × ℕ)} n None) rules) refl
     (ap (places_of number) c.new-2.ensures.items) (ap (places_of number) c.new-3.ensures.items)
-    (ap (map (place_of number)) c.in_ok-no_productions.ensures ∙ no_places number _ ∙ ap (λ (n : ℕ). replicate {A = Option ℕ} n None) c.rules_len-2.ensures)
+    (ap (map (place_of number)) c.in_ok-no_productions.ensures ∙ no_places number _ ∙ ap (λ (n : ℕ). replicate {A = Option ℕ} n None) rules)
 
 pub returns : goal.returns
 returns g c =

@@ -33,8 +33,8 @@ returns-in-Some g c =
     let l = c.requires.lists in
     let own = subst (IsKind number x p) c.in-Own.is c.requires.kind in
     let cost = own_cost_told x n c.requires.generator p c.from.result c.in-Some.cost own c.index.result.now (c.from.ensures ∙ c.prod_to_rule.ensures) c.index.ensures c.in-Some.is in
-    let only = λ (k : ℕ) (i : IsOwnAt x k p). let one = one_cost x (owner x p) i.0.tight.cost own.tight.cost i.0.tight.rule own.tight.rule in let is = i.1 in
-    let same : k ≡ c.in-Some.cost = omega (arith, one, is, cost) in same in
+    let only = λ (k : ℕ) (i : IsOwnAt x k p). let one = one_cost x (owner x p) i.0.tight.cost own.tight.cost i.0.tight.rule own.tight.rule in
+    let same : k ≡ c.in-Some.cost = omega (arith, one, i.1, cost) in same in
     let within = subst (λ m. m < length lists.own.items) cost (l.costs (owner x p) own.tight.cost own.tight.rule) in
     let there = subst (λ m. p < m) (sym l.places) c.requires.place in record {
       own = listed_first number (IsOwnAt x) p lists.own.items lists.next.items l.own c.from-in-Some.result c.from-in-Some.ensures c.index-in-Some.result.now

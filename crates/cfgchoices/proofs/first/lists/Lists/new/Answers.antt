@@ -34,9 +34,7 @@ add-requires-clause-kind g c =
     let x = tables_of number (g.T.Tables.grammar c.args.tables.now) c.args.costs.now c.args.settled.now.least.items c.args.settled.now.choices.items in
     let i = c.loop-left.left - 1 in
     let kind = c.index-kinds-left.result in
-    let some = c.loop-left-test.true in
-    let most = c.loop-left.invariant.left in
-    let within : i < length c.args.kinds.now = omega (arith, some, most) in
+    let within : i < length c.args.kinds.now = omega (arith, c.loop-left-test.true, c.loop-left.invariant.left) in
     subst (λ p. IsKind number x p kind) (sym c.to_storage.ensures)
     (subst (IsKind number x i) (get_or_default c.args.kinds.now i Slack kind within ∙ sym c.index-kinds-left.is) (c.requires.kinds.each i within))
 
