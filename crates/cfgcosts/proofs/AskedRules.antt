@@ -56,8 +56,7 @@ module _ (x : CostTables) (r : ℕ) where
             (λ q h. record { place = h.thing; below = (all h.thing).0 h.among; holds = h.finds })
             (λ q h. record { thing = h.place; among = (all h.place).1 h.below; finds = h.holds }) w);
         costs = λ d q h. elim (contains_cases (c, b) (d, q) listed (from (d, q) h)) [
-          | inl e ↦ (let first : c ≡ d = ap (λ (y : ℕ × ℕ). y.0) e in let second : b ≡ q = ap (λ (y : ℕ × ℕ). y.1) e in
-              subst (λ m. cost_answer x q ≡ Some m) first (subst (λ m. cost_answer x m ≡ Some c) second answer))
+          | inl e ↦ subst (λ (y : ℕ × ℕ). cost_answer x y.1 ≡ Some y.0) e answer
           | inr old ↦ a.costs d q old
         ];
         reached = λ d q h. elim (contains_cases (c, b) (d, q) listed (from (d, q) h)) [

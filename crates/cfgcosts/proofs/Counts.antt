@@ -24,5 +24,5 @@ counts_more g content p opened opened' all all' places o counts = subst (λ h. A
         (o.more ∙ ap (λ n. n + 1) (counts.each p (subst (λ i. i < length g.productions) h.1 within)) ∙ sym (times_more p places))
     | inr h ↦ o.others q h.1 ∙ counts.each q within ∙ sym (times_other q places p h.1)
   ];
-  together = let more = o.together in let before = counts.together in let longer = length-append places (p ∷ []) in omega (arith, more, before, longer);
+  together = let longer = length-append places (p ∷ []) in omega (arith, o.together, counts.together, longer);
 })

@@ -104,9 +104,6 @@ module _ (x : CostTables) where
     pub among : (c q : ℕ) → Contains left (c, q) → Contains asked (c, q)
     pub filled : (c q : ℕ) → Contains asked (c, q) → Contains left (c, q) ⊎ AreMinimal x q (sentences q)
 
-  pub filling_begins : (asked : List (ℕ × ℕ)) (sentences : ℕ → List (List ℕ)) → Filling asked asked sentences
-  filling_begins asked sentences = record { among = λ c q h. h; filled = λ c q h. inl h }
-
   module _ {r : ℕ} {asked left : List (ℕ × ℕ)} {sentences : ℕ → List (List ℕ)} (rest : List (ℕ × ℕ)) (top : ℕ × ℕ) (all : AreAsked x r asked) (f : Filling asked left sentences)
       (out : IsPermutation left (top ∷ rest)) (least : All (λ entry. top.0 ≤ entry.0) rest) where
     inside : (e : ℕ × ℕ) → Contains (top ∷ rest) e → Contains left e

@@ -1,10 +1,8 @@
 -- Rules that hand on to one rule alone have its minimal sentences.
-use Rattle.std.proofs.Common.{◌≡◌, ◌↔◌, ℕ, ◌+◌, ◌<◌, ◌≤◌, ◌⊎◌, inl, inr, List, [], ◌∷◌, ◌++◌, Option, Some, None, Contains, length, get_or, slice_set, take, arith, refl, sym, ap, subst, ◌∙◌, length-set, false, true≢false}
+use Rattle.std.proofs.Common.{◌≡◌, ◌↔◌, ℕ, ◌+◌, ◌<◌, ◌≤◌, ◌⊎◌, inl, inr, List, [], ◌∷◌, ◌++◌, Option, Some, None, Contains, length, get_or, slice_set, take, refl, sym, ap, subst, ◌∙◌, length-set}
 use Rattle.std.specs.Prelude.{IfSome, MatchOption}
-use Rattle.std.proofs.lemmas.Bool.{cases_lt}
-use Rattle.std.specs.Option.{is_some, unwrap_or}
-use Rattle.std.proofs.Math.Seq.{get_or-append_seam}
-use Rattle.std.proofs.lemmas.List.{get_or_append_left, length-map, map-set, take_all, take_more}
+use Rattle.std.specs.Option.{unwrap_or}
+use Rattle.std.proofs.lemmas.List.{length-map, map-set, take_all, take_more}
 use Rattle.std.proofs.lemmas.List.Elements.{All-get_or, All-set, Contains-append_left, Contains-push, Contains-push_cases}
 use Rattle.lemmas.proofs.Elements.{get_or-set}
 use Rattle.cfgindex.specs.declared.idxnewtype.RIdx.{RIdx}
@@ -19,10 +17,6 @@ use Rattle.cfgchoices.specs.declared.kinds.Kind.{Kind}
 use Rattle.cfgchoices.specs.declared.kinds.Kind.TheVariants.{Slack, HandsOn}
 use Rattle.lemmas.proofs.Contained.{contains_none}
 use Rattle.cfgchoices.proofs.Tight.{minimal_made, one_heir, own_makes}
-
-pub none_is : {X : Type 0} (o : Option X) → is_some o ≡ false → o ≡ None
-none_is None e = refl
-none_is (Some x) e = absurd (true≢false e)
 
 -- the first of some productions: what they hand on to
 module _ {S : Type 0} (kinds : List (Kind S)) where
@@ -70,50 +64,36 @@ module _ {S : Type 0} (kinds : List (Kind S)) where
           others = λ q among. elim (Contains-push_cases (take n places) p q among) [ inl i ↦ inr (all q i) | inr e ↦ inl (sym e) ];
         })
 
-module _ {S : Type 0} (number : S → ℕ) (g : Grammar) (kinds : List (Kind S)) where
-  pub only_ends : (places : List ℕ) (n r : ℕ) (only : Option (RIdx S)) → length places ≤ n → ArePlacesOf g r places → OnlyOne kinds (take n places) only
-      → IfSome only (λ heir. IsOnlyHeir number g kinds r (number heir.0))
-  only_ends places n r only past are h = go only (subst (λ l. OnlyOne kinds l only) (take_all n places past) h)
-    where
-      go : (only : Option (RIdx S)) → OnlyOne kinds places only → IfSome only (λ heir. IsOnlyHeir number g kinds r (number heir.0))
-      go None h = tt
-      go (Some heir) h =
-          let within = subst (λ p. p < length g.productions) h.among.2 (All-get_or (λ p. p < length g.productions) places h.among.0 h.place h.among.1 are.within) in
-          record {
-            place = h.place;
-            within = within;
-            owner = (are.listed h.place within).0 h.among;
-            heir = heir;
-            kind = h.kind;
-            is = refl;
-            others = λ p inside owner. h.others p ((are.listed p inside).1 owner);
-          }
-
 -- links one after the other
 pub along_both : {Link : ℕ → ℕ → Type 0} {a b c : ℕ} → Along Link a b → Along Link b c → Along Link a c
 along_both here k = k
 along_both (next h l) k = next h (along_both l k)
 
--- for a rule its only heir, or itself
 module _ {S : Type 0} (number : S → ℕ) (g : Grammar) (kinds : List (Kind S)) where
+  pub only_ends : (places : List ℕ) (n r : ℕ) (only : Option (RIdx S)) → length places ≤ n → ArePlacesOf g r places → OnlyOne kinds (take n places) only
+      → IfSome only (λ heir. IsOnlyHeir number g kinds r (number heir.0))
+  only_ends places n r None past are h = tt
+  only_ends places n r (Some heir) past are h =
+      let one = subst (λ l. One kinds l heir) (take_all n places past) h in
+      let within = subst (λ p. p < length g.productions) one.among.2 (All-get_or (λ p. p < length g.productions) places one.among.0 one.place one.among.1 are.within) in
+      record {
+        place = one.place;
+        within = within;
+        owner = (are.listed one.place within).0 one.among;
+        heir = heir;
+        kind = one.kind;
+        is = refl;
+        others = λ p inside owner. one.others p ((are.listed p inside).1 owner);
+      }
+
+  -- for a rule its only heir, or itself
   pub only_or_itself : (r : ℕ) (rule : RIdx S) (only : Option (RIdx S)) → HasRulesAsHeirs number g kinds → number rule.0 ≡ r → r < g.rules
       → IfSome only (λ heir. IsOnlyHeir number g kinds r (number heir.0))
       → Along (IsOnlyHeir number g kinds) r (number (unwrap_or only rule).0) × (number (unwrap_or only rule).0 < g.rules)
   only_or_itself r rule None rules e lt h = (subst (Along (IsOnlyHeir number g kinds) r) (sym e) here, subst (λ m. m < g.rules) (sym e) lt)
   only_or_itself r rule (Some heir) rules e lt h = (next h here, subst (λ m. m < g.rules) h.is (rules h.place h.heir h.kind))
 
-  pub heirs_more : (heirs heirs' : List ℕ) (n heir : ℕ) → length heirs ≡ n → heirs' ≡ heirs ++ heir ∷ [] → ((r : ℕ) → r < n → Along (IsOnlyHeir number g kinds) r (get_or heirs r 0))
-      → Along (IsOnlyHeir number g kinds) n heir → (r : ℕ) → r < n + 1 → Along (IsOnlyHeir number g kinds) r (get_or heirs' r 0)
-  heirs_more heirs heirs' n heir len e before one r lt = subst (λ l. Along (IsOnlyHeir number g kinds) r (get_or l r 0)) (sym e) (elim (cases_lt r n) [
-    | inl below ↦ subst (Along (IsOnlyHeir number g kinds) r) (sym (get_or_append_left heirs (heir ∷ []) 0 r (subst (λ m. r < m) (sym len) below))) (before r below)
-    | inr past ↦
-        let last : r ≡ length heirs = omega (arith, past, lt, len) in
-        subst (λ m. Along (IsOnlyHeir number g kinds) m (get_or (heirs ++ heir ∷ []) m 0)) (sym last)
-        (subst (Along (IsOnlyHeir number g kinds) (length heirs)) (sym (get_or-append_seam heirs heir [] 0)) (subst (λ m. Along (IsOnlyHeir number g kinds) m heir) (sym len) one))
-  ])
-
--- the heir of an heir
-module _ {S : Type 0} (number : S → ℕ) (g : Grammar) (kinds : List (Kind S)) where
+  -- the heir of an heir
   pub heirs_gone_on : (heirs : List ℕ) (r heir after : ℕ) → r < length heirs → heir ≡ get_or heirs r 0 → after ≡ get_or heirs heir 0 → AreHeirs number g kinds heirs
       → AreHeirs number g kinds (slice_set heirs r after)
   heirs_gone_on heirs r heir after lt at then are =
@@ -175,15 +155,12 @@ module _ {S : Type 0} (number : S → ℕ) (x : CostTables) (kinds : List (Kind 
           let same = one_heir x link.place b q link.heir (only_tight r q link.place h (link.owner ∙ e) link.heir.tight) in
           subst (λ m. Along (HasHeir x) m (nth_production x.grammar p).rule) same rest
 
-  below_rule : (r q p : ℕ) → IsOnlyHeir number x.grammar kinds r q → IsOwnBelow x q p → IsOwnBelow x r p
-  below_rule r q p h below = record { leads = next (record { place = h.place; owner = h.owner; heir = only_heir r q h }) below.leads; own = below.own }
-
   module _ (n : ℕ) (is : IsGenerator x n) (grammar : IsGrammar x.grammar) where
     only_same : (r q : ℕ) → IsOnlyHeir number x.grammar kinds r q → (w : List ℕ) → IsMinimal x q w ↔ IsMinimal x r w
     only_same r q h w =
         let heir = only_heir r q h in (
           (λ m. let made = minimal_made x n is grammar q heir.tight.cost w heir.same heir.tight.positive m in
-              own_makes x n is grammar r made.place w (below_rule r q made.place h made.below) made.parts),
+              own_makes x n is grammar r made.place w (record { leads = next (record { place = h.place; owner = h.owner; heir = heir }) made.below.leads; own = made.below.own }) made.parts),
           (λ m. let made = minimal_made x n is grammar r heir.tight.cost w (only_cost r q h) heir.tight.positive m in
               own_makes x n is grammar q made.place w (below_heir r q made.place h made.below) made.parts),
         )

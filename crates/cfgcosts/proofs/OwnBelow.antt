@@ -4,13 +4,12 @@ use Rattle.std.proofs.lemmas.List.{take_all, take_more}
 use Rattle.std.proofs.lemmas.List.Elements.{Contains-append_left, Contains-push, Contains-push_cases}
 use Rattle.cfgtables.specs.Openings.{nth_production, ArePlacesOf}
 use Rattle.search.specs.Reached.{FoundBy, Reached, Reaches, SearchState, led, seed}
-use Rattle.search.proofs.Reaching.{Begun, Searching, popped_reached, reaches_as, reaches_known, search_begins, search_ends, search_goes_on}
+use Rattle.search.proofs.Reaching.{Begun, Searching, popped_reached, reaches_as, search_begins, search_ends, search_goes_on}
 use Rattle.cfgleast.specs.Generator.{CostTables}
 use Rattle.cfgchoices.specs.Levels.{Along, here, next}
-use Rattle.cfgchoices.specs.Inner.Kinds.{HasHeir, HasNoHeir, IsHeir, IsTight, IsOwnBelow}
+use Rattle.cfgchoices.specs.Inner.Kinds.{HasHeir, HasNoHeir, IsHeir, IsOwnBelow}
 use Rattle.cfgcosts.specs.Inner.Minimal.{Lists}
 use Rattle.lemmas.proofs.Contained.{contains_none}
-use Rattle.cfgchoices.proofs.Tight.{one_heir}
 
 pub lists_none : (own : List ℕ) (Is : ℕ → Type 0) → ((p : ℕ) → Is p → ⊥) → Lists Is own own
 lists_none own Is never p = (λ h. inl h, λ h. elim h [ inl i ↦ i | inr i ↦ absurd (never p i) ])
@@ -28,25 +27,6 @@ lists_one own own' Is p e to from q = (
 module _ (x : CostTables) where
   abbrev pub OwnAmong : List ℕ → ℕ → Type 0
   OwnAmong places q = Contains places q × HasNoHeir x q
-
-  -- of a production that isn't tight there is nothing
-  pub slack_reaches : (p : ℕ) (s : SearchState) → (IsTight x p → ⊥) → Reaches (IsHeir x p) s s
-  slack_reaches p s slack = reaches_known (IsHeir x p) s (λ q h. absurd (slack h.tight))
-
-  pub slack_lists : (p : ℕ) (own : List ℕ) → (IsTight x p → ⊥) → Lists (λ q. (q ≡ p) × HasNoHeir x q) own own
-  slack_lists p own slack = lists_none own (λ q. (q ≡ p) × HasNoHeir x q) (λ q h. slack (subst (IsTight x) h.0 h.1.tight))
-
-  pub heir_reaches : (p r : ℕ) (s s' : SearchState) → IsHeir x p r → Reaches (λ q. q ≡ r) s s' → Reaches (IsHeir x p) s s'
-  heir_reaches p r s s' heir w = reaches_as (λ q. q ≡ r) (IsHeir x p) s s' (λ q e. subst (IsHeir x p) (sym e) heir) (λ q h. one_heir x p q r h heir) w
-
-  pub heir_lists : (p r : ℕ) (own : List ℕ) → IsHeir x p r → Lists (λ q. (q ≡ p) × HasNoHeir x q) own own
-  heir_lists p r own heir = lists_none own (λ q. (q ≡ p) × HasNoHeir x q) (λ q h. h.1.none r (subst (λ n. IsHeir x n r) (sym h.0) heir))
-
-  pub own_reaches : (p : ℕ) (s : SearchState) → HasNoHeir x p → Reaches (IsHeir x p) s s
-  own_reaches p s own = reaches_known (IsHeir x p) s (λ q h. absurd (own.none q h))
-
-  pub own_lists : (p : ℕ) (own own' : List ℕ) → HasNoHeir x p → own' ≡ own ++ p ∷ [] → Lists (λ q. (q ≡ p) × HasNoHeir x q) own own'
-  own_lists p own own' without e = lists_one own own' (λ q. (q ≡ p) × HasNoHeir x q) p e (λ q is. (is, subst (HasNoHeir x) (sym is) without)) (λ q h. h.0)
 
   module _ (places : List ℕ) where
     pub owns_begin : (own : List ℕ) → Lists (OwnAmong (take 0 places)) own own

@@ -1,5 +1,6 @@
 -- How a walk by choices goes on.
 use mathlib.Core.List.{reverse_aux, reverse_aux-append}
+use Rattle.std.proofs.lemmas.Option.{same_Some}
 use Rattle.std.proofs.Common.{◌≡◌, ℕ, ◌+◌, ◌*◌, ◌<◌, ◌≤◌, inl, inr, List, [], ◌∷◌, length, reverse, Option, Some, None, All, append-nil, arith, refl, sym, ap, subst, ◌∙◌}
 use Rattle.std.specs.Prelude.{IfSome}
 use Rattle.std.proofs.Math.Nat.{mul-add, add-mul, mul-one, mul-le-mul_right}
@@ -7,19 +8,18 @@ use Rattle.std.proofs.lemmas.Nat.{mul-le}
 use Rattle.std.proofs.lemmas.Bool.{cases_lt}
 use Rattle.std.proofs.lemmas.List.{length-append}
 use Rattle.std.proofs.lemmas.List.Elements.{All-nil, All-cons, All-head, All-tail}
-use Rattle.lemmas.proofs.Elements.{within_from_get_or}
 use Rattle.derivation.specs.Grammar.{Sym, Rule, Token, IsGrammar, HasProduction}
 use Rattle.derivation.proofs.Costs.{least_is_one, minimal_costs_least}
 use Rattle.cfgtables.specs.Openings.{nth_production}
 use Rattle.cfgsums.specs.Lists.{rule_cost}
 use Rattle.cfgleast.specs.Certificate.{rule_choice}
-use Rattle.cfgleast.specs.Generator.{CostTables, cost_answer, choice_answer, token_cost, where_some}
+use Rattle.cfgleast.specs.Generator.{CostTables, cost_answer, choice_answer, token_cost}
 use Rattle.cfgleast.proofs.Generated.{answered_some}
 use Rattle.cfgchoices.specs.Inner.Choices.{ChoicesGive}
 use Rattle.cfgchoices.specs.Inner.Choices as gives
 use Rattle.cfgchoices.specs.Inner.FirstChoices.{IsNotAbove, Opens, Walks}
-use Rattle.cfgchoices.proofs.FirstChosen.{known, minimal_given}
-use Rattle.cfgchoices.proofs.Tight.{least_of}
+use Rattle.cfgchoices.proofs.FirstChosen.{answered_choice, known, minimal_given, opens_by}
+use Rattle.cfgchoices.proofs.Tight.{answered_within, least_of}
 
 -- the choice of a rule that costs something
 pub record Chosen (x : CostTables) (q p m : ℕ) : Type 0 where
@@ -44,17 +44,11 @@ pub record Plan (x : CostTables) (a : List Sym) (w : List ℕ) (most : ℕ) : Ty
 
 module _ (x : CostTables) (walks : Walks x) (grammar : IsGrammar x.grammar) where
   chosen_by : (q p m : ℕ) → (cost_answer x q ≡ Some 0 → ⊥) → choice_answer x q ≡ Some (p, m) → Chosen x q p m
-  chosen_by q p m paid choice = go (cost_answer x q) refl
-    where
-      go : (o : Option ℕ) → cost_answer x q ≡ o → Chosen x q p m
-      go None e = let no : ◌≡◌ {A = Option (ℕ × ℕ)} None (Some (p, m)) = sym (ap (λ c. where_some c (rule_choice x.choices q)) e) ∙ choice in absurd (cc)
-      go (Some d) e =
-          let read = answered_some (rule_cost x.least q) d e in
-          let some : 0 < d = elim (cases_lt 0 d) [ inl some ↦ some | inr none ↦ absurd (paid (e ∙ ap Some (omega (arith, none)))) ] in
-          let (p', m', o) = walks.chosen q d read.0 some read.1 in
-          let both : ◌≡◌ {A = Option (ℕ × ℕ)} (Some (p', m')) (Some (p, m)) = sym o.choice ∙ sym (ap (λ c. where_some c (rule_choice x.choices q)) e) ∙ choice in
-          let same : ◌≡◌ {A = ℕ × ℕ} (p', m') (p, m) = cc in
-          subst (λ (o : ℕ × ℕ). Chosen x q o.0 o.1) same (record { cost = d; answer = e; some = some; opens = o })
+  chosen_by q p m paid choice =
+      let (d, e) = answered_choice x walks grammar q p m choice in
+      let read = answered_some (rule_cost x.least q) d e in
+      let some : 0 < d = elim (cases_lt 0 d) [ inl some ↦ some | inr none ↦ absurd (paid (e ∙ ap Some (omega (arith, none)))) ] in
+      record { cost = d; answer = e; some = some; opens = opens_by x walks grammar q d p m read.0 read.1 paid choice }
 
   -- what a rule gives that costs something isn't empty
   some_tokens : (q p m : ℕ) (u : List ℕ) → Chosen x q p m → ChoicesGive x (Rule q ∷ []) u → 0 < length u
@@ -62,8 +56,7 @@ module _ (x : CostTables) (walks : Walks x) (grammar : IsGrammar x.grammar) wher
   some_tokens q p m [] c given =
       let none = least_is_one (HasProduction x.grammar) (token_cost x) q c.cost 0 (least_of (known x walks grammar) walks.number walks.generator grammar q c.cost c.answer)
       (minimal_costs_least (HasProduction x.grammar) (token_cost x) q [] (minimal_given x walks grammar q c.cost [] c.answer given)) in
-      let some = c.some in
-      absurd (omega (arith, none, some))
+      absurd (omega (arith, none, c.some))
 
   -- symbols on top of what is pending, whose choices have numbers below m
   planned : (m : ℕ) {a : List Sym} {v : List ℕ} → ChoicesGive x a v → All (IsNotAbove x.choices m) a → (rest : List Sym) (w : List ℕ) (n : ℕ) → Planned x rest w n
@@ -71,9 +64,8 @@ module _ (x : CostTables) (walks : Walks x) (grammar : IsGrammar x.grammar) wher
   planned m gives.empty all rest w n plan = record { openings = n; plan = plan; few = omega arith }
   planned m (gives.token {t = t} {a = a} {w = v} h) all rest w n plan =
       let p = planned m h (All-tail (IsNotAbove x.choices m) (Token t) a all) (Token t ∷ rest) (t ∷ w) n (token plan) in
-      let few = p.few in
       let longer : length v * m ≤ length (t ∷ v) * m = mul-le-mul_right m (omega arith) in
-      record { openings = p.openings; plan = p.plan; few = omega (arith, few, longer) }
+      record { openings = p.openings; plan = p.plan; few = omega (arith, p.few, longer) }
   planned m (gives.free {r = q} {a = a} nothing h) all rest w n plan =
       planned m h (All-tail (IsNotAbove x.choices m) (Rule q) a all) (Rule q ∷ rest) w n (free nothing plan)
   planned m (gives.chosen {r = q} {p = p} {m = k} {a = a} {u = u} {w = v} {v = both} paid choice h i e) all rest w n plan =
@@ -82,8 +74,6 @@ module _ (x : CostTables) (walks : Walks x) (grammar : IsGrammar x.grammar) wher
       let some = some_tokens q p k u c (gives.chosen paid choice h gives.empty (sym (append-nil u))) in
       let first = planned k h c.opens.below rest w n plan in
       let last = planned m i (All-tail (IsNotAbove x.choices m) (Rule q) a all) (Rule q ∷ rest) (reverse_aux u w) (first.openings + 1) (chosen c first.plan refl) in
-      let few = first.few in
-      let few' = last.few in
       let low = mul-le (length u) (k + 1) (length u) m (omega arith) (omega (arith, less)) in
       let one = mul-add (length u) k 1 in
       let same = mul-one (length u) in
@@ -91,7 +81,7 @@ module _ (x : CostTables) (walks : Walks x) (grammar : IsGrammar x.grammar) wher
       record {
         openings = last.openings;
         plan = subst (λ l. Planned x (reverse_aux a (Rule q ∷ rest)) l last.openings) (sym (ap (λ l. reverse_aux l w) e ∙ reverse_aux-append u v w)) last.plan;
-        few = omega (arith, few, few', some, low, one, same, cut);
+        few = omega (arith, first.few, last.few, some, low, one, same, cut);
       }
 
   top_below : (r : ℕ) (w : List ℕ) → ChoicesGive x (Rule r ∷ []) w → IsNotAbove x.choices x.grammar.rules (Rule r)
@@ -104,8 +94,7 @@ module _ (x : CostTables) (walks : Walks x) (grammar : IsGrammar x.grammar) wher
   pub plan_of : (r : ℕ) (w : List ℕ) → ChoicesGive x (Rule r ∷ []) w → Plan x (Rule r ∷ []) (reverse w) (length w * x.grammar.rules)
   plan_of r w given =
       let p = planned x.grammar.rules given (All-cons (IsNotAbove x.choices x.grammar.rules) (Rule r) [] (top_below r w given) (All-nil (IsNotAbove x.choices x.grammar.rules))) [] [] 0 ended in
-      let few = p.few in
-      record { openings = p.openings; plan = p.plan; few = omega (arith, few) }
+      record { openings = p.openings; plan = p.plan; few = omega (arith, p.few) }
 
   -- what comes next
   pub plan_ended : (w : List ℕ) (n : ℕ) → Planned x [] w n → w ≡ []
@@ -131,17 +120,10 @@ module _ (x : CostTables) (walks : Walks x) (grammar : IsGrammar x.grammar) wher
   pub plan_opened : (q : ℕ) (choice : ℕ × ℕ) (a : List Sym) (w : List ℕ) (n : ℕ) → Planned x (Rule q ∷ a) w n → rule_choice x.choices q ≡ Some choice → Opening q choice a w n
   plan_opened q choice a w n (free nothing h) some = absurd (free_unchosen q choice.0 choice.1 nothing some)
   plan_opened q choice a w n (chosen {p = p} {m = m} {n = left} c h e) some =
-      let both : ◌≡◌ {A = Option (ℕ × ℕ)} (Some (p, m)) (Some choice) = sym c.opens.choice ∙ some in
-      let same : ◌≡◌ {A = ℕ × ℕ} (p, m) choice = cc in
+      let same : ◌≡◌ {A = ℕ × ℕ} (p, m) choice = same_Some _ _ (sym c.opens.choice ∙ some) in
       subst (λ (o : ℕ × ℕ). Opening q o a w n) same (record { chosen = c; left = left; plan = h; one = e })
 
   -- a rule that is pending is one of the grammar
   pub plan_within : (q : ℕ) (a : List Sym) (w : List ℕ) (n : ℕ) → Planned x (Rule q ∷ a) w n → q < x.grammar.rules
-  plan_within q a w n (free nothing h) =
-      let all = walks.generator.settled.chosen.costs in
-      let within = within_from_get_or x.least q None (λ none. let no : ◌≡◌ {A = Option ℕ} None (Some 0) = sym none ∙ (answered_some (rule_cost x.least q) 0 nothing).0 in cc) in
-      omega (arith, all, within)
-  plan_within q a w n (chosen {p = p} {m = m} c h e) =
-      let all = walks.listed in
-      let within = within_from_get_or x.choices q None (λ none. let no : ◌≡◌ {A = Option (ℕ × ℕ)} None (Some (p, m)) = sym none ∙ c.opens.choice in cc) in
-      omega (arith, all, within)
+  plan_within q a w n (free nothing h) = answered_within (known x walks grammar) walks.number walks.generator q 0 nothing
+  plan_within q a w n (chosen c h e) = answered_within (known x walks grammar) walks.number walks.generator q c.cost c.answer

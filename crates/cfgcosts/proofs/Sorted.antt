@@ -1,7 +1,7 @@
 -- Words of the code that were sorted, each once: through their numbers they are in the order of a dictionary.
-use Rattle.std.proofs.Common.{◌≡◌, ◌↔◌, ℕ, Bool, true, false, List, [], ◌∷◌, map, Contains, refl, sym, ap, subst, ◌∙◌}
+use Rattle.std.proofs.Common.{◌≡◌, ◌↔◌, ℕ, Bool, List, [], ◌∷◌, map, Contains, refl, sym, ap, subst, ◌∙◌}
 use Rattle.std.specs.declared.cmp.Ordering.{Ordering}
-use Rattle.std.specs.declared.cmp.Ordering.TheVariants.{Less, Equal, Greater}
+use Rattle.std.specs.declared.cmp.Ordering.TheVariants.{Less}
 use Rattle.std.specs.Ordering.{eq_by_cmp, is_eq, is_lt, nat_cmp, on, ordering_then}
 use Rattle.std.specs.Cmp.{IsEquivalence, IsTotalOrder, eq_by_cmp_equiv}
 use Rattle.std.specs.Cmp.Lexicographic.{slice_cmp}
@@ -15,18 +15,14 @@ use Rattle.std.proofs.lemmas.List.Kept.{Any-dedup, Contains-from_dedup, IsStrict
 use Rattle.std.proofs.lemmas.List.Sorted.{Contains-permutation, IsPermutation-sym}
 use Rattle.lemmas.proofs.Contained.{contains_mapped, contains_source}
 use Rattle.cfgchoices.specs.First.{dictionary}
-use Rattle.cfgchoices.proofs.Dictionary.{dictionary_same}
+use Rattle.std.specs.Cmp.{Equal-is}
+use Rattle.std.proofs.lemmas.Map.Lookups.{exact_bytes}
 
 pub order_shown : {A : Type 0} (cmp : A → A → Ordering) (f : A → ℕ) → ((x y : A) → cmp x y ≡ nat_cmp (f x) (f y)) → (v w : List A) → slice_cmp cmp v w ≡ dictionary (map f v) (map f w)
 order_shown cmp f same [] [] = refl
 order_shown cmp f same [] (y ∷ w) = refl
 order_shown cmp f same (x ∷ v) [] = refl
 order_shown cmp f same (x ∷ v) (y ∷ w) = ap (λ o. ordering_then o (slice_cmp cmp v w)) (same x y) ∙ ap (ordering_then (nat_cmp (f x) (f y))) (order_shown cmp f same v w)
-
-is_equal : (o : Ordering) → is_eq o ≡ true → o ≡ Equal
-is_equal Less e = let no : false ≡ true = e in absurd (cc)
-is_equal Equal e = refl
-is_equal Greater e = let no : false ≡ true = e in absurd (cc)
 
 module _ {K : Type 0} (f : K → List ℕ) where
   abbrev by_words : K → K → Ordering
@@ -70,6 +66,6 @@ module _ {K : Type 0} (f : K → List ℕ) where
             let (v, among, is) = contains_source f words w h in
             let (k, u, lt, at, same) = Any-dedup equal sorted v (Contains-permutation words sorted v moved among) in
             let there = subst (Contains (dedup eq sorted)) at (Contains-get_or (dedup eq sorted) k u lt) in
-            subst (Contains (map f once)) (sym (dictionary_same (f v) (f u) (is_equal (dictionary (f v) (f u)) (sym (told v u) ∙ same))) ∙ is)
+            subst (Contains (map f once)) (sym (exact_bytes (f v) (f u) ((Equal-is (dictionary (f v) (f u))).0 (sym (told v u) ∙ same))) ∙ is)
             (contains_mapped f once u (subst (λ l. Contains l u) (sym (dedup_is eq sorted once filtered)) there))),
       )

@@ -1,9 +1,9 @@
 -- The symbols that are pending and the tokens behind them are on the way from a rule to its first minimal sentence.
-use mathlib.Core.List.{reverse_aux, reverse_aux-append}
+use mathlib.Core.List.{reverse_aux-append}
 use Rattle.std.proofs.Common.{◌≡◌, ℕ, ◌+◌, ◌*◌, ◌<◌, ◌≤◌, inl, inr, List, [], ◌∷◌, ◌++◌, length, get_or, map, reverse, Option, Some, None, Result, Ok, Err, OnErr, ◌-◌, ◌^◌, arith, refl, sym, ap, subst, ◌∙◌, append-nil, append_assoc}
 use Rattle.std.proofs.Math.Nat.{mul-le-mul_right}
 use Rattle.std.proofs.lemmas.Bool.Decides.{eqb_tells}
-use Rattle.std.proofs.lemmas.List.{reverse-append, reverse-reverse, length-append, map-append}
+use Rattle.std.proofs.lemmas.List.{reverse-append, reverse-reverse, length-append}
 use Rattle.cfgindex.specs.declared.idxnewtype.PIdx.{PIdx}
 use Rattle.cfgindex.specs.declared.idxnewtype.Symbol.{Symbol}
 use Rattle.cfgtables.specs.Symbols.{sym_of}
@@ -23,6 +23,7 @@ use Rattle.cfgleast.proofs.Generated.{answered_some}
 use Rattle.cfgchoices.specs.Inner.Choices.{ChoicesGive}
 use Rattle.cfgchoices.specs.Inner.FirstChoices.{AreFirst, Walks}
 use Rattle.cfgchoices.specs.Splits.{Split, done, itself, part}
+use Rattle.cfgchoices.proofs.Pending.{last_shown, map_reverse}
 use Rattle.cfgchoices.proofs.FirstChosen.{first_given, gives_some, known}
 use Rattle.cfgchoices.proofs.Lengths.{sentence_length}
 use Rattle.cfgchoices.proofs.SentenceTokens.{sentence_tokens}
@@ -31,10 +32,6 @@ use Rattle.cfgcosts.specs.DerivedBy.{IsProductionAt, DerivesBy, none, next, IsFr
 use Rattle.cfgcosts.specs.Inner.Walk.{IsFirstSentence, HasStopped, HasWalked}
 use Rattle.cfgcosts.proofs.Counts.{times_other}
 use Rattle.cfgcosts.proofs.Plans.{Chosen, Planned, plan_of, plan_ended, plan_token, plan_free, plan_opened, plan_within}
-
-map_turned : {A B : Type 0} (f : A → B) (xs ys : List A) → map f (reverse_aux xs ys) ≡ reverse_aux (map f xs) (map f ys)
-map_turned f [] ys = refl
-map_turned f (x ∷ xs) ys = map_turned f xs (x ∷ ys)
 
 derives_more : (g : Grammar) (p : ℕ) {places : List ℕ} {a b c : List Sym} → DerivesBy g places a b → Step (IsProductionAt g p) b c → DerivesBy g (places ++ p ∷ []) a c
 derives_more g p none s = next s none
@@ -72,7 +69,6 @@ module _ (x : CostTables) (r : ℕ) (HasOpened : List ℕ → Type 0) where
       let read = answered_some (rule_cost x.least r) c answer in
       let (w, given) = gives_some x walks grammar (Rule r ∷ []) c (plus_zero (rule_cost x.least r) ∙ read.0) read.1 in
       let p = plan_of x walks grammar r w given in
-      let few = p.few in
       subst (λ a. IsOnTheWay x r HasOpened a word) (sym e) (subst (IsOnTheWay x r HasOpened (Rule r ∷ [])) (sym f) (record {
         sentence = w;
         leads = record { walks = walks; grammar = grammar; first = first; rule = rule; given = given };
@@ -83,7 +79,7 @@ module _ (x : CostTables) (r : ℕ) (HasOpened : List ℕ → Type 0) where
         places = [];
         opened = fresh;
         free = λ p within least. refl;
-        few = omega (arith, few);
+        few = omega (arith, p.few);
         suffix = [];
         derived = none;
         between = done;
@@ -158,8 +154,6 @@ module _ (x : CostTables) (r : ℕ) (HasOpened : List ℕ → Type 0) where
         (subst (λ a. Planned x a way.later way.left) (reverse-append rest (Rule q ∷ [])) way.plan) choice in
         let c = next.chosen in
         let owner = c.opens.owner in
-        let few = way.few in
-        let one = next.one in
         let longer = length-append way.places (p ∷ []) in
         subst (λ a. IsOnTheWay x r HasOpened' a word) (sym e) (record {
           sentence = way.sentence;
@@ -175,11 +169,10 @@ module _ (x : CostTables) (r : ℕ) (HasOpened : List ℕ → Type 0) where
                 let here = subst (λ s. Least (HasProduction x.grammar) (token_cost x) s 0) (ap (λ j. (nth_production x.grammar j).rule) h.1 ∙ owner) least in
                 let none = least_is_one (HasProduction x.grammar) (token_cost x) q c.cost 0
                 (least_of (known x l.walks l.grammar) l.walks.number l.walks.generator l.grammar q c.cost c.answer) here in
-                let some = c.some in
-                absurd (omega (arith, none, some))
+                absurd (omega (arith, none, c.some))
             | inr h ↦ times_other i way.places p h.1 ∙ way.free i within least
           ];
-          few = omega (arith, few, one, longer);
+          few = omega (arith, way.few, next.one, longer);
           suffix = way.suffix;
           derived = derives_more x.grammar p way.derived (record {
             before = rest;
@@ -208,10 +201,8 @@ module _ (x : CostTables) (r : ℕ) (HasOpened : List ℕ → Type 0) where
     few_opened c least =
         let same = least_is_one (HasProduction x.grammar) (token_cost x) r (cost_of (token_cost x) way.sentence) c
         (minimal_costs_least (HasProduction x.grammar) (token_cost x) r way.sentence is_first.first.0) least in
-        let short = is_first.short in
-        let most : length way.sentence * x.grammar.rules ≤ c * x.grammar.rules = mul-le-mul_right x.grammar.rules (omega (arith, short, same)) in
-        let few = way.few in
-        omega (arith, few, most)
+        let most : length way.sentence * x.grammar.rules ≤ c * x.grammar.rules = mul-le-mul_right x.grammar.rules (omega (arith, is_first.short, same)) in
+        omega (arith, way.few, most)
 
     -- no count is too large
     pub countable : (c : ℕ) → cost_answer x r ≡ Some c → x.grammar.rules < 2 ^ 32 → (places : List ℕ) × HasOpened places × (length places < 2 ^ 64 - 1)
@@ -250,15 +241,10 @@ module _ (x : CostTables) (r : ℕ) (HasOpened : List ℕ → Type 0) where
   -- the tokens in the order of the sentence, when all symbols are taken
   pub finished : {A : Type 0} (f : A → ℕ) (items turned : List A) (pending : List Sym) → turned ≡ reverse items → pending ≡ [] → IsOnTheWay x r HasOpened pending (map f items)
       → HasWalked x.grammar (token_cost x) r HasOpened (map f turned)
-  finished f items turned pending e empty way = subst (HasWalked x.grammar (token_cost x) r HasOpened) (sym (ap (map f) e ∙ map_turned f items []))
+  finished f items turned pending e empty way = subst (HasWalked x.grammar (token_cost x) r HasOpened) (sym (ap (map f) e ∙ map_reverse f items))
       (walked (map f items) (subst (λ a. IsOnTheWay x r HasOpened a (map f items)) empty way))
 
 -- the symbol that was taken from what is pending
-pub last_shown : {S : Type 0} (number : S → ℕ) (items rest : List (Symbol S)) (symbol is : Symbol S) → items ≡ rest ++ symbol ∷ [] → symbol ≡ is
-    → map (sym_of number) items ≡ map (sym_of number) rest ++ sym_of number is ∷ []
-last_shown number items rest symbol is e f =
-    ap (map (sym_of number)) e ∙ map-append (sym_of number) rest (symbol ∷ []) ∙ ap (λ s. map (sym_of number) rest ++ sym_of number s ∷ []) f
-
 pub popped : {S : Type 0} (number : S → ℕ) (x : CostTables) {r : ℕ} {HasOpened : List ℕ → Type 0} {word : List ℕ} (items rest : List (Symbol S)) (symbol is : Symbol S) → items ≡ rest ++ symbol ∷ [] → symbol ≡ is
     → IsOnTheWay x r HasOpened (map (sym_of number) items) word → IsOnTheWay x r HasOpened (map (sym_of number) rest ++ sym_of number is ∷ []) word
 popped number x {r} {HasOpened} {word} items rest symbol is e f = subst (λ a. IsOnTheWay x r HasOpened a word) (last_shown number items rest symbol is e f)

@@ -1,5 +1,5 @@
 -- What symbols weigh in a walk by choices: more than those that replace them.
-use Rattle.std.proofs.Common.{◌≡◌, ℕ, suc, ◌+◌, ◌*◌, ◌^◌, ◌<◌, ◌≤◌, List, [], ◌∷◌, ◌++◌, length, map, Option, Some, None, arith, sym, ap, subst, ◌∙◌}
+use Rattle.std.proofs.Common.{◌≡◌, ℕ, suc, ◌+◌, ◌*◌, ◌^◌, ◌<◌, ◌≤◌, List, [], ◌∷◌, ◌++◌, length, map, Option, Some, None, arith, ap, ◌∙◌}
 use Rattle.std.specs.Prelude.{IfSome, sum_by}
 use Rattle.std.proofs.Math.Nat.{add-mul, mul_comm, one-le-pow, pow-le-pow_right, pow-suc}
 use Rattle.std.proofs.lemmas.Nat.{mul-le}
@@ -36,13 +36,12 @@ module _ (x : CostTables) (many : ℕ) (some : 0 < many) where
       go (Some choice) = one-le-pow (suc choice.1) many some
 
   -- a symbol that is taken away
-  lighter : (rest : List Sym) (s : Sym) → weigh x many rest < weigh x many (rest ++ s ∷ [])
-  lighter rest s = let here = some_weight s in let whole = sum_by_push (weight x many) rest s in omega (arith, here, whole)
-
   pub popped_lighter : {S : Type 0} (number : S → ℕ) (items rest : List (Symbol S)) (symbol : Symbol S) → items ≡ rest ++ symbol ∷ []
       → weigh x many (map (sym_of number) rest) < weigh x many (map (sym_of number) items)
-  popped_lighter number items rest symbol e = subst (λ a. weigh x many (map (sym_of number) rest) < weigh x many a)
-      (sym (ap (map (sym_of number)) e ∙ map-append (sym_of number) rest (symbol ∷ []))) (lighter (map (sym_of number) rest) (sym_of number symbol))
+  popped_lighter number items rest symbol e =
+      let shown = ap (weigh x many) (ap (map (sym_of number)) e ∙ map-append (sym_of number) rest (symbol ∷ [])) in
+      let whole = sum_by_push (weight x many) (map (sym_of number) rest) (sym_of number symbol) in
+      omega (arith, some_weight (sym_of number symbol), shown, whole)
 
   low_weight : (m : ℕ) (s : Sym) → IsNotAbove x.choices m s → weight x many s ≤ many ^ m
   low_weight m (Token t) low = one-le-pow m many some

@@ -1,14 +1,14 @@
 //! The costs of a grammar's sentences: the least of each rule, with the production that shows it, and the greatest.
 
 ghost use Rattle.std.specs.Prelude.{◌≡◌, ◌↔◌, ℕ, ◌<◌, ◌≤◌, ◌⊎◌, List, Option, All};
-ghost use Rattle.std.specs.Prelude.{EachIndex, Err, IfOk, IfSome, IsTrue, None, Ok, Some, length, slice_index};
+ghost use Rattle.std.specs.Prelude.{EachIndex, Err, IfOk, IfSome, None, Ok, Some, length, slice_index};
 ghost use Rattle.std.specs.Result.{result_ok};
 ghost use Rattle.cfgindex.specs.declared.idxnewtype.TIdx.{TIdx};
 ghost use Rattle.derivation.specs.Grammar.{HasProduction, IsGrammar};
 ghost use Rattle.derivation.specs.Costs.{Greatest, Least, Unbounded};
 ghost use Rattle.cfgsums.specs.Lists.{rule_cost};
 ghost use Rattle.cfgleast.specs.Certificate.{IsCovered, IsReached, choice_of, rule_choice};
-ghost use Rattle.cfgleast.specs.Generator.{AnswersLeast, HasNone, IsGenerator, IsLeastProduction, IsTooDear};
+ghost use Rattle.cfgleast.specs.Generator.{HasNone, IsGenerator, IsLeastProduction, IsTooDear};
 ghost use Rattle.cfgleast.specs.Generator.{choice_answer, cost_answer, token_cost};
 
 use crate::heirs::last_heirs;
@@ -155,30 +155,10 @@ impl<'a, S: Storage, T: Tables<S>> SentenceGenerator<'a, S, T> {
             ↔ IsTooDear (HasProduction self.now.grammar) (token_cost self.now) (S.number rule.0) }
         ensures answer { result_ok result ≡ cost_answer self.now (S.number rule.0) }
     {
-        self.settled_cost(rule)
-    }
-
-    /// The least cost of the rule, all that is said of it in one.
-    fn settled_cost(&self, rule: RIdx<S>) -> Result<u16, CostError>
-        requires { S.number rule.0 < self.now.grammar.rules }
-        ensures least { AnswersLeast (HasProduction self.now.grammar) (token_cost self.now) (S.number rule.0) result }
-        ensures answer { result_ok result ≡ cost_answer self.now (S.number rule.0) }
-    {
         match self.settled.least[usize::from(rule)] {
             Some(cost) if cost < TOO_LARGE => Ok(cost as u16),
             Some(_) => Err(CostError::CostTooLarge),
             None => Err(CostError::NoSentence),
-        }
-    }
-
-    /// Whether the rule's least cost is 0, so that its only minimal sentence is the empty one.
-    pub(crate) fn is_free(&self, rule: RIdx<S>) -> bool
-        requires { S.number rule.0 < self.now.grammar.rules }
-        ensures { IsTrue result ↔ (cost_answer self.now (S.number rule.0) ≡ Some 0) }
-    {
-        match self.min_sentence_cost(rule) {
-            Ok(cost) => cost == 0,
-            Err(_) => false,
         }
     }
 
@@ -213,7 +193,7 @@ impl<'a, S: Storage, T: Tables<S>> SentenceGenerator<'a, S, T> {
             ⊎ IsTooDear (HasProduction self.now.grammar) (token_cost self.now) (S.number rule.0)) }
         ensures answer { choice_of S.number result ≡ choice_answer self.now (S.number rule.0) }
     {
-        match self.settled_cost(rule) {
+        match self.min_sentence_cost(rule) {
             Ok(_) => self.settled.choices[usize::from(rule)],
             Err(_) => None,
         }

@@ -56,7 +56,7 @@ impl<'a, S: Storage, T: Tables<S>> SentenceGenerator<'a, S, T> {
         Ok(words)
     }
 
-    /// All minimal sentences of the rule, where the table has those of the rules that they are made of.
+    /// All minimal sentences of the rule, which costs this, where the table has those of the rules that they are made of.
     ///
     /// # Errors
     ///
@@ -65,15 +65,16 @@ impl<'a, S: Storage, T: Tables<S>> SentenceGenerator<'a, S, T> {
         &self,
         alloc: Global,
         rule: RIdx<S>,
+        cost: u32,
         table: &SentenceTable<S>,
     ) -> Result<Vec<Vec<TIdx<S>>>, AllocError>
         requires rule { S.number rule.0 < self.now.grammar.rules }
-        requires known { (c : ℕ) × (cost_answer self.now (S.number rule.0) ≡ Some c) }
+        requires known { cost_answer self.now (S.number rule.0) ≡ Some cost }
         requires ready { IsReadyFor self.now (sentences_in S.number table.now) (S.number rule.0) }
         ensures { IfOk result (λ words. AreMinimal self.now (S.number rule.0) (words_of S.number words)) }
     {
         self.invariant_holds();
-        if self.is_free(rule) {
+        if cost == 0 {
             let mut words = Vec::new(alloc);
             words.push(Vec::new(alloc))?;
             return Ok(words);
@@ -95,9 +96,9 @@ impl<'a, S: Storage, T: Tables<S>> SentenceGenerator<'a, S, T> {
         self.invariant_holds();
         let mut table = BTreeMap::new(alloc);
         let mut asked = self.asked_rules(alloc, rule)?;
-        while let Some((_, number)) = asked.pop() {
+        while let Some((cost, number)) = asked.pop() {
             let level = RIdx(to_storage(number as usize));
-            let sentences = self.level_sentences(alloc, level, &table)?;
+            let sentences = self.level_sentences(alloc, level, cost, &table)?;
             drop(table.insert(number as usize, sentences)?);
         }
         let all = table.remove(&usize::from(rule));

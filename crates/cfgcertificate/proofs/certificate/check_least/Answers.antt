@@ -29,9 +29,6 @@ returns-then-not-is_covered-clause-exact g c =
           (covered_here grammar c.args.costs.now c.args.least.now (g.S.Storage.number c.to_storage.result) _ _ place c.prod_to_rule.ensures c.prod.ensures all)),
     )
 
-pub returns-then-not-is_covered-clause-bound : goal.returns-then-not-is_covered-clause-bound
-returns-then-not-is_covered-clause-bound g c = λ h. absurd (true≢false (sym h))
-
 pub loop-number-preserved : goal.loop-number-preserved
 loop-number-preserved g c =
     let within : c.loop-number.number < length (g.T.Tables.grammar c.args.grm.now).productions =

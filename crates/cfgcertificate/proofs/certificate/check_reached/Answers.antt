@@ -3,32 +3,14 @@ use Rattle.cfgleast.specs.Certificate.{IsReached, choice_of}
 use Rattle.cfgleast.proofs.Certified.{certified_sentence}
 use Rattle.cfgcertificate.proofs.certificate.check_reached.Goals as goal
 
-pub loop-rule-init : goal.loop-rule-init
-loop-rule-init g c = λ r h. absurd (omega (arith, h))
-
-pub is_reached-requires-clause-costs : goal.is_reached-requires-clause-costs
-is_reached-requires-clause-costs g c = c.requires.costs
-
-pub is_reached-requires-clause-least : goal.is_reached-requires-clause-least
-is_reached-requires-clause-least g c = c.requires.least
-
-pub is_reached-requires-clause-choices : goal.is_reached-requires-clause-choices
-is_reached-requires-clause-choices g c = c.requires.choices
-
 pub is_reached-requires-clause-rule : goal.is_reached-requires-clause-rule
 is_reached-requires-clause-rule g c = omega (arith, c.loop-rule-test.true, c.to_usize-rules_len.ensures.value, c.rules_len.ensures.value)
-
-pub is_reached-requires-clause-content : goal.is_reached-requires-clause-content
-is_reached-requires-clause-content g c = c.rules_len.ensures.content
 
 pub returns-then-not-is_reached-clause-exact : goal.returns-then-not-is_reached-clause-exact
 returns-then-not-is_reached-clause-exact g c =
     let within : c.loop-rule.rule < length c.args.least.now =
     omega (arith, c.loop-rule-test.true, c.to_usize-rules_len.ensures.value, c.rules_len.ensures.value, c.requires.least) in
     ((λ h. absurd (true≢false (sym h))), (λ each. sym c.if-not-is_reached.true ∙ c.is_reached.ensures.1 (each c.loop-rule.rule within)))
-
-pub returns-then-not-is_reached-clause-reached : goal.returns-then-not-is_reached-clause-reached
-returns-then-not-is_reached-clause-reached g c = λ h. absurd (true≢false (sym h))
 
 pub loop-rule-preserved : goal.loop-rule-preserved
 loop-rule-preserved g c =

@@ -3,22 +3,22 @@ use Rattle.std.proofs.lemmas.List.{get_or_default, length-map}
 use Rattle.cfgtables.proofs.Slices.{mapped_within, mapped_at, mapped_all}
 use Rattle.cfgchoices.specs.Inner.Kinds.{places_of}
 use Rattle.cfgchoices.specs.declared.kinds.Kind.TheVariants.{Slack}
-use Rattle.cfgcosts.proofs.OnlyHeirs.{OnlyOne, none_is, only_ends, only_found, only_slack}
+use Rattle.lemmas.proofs.Options.{None-from_is_some}
+use Rattle.cfgcosts.proofs.OnlyHeirs.{OnlyOne, only_ends, only_found, only_slack}
+use Rattle.cfgcosts.proofs.heirs.only_heir.Given.{Over}
+use Rattle.cfgcosts.proofs.heirs.only_heir.Goals.{After-from}
 use Rattle.cfgcosts.proofs.heirs.only_heir.Goals as goal
 use Rattle.cfgcosts.proofs.heirs.only_heir.Goals.{in-Slack, in-HandsOn}
 
+inside : (g : Over) (c : After-from g) → c.from.result < length c.args.kinds.now
+inside g c = subst (λ m. m < length c.args.kinds.now) (sym c.from.ensures) (subst (λ m. g.S.Storage.number c.p-item.result.0 < m) (sym c.requires.kinds)
+    (mapped_all (λ p. g.S.Storage.number p.0) _ _ _ c.p-item.is (omega (arith, c.loop-p-test.true)) (λ p. p < length (g.T.Tables.grammar c.args.tables.now).productions) c.rule_to_prods-p-items.ensures.within))
+
 pub bounds-kinds-from : goal.bounds-kinds-from
-bounds-kinds-from g c =
-    let within = mapped_all (λ p. g.S.Storage.number p.0) _ _ _ c.p-item.is (omega (arith, c.loop-p-test.true))
-    (λ p. p < length (g.T.Tables.grammar c.args.tables.now).productions) c.rule_to_prods-p-items.ensures.within in
-    subst (λ m. m < length c.args.kinds.now) (sym c.from.ensures) (subst (λ m. g.S.Storage.number c.p-item.result.0 < m) (sym c.requires.kinds) within)
+bounds-kinds-from g c = inside g (goal.at.bounds-kinds-from g c).After-from
 
 pub offset_bounds-kinds-from : goal.offset_bounds-kinds-from
-offset_bounds-kinds-from g c =
-    let within = mapped_all (λ p. g.S.Storage.number p.0) _ _ _ c.p-item.is (omega (arith, c.loop-p-test.true))
-    (λ p. p < length (g.T.Tables.grammar c.args.tables.now).productions) c.rule_to_prods-p-items.ensures.within in
-    let lt = subst (λ m. m < length c.args.kinds.now) (sym c.from.ensures) (subst (λ m. g.S.Storage.number c.p-item.result.0 < m) (sym c.requires.kinds) within) in
-    omega (arith, lt)
+offset_bounds-kinds-from g c = omega (arith, inside g (goal.at.offset_bounds-kinds-from g c).After-from)
 
 pub loop-p-preserved : goal.loop-p-preserved
 loop-p-preserved g c =
@@ -36,7 +36,7 @@ loop-p-preserved g c =
       | in-Slack w ↦ subst (OnlyOne kinds (take (c.loop-p.p-index + 1) places)) (sym w.only-is)
           (only_slack kinds places c.loop-p.p-index p within at c.loop-p.only c.loop-p.invariant (kind ∙ w.in-Slack.is))
       | in-HandsOn w ↦ subst (OnlyOne kinds (take (c.loop-p.p-index + 1) places)) (sym w.only-is)
-          (only_found kinds places c.loop-p.p-index p within at c.loop-p.only w.in-HandsOn.heir (none_is c.loop-p.only w.if-is_none.ensures) c.loop-p.invariant (kind ∙ w.in-HandsOn.is))
+          (only_found kinds places c.loop-p.p-index p within at c.loop-p.only w.in-HandsOn.heir (None-from_is_some c.loop-p.only w.if-is_none.ensures) c.loop-p.invariant (kind ∙ w.in-HandsOn.is))
     ]
 
 pub returns : goal.returns

@@ -5,7 +5,8 @@ use Rattle.std.proofs.lemmas.List.Elements.{All-push, All-same}
 use Rattle.cfgindex.specs.declared.idxnewtype.RIdx.{RIdx}
 use Rattle.cfgcosts.specs.Inner.Heirs.{IsOnlyHeir, rules_of}
 use Rattle.cfgchoices.specs.Levels.{Along}
-use Rattle.cfgcosts.proofs.OnlyHeirs.{heirs_more, only_or_itself}
+use Rattle.cfgleast.proofs.Pushed.{each_push}
+use Rattle.cfgcosts.proofs.OnlyHeirs.{only_or_itself}
 use Rattle.cfgcosts.proofs.heirs.only_heirs.Goals as goal
 
 pub loop-number-preserved : goal.loop-number-preserved
@@ -26,5 +27,5 @@ loop-number-preserved g c =
     record {
       len = ap length longer ∙ length_push heirs (number c.unwrap_or.result.0) ∙ ap (λ m. m + 1) c.loop-number.invariant.len;
       within = All-same (λ h. h < grammar.rules) _ _ longer (All-push (λ h. h < grammar.rules) heirs (number c.unwrap_or.result.0) c.loop-number.invariant.within rule_one);
-      each = heirs_more number grammar kinds heirs (rules_of number c.push.new.self.items) n (number c.unwrap_or.result.0) c.loop-number.invariant.len longer c.loop-number.invariant.each one;
+      each = each_push (Along (IsOnlyHeir number grammar kinds)) 0 heirs _ n (number c.unwrap_or.result.0) c.loop-number.invariant.len longer c.loop-number.invariant.each one;
     }

@@ -1,9 +1,7 @@
-use Rattle.std.proofs.Common.{◌≡◌, ◌<◌, List, ℕ, All, length, map, arith, sym, subst, ◌∙◌}
+use Rattle.std.proofs.Common.{◌≡◌, ◌<◌, List, ℕ, All, length, arith, sym, subst, ◌∙◌}
 use Rattle.std.specs.Prelude.{slice_index}
 use Rattle.cfggreatest.specs.Words.{AreTold}
-use Rattle.cfgleast.specs.Certificate.{choice_of}
 use Rattle.cfgleast.specs.Generator.{IsGeneratorOf, tables_of}
-use Rattle.cfgleast.specs.Inner.Settled.{AreSettled}
 use Rattle.cfgchoices.specs.Inner.FirstChoices.{AreFirst, Walks}
 use Rattle.cfgchoices.specs.Inner.Kinds.{AreKinds, HasRulesAsHeirs}
 use Rattle.cfgcosts.specs.Inner.Heirs.{AreHeirs, rules_of}
@@ -45,11 +43,10 @@ last_heirs-requires-clause-heirs g c =
     subst (HasRulesAsHeirs g.S.Storage.number (g.T.Tables.grammar c.args.tables.now)) (sym c.as_slice-by_production.ensures.value) c.in_ok-kinds.ensures.heirs
 
 pub greatest_costs-requires-clause-costs : goal.greatest_costs-requires-clause-costs
-greatest_costs-requires-clause-costs g c = subst (λ (costs : List ℕ). length costs ≡ (g.T.Tables.grammar c.args.tables.now).tokens) (sym c.as_slice-by_token.ensures.value)
-    (c.in_ok-costs.ensures.len ∙ c.to_usize-tokens_len.ensures.value ∙ c.tokens_len.ensures)
+greatest_costs-requires-clause-costs g c = (generator g (goal.at.greatest_costs-requires-clause-costs g c).In_ok-settled).tokens
 
 pub greatest_costs-requires-clause-positive : goal.greatest_costs-requires-clause-positive
-greatest_costs-requires-clause-positive g c = subst (All (λ c. 0 < c)) (sym c.as_slice-by_token.ensures.value) c.in_ok-costs.ensures.positive
+greatest_costs-requires-clause-positive g c = (generator g (goal.at.greatest_costs-requires-clause-positive g c).In_ok-settled).positive
 
 pub invariant_of-result : goal.invariant_of-result
 invariant_of-result g c =
@@ -58,12 +55,7 @@ invariant_of-result g c =
     let settled = c.in_ok-settled.settled in
     let least = settled.least.items in
     let firsts = c.in_ok-firsts.firsts.items in (
-      record {
-        tokens = c.in_ok-costs.ensures.len ∙ c.to_usize-tokens_len.ensures.value ∙ c.tokens_len.ensures;
-        positive = c.in_ok-costs.ensures.positive;
-        settled = subst (λ (costs : List ℕ). AreSettled grammar (slice_index costs) least (map (choice_of number) settled.choices.items) settled.number)
-            c.as_slice-by_token.ensures.value c.in_ok-settled.ensures;
-      },
+      subst (λ (costs : List ℕ). IsGeneratorOf number grammar costs settled) c.as_slice-by_token.ensures.value (generator g (goal.at.invariant_of-result g c).In_ok-settled),
       subst (λ (costs : List ℕ). AreTold grammar (slice_index costs) c.in_ok-greatest.greatest.items) c.as_slice-by_token.ensures.value c.in_ok-greatest.ensures,
       subst (λ (costs : List ℕ). AreKinds number (tables_of number grammar costs least settled.choices.items) c.in_ok-kinds.kinds.items) c.as_slice-by_token.ensures.value c.in_ok-kinds.ensures.kinds,
       subst (λ (costs : List ℕ). Walks (tables_of number grammar costs least firsts)) c.as_slice-by_token.ensures.value c.in_ok-firsts.ensures.walks,

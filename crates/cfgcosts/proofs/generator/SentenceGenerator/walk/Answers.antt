@@ -1,16 +1,32 @@
 use Rattle.std.proofs.Common.{◌≡◌, ◌-◌, ◌+◌, ◌<◌, ◌≤◌, ◌++◌, [], ◌∷◌, None, Some, length, map, take, refl, sym, ap, subst, arith, ◌∙◌}
 use Rattle.std.proofs.lemmas.List.{length-map, map-append}
 use Rattle.std.proofs.lemmas.List.Elements.{All-get_or}
-use Rattle.derivation.specs.Grammar.{Grammar}
 use Rattle.cfgindex.specs.declared.idxnewtype.Symbol.TheVariants as symbols
 use Rattle.cfgtables.specs.Openings.{nth_production}
 use Rattle.cfgtables.specs.Symbols.{sym_of}
-use Rattle.cfgleast.specs.Certificate.{choice_of}
+use Rattle.derivation.specs.Grammar.{Grammar, Rule}
+use Rattle.cfgleast.specs.Certificate.{choice_of, rule_choice}
 use Rattle.cfgleast.specs.Generator.{CostTables, cost_answer, tables_of, token_cost}
 use Rattle.cfgcosts.specs.Inner.Walk.{HasStopped, HasWalked}
-use Rattle.cfgcosts.proofs.Walking.{IsOnTheWay, choice_at, after_free, after_opened, after_token, begins, chosen_next, countable, finished, last_shown, on_err, popped, rule_within, stopped}
+use Rattle.cfgchoices.proofs.Pending.{last_shown}
+use Rattle.cfgcosts.proofs.Walking.{IsOnTheWay, choice_at, after_free, after_opened, after_token, begins, chosen_next, countable, finished, on_err, popped, rule_within, stopped}
 use Rattle.cfgcosts.proofs.Weights.{lighter_opened, popped_lighter, weigh}
+use Rattle.cfgcosts.proofs.generator.SentenceGenerator.walk.Given.{Over}
+use Rattle.cfgcosts.proofs.generator.SentenceGenerator.walk.Goals.{In-Rule, In-Some-index}
 use Rattle.cfgcosts.proofs.generator.SentenceGenerator.walk.Goals as goal
+
+abbrev tables : (g : Over) (c : In-Rule g) → CostTables
+tables g c = tables_of g.S.Storage.number (g.T.Tables.grammar c.self.inside.tables.now) c.self.inside.costs.items c.self.inside.settled.least.items c.self.inside.firsts.items
+
+way : (g : Over) (c : In-Rule g) → IsOnTheWay (tables g c) (g.S.Storage.number c.args.rule.0) (g.O.Opener.has_opened c.loop-symbol.source)
+    (map (sym_of g.S.Storage.number) c.pop.new.self.items ++ Rule (g.S.Storage.number c.in-Rule.rule.0) ∷ []) (map (λ t. g.S.Storage.number t.0) c.loop-symbol.sentence.items)
+way g c = popped g.S.Storage.number _ _ _ _ _ c.in-Some.ensures.items c.in-Rule.is c.loop-symbol.invariant.way
+
+choice : (g : Over) (c : In-Some-index g) → rule_choice (map (choice_of g.S.Storage.number) c.self.inside.firsts.items) (g.S.Storage.number c.in-Rule.rule.0) ≡ Some (g.S.Storage.number c.in-Some-index.p.0, c.in-Some-index.field-0-1)
+choice g c =
+    let x = tables_of g.S.Storage.number (g.T.Tables.grammar c.self.inside.tables.now) c.self.inside.costs.items c.self.inside.settled.least.items c.self.inside.firsts.items in
+    choice_at x _ _ _ _ g.S.Storage.number c.self.inside.firsts.items _ c.from.result c.index.result.now _ refl c.from.ensures c.index.ensures c.in-Some-index.is
+    (popped g.S.Storage.number x _ _ _ _ c.in-Some.ensures.items c.in-Rule.is c.loop-symbol.invariant.way)
 
 pub loop-symbol-init : goal.loop-symbol-init
 loop-symbol-init g c =
@@ -49,30 +65,22 @@ loop-symbol-smaller g c =
 
 pub index-requires : goal.index-requires
 index-requires g c =
-    let number = g.S.Storage.number in
-    let within = rule_within _ _ _ _ _ (number c.in-Rule.rule.0) (popped number _ _ _ _ _ c.in-Some.ensures.items c.in-Rule.is c.loop-symbol.invariant.way) in
-    let all = c.loop-symbol.invariant.way.leads.walks.listed in
-    let len = length-map c.self.inside.firsts.items (choice_of number) in
-    omega (arith, within, all, len, c.from.ensures, c.self.inside.firsts.ok.0)
+    let now = (goal.at.index-requires g c).In-Rule in
+    let len = length-map c.self.inside.firsts.items (choice_of g.S.Storage.number) in
+    omega (arith, rule_within _ _ _ _ _ _ (way g now), c.loop-symbol.invariant.way.leads.walks.listed, len, c.from.ensures, c.self.inside.firsts.ok.0)
 
 pub loop-symbol-preserved : goal.loop-symbol-preserved
 loop-symbol-preserved g c =
-    let number = g.S.Storage.number in
-    let x = tables_of number (g.T.Tables.grammar c.self.inside.tables.now) c.self.inside.costs.items c.self.inside.settled.least.items c.self.inside.firsts.items in
-    let q = number c.in-Rule.rule.0 in
-    let way = popped number x _ _ _ _ c.in-Some.ensures.items c.in-Rule.is c.loop-symbol.invariant.way in
-    let choice = choice_at x _ _ _ _ number c.self.inside.firsts.items q c.from.result c.index.result.now None refl c.from.ensures c.index.ensures c.in_default-index.is way in
-    record { same = c.loop-symbol.invariant.same; way = after_free x _ _ _ _ q choice way }
+    let at = (goal.at.loop-symbol-preserved g c).In-Rule in
+    let now = way g at in
+    let choice = choice_at (tables g at) _ _ _ _ g.S.Storage.number c.self.inside.firsts.items _ c.from.result c.index.result.now None refl c.from.ensures c.index.ensures c.in_default-index.is now in
+    record { same = c.loop-symbol.invariant.same; way = after_free (tables g at) _ _ _ _ _ choice now }
 
 pub open_onto-requires-clause-place : goal.open_onto-requires-clause-place
 open_onto-requires-clause-place g c =
-    let number = g.S.Storage.number in
-    let x = tables_of number (g.T.Tables.grammar c.self.inside.tables.now) c.self.inside.costs.items c.self.inside.settled.least.items c.self.inside.firsts.items in
-    let q = number c.in-Rule.rule.0 in
-    let way = popped number x _ _ _ _ c.in-Some.ensures.items c.in-Rule.is c.loop-symbol.invariant.way in
-    let choice = choice_at x _ _ _ _ number c.self.inside.firsts.items q c.from.result c.index.result.now _ refl c.from.ensures c.index.ensures c.in-Some-index.is way in
-    subst (λ (h : Grammar). number c.in-Some-index.p.0 < length h.productions) (sym c.loop-symbol.invariant.same)
-    (chosen_next x _ _ _ _ q (number c.in-Some-index.p.0) c.in-Some-index.field-0-1 choice way).opens.place
+    let at = goal.at.open_onto-requires-clause-place g c in
+    subst (λ (h : Grammar). g.S.Storage.number c.in-Some-index.p.0 < length h.productions) (sym c.loop-symbol.invariant.same)
+    (chosen_next (tables g at.In-Rule) _ _ _ _ _ _ _ (choice g at.In-Some-index) (way g at.In-Rule)).opens.place
 
 pub open_onto-requires-clause-countable : goal.open_onto-requires-clause-countable
 open_onto-requires-clause-countable g c =
@@ -82,33 +90,27 @@ open_onto-requires-clause-countable g c =
 
 pub loop-symbol-preserved-in-Continue-branch-3 : goal.loop-symbol-preserved-in-Continue-branch-3
 loop-symbol-preserved-in-Continue-branch-3 g c =
-    let number = g.S.Storage.number in
-    let x = tables_of number (g.T.Tables.grammar c.self.inside.tables.now) c.self.inside.costs.items c.self.inside.settled.least.items c.self.inside.firsts.items in
-    let q = number c.in-Rule.rule.0 in
-    let p = number c.in-Some-index.p.0 in
-    let way = popped number x _ _ _ _ c.in-Some.ensures.items c.in-Rule.is c.loop-symbol.invariant.way in
-    let choice = choice_at x _ _ _ _ number c.self.inside.firsts.items q c.from.result c.index.result.now _ refl c.from.ensures c.index.ensures c.in-Some-index.is way in
-    let pending = c.in_ok-open_onto-in-Rule.ensures.symbols ∙ ap (λ (h : Grammar). map (sym_of number) c.pop.new.self.items ++ (nth_production h p).symbols) c.loop-symbol.invariant.same in
+    let at = goal.at.loop-symbol-preserved-in-Continue-branch-3 g c in
+    let rest = map (sym_of g.S.Storage.number) c.pop.new.self.items in
+    let pending = c.in_ok-open_onto-in-Rule.ensures.symbols ∙ ap (λ (h : Grammar). rest ++ (nth_production h (g.S.Storage.number c.in-Some-index.p.0)).symbols) c.loop-symbol.invariant.same in
     record {
       same = c.open_onto.ensures.grammar ∙ c.loop-symbol.invariant.same;
-      way = after_opened x _ _ _ _ q p c.in-Some-index.field-0-1 choice way _ c.open_onto.ensures.opened _ pending;
+      way = after_opened (tables g at.In-Rule) _ _ _ _ _ _ _ (choice g at.In-Some-index) (way g at.In-Rule) _ c.open_onto.ensures.opened _ pending;
     }
 
 pub loop-symbol-smaller-in-Continue-branch-3 : goal.loop-symbol-smaller-in-Continue-branch-3
 loop-symbol-smaller-in-Continue-branch-3 g c =
+    let at = goal.at.loop-symbol-smaller-in-Continue-branch-3 g c in
     let number = g.S.Storage.number in
-    let x = tables_of number (g.T.Tables.grammar c.self.inside.tables.now) c.self.inside.costs.items c.self.inside.settled.least.items c.self.inside.firsts.items in
-    let q = number c.in-Rule.rule.0 in
+    let x = tables g at.In-Rule in
     let p = number c.in-Some-index.p.0 in
-    let way = popped number x _ _ _ _ c.in-Some.ensures.items c.in-Rule.is c.loop-symbol.invariant.way in
-    let choice = choice_at x _ _ _ _ number c.self.inside.firsts.items q c.from.result c.index.result.now _ refl c.from.ensures c.index.ensures c.in-Some-index.is way in
-    let o = (chosen_next x _ _ _ _ q p c.in-Some-index.field-0-1 choice way).opens in
+    let rest = map (sym_of number) c.pop.new.self.items in
     let many = g.S.Storage.MAX + 1 in
+    let o = (chosen_next (tables g at.In-Rule) _ _ _ _ _ _ _ (choice g at.In-Some-index) (way g at.In-Rule)).opens in
     let fits = All-get_or (λ p. length p.symbols ≤ g.S.Storage.MAX) x.grammar.productions p (record { rule = 0; symbols = [] }) o.place c.invariant_holds.ensures.fits in
-    let pending = c.in_ok-open_onto-in-Rule.ensures.symbols ∙ ap (λ (h : Grammar). map (sym_of number) c.pop.new.self.items ++ (nth_production h p).symbols) c.loop-symbol.invariant.same in
-    let now = ap (weigh x many) pending in
+    let now = ap (weigh x many) (c.in_ok-open_onto-in-Rule.ensures.symbols ∙ ap (λ (h : Grammar). rest ++ (nth_production h p).symbols) c.loop-symbol.invariant.same) in
     let before = ap (weigh x many) (last_shown number c.loop-symbol.pending.items c.pop.new.self.items _ _ c.in-Some.ensures.items c.in-Rule.is) in
-    let less = lighter_opened x many (omega arith) c.self.invariant.3 (map (sym_of number) c.pop.new.self.items) q p c.in-Some-index.field-0-1 choice (omega (arith, fits)) in
+    let less = lighter_opened x many (omega arith) c.self.invariant.3 rest _ p c.in-Some-index.field-0-1 (choice g at.In-Some-index) (omega (arith, fits)) in
     omega (arith, now, before, less)
 
 pub returns-in_err-push-in-Token-clause-stopped : goal.returns-in_err-push-in-Token-clause-stopped
@@ -118,14 +120,9 @@ returns-in_err-push-in-Token-clause-stopped g c =
 
 pub returns-in_err-open_onto-in-Rule-clause-stopped : goal.returns-in_err-open_onto-in-Rule-clause-stopped
 returns-in_err-open_onto-in-Rule-clause-stopped g c =
-    let number = g.S.Storage.number in
-    let x = tables_of number (g.T.Tables.grammar c.self.inside.tables.now) c.self.inside.costs.items c.self.inside.settled.least.items c.self.inside.firsts.items in
-    let q = number c.in-Rule.rule.0 in
-    let p = number c.in-Some-index.p.0 in
-    let way = popped number x _ _ _ _ c.in-Some.ensures.items c.in-Rule.is c.loop-symbol.invariant.way in
-    let choice = choice_at x _ _ _ _ number c.self.inside.firsts.items q c.from.result c.index.result.now _ refl c.from.ensures c.index.ensures c.in-Some-index.is way in
-    on_err _ (subst (λ (y : CostTables). HasStopped y.grammar (token_cost y) (number c.args.rule.0) (g.O.Opener.has_opened c.open_onto.new.source)) c.self.view_is
-    (stopped _ _ _ _ _ (after_opened x _ _ _ _ q p c.in-Some-index.field-0-1 choice way _ c.open_onto.ensures.opened _ refl)))
+    let at = goal.at.returns-in_err-open_onto-in-Rule-clause-stopped g c in
+    on_err _ (subst (λ (y : CostTables). HasStopped y.grammar (token_cost y) (g.S.Storage.number c.args.rule.0) (g.O.Opener.has_opened c.open_onto.new.source)) c.self.view_is
+    (stopped _ _ _ _ _ (after_opened (tables g at.In-Rule) _ _ _ _ _ _ _ (choice g at.In-Some-index) (way g at.In-Rule) _ c.open_onto.ensures.opened _ refl)))
 
 pub returns-clause-walked : goal.returns-clause-walked
 returns-clause-walked g c =

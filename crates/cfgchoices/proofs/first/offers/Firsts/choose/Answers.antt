@@ -32,32 +32,28 @@ rule_of-rule-requires g c = (c.in-Some.ensures c.args.tight.now c.requires.offer
 
 pub overflow_add-self : goal.overflow_add-self
 overflow_add-self g c =
-    let number = g.S.Storage.number in
     let at = (goal.at.overflow_add-self g c).After-index_mut in
     let (m, known) = c.invariant_holds.ensures in
-    let most = number_fits c.args.tight.now (number c.in-Some.p.0) (offers_of number c.args.self.now) (offers_of number c.next.new.self) (taken g at) c.requires m known (unset g at) (inside g at) in
+    let most = number_fits _ _ _ _ (taken g at) c.requires m known (unset g at) (inside g at) in
     omega (arith, most, c.rule_of-rule.ensures.limit)
 
 pub offer_listed-requires-clause-offering : goal.offer_listed-requires-clause-offering
 offer_listed-requires-clause-offering g c =
-    let number = g.S.Storage.number in
-    let k = c.args.tight.now in
-    let f = offers_of number c.next.new.self in
+    let f = offers_of g.S.Storage.number c.next.new.self in
     let at = (goal.at.offer_listed-requires-clause-offering g c).After-index_mut in
     let (m, known) = c.invariant_holds.ensures in
-    subst (λ l. Offering k (record { choices = l; number = f.number + 1; cost = f.cost; ready = f.ready; level = f.level; foremost = f.foremost })) (sym (same g at))
-    (now_offering k (number c.in-Some.p.0) (offers_of number c.args.self.now) f (taken g at) c.requires m known (unset g at) (inside g at))
+    subst (λ l. Offering c.args.tight.now (record f { choices = l; number = f.number + 1 })) (sym (same g at))
+    (now_offering _ _ _ _ (taken g at) c.requires m known (unset g at) (inside g at))
 
 pub offer_listed-requires-clause-offered : goal.offer_listed-requires-clause-offered
 offer_listed-requires-clause-offered g c =
-    let number = g.S.Storage.number in
     let k = c.args.tight.now in
-    let f = offers_of number c.next.new.self in
+    let f = offers_of g.S.Storage.number c.next.new.self in
     let at = (goal.at.offer_listed-requires-clause-offered g c).After-index_mut in
     let t = taken g at in
     let (m, known) = c.invariant_holds.ensures in
     λ q heir. subst (λ l. IsOffered k l (f.number + 1) f.cost q) (sym (same g at))
-    (heir_offered k m known f (number c.in-Some.p.0) t.level t.next (unset g at) (inside g at) q (subst (IsHeir k.tables q) c.rule_of-rule.ensures.value heir))
+    (heir_offered k m known f _ t.level t.next (unset g at) (inside g at) q (subst (IsHeir k.tables q) c.rule_of-rule.ensures.value heir))
 
 pub returns-in_default : goal.returns-in_default
 returns-in_default g c =
@@ -71,40 +67,32 @@ returns-in_default g c =
 pub returns-then-is_some : goal.returns-then-is_some
 returns-then-is_some g c =
     let number = g.S.Storage.number in
-    let k = c.args.tight.now in
-    let f = offers_of number c.args.self.now in
-    let f' = offers_of number c.next.new.self in
-    let p = number c.in-Some.p.0 in
     let items = c.next.new.self.choices.items in
-    let t = c.in-Some.ensures k c.requires.offering.level in
+    let t = c.in-Some.ensures c.args.tight.now c.requires.offering.level in
     let (m, known) = c.invariant_holds.ensures in
     let value = c.rule_of-rule.ensures.value in
     let within = entry_within (choice_of number) items _ _ _ t.level.choosing.listed value c.rule_of-rule.ensures.within in
     let has = has_shown number items c.from.result _ (c.from.ensures ∙ value) within c.index.result.now c.index.ensures (sym c.is_some.ensures ∙ c.if-is_some.true) in record {
-      going = passed_going k p f f' t c.requires m known has;
-      handles = passed_handles k p f f' t c.requires m known has;
-      cost = taken_cost k p f f' t;
-      left = taken_less k p f f' t;
+      going = passed_going _ _ _ _ t c.requires m known has;
+      handles = passed_handles _ _ _ _ t c.requires m known has;
+      cost = taken_cost _ _ _ _ t;
+      left = taken_less _ _ _ _ t;
     }
 
 pub returns : goal.returns
 returns g c =
     let number = g.S.Storage.number in
-    let k = c.args.tight.now in
-    let x = k.tables in
-    let f = offers_of number c.args.self.now in
-    let f' = offers_of number c.next.new.self in
-    let f'' = offers_of number c.offer_listed.new.self in
-    let p = number c.in-Some.p.0 in
+    let x = c.args.tight.now.tables in
+    let f = offers_of number c.next.new.self in
+    let f' = offers_of number c.offer_listed.new.self in
     let at = (goal.at.returns g c).After-index_mut in
     let t = taken g at in
     let (m, known) = c.invariant_holds.ensures in
     let places = length x.grammar.productions in
-    let adds = subst (λ r. Adds x (λ q. IsHeir x q r) places (now k p f f' t c.requires m known (unset g at) (inside g at)) f'') c.rule_of-rule.ensures.value
-    (subst (λ l. Adds x (λ q. IsHeir x q (number c.rule_of-rule.result.0)) places (record { choices = l; number = f'.number + 1; cost = f'.cost; ready = f'.ready; level = f'.level; foremost = f'.foremost }) f'')
-    (same g at) c.in_ok-offer_listed.ensures.adds) in record {
-      going = chosen_going k p f f' t c.requires m known (unset g at) (inside g at) f'' adds c.in_ok-offer_listed.ensures.offering;
-      handles = chosen_handles k p f f' t c.requires m known (unset g at) (inside g at) f'' adds;
-      cost = adds.cost ∙ taken_cost k p f f' t;
-      left = chosen_left k p f f' t c.requires m known (unset g at) (inside g at) f'' adds;
+    let adds = subst (λ r. Adds x (λ q. IsHeir x q r) places (now _ _ _ _ t c.requires m known (unset g at) (inside g at)) f') c.rule_of-rule.ensures.value
+    (subst (λ l. Adds x (λ q. IsHeir x q (number c.rule_of-rule.result.0)) places (record f { choices = l; number = f.number + 1 }) f') (same g at) c.in_ok-offer_listed.ensures.adds) in record {
+      going = chosen_going _ _ _ _ t c.requires m known (unset g at) (inside g at) f' adds c.in_ok-offer_listed.ensures.offering;
+      handles = chosen_handles _ _ _ _ t c.requires m known (unset g at) (inside g at) f' adds;
+      cost = adds.cost ∙ taken_cost _ _ _ _ t;
+      left = chosen_left _ _ _ _ t c.requires m known (unset g at) (inside g at) f' adds;
     }

@@ -19,9 +19,8 @@ offer-requires-clause-offering g c = c.loop-next.invariant.offering
 
 pub offer-requires-clause-offered : goal.offer-requires-clause-offered
 offer-requires-clause-offered g c =
-    let number = g.S.Storage.number in
     let now = gone g (goal.at.offer-requires-clause-offered g c).In-Some in
-    offered_still c.args.tight.now _ now.from (offers_of number c.args.self.now) (offers_of number c.loop-next.self) now.adds (number c.in-Some.p.0) (c.requires.offered (number c.in-Some.p.0) now.first.1)
+    offered_still c.args.tight.now _ _ _ _ now.adds _ (c.requires.offered _ now.first.1)
 
 pub next-next-requires : goal.next-next-requires
 next-next-requires g c = (in_tight g.S.Storage.number c.args.tight.now.tables c.args.listed (g.S.Storage.number c.in-Some.p.0) (gone g (goal.at.next-next-requires g c).In-Some).first.1).place
