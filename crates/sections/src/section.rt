@@ -9,9 +9,8 @@ use cfgerrors::HeaderError;
 use cfgheader::{GrmtoolsSectionParser, Header, HeaderFault};
 use cfgkinds::{HeaderValue, Value, YaccKind, YaccOriginalActionKind};
 use rows::page::Page;
-use rows::pen::{self, Piece};
 use rows::row::Row;
-use rows::text;
+use rows::{pen, text};
 use std::alloc::{AllocError, Global};
 
 /// Writes what is answered of the section at a text's front, of that of each of its beginnings, or of an entry at each
@@ -54,15 +53,10 @@ fn write_section(out: &mut Page, text: &str) {
 
 fn write_both(out: &mut Page, required: &str, optional: &str) {
     if required == optional {
-        return pen::pieces(out, &[Piece::Text(":"), Piece::Text(required)]);
+        return pen::words(out, ":", required);
     }
-    let pieces = [
-        Piece::Text(", required:"),
-        Piece::Text(required),
-        Piece::Text("    not required:"),
-        Piece::Text(optional),
-    ];
-    pen::pieces(out, &pieces);
+    pen::words(out, ", required:", required);
+    pen::words(out, "    not required:", optional);
 }
 
 /// Writes what is answered of a section: where it ends, and a line for each key; or its errors.
