@@ -3,5 +3,9 @@
 
 pub mod laws;
 pub mod rows;
+mod shortest;
+pub mod steps;
 
 pub use rows::Step;
+pub use shortest::shortest_loop;
+pub use steps::Steps;

@@ -1,0 +1,164 @@
+//! Shortest loops, by layers of rules.
+
+ghost use Rattle.std.specs.Prelude.{◌≡◌, ℕ, ◌<◌, List, [], None, Some, Contains, is_some, length, replicate, IfOk, MatchOption, OnOk};
+ghost use Rattle.loops.specs.Lists.{AreWithin, HasStep};
+ghost use Rattle.loops.specs.Inner.Layers.{Finds, HaveLayers, IsRowTo, noted};
+ghost use Rattle.loops.specs.Rows.{IsLoop, IsShortestLoop};
+
+use crate::rows::Step;
+use crate::steps::Steps;
+use std::alloc::{AllocError, Global};
+
+/// A shortest row of steps from the rule to itself, or that there is none. Rules are found in layers, each by the
+/// steps of the one before (Moore).
+///
+/// # Errors
+///
+/// Want of memory.
+pub fn shortest_loop(
+    alloc: Global,
+    steps: &Steps,
+    rule: usize,
+) -> Result<Option<Vec<Step>>, AllocError>
+    requires rule { rule < length steps.now }
+    requires within { AreWithin steps.now }
+    ensures { IfOk result (λ found. MatchOption found
+        ((row : List Step) → IsLoop (HasStep steps.now) rule row → ⊥)
+        (λ row. IsShortestLoop (HasStep steps.now) rule row.items)) }
+{
+    let mut layers = Layers::new(alloc, steps)?;
+    let mut layer = vec![in alloc; rule; 1]?;
+    let mut count = 0;
+    while !layer.is_empty() && !layers.is_found(rule) {
+        count += 1;
+        layer = layers.next(alloc, &layer, count)?;
+    }
+    layers.loop_of(alloc, rule)
+}
+
+/// How a rule was found: a step of this rule leads to it, and ends a row of so many steps.
+#[derive(Clone, Copy)]
+pub(crate) struct Found {
+    from: usize,
+    step: Step,
+    length: usize,
+}
+
+/// Rules that are found by steps, in layers.
+#[derive(Drop)]
+struct Layers<'a> {
+    steps: &'a Steps,
+    found: Vec<Option<Found>>,
+}
+
+impl<'a> Layers<'a> {
+    /// No rule is found.
+    fn new(alloc: Global, steps: &'a Steps) -> Result<Self, AllocError>
+        ensures steps { IfOk result (λ x. x.steps.now ≡ steps.now) }
+        ensures found { IfOk result (λ x. x.found.items ≡ replicate (length steps.now) None) }
+    {
+        Ok(Layers {
+            steps,
+            found: vec![in alloc; None; steps.len()]?,
+        })
+    }
+
+    /// Whether the rule is found.
+    fn is_found(&self, rule: usize) -> bool
+        requires { rule < length self.now.found.items }
+        ensures { result ≡ is_some (noted self.now.found.items rule) }
+    {
+        self.found[rule].is_some()
+    }
+
+    /// Finds the rules to which steps of the layer lead, by rows of so many steps, and answers those that weren't found
+    /// before.
+    fn next(
+        &mut self,
+        alloc: Global,
+        layer: &[usize],
+        count: usize,
+    ) -> Result<Vec<usize>, AllocError>
+        requires layer { (a : ℕ) → Contains layer.now a → a < length self.old.steps.now }
+        requires within { AreWithin self.old.steps.now }
+        requires shape { length self.old.found.items ≡ length self.old.steps.now }
+        ensures steps { OnOk result (self.new.steps.now ≡ self.old.steps.now) }
+        ensures found { IfOk result (λ next. Finds count (λ a step. Contains layer.now a × HasStep self.old.steps.now a step)
+            self.old.found.items [] self.new.found.items next.items) }
+    {
+        let mut next = Vec::new(alloc);
+        for from in layer {
+            self.note_steps(*from, count, &mut next)?;
+        }
+        Ok(next)
+    }
+
+    /// Notes each rule to which a step of this one leads and that isn't found yet.
+    fn note_steps(
+        &mut self,
+        from: usize,
+        count: usize,
+        next: &mut Vec<usize>,
+    ) -> Result<(), AllocError>
+        requires rule { from < length self.old.steps.now }
+        requires within { AreWithin self.old.steps.now }
+        requires shape { length self.old.found.items ≡ length self.old.steps.now }
+        ensures steps { OnOk result (self.new.steps.now ≡ self.old.steps.now) }
+        ensures found { OnOk result (Finds count (λ a step. (a ≡ from) × HasStep self.old.steps.now a step)
+            self.old.found.items next.old.items self.new.found.items next.new.items) }
+    {
+        let steps = self.steps;
+        for step in steps.of(from) {
+            self.note(from, *step, count, next)?;
+        }
+        Ok(())
+    }
+
+    /// Notes the rule to which the step leads, if it isn't found yet.
+    fn note(
+        &mut self,
+        from: usize,
+        step: Step,
+        count: usize,
+        next: &mut Vec<usize>,
+    ) -> Result<(), AllocError>
+        requires { step.rule < length self.old.found.items }
+        ensures steps { self.new.steps.now ≡ self.old.steps.now }
+        ensures found { OnOk result (Finds count (λ a s. (a ≡ from) × (s ≡ step))
+            self.old.found.items next.old.items self.new.found.items next.new.items) }
+    {
+        if self.found[step.rule].is_none() {
+            next.push(step.rule)?;
+            self.found[step.rule] = Some(Found {
+                from,
+                step,
+                length: count,
+            });
+        }
+        Ok(())
+    }
+
+    /// The row of steps by which the rule was found from itself, if it was.
+    fn loop_of(&self, alloc: Global, rule: usize) -> Result<Option<Vec<Step>>, AllocError>
+        requires rule { rule < length self.now.found.items }
+        requires layers { HaveLayers (HasStep self.now.steps.now) rule self.now.found.items }
+        ensures { IfOk result (λ found. MatchOption found (noted self.now.found.items rule ≡ None)
+            (λ row. IsRowTo (HasStep self.now.steps.now) rule self.now.found.items rule row.items)) }
+    {
+        let Some(last) = self.found[rule] else {
+            return Ok(None);
+        };
+        let mut row = Vec::with_capacity(alloc, last.length)?;
+        let mut found = last;
+        row.push(last.step)?;
+        while found.length > 1 {
+            let Some(before) = self.found[found.from] else {
+                return Ok(None);
+            };
+            row.push(before.step)?;
+            found = before;
+        }
+        row.reverse();
+        Ok(Some(row))
+    }
+}
