@@ -1,22 +1,113 @@
--- A visit: what a production gives is added symbol by symbol.
-use Rattle.std.proofs.Common.{◌≡◌, ℕ, ◌+◌, ◌<◌, ◌≤◌, ◌⊎◌, inl, inr, ◌||◌, Bool, true, false, List, [], ◌∷◌, ◌++◌, take, drop, get_or, slice_set, length, IsTrue, MatchBool, arith, refl, sym, ap, ◌∙◌, subst, true≢false, get_or-set_same}
-use Rattle.lemmas.proofs.Elements.{get_or-set}
+-- FIRST sets: what begins lists, when the sets are complete, and a visit, in which what a production gives is added symbol by symbol.
+use Rattle.std.proofs.Common.{◌≡◌, ℕ, suc, inl, inr, true, false, List, [], ◌∷◌, ◌++◌, Contains, arith, refl, sym, ◌∙◌, true≢false, Bool, get_or, length, ap, subst, length-set, ◌+◌, ◌<◌, ◌≤◌, ◌⊎◌, ◌||◌, take, drop, slice_set, IsTrue, MatchBool, get_or-set_same}
+use Rattle.std.proofs.lemmas.List.{get_or_default, length-replicate, take_more, take-append-drop, take_all, set-get_or}
 use Rattle.std.proofs.lemmas.Bool.{cases_eq, or_parts}
-use Rattle.std.proofs.lemmas.List.{take_more, take-append-drop, take_all, set-get_or}
-use Rattle.derivation.specs.Grammar.{Sym, Rule, Token, Grammar, Production, IsGrammar, HasProduction}
-use Rattle.derivation.specs.FirstSets.{Vanishes}
-use Rattle.derivation.proofs.Firsts.{vanishes_parts, vanishes_both, begins_parts, begins_map}
-use Rattle.cfganalysis.specs.Table.{Joins, bits_on}
-use Rattle.cfganalysis.specs.Firsts.{FirstSets, IsAmongFirsts, IsEpsilon, epsilon_bit}
-use Rattle.cfganalysis.specs.Inner.GrowingFirsts.{SayFirsts, HasNoMoreFirsts, HaveFirstsOf, HoldsRule, BeginsBy, VanishesBy, count_firsts, is_empty_symbol, with_epsilon}
-use Rattle.cfganalysis.specs.Inner.Growth.{TakesIn}
-use Rattle.cfganalysis.specs.Inner.Waiting.{Waits, NoneWaits}
+use Rattle.lemmas.proofs.Elements.{get_or-set, get_or-replicate_default}
 use Rattle.lemmas.proofs.Passes.{grown}
+use Rattle.derivation.specs.Grammar.{Sym, Rule, Token, Grammar, Production, HasProduction, IsGrammar}
+use Rattle.derivation.specs.FirstSets.{Vanishes, Begins, Covers, IsClosed}
+use Rattle.derivation.specs.First.{First, Empty}
+use Rattle.derivation.proofs.Firsts.{vanishes_map, begins_map, closed_first, closed_empty, derived_closed, vanishes_parts, vanishes_both, begins_parts}
 use Rattle.search.proofs.Bits.{bit_put, bits_on-fewer, bits_on-set}
-use Rattle.cfganalysis.proofs.Joins.{count_of-fewer}
-use Rattle.cfganalysis.proofs.Fronts.{begins_front, begins_past, vanishes_among, begins_among, vanishes_alone, stays_alone}
-use Rattle.cfganalysis.proofs.FirstBits.{say_first, say_epsilon}
 use Rattle.cfgtables.proofs.Placed.{owner}
+use Rattle.cfganalysis.specs.Firsts.{FirstSets, AreFirsts, IsAmongFirsts, IsEpsilon, epsilon_bit}
+use Rattle.cfganalysis.specs.Inner.GrowingFirsts.{VanishesBy, is_empty_symbol, SayFirsts, HaveFirstsOf, BeginsBy, no_firsts, with_epsilon, HasNoMoreFirsts, HoldsRule, count_firsts}
+use Rattle.cfganalysis.specs.Table.{IsTable, Joins, bits_on}
+use Rattle.cfganalysis.specs.Inner.Growth.{CoversEach, TakesIn}
+use Rattle.cfganalysis.proofs.Joins.{bit-no_bits, IsTable-no_bits, count_of-fewer}
+use Rattle.cfganalysis.specs.Inner.Waiting.{Waits, NoneWaits}
+
+module _ (E : ℕ → Type 0) (F : ℕ → ℕ → Type 0) where
+  pub begins_front : (a b : List Sym) (t : ℕ) → Begins E F a t → Begins E F (a ++ b) t
+  begins_front [] b t h = absurd h
+  begins_front (Token u ∷ a) b t h = h
+  begins_front (Rule r ∷ a) b t (inl h) = inl h
+  begins_front (Rule r ∷ a) b t (inr h) = inr (h.0, begins_front a b t h.1)
+
+  pub begins_past : (a b : List Sym) (t : ℕ) → Vanishes E a → Begins E F b t → Begins E F (a ++ b) t
+  begins_past [] b t v h = h
+  begins_past (Token u ∷ a) b t v h = absurd v
+  begins_past (Rule r ∷ a) b t v h = inr (v.0, begins_past a b t v.1 h)
+
+-- what stands in a list's rest stands in the list
+contains_rest : (s : Sym) (a : List Sym) (x : Sym) → Contains a x → Contains (s ∷ a) x
+contains_rest s a x h = (suc h.0, omega (arith, h.1), h.2)
+
+-- what is so of the list's rules is enough
+pub vanishes_among : (E E' : ℕ → Type 0) (a : List Sym) → ((r : ℕ) → Contains a (Rule r) → E r → E' r) → Vanishes E a → Vanishes E' a
+vanishes_among E E' [] f h = tt
+vanishes_among E E' (Token u ∷ a) f h = absurd h
+vanishes_among E E' (Rule r ∷ a) f h = (f r (0, omega arith, refl) h.0, vanishes_among E E' a (λ q k. f q (contains_rest (Rule r) a (Rule q) k)) h.1)
+
+pub begins_among : (E E' : ℕ → Type 0) (F F' : ℕ → ℕ → Type 0) (a : List Sym) (t : ℕ) → ((r : ℕ) → Contains a (Rule r) → E r → E' r)
+    → ((r : ℕ) → Contains a (Rule r) → F r t → F' r t) → Begins E F a t → Begins E' F' a t
+begins_among E E' F F' [] t f k h = absurd h
+begins_among E E' F F' (Token u ∷ a) t f k h = h
+begins_among E E' F F' (Rule r ∷ a) t f k (inl h) = inl (k r (0, omega arith, refl) h)
+begins_among E E' F F' (Rule r ∷ a) t f k (inr h) = inr (
+  f r (0, omega arith, refl) h.0,
+  begins_among E E' F F' a t (λ q j. f q (contains_rest (Rule r) a (Rule q) j)) (λ q j. k q (contains_rest (Rule r) a (Rule q) j)) h.1,
+)
+
+-- the tests are the facts
+pub vanishes_alone : (x : FirstSets) (s : Sym) → is_empty_symbol x s ≡ true → VanishesBy x (s ∷ [])
+vanishes_alone x (Rule r) e = (e, tt)
+vanishes_alone x (Token u) e = absurd (true≢false (sym e))
+
+pub stays_alone : (x : FirstSets) (s : Sym) → is_empty_symbol x s ≡ false → VanishesBy x (s ∷ []) → ⊥
+stays_alone x (Rule r) e h = true≢false (sym h.0 ∙ e)
+stays_alone x (Token u) e h = h
+
+-- sets to which a production adds what it gives
+module _ (g : Grammar) (rule : ℕ) (symbols : List Sym) (has : HasProduction g rule symbols) where
+  closed : Covers (Empty (HasProduction g)) (First (HasProduction g)) rule symbols
+  closed = derived_closed (HasProduction g) rule symbols has
+
+  -- what the production's symbols begin with is shown by derivations
+  pub say_first : (x new : FirstSets) (gives : ℕ → ℕ → Type 0) (changed : Bool) → SayFirsts g x → new.epsilons ≡ x.epsilons
+      → Joins gives x.firsts new.firsts changed → ((r t : ℕ) → gives r t → (r ≡ rule) × BeginsBy x symbols t) → SayFirsts g new
+  say_first x new gives changed say same joins given = record {
+    fits = record { table = joins.shape g.rules g.tokens say.fits.table; epsilons = ap length same ∙ say.fits.epsilons };
+    first = λ r t on. elim ((joins.bits r t).0 on) [
+      | inl i ↦ say.first r t i
+      | inr i ↦ let h = given r t i in
+          subst (λ q. First (HasProduction g) q t) (sym h.0) (closed.first t (begins_map _ _ _ _ say.empty say.first symbols t h.1))
+    ];
+    empty = λ r on. say.empty r (sym (ap (λ l. get_or l r false) same) ∙ on);
+  }
+
+  pub say_epsilon : (x : FirstSets) → SayFirsts g x → VanishesBy x symbols → SayFirsts g (with_epsilon x rule)
+  say_epsilon x say h = record {
+    fits = record { table = say.fits.table; epsilons = length-set x.epsilons rule true ∙ say.fits.epsilons };
+    first = say.first;
+    empty = λ r on. elim (get_or-set x.epsilons rule r true false) [
+      | inl e ↦ say.empty r (sym e ∙ on)
+      | inr k ↦ subst (λ q. Empty (HasProduction g) q) (sym k.0) (closed.empty (vanishes_map _ _ say.empty symbols h))
+    ];
+  }
+
+-- sets in which nothing is say nothing wrong
+pub say_none : (g : Grammar) (rules tokens : ℕ) → rules ≡ g.rules → tokens ≡ g.tokens → SayFirsts g (no_firsts rules tokens)
+say_none g rules tokens e h = record {
+  fits = record {
+    table = subst (λ n. IsTable n g.tokens (no_firsts rules tokens).firsts) e (subst (λ n. IsTable rules n (no_firsts rules tokens).firsts) h (IsTable-no_bits rules tokens));
+    epsilons = length-replicate rules false ∙ e;
+  };
+  first = λ r t on. absurd (true≢false (sym on ∙ bit-no_bits rules tokens r t));
+  empty = λ r on. absurd (true≢false (sym on ∙ get_or-replicate_default rules r false));
+}
+
+-- sets that say nothing wrong, to which no production adds, are exact
+pub are_firsts : (g : Grammar) (x : FirstSets) → SayFirsts g x → CoversEach HaveFirstsOf g x → AreFirsts g x
+are_firsts g x say covered = record {
+  fits = say.fits;
+  first = λ r t. (say.first r t, closed_first (HasProduction g) (IsEpsilon x) (IsAmongFirsts x) closed r t);
+  empty = λ r. (say.empty r, closed_empty (HasProduction g) (IsEpsilon x) (IsAmongFirsts x) closed r);
+}
+  where
+    closed : IsClosed (HasProduction g) (IsEpsilon x) (IsAmongFirsts x)
+    closed r symbols has = subst (λ (p : Production). Covers (IsEpsilon x) (IsAmongFirsts x) p.rule p.symbols)
+        (get_or_default g.productions has.0 _ _ has.1 ∙ has.2) (covered has.0 has.1)
 
 -- what begins the symbol was put into the rule's set
 pub record Puts (rule : ℕ) (s : Sym) (old new : FirstSets) (changed : Bool) : Type 0 where

@@ -1,27 +1,21 @@
--- FOLLOW sets: what a production puts behind its rules, place by place.
-use Rattle.std.proofs.Common.{◌≡◌, ◌↔◌, ℕ, ◌+◌, ◌<◌, ◌≤◌, ◌⊎◌, inl, inr, Bool, true, false, List, [], ◌∷◌, drop, slice_set, length, arith, refl, sym, ap, ◌∙◌, subst, true≢false, zero, suc, length-set}
-use Rattle.std.proofs.lemmas.List.{drop_all}
-use Rattle.derivation.specs.Grammar.{Sym, Rule, Token, Grammar, IsGrammar, HasProduction}
+-- FOLLOW sets: what a production puts behind its rules, place by place; how they begin, and when they are complete.
+use Rattle.std.proofs.Common.{◌≡◌, ◌↔◌, ℕ, ◌+◌, ◌<◌, ◌≤◌, ◌⊎◌, inl, inr, Bool, true, false, List, [], ◌∷◌, drop, slice_set, length, arith, refl, sym, ap, ◌∙◌, subst, true≢false, zero, suc, length-set, ◌-◌}
+use Rattle.std.proofs.lemmas.List.{drop_all, get_or_default}
+use Rattle.derivation.specs.Grammar.{Sym, Rule, Token, Grammar, IsGrammar, HasProduction, Production}
 use Rattle.derivation.specs.First.{First, Empty}
-use Rattle.derivation.specs.Follow.{MayFollow}
-use Rattle.derivation.specs.FirstSets.{Vanishes, Begins}
-use Rattle.derivation.specs.FollowSets.{Flows}
-use Rattle.derivation.proofs.Firsts.{vanishes_map, begins_map}
-use Rattle.derivation.proofs.Follows.{derived_flows}
-use Rattle.cfganalysis.specs.Table.{HasBit, count_of}
-use Rattle.cfganalysis.specs.Firsts.{FitsGrammar, AreFirsts, IsAmongFirsts, IsEpsilon}
-use Rattle.cfganalysis.specs.Inner.GrowingFollows.{FollowSets, FitFollows, SayFollows, HasNoMoreFollows, HaveFollowsOf, IsOwner, FlowIn, Behind, Puts, PutsBehind, count_follows}
-use Rattle.cfganalysis.specs.Inner.Growth.{TakesIn}
-use Rattle.cfganalysis.specs.Inner.Waiting.{waits, Waits, NoneWaits}
+use Rattle.derivation.specs.Follow.{MayFollow, FollowEnd}
+use Rattle.derivation.specs.FirstSets.{Vanishes, Begins, IsClosed}
+use Rattle.derivation.specs.FollowSets.{Flows, IsFollowClosed}
+use Rattle.derivation.proofs.Firsts.{vanishes_map, begins_map, derived_closed}
+use Rattle.derivation.proofs.Follows.{derived_flows, closed_follow, closed_end, end_of_start}
 use Rattle.search.proofs.Bits.{bit_put}
-use Rattle.cfganalysis.proofs.Joins.{count_of-fewer}
-
-pub fits_after : (g : Grammar) (gives : ℕ → ℕ → Type 0) (old new : FollowSets) (changed : Bool)
-    → Puts gives old new changed → FitFollows g old → FitFollows g new
-fits_after g gives old new changed w fits = record {
-  firsts = subst (λ f. FitsGrammar g f) (sym w.firsts) fits.firsts;
-  follows = w.joins.shape g.rules g.tokens fits.follows;
-}
+use Rattle.cfganalysis.specs.Table.{HasBit, count_of, IsTable, Joins, no_bits, with_bit}
+use Rattle.cfganalysis.specs.Firsts.{AreFirsts, IsAmongFirsts, IsEpsilon, FirstSets}
+use Rattle.cfganalysis.specs.Inner.GrowingFollows.{FollowSets, SayFollows, HasNoMoreFollows, HaveFollowsOf, IsOwner, FlowIn, Behind, Puts, PutsBehind, count_follows}
+use Rattle.cfganalysis.specs.Inner.Growth.{TakesIn, CoversEach}
+use Rattle.cfganalysis.specs.Inner.Waiting.{waits, Waits, NoneWaits}
+use Rattle.cfganalysis.proofs.Joins.{count_of-fewer, bit-no_bits, IsTable-no_bits, joins_bit}
+use Rattle.cfganalysis.specs.Follows.{AreFollows}
 
 -- a symbol that is no rule has nothing behind it
 pub nothing_behind : (u : ℕ) (gives : ℕ → Type 0) (x : FollowSets) (waiting : List Bool) → PutsBehind (λ r t. (Rule r ≡ Token u) × gives t) x x waiting waiting
@@ -228,3 +222,57 @@ module _ (rule : ℕ) (symbols : List Sym) where
       waits_by : (r : ℕ) (b : Bool) → waits waiting r ≡ b → (HasNoMoreFollows r old new → ⊥) → Waits waiting r
       waits_by r true on unless = on
       waits_by r false off unless = absurd (unless (back r (λ on. true≢false (sym on ∙ off))))
+
+-- exact FIRST sets are closed
+firsts_closed : (g : Grammar) (x : FirstSets) → AreFirsts g x → IsClosed (HasProduction g) (IsEpsilon x) (IsAmongFirsts x)
+firsts_closed g x are r symbols has =
+    let d = derived_closed (HasProduction g) r symbols has in
+    record {
+      empty = λ h. (are.empty r).1 (d.empty (vanishes_map _ _ (λ q i. (are.empty q).0 i) symbols h));
+      first = λ t h. (are.first r t).1 (d.first t (begins_map _ _ _ _ (λ q i. (are.empty q).0 i) (λ q u i. (are.first q u).0 i) symbols t h));
+    }
+
+-- sets that say nothing wrong, to which no production adds, are exact
+pub are_follows : (g : Grammar) (x : FollowSets) → SayFollows g x → CoversEach HaveFollowsOf g x → AreFollows g x.follows
+are_follows g x say covered = record {
+  fits = say.fits;
+  follow = λ r t. (
+    say.follow r t,
+    λ h. elim h [
+      | inl f ↦ closed_follow (HasProduction g) _ _ _ closed flows r t f
+      | inr e ↦ closed_end (HasProduction g) _ _ _ closed flows r t e.1 (say.finish t e.0)
+    ],
+  );
+}
+  where
+    closed : IsClosed (HasProduction g) (IsEpsilon x.firsts) (IsAmongFirsts x.firsts)
+    closed = firsts_closed g x.firsts say.firsts
+
+    flows : IsFollowClosed (HasProduction g) (IsEpsilon x.firsts) (IsAmongFirsts x.firsts) (HasBit x.follows)
+    flows r symbols has = subst (λ (p : Production). FlowIn x p.rule p.symbols)
+        (get_or_default g.productions has.0 _ _ has.1 ∙ has.2) (covered has.0 has.1)
+
+-- at first the end token stands behind the start rule, and nothing else anywhere
+pub say_start : (g : Grammar) (f : FirstSets) (rules tokens : ℕ) → IsGrammar g → AreFirsts g f → rules ≡ g.rules → tokens ≡ g.tokens
+    → SayFollows g (record { firsts = f; follows = with_bit (no_bits rules tokens) 0 (tokens - 1) })
+say_start g f rules tokens is are e h =
+    subst (λ n. SayFollows g (record { firsts = f; follows = with_bit (no_bits n tokens) 0 (tokens - 1) })) (sym e)
+    (subst (λ n. SayFollows g (record { firsts = f; follows = with_bit (no_bits g.rules n) 0 (n - 1) })) (sym h) (record {
+      firsts = are;
+      fits = one.shape g.rules g.tokens table;
+      finish = λ t e. let place : t ≡ g.tokens - 1 = omega (arith, e) in (one.bits 0 t).1 (inr (refl, place));
+      follow = λ r t on. elim ((one.bits r t).0 on) [
+        | inl i ↦ absurd (true≢false (sym i ∙ bit-no_bits g.rules g.tokens r t))
+        | inr i ↦ inr (last t i.1, subst (λ q. FollowEnd (HasProduction g) q) (sym i.0) (end_of_start g))
+      ];
+    }))
+  where
+    table : IsTable g.rules g.tokens (no_bits g.rules g.tokens)
+    table = IsTable-no_bits g.rules g.tokens
+
+    one : Joins (λ r k. (r ≡ 0) × (k ≡ g.tokens - 1)) (no_bits g.rules g.tokens) (with_bit (no_bits g.rules g.tokens) 0 (g.tokens - 1)) true
+    one = joins_bit g.rules g.tokens (no_bits g.rules g.tokens) 0 (g.tokens - 1) true table is.start (omega (arith, is.finish))
+        (bit-no_bits g.rules g.tokens 0 (g.tokens - 1))
+
+    last : (t : ℕ) → t ≡ g.tokens - 1 → t + 1 ≡ g.tokens
+    last t e = omega (arith, e, is.finish)

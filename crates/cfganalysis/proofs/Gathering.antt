@@ -17,7 +17,7 @@ use Rattle.cfganalysis.specs.Inner.Joined.{joined}
 use Rattle.cfganalysis.specs.Firsts.{IsAmongFirsts, IsEpsilon}
 use Rattle.cfganalysis.specs.Inner.GrowingFirsts.{is_empty_symbol}
 use Rattle.cfganalysis.specs.Inner.GrowingFollows.{FollowSets, BeginsList, VanishesList, Behind, IsGathered, Gathers, FrontGives, IsFrontOf, IsEnd, StepsBack}
-use Rattle.cfganalysis.proofs.Fronts.{begins_front, begins_past, vanishes_alone, stays_alone}
+use Rattle.cfganalysis.proofs.FirstVisits.{begins_front, begins_past, vanishes_alone, stays_alone}
 use Rattle.cfganalysis.proofs.FollowVisits.{behind_grow}
 
 -- sets that have all that others have

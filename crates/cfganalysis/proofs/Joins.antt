@@ -1,12 +1,10 @@
 -- Tables of bits: how wide they are, how many bits are on, and what joining adds.
-use Rattle.std.proofs.Common.{◌≡◌, ◌↔◌, ℕ, zero, suc, ◌+◌, ◌-◌, ◌<◌, ◌≤◌, ◌⊎◌, inl, inr, ◌||◌, Bool, true, false, List, [], ◌∷◌, ◌++◌, All, sum_by, length, get_or, slice_set, MatchBool, IsTrue, arith, refl, sym, ap, ◌∙◌, subst, true≢false, length-set, length-append}
-use Rattle.std.proofs.lemmas.Bool.{or_parts}
+use Rattle.std.proofs.Common.{◌≡◌, ◌↔◌, ℕ, zero, suc, ◌+◌, ◌-◌, ◌<◌, ◌≤◌, ◌⊎◌, inl, inr, Bool, true, false, List, [], ◌∷◌, ◌++◌, All, sum_by, length, get_or, slice_set, MatchBool, IsTrue, arith, refl, sym, ap, ◌∙◌, subst, true≢false, length-set, length-append}
 use Rattle.std.proofs.lemmas.List.{get_or_default, set-get_or, get_or_append_left, get_or-append_right, set-append_left, set-append_right, length-replicate}
 use Rattle.std.proofs.lemmas.List.Sums.{sum_by-cons, sum_by-set}
 use Rattle.std.proofs.lemmas.List.Elements.{All-get_or, All-replicate, All-set}
-use Rattle.lemmas.proofs.Adding.{adds_as, adds_then, set_adds}
+use Rattle.lemmas.proofs.Adding.{adds_as, set_adds}
 use Rattle.lemmas.proofs.Elements.{get_or-replicate_default}
-use Rattle.lemmas.proofs.Passes.{grown}
 use Rattle.cfgindex.proofs.Bits.{length-union, union_adds}
 use Rattle.search.proofs.Bits.{bit_put, bits_on-fewer, bits_on-less, bits_on-set}
 use Rattle.cfganalysis.specs.Table.{Table, IsTable, HasBit, Joins, row_of, bit, no_bits, bits_on, count_of, with_bit}
@@ -113,15 +111,6 @@ pub joins_as : (gives gives' : ℕ → ℕ → Type 0) (old new : Table) (change
     → ((r k : ℕ) → gives r k → HasBit old r k ⊎ gives' r k) → ((r k : ℕ) → gives' r k → HasBit old r k ⊎ gives r k)
     → Joins gives old new changed → Joins gives' old new changed
 joins_as gives gives' old new changed to from w = record { shape = w.shape; bits = λ r. adds_as (gives' r) (to r) (from r) (w.bits r); more = w.more; same = w.same }
-
-pub joins_then : (gives gives' : ℕ → ℕ → Type 0) (old mid new : Table) (c d : Bool) → Joins gives old mid c → Joins gives' mid new d
-    → Joins (λ r k. gives r k ⊎ gives' r k) old new (c || d)
-joins_then gives gives' old mid new c d w v = record {
-  shape = λ rows columns is. v.shape rows columns (w.shape rows columns is);
-  bits = λ r. adds_then (w.bits r) (v.bits r);
-  more = grown count_of old mid new c d w.more w.same v.more v.same;
-  same = λ e. let b = or_parts c d e in v.same b.1 ∙ w.same b.0;
-}
 
 -- a bit was set
 pub joins_bit : (rows columns : ℕ) (x : Table) (row column : ℕ) (changed : Bool) → IsTable rows columns x → row < rows → column < columns

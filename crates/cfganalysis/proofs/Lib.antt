@@ -1,13 +1,9 @@
 pub mod Stacking
 pub mod Noting
-pub mod RuleNotes
 pub mod Visiting
-pub mod Fronts
-pub mod FirstBits
 pub mod FirstVisits
 pub mod Joins
 pub mod FollowVisits
 pub mod Gathering
 pub mod Fitting
-pub mod FollowBits
 pub mod References

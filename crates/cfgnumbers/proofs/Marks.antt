@@ -1,15 +1,18 @@
--- What a file says of single tokens, where the code looks it up.
-use Rattle.std.proofs.Common.{◌≡◌, ℕ, List, map, false, is_some, Option, Some, None, option_map, String, Global, string_bytes, bytes_eq, refl, sym, ap, ◌∙◌}
+-- What a file says of single tokens, where the code looks it up, and the last token of a production.
+use Rattle.std.proofs.Common.{◌≡◌, ℕ, List, map, false, is_some, Option, Some, None, option_map, String, Global, string_bytes, bytes_eq, refl, sym, ap, ◌∙◌, [], ◌∷◌, ◌++◌, filter_map, arith, length-append}
 use Rattle.std.specs.Map.{lookup}
-use Rattle.std.specs.Option.{option_map_or}
+use Rattle.std.specs.Option.{option_map_or, option_or}
 use Rattle.lemmas.proofs.Lookups.{found-lookup, lookup-map}
 use Rattle.lemmas.proofs.Tests.{list_any-map}
+use Rattle.lemmas.specs.Lists.{pushed}
+use Rattle.lemmas.proofs.Elements.{slice_get_push}
+use Rattle.lemmas.proofs.Pushed.{filter_map-pushed}
 use Rattle.cfgbase.specs.declared.span.Span.{Span}
 use Rattle.cfgast.specs.Building.{has_entry}
-use Rattle.cfgast.specs.Syntax.{Syntax}
+use Rattle.cfgast.specs.Syntax.{Syntax, Symbol, last_of}
 use Rattle.cfgast.specs.View.{precedence_entry, printed_entry, span_entry, text_view}
 use Rattle.cfgast.specs.declared.precedence.Precedence.{Precedence}
-use Rattle.cfgnumbers.specs.Numbered.{precedence_of_token, printed_form, avoids_insert}
+use Rattle.cfgnumbers.specs.Numbered.{precedence_of_token, printed_form, avoids_insert, token_in, last_token}
 use Rattle.cfgnumbers.proofs.Lookups.{is_key}
 
 module _ (s : Syntax) (name : List ℕ) where
@@ -39,3 +42,13 @@ module _ (s : Syntax) (name : List ℕ) where
   avoided es same =
       found-lookup (is_key name) es ∙ sym (list_any-map (λ (entry : List ℕ × Span). bytes_eq name entry.0) span_entry es)
       ∙ ap (λ table. option_map_or (λ table. has_entry name table) table false) same
+
+pub last_token-push : (symbols : List Symbol) (symbol : Symbol) → last_token (symbols ++ symbol ∷ []) ≡ option_or (token_in symbol) (last_token symbols)
+last_token-push symbols symbol = ap last_of (filter_map-pushed token_in symbols symbol) ∙ go (token_in symbol)
+  where
+    names : List (List ℕ)
+    names = filter_map token_in symbols
+
+    go : (o : Option (List ℕ)) → last_of (pushed names o) ≡ option_or o (last_of names)
+    go None = refl
+    go (Some name) = slice_get_push names name _ (omega (arith, length-append names (name ∷ [])))

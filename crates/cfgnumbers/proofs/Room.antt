@@ -9,8 +9,7 @@ use Rattle.cfgast.specs.Syntax.{Syntax, Production}
 use Rattle.cfgtree.specs.WellFormed.{IsWellFormed}
 use Rattle.cfgnumbers.specs.Numbered.{NumberedProduction, numbered_by, rule_index, rules_before, start_symbols, file_symbols, file_production, added_production, added_productions}
 use Rattle.cfgnumbers.specs.Fits.{Fits, LeavesRoom}
-use Rattle.cfgnumbers.proofs.Added.{All-added}
-use Rattle.cfgnumbers.proofs.Lengths.{rules_len, tokens_len, productions_len}
+use Rattle.cfgnumbers.proofs.Added.{All-added, rules_len, tokens_len, productions_len}
 
 at_most_one : {A : Type 0} (o : Option A) → length (option_to_list o) ≤ 1
 at_most_one None = omega arith

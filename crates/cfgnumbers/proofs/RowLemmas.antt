@@ -1,39 +1,54 @@
 -- The rows of the tables are what the syntax says of its rules and tokens.
-use Rattle.std.proofs.Common.{◌≡◌, ℕ, ◌+◌, Bool, true, false, List, [], ◌∷◌, ◌++◌, map, get_or, option_map, Option, Some, None, Bor, String, Global, Iter, string_bytes, string_eq, refl, sym, ap, ◌∙◌}
+use Rattle.std.proofs.Common.{◌≡◌, ℕ, false, cond, List, [], ◌∷◌, ◌++◌, map, String, Global, string_bytes, string_eq, refl, ap, ◌∙◌, ◌+◌, Bool, true, get_or, option_map, Option, Some, None, Bor, Iter, sym}
+use Rattle.cfgwords.specs.declared.bytes.ByteClass.TheVariants as bytes
+use Rattle.derivation.specs.Grammar as numbers
+use Rattle.cfgast.specs.declared.production.Production as source_production
+use Rattle.cfgast.specs.declared.rule.Rule as source
+use Rattle.std.specs.List.{list_any, range_with_len, zip, AllByRecursion, IsDistinct}
+use Rattle.std.specs.Str.{bytes_eq}
 use Rattle.std.specs.declared.iter.Zip.{Zip}
 use Rattle.std.specs.Iterator.Adapters.{zip_first, zip_second}
-use Rattle.std.specs.List.{list_any, range_with_len, zip, AllByRecursion, IsDistinct}
 use Rattle.std.specs.Option.{option_copied, option_map_or}
 use Rattle.std.specs.Map.Iter.{TakesFirst, deref, deref_pair}
 use Rattle.std.specs.Slice.Iter.{iter_rest}
-use Rattle.std.specs.Str.{bytes_eq}
 use Rattle.std.specs.Cmp.Lexicographic.{bytes_decides}
+use Rattle.std.proofs.lemmas.List.{map-append, map-id}
+use Rattle.std.proofs.lemmas.Bool.{or_parts}
 use Rattle.std.proofs.iter.Yields.{fronts}
 use Rattle.std.proofs.lemmas.Iterator.{YieldsList, YieldsList-from_slice, YieldsList-from_zip, zips}
 use Rattle.std.proofs.lemmas.Iterator.Consumers.{YieldsList-from_rest}
-use Rattle.std.proofs.lemmas.List.{map-append, map-id}
 use Rattle.std.proofs.lemmas.List.Elements.{recursion_from_All, All-map}
 use Rattle.std.proofs.lemmas.List.FromFn.{map-range_with_len_more}
 use Rattle.std.proofs.lemmas.Map.Keys.{IsDistinct-cons}
 use Rattle.std.proofs.lemmas.Simd.{map-map}
-use Rattle.indexmap.specs.IndexMap.{IndexMap, insert_entry}
+use Rattle.indexmap.specs.IndexMap.{insert_entry, IndexMap}
+use Rattle.lemmas.proofs.Ended.{somes_same}
+use Rattle.lemmas.proofs.Roads.{shown}
 use Rattle.cfgindex.specs.declared.idxnewtype.PIdx.{PIdx}
 use Rattle.cfgbase.specs.declared.span.Span.{Span}
-use Rattle.cfgwords.specs.declared.bytes.ByteClass.TheVariants as bytes
 use Rattle.cfgwords.specs.Bytes.{holds}
 use Rattle.reading.specs.Pieces.{starts}
-use Rattle.derivation.specs.Grammar as numbers
 use Rattle.cfgast.specs.Syntax.{Syntax, Rule, Production, entry_name}
 use Rattle.cfgast.specs.View.{span_entry, rule_entry, rule_view as plain_rule, production_view as plain_production}
-use Rattle.cfgast.specs.declared.production.Production as source_production
-use Rattle.cfgast.specs.declared.rule.Rule as source
 use Rattle.cfgcheck.specs.Sound.{IsSound}
-use Rattle.cfgnumbers.specs.Numbered.{NumberedRule, NumberedToken, NumberedProduction, added_production, token_index, start_name, implicit_name, implicit_start_name, added_rules, file_rule, file_token, precedence_of_token, printed_form, avoids_insert}
 use Rattle.cfgnumbers.specs.View.{names, rule_view, token_view}
+use Rattle.cfgnumbers.specs.Numbered.{NumberedRule, NumberedToken, NumberedProduction, added_production, token_index, start_name, implicit_name, implicit_start_name, added_rules, file_rule, file_token, precedence_of_token, printed_form, avoids_insert}
 use Rattle.cfgnumbers.specs.declared.rows.RuleRow.{RuleRow}
 use Rattle.cfgnumbers.specs.declared.rows.TokenRow.{TokenRow}
-use Rattle.cfgnumbers.proofs.NewKeys.{entry_put}
-use Rattle.lemmas.proofs.Roads.{shown}
+
+pushes : {V : Type 0} (es : List (String Global × V)) (key : String Global) (value : V)
+    → list_any (bytes_eq (string_bytes key)) (names es) ≡ false → insert_entry string_eq es key value ≡ es ++ (key, value) ∷ []
+pushes [] key value new = refl
+pushes (e ∷ es) key value new =
+    let both = or_parts (bytes_eq (string_bytes key) (string_bytes e.0)) (list_any (bytes_eq (string_bytes key)) (names es)) new in
+    ap (λ b. cond b ((e.0, value) ∷ es) (e ∷ insert_entry string_eq es key value)) both.0 ∙ ap (λ t. e ∷ t) (pushes es key value both.1)
+
+-- what is shown of the entries, with one more under a name that is new
+pub entry_put : {V A : Type 0} (view : String Global × V → A) (es new : List (String Global × V)) (key : String Global) (name : List ℕ) (value : V)
+    → string_bytes key ≡ name → list_any (bytes_eq name) (names es) ≡ false → new ≡ insert_entry string_eq es key value
+    → map view new ≡ map view es ++ view (key, value) ∷ []
+entry_put view es new key name value is absent grown =
+    ap (map view) (grown ∙ pushes es key value (ap (λ n. list_any (bytes_eq n) (names es)) is ∙ absent)) ∙ map-append view es ((key, value) ∷ [])
 
 -- what the items of the loops over the tree show
 abbrev pub rule_seen : Bor (String Global) × Bor source.Rule → List ℕ × Rule
@@ -142,19 +157,10 @@ module _ {S : Type 0} (number : S → ℕ) where
 abbrev pub name_shown : NumberedToken → Option (List ℕ)
 name_shown token = token.name
 
-somes-same : (xs ys : List (List ℕ)) → map Some xs ≡ map Some ys → xs ≡ ys
-somes-same [] [] e = refl
-somes-same [] (y ∷ ys) e = let no : [] ≡ Some y ∷ map Some ys = e in cc
-somes-same (x ∷ xs) [] e = let no : Some x ∷ map Some xs ≡ [] = e in cc
-somes-same (x ∷ xs) (y ∷ ys) e =
-    let heads : x ≡ y = cc in
-    let tails : map Some xs ≡ map Some ys = cc in
-    λ i. heads i ∷ somes-same xs ys tails i
-
 -- one more token, under a name that is new
 pub token_names_shown : (s : Syntax) (es : List (String Global × TokenRow)) (tokens : List (List ℕ × Span)) → map token_view es ≡ map (file_token s) tokens
     → names es ≡ map (λ token. token.0) tokens
-token_names_shown s es tokens are = somes-same (names es) (map (λ token. token.0) tokens)
+token_names_shown s es tokens are = somes_same (names es) (map (λ token. token.0) tokens)
     (map-map Some (λ (e : String Global × TokenRow). string_bytes e.0) es ∙ sym (map-map name_shown token_view es) ∙ ap (map name_shown) are
     ∙ map-map name_shown (file_token s) tokens ∙ sym (map-map Some (λ (token : List ℕ × Span). token.0) tokens))
 

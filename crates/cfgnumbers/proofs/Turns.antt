@@ -1,7 +1,8 @@
 -- What is shown of a list, and the texts that a loop has joined.
-use Rattle.std.proofs.Common.{◌≡◌, ℕ, ◌+◌, ◌<◌, List, [], ◌∷◌, ◌++◌, length, map, take, get_or, All, refl, sym, ap, subst, ◌∙◌, append-nil, append_assoc, arith}
+use Rattle.std.proofs.Common.{◌≡◌, ℕ, ◌+◌, ◌<◌, List, [], ◌∷◌, ◌++◌, length, map, take, get_or, All, sym, ap, subst, ◌∙◌, append-nil, arith}
 use Rattle.std.specs.List.{concat}
 use Rattle.std.proofs.lemmas.List.{map-append, take_more, length-map, get_or-map}
+use Rattle.std.proofs.lemmas.List.Folds.{concat-append}
 
 -- as long as what is shown
 pub as_long : {A B : Type 0} (f : A → B) (xs : List A) (ys : List B) → map f xs ≡ ys → length ys ≡ length xs
@@ -16,10 +17,6 @@ pub more_taken : {A B : Type 0} (f : A → B) (xs : List A) (n : ℕ) (x : A) �
     → map f (take (n + 1) xs) ≡ map f (take n xs) ++ f x ∷ []
 more_taken f xs n x within is =
     ap (map f) (take_more xs n x within ∙ ap (λ y. take n xs ++ y ∷ []) (sym is)) ∙ map-append f (take n xs) (x ∷ [])
-
-concat-append : (xs ys : List (List ℕ)) → concat (xs ++ ys) ≡ concat xs ++ concat ys
-concat-append [] ys = refl
-concat-append (x ∷ xs) ys = ap (λ t. x ++ t) (concat-append xs ys) ∙ sym (append_assoc x (concat xs) (concat ys))
 
 -- one more text behind those that are joined
 pub more_joined : {A B : Type 0} (text : B → List ℕ) (f : A → B) (xs : List A) (n : ℕ) (x : A) → n < length xs → x ≡ get_or xs n x

@@ -1,8 +1,10 @@
 -- Every index that a grammar's tables hold is that of something that is there.
-use Rattle.std.proofs.Common.{◌≡◌, ℕ, ◌<◌, Bool, List, [], ◌∷◌, map, position, length, get_or, slice_get, Option, Some, None, All, option_map, refl, subst, ◌∙◌, ap, arith}
-use Rattle.std.proofs.lemmas.List.{get_or-map, length-map}
+use Rattle.std.proofs.Common.{◌≡◌, ℕ, ◌<◌, Bool, List, [], ◌∷◌, map, position, length, get_or, slice_get, Some, None, All, IfSome, option_map, subst, ◌∙◌}
+use Rattle.std.proofs.lemmas.List.{length-map}
+use Rattle.std.proofs.lemmas.List.Elements.{All-map}
 use Rattle.std.proofs.lemmas.List.Quantifiers.{position-Some}
-use Rattle.std.proofs.lemmas.Option.{get_or_from_slice_get, slice_get_within}
+use Rattle.std.proofs.lemmas.Option.{slice_get-map, slice_get_within}
+use Rattle.lemmas.proofs.Options.{All-slice_get}
 use Rattle.derivation.specs.Grammar.{Sym, IsSymbolOf}
 use Rattle.cfgindex.specs.declared.idxnewtype.Symbol.{Symbol}
 use Rattle.cfgindex.specs.declared.idxnewtype.Symbol.TheVariants as symbols
@@ -10,28 +12,15 @@ use Rattle.cfgtables.specs.Symbols.{sym_of}
 use Rattle.cfgnumbers.specs.Numbered.{Numbered, NumberedProduction, NumberedRule, core, production_core}
 use Rattle.cfgnumbers.specs.WellNumbered.{IsWhole, IsWellNumbered}
 use Rattle.cfgnumbers.specs.Shown.{IsSymbolWithin, production_part, rule_part}
+use Rattle.cfgnumbers.proofs.Turns.{All-shown}
 
 -- what holds of the part of each element holds of one that is read
 part_holds : {A B : Type 0} (P : B → Type 0) (part : A → B) (xs : List A) (i : ℕ) (y : B) → All (λ x. P (part x)) xs → option_map part (slice_get xs i) ≡ Some y → P y
-part_holds {A} {B} P part xs i y all at = go (slice_get xs i) refl at
-  where
-    go : (o : Option A) → slice_get xs i ≡ o → option_map part o ≡ Some y → P y
-    go None is at = let no : None ≡ Some y = at in cc
-    go (Some x) is at =
-        let same : part x ≡ y = cc in
-        subst P (ap part (get_or_from_slice_get xs i x x is) ∙ same) (all i x (slice_get_within xs i x is))
+part_holds P part xs i y all at = subst (λ o. IfSome o P) (slice_get-map part xs i ∙ at) (All-slice_get P (map part xs) i (All-map P part xs all))
 
 -- a part that is read is one of an element that is there
 pub part_within : {A B : Type 0} (part : A → B) (xs : List A) (i : ℕ) (y : B) → option_map part (slice_get xs i) ≡ Some y → i < length xs
-part_within {A} {B} part xs i y at = go (slice_get xs i) refl at
-  where
-    go : (o : Option A) → slice_get xs i ≡ o → option_map part o ≡ Some y → i < length xs
-    go None is at = let no : None ≡ Some y = at in cc
-    go (Some x) is at = slice_get_within xs i x is
-
--- what holds of each element that is shown
-pub unmapped : {A B : Type 0} (P : B → Type 0) (f : A → B) (xs : List A) → All P (map f xs) → All (λ x. P (f x)) xs
-unmapped P f xs all = λ k d within. subst P (get_or-map f xs k d (f d) within) (all k (f d) (omega (arith, within, length-map xs f)))
+part_within part xs i y at = subst (λ n. i < n) (length-map xs part) (slice_get_within (map part xs) i y (slice_get-map part xs i ∙ at))
 
 pub record RefersWithin (g : Numbered) : Type 0 where
   pub start_rule : 0 < length g.rules
@@ -45,9 +34,9 @@ refers_within g is = record {
   start_rule = is.grammar.start;
   start_production = part_within (λ (x : NumberedProduction). x.rule) g.productions g.start_production 0 is.start_production;
   owner = λ p r at. part_holds (λ r. r < length g.rules) (λ (x : NumberedProduction). x.rule) g.productions p r
-      (unmapped (λ x. x.rule < length g.rules) production_core g.productions is.grammar.owners) at;
+      (All-shown (λ x. x.rule < length g.rules) production_core g.productions is.grammar.owners) at;
   symbols = λ p held at. part_holds (All (IsSymbolOf (core g))) (λ (x : NumberedProduction). x.symbols) g.productions p held
-      (unmapped (λ x. All (IsSymbolOf (core g)) x.symbols) production_core g.productions is.grammar.symbols) at;
+      (All-shown (λ x. All (IsSymbolOf (core g)) x.symbols) production_core g.productions is.grammar.symbols) at;
   listed = λ r held at. part_holds (All (λ p. p < length g.productions)) (λ (x : NumberedRule). x.productions) g.rules r held is.lists at;
 }
 
@@ -57,7 +46,7 @@ refers max shown g is same = refers_within g (subst IsWhole same is.whole)
 
 -- the symbols of a production, as the code has them
 pub symbols_within : {S : Type 0} (number : S → ℕ) (g : Numbered) (held : List (Symbol S)) → All (IsSymbolOf (core g)) (map (sym_of number) held) → All (IsSymbolWithin number g) held
-symbols_within {S} number g held all = λ k d within. go (get_or held k d) (unmapped (IsSymbolOf (core g)) (sym_of number) held all k d within)
+symbols_within {S} number g held all = λ k d within. go (get_or held k d) (All-shown (IsSymbolOf (core g)) (sym_of number) held all k d within)
   where
     go : (symbol : Symbol S) → IsSymbolOf (core g) (sym_of number symbol) → IsSymbolWithin number g symbol
     go (symbols.Rule ridx) within = within
@@ -65,7 +54,7 @@ symbols_within {S} number g held all = λ k d within. go (get_or held k d) (unma
 
 -- the productions of a rule, as the code has them
 pub listed_within : {I : Type 0} (number : I → ℕ) (g : Numbered) (held : List I) → All (λ p. p < length g.productions) (map number held) → All (λ p. number p < length g.productions) held
-listed_within number g held = unmapped (λ p. p < length g.productions) number held
+listed_within number g held = All-shown (λ p. p < length g.productions) number held
 
 -- a place that is found is one of the list's
 pub position_within : {A : Type 0} (test : A → Bool) (xs : List A) (i : ℕ) → position test xs ≡ Some i → i < length xs

@@ -1,43 +1,33 @@
 -- Rows of steps are paths along rules that are held alone, and loops are derivations of a rule from itself.
-use Rattle.std.proofs.Common.{◌≡◌, ℕ, zero, suc, ◌+◌, ◌<◌, List, [], ◌∷◌, ◌++◌, Some, Contains, slice_get, length, take, drop, arith, refl, sym, ap, ◌∙◌, subst}
-use Rattle.std.proofs.lemmas.List.{get_or_default}
+use Rattle.std.proofs.Common.{◌≡◌, ℕ, ◌+◌, ◌<◌, List, [], ◌∷◌, ◌++◌, Some, Contains, slice_get, length, take, drop, arith, refl, sym, ap, ◌∙◌, subst, append_assoc}
+use Rattle.std.proofs.Math.Seq.{take-append_seam}
+use Rattle.std.proofs.lemmas.List.{drop_more, get_or_default, length_push, take-append-drop}
+use Rattle.std.proofs.lemmas.List.Prefix.{front_rest}
+use Rattle.std.proofs.lemmas.Option.{get_or_from_slice_get, slice_get_within}
 use Rattle.std.proofs.lemmas.List.Elements.{Contains-get_or}
 use Rattle.derivation.specs.Grammar.{Sym, Rule, Grammar, Production, HasProduction}
 use Rattle.derivation.specs.Derivation.{Derives}
 use Rattle.cfgtables.specs.Openings.{nth_production}
 use Rattle.loops.specs.Alone.{AlonePath, DerivesItself, HoldsAlone, one, more}
 use Rattle.loops.specs.declared.rows.Step.{Step}
-use Rattle.loops.specs.Rows.{IsLoop, IsShortestLoop, Leads}
+use Rattle.loops.specs.Rows.{IsLoop, Leads}
 use Rattle.loops.specs.Steps.{IsStep}
 use Rattle.loops.proofs.Alone.{alone_along, path_to_alone}
 
 -- what stands around a place
 around_place : (xs : List Sym) (k : ℕ) (x : Sym) → slice_get xs k ≡ Some x → xs ≡ take k xs ++ (x ∷ drop (k + 1) xs)
 around_place xs k x at =
-    let more : suc k ≡ k + 1 = omega arith in
-    subst (λ n. xs ≡ take k xs ++ (x ∷ drop n xs)) more (go xs k at)
-  where
-    go : (xs : List Sym) (k : ℕ) → slice_get xs k ≡ Some x → xs ≡ take k xs ++ (x ∷ drop (suc k) xs)
-    go [] k at = absurd (cc)
-    go (y ∷ xs) zero at = let same : y ≡ x = cc in ap (λ y. y ∷ xs) same
-    go (y ∷ xs) (suc k) at = ap (λ l. y ∷ l) (go xs k at)
+    sym (take-append-drop k xs) ∙ ap (λ l. take k xs ++ l) (drop_more xs k x (slice_get_within xs k x at)
+    ∙ ap (λ y. y ∷ drop (k + 1) xs) (get_or_from_slice_get xs k x x at))
 
 at_middle : (front : List Sym) (x : Sym) (back : List Sym) → slice_get (front ++ (x ∷ back)) (length front) ≡ Some x
 at_middle [] x back = refl
 at_middle (y ∷ front) x back = at_middle front x back
 
-take_middle : (front : List Sym) (x : Sym) (back : List Sym) → take (length front) (front ++ (x ∷ back)) ≡ front
-take_middle [] x back = refl
-take_middle (y ∷ front) x back = ap (λ l. y ∷ l) (take_middle front x back)
-
 drop_middle : (front : List Sym) (x : Sym) (back : List Sym) → drop (length front + 1) (front ++ (x ∷ back)) ≡ back
 drop_middle front x back =
-    let more : suc (length front) ≡ length front + 1 = omega arith in
-    subst (λ n. drop n (front ++ (x ∷ back)) ≡ back) more (go front)
-  where
-    go : (front : List Sym) → drop (suc (length front)) (front ++ (x ∷ back)) ≡ back
-    go [] = refl
-    go (y ∷ front) = go front
+    ap (λ n. drop n (front ++ (x ∷ back))) (sym (length_push front x))
+    ∙ front_rest (front ++ (x ∷ back)) (front ++ x ∷ []) back (sym (append_assoc front (x ∷ []) back))
 
 module _ (g : Grammar) where
   step_alone : (a : ℕ) (step : Step) → IsStep g a step → HoldsAlone (HasProduction g) a step.rule
@@ -70,7 +60,7 @@ module _ (g : Grammar) where
           there = h.has.1;
           owner = ap (λ (p : Production). p.rule) at;
           holds = ap (λ l. slice_get l (length h.before)) symbols ∙ at_middle h.before (Rule b) h.after;
-          front = subst (λ l. Derives (HasProduction g) l []) (sym (ap (take (length h.before)) symbols ∙ take_middle h.before (Rule b) h.after)) h.front;
+          front = subst (λ l. Derives (HasProduction g) l []) (sym (ap (take (length h.before)) symbols ∙ take-append_seam h.before (Rule b ∷ h.after))) h.front;
           back = subst (λ l. Derives (HasProduction g) l []) (sym (ap (drop (length h.before + 1)) symbols ∙ drop_middle h.before (Rule b) h.after)) h.back;
         };
         to = refl;
@@ -103,19 +93,3 @@ module _ (g : Grammar) where
       go : (row : List Step) → IsLoop (IsStep g) r row → DerivesItself (HasProduction g) r
       go [] l = absurd (omega (arith, l.some))
       go (step ∷ row) l = alone_along (HasProduction g) (path_of_row r step row r l.leads)
-
--- rows along steps that are the same
-module _ (Has Has' : ℕ → Step → Type 0) (to : (a : ℕ) (step : Step) → Has a step → Has' a step) where
-  leads_as : (a : ℕ) (row : List Step) (b : ℕ) → Leads Has a row b → Leads Has' a row b
-  leads_as a [] b e = e
-  leads_as a (step ∷ row) b h = (to a step h.0, leads_as step.rule row b h.1)
-
-  pub loop_as : (r : ℕ) (row : List Step) → IsLoop Has r row → IsLoop Has' r row
-  loop_as r row l = record { some = l.some; leads = leads_as r row r l.leads }
-
-pub shortest_as : (Has Has' : ℕ → Step → Type 0) → ((a : ℕ) (step : Step) → Has a step → Has' a step) → ((a : ℕ) (step : Step) → Has' a step → Has a step)
-    → (r : ℕ) (row : List Step) → IsShortestLoop Has r row → IsShortestLoop Has' r row
-shortest_as Has Has' to from r row l = record {
-  itself = loop_as Has Has' to r row l.itself;
-  least = λ other h. l.least other (loop_as Has' Has from r other h);
-}

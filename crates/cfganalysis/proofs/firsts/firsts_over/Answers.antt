@@ -1,7 +1,7 @@
 use Rattle.std.proofs.Common.{sym, subst, ◌∙◌}
 use Rattle.cfganalysis.specs.Inner.GrowingFirsts.{SayFirsts}
 use Rattle.cfganalysis.proofs.Fitting.{openings_fit, still_few}
-use Rattle.cfganalysis.proofs.FirstBits.{are_firsts, say_none}
+use Rattle.cfganalysis.proofs.FirstVisits.{are_firsts, say_none}
 use Rattle.cfganalysis.proofs.firsts.firsts_over.Goals as goal
 
 pub visit_all-requires-clause-small : goal.visit_all-requires-clause-small

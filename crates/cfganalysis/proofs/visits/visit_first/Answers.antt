@@ -1,5 +1,6 @@
 use Rattle.std.proofs.Common.{arith, ◌∙◌}
 use Rattle.cfgtables.proofs.Placed.{at_place}
+use Rattle.cfganalysis.specs.Inner.Growth.{shown}
 use Rattle.cfganalysis.proofs.Visiting.{all_below, noted_within, visited_first}
 use Rattle.cfganalysis.proofs.visits.visit_first.Goals as goal
 
@@ -35,6 +36,6 @@ take_in-requires-clause-within g c = noted_within _ _ _ _ _ _ _ _ _ _ _ _ c.requ
 
 pub returns-clause-visited : goal.returns-clause-visited
 returns-clause-visited g c =
-    visited_first _ _ _ _ _ _ _ _ _ _ _ _ c.requires.visited _ _ _ _ _ _ _ _ _ _ _ c.requires.can.grammar c.requires.number c.to_storage.ensures
+    visited_first _ _ _ _ _ _ _ _ _ _ _ _ c.requires.visited _ _ _ (shown g.S.Storage.number c.rule_of-rule.result c.open-symbols.result.now) _ _ _ _ _ _ _ c.requires.can.grammar c.requires.number c.to_storage.ensures
     c.rule_of-rule.ensures c.open-symbols.ensures.symbols c.open-symbols.follows.holds-at-none c.in_ok-note.ensures c.take_in.ensures.takes
     c.take_in.ensures.users c.take_in.ensures.gained c.take_in.ensures.rules

@@ -1,6 +1,6 @@
 use Rattle.std.proofs.Common.{◌<◌, length, arith, refl, sym, subst, ap, length-set, false}
 use Rattle.cfgtables.proofs.Placed.{at_place}
-use Rattle.cfganalysis.specs.Inner.Growth.{left_to_do}
+use Rattle.cfganalysis.specs.Inner.Growth.{left_to_do, shown}
 use Rattle.cfganalysis.proofs.Visiting.{all_again, few_opened, visited_next, visited_less}
 use Rattle.cfganalysis.proofs.visits.visit_next.Goals as goal
 
@@ -17,7 +17,7 @@ take_in-requires-clause-within g c =
 
 pub returns-clause-visited : goal.returns-clause-visited
 returns-clause-visited g c =
-    visited_next _ _ _ _ _ _ _ _ _ _ _ _ c.requires.visited _ _ _ _ _ _ _ _ _ _ _ _ c.requires.can.grammar refl c.to_storage.ensures
+    visited_next _ _ _ _ _ _ _ _ _ _ _ _ c.requires.visited _ _ _ _ (shown g.S.Storage.number c.rule_of-rule.result c.open.result.now) _ _ _ _ _ _ _ c.requires.can.grammar refl c.to_storage.ensures
     c.rule_of-rule.ensures c.open.ensures.symbols c.in-Some.ensures c.open.follows.holds-at-none c.take_in.ensures.takes
     c.take_in.ensures.users c.take_in.ensures.gained c.take_in.ensures.rules
 
@@ -28,7 +28,7 @@ returns-clause-less g c =
     let sound = subst (λ h. g.A.Analysis.holds h c.take_in.new.analysis) same (returns-clause-visited g c).sound in
     subst (λ h. left_to_do h (g.A.Analysis.bits c.take_in.new.analysis) c.take_in.new.work.waiting
     < left_to_do (g.P.Productions.content c.args.productions.now) (g.A.Analysis.bits c.args.analysis.now) c.args.work.now.waiting) (sym same)
-    (visited_less _ _ _ _ _ _ _ _ _ _ _ _ w _ _ _ _ _ _ (g.met.A.Analysis.bounded _ _ sound) c.in-Some.ensures c.take_in.ensures.takes)
+    (visited_less _ _ _ _ _ _ _ _ _ _ _ _ w _ _ (shown g.S.Storage.number c.rule_of-rule.result c.open.result.now) _ _ _ (g.met.A.Analysis.bounded _ _ sound) c.in-Some.ensures c.take_in.ensures.takes)
 
 pub to_storage-requires : goal.to_storage-requires
 to_storage-requires g c = omega (arith, c.requires.visited.known c.in-Some.number c.in-Some.ensures.waited, c.requires.can.fits)

@@ -3,7 +3,7 @@ use Rattle.std.specs.Map.Iter.{deref_pair}
 use Rattle.std.proofs.lemmas.Option.{slice_get-map}
 use Rattle.cfgindex.specs.declared.idxnewtype.TIdx.{TIdx}
 use Rattle.cfgnumbers.specs.View.{names}
-use Rattle.cfgnumbers.proofs.TokenMaps.{names-distinct, token_put}
+use Rattle.cfgnumbers.proofs.Lookups.{names-distinct, token_put}
 use Rattle.cfgnumbers.proofs.names.put_names.Goals as goal
 
 pub loop-place-preserved : goal.loop-place-preserved

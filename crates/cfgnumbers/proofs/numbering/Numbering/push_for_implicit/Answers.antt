@@ -9,8 +9,8 @@ push_implicit-requires-clause-implicit g c = c.requires.implicit
 pub push_implicit-requires-clause-room : goal.push_implicit-requires-clause-room
 push_implicit-requires-clause-room g c = subst (λ implicit. LeavesRoom g.S.Storage.MAX implicit (file_of c.args.self.now)) (sym c.requires.own) c.requires.room
 
-pub start_symbol-requires-clause-resolved : goal.start_symbol-requires-clause-resolved
-start_symbol-requires-clause-resolved g c = c.requires.resolved
-
-pub start_symbol-requires-clause-room : goal.start_symbol-requires-clause-room
-start_symbol-requires-clause-room g c = subst (λ implicit. LeavesRoom g.S.Storage.MAX implicit (file_of c.args.self.now)) (sym c.requires.own) c.requires.room
+pub start_symbol-requires : goal.start_symbol-requires
+start_symbol-requires g c = record {
+  resolved = c.requires.resolved;
+  room = subst (λ implicit. LeavesRoom g.S.Storage.MAX implicit (file_of c.args.self.now)) (sym c.requires.own) c.requires.room;
+}

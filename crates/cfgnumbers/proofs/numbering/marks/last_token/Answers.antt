@@ -3,7 +3,7 @@ use Rattle.std.specs.Option.{option_or}
 use Rattle.cfgast.specs.View.{symbol_view}
 use Rattle.cfgast.specs.declared.symbol.Symbol.{Symbol}
 use Rattle.cfgnumbers.specs.Numbered.{token_in, last_token}
-use Rattle.cfgnumbers.proofs.LastTokens.{last_token-push}
+use Rattle.cfgnumbers.proofs.Marks.{last_token-push}
 use Rattle.cfgnumbers.proofs.Turns.{more_taken}
 use Rattle.cfgnumbers.proofs.numbering.marks.last_token.Goals as goal
 use Rattle.cfgnumbers.proofs.numbering.marks.last_token.Goals.{in-Token, in_default}
