@@ -1,7 +1,11 @@
 pub mod Alone
+pub mod EmptyPlaces
 pub mod Ending
 pub mod Finding
 pub mod Layers
 pub mod Paths
+pub mod Places
 pub mod Pushed
+pub mod Putting
 pub mod Uses
+pub mod Vanishing

@@ -1,2 +1,3 @@
 -- Words of clauses inside the crate, of its loops and helpers. No call that users make rests on them.
 pub mod Layers
+pub mod Putting

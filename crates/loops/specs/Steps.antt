@@ -1,8 +1,9 @@
 -- The steps of a grammar from rule to rule, by productions in which a rule stands alone.
-use Rattle.std.specs.Prelude.{◌≡◌, ℕ, ◌+◌, ◌<◌, [], Some, drop, length, slice_get, take}
+use Rattle.std.specs.Prelude.{◌≡◌, ℕ, ◌+◌, ◌<◌, ◌↔◌, List, [], Some, drop, length, slice_get, take}
 use Rattle.derivation.specs.Grammar.{Rule, Grammar, HasProduction}
 use Rattle.derivation.specs.Derivation.{Derives}
 use Rattle.cfgtables.specs.Openings.{nth_production}
+use Rattle.loops.specs.Lists.{AreWithin, HasStep}
 use Rattle.loops.specs.declared.rows.Step.{Step}
 
 -- The step's production is one of the rule's, and has the step's rule at its place. What stands before and behind that
@@ -13,3 +14,9 @@ pub record IsStep (g : Grammar) (rule : ℕ) (step : Step) : Type 0 where
   pub holds : slice_get (nth_production g step.production).symbols step.place ≡ Some (Rule step.rule)
   pub front : Derives (HasProduction g) (take step.place (nth_production g step.production).symbols) []
   pub back : Derives (HasProduction g) (drop (step.place + 1) (nth_production g step.production).symbols) []
+
+-- a list for each rule of the grammar, which has just the steps of the rule
+pub record AreSteps (g : Grammar) (steps : List (List Step)) : Type 0 where
+  pub rules : length steps ≡ g.rules
+  pub within : AreWithin steps
+  pub all : (rule : ℕ) (step : Step) → HasStep steps rule step ↔ IsStep g rule step

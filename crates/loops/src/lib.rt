@@ -4,8 +4,10 @@
 pub mod laws;
 pub mod rows;
 mod shortest;
+mod stepping;
 pub mod steps;
 
 pub use rows::Step;
 pub use shortest::shortest_loop;
+pub use stepping::alone_steps;
 pub use steps::Steps;

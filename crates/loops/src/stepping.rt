@@ -1,0 +1,115 @@
+//! The steps of a grammar.
+
+ghost use Rattle.std.specs.Prelude.{◌≡◌, ◌<◌, ◌≤◌, ◌↔◌, ℕ, length, map, IfOk, OnOk};
+ghost use Rattle.derivation.specs.Grammar.{Rule};
+ghost use Rattle.cfgtables.specs.Symbols.{sym_of};
+ghost use Rattle.cfganalysis.specs.Firsts.{AreFirsts};
+ghost use Rattle.loops.specs.Steps.{AreSteps, IsStep};
+ghost use Rattle.loops.specs.Inner.Putting.{AreEmpty, ArePut, is_empty};
+
+use crate::rows::Step;
+use crate::steps::Steps;
+use cfganalysis::firsts::YaccFirsts;
+use cfgindex::{PIdx, Storage, Symbol, to_storage};
+use cfgtables::Tables;
+use std::alloc::{AllocError, Global};
+
+/// The steps of a grammar from rule to rule, by productions in which a rule stands beside symbols that derive the empty
+/// list. `firsts` has the grammar's FIRST sets.
+///
+/// # Errors
+///
+/// Want of memory.
+pub fn alone_steps<S: Storage, T: Tables<S>>(
+    alloc: Global,
+    tables: &T,
+    firsts: &YaccFirsts<S>,
+) -> Result<Steps, AllocError>
+    requires { AreFirsts (T.grammar tables.now) firsts.now }
+    ensures { IfOk result (AreSteps (T.grammar tables.now)) }
+{
+    let productions = tables.prods_len().0.to_usize();
+    let mut steps = Steps::new(alloc, usize::from(tables.rules_len()))?;
+    for production in 0..productions {
+        put_steps(&mut steps, tables, firsts, production)?;
+    }
+    Ok(steps)
+}
+
+/// Puts the steps by this production behind those of its rule.
+fn put_steps<S: Storage, T: Tables<S>>(
+    steps: &mut Steps,
+    tables: &T,
+    firsts: &YaccFirsts<S>,
+    production: usize,
+) -> Result<(), AllocError>
+    requires firsts { AreFirsts (T.grammar tables.now) firsts.now }
+    requires production { production < length (T.grammar tables.now).productions }
+    requires rules { length steps.old ≡ (T.grammar tables.now).rules }
+    ensures { OnOk result (ArePut (λ a step. IsStep (T.grammar tables.now) a step × (step.production ≡ production))
+        steps.old steps.new) }
+{
+    tables.invariant_holds();
+    let pidx = PIdx(to_storage(production));
+    let rule = usize::from(tables.prod_to_rule(pidx));
+    let symbols = tables.prod(pidx);
+    let behind = vanishing_from(firsts, symbols);
+    let mut front = true;
+    for (place, symbol) in symbols.iter().enumerate() {
+        if front && behind <= place + 1 {
+            put_step(steps, rule, *symbol, production, place)?;
+        }
+        front = front && vanishes(firsts, *symbol);
+    }
+    Ok(())
+}
+
+/// Puts the step at this place of the production behind those of the rule, if a rule stands there.
+fn put_step<S: Storage>(
+    steps: &mut Steps,
+    rule: usize,
+    symbol: Symbol<S>,
+    production: usize,
+    place: usize,
+) -> Result<(), AllocError>
+    requires { rule < length steps.old }
+    ensures { OnOk result (ArePut (λ a step. (a ≡ rule) × (Rule step.rule ≡ sym_of S.number symbol)
+        × (step.production ≡ production) × (step.place ≡ place)) steps.old steps.new) }
+{
+    match symbol {
+        Symbol::Rule(next) => {
+            let step = Step {
+                rule: usize::from(next),
+                production,
+                place,
+            };
+            steps.push(rule, step)?;
+            Ok(())
+        }
+        Symbol::Token(_) => Ok(()),
+    }
+}
+
+/// The first place from which on all symbols derive the empty list.
+fn vanishing_from<S: Storage>(firsts: &YaccFirsts<S>, symbols: &[Symbol<S>]) -> usize
+    ensures { (place : ℕ) → (result ≤ place)
+        ↔ AreEmpty firsts.now (map (sym_of S.number) symbols.now) place (length symbols.now) }
+{
+    let mut from = 0;
+    for (place, symbol) in symbols.iter().enumerate() {
+        if !vanishes(firsts, *symbol) {
+            from = place + 1;
+        }
+    }
+    from
+}
+
+/// Whether the symbol is a rule that derives the empty list.
+fn vanishes<S: Storage>(firsts: &YaccFirsts<S>, symbol: Symbol<S>) -> bool
+    ensures { result ≡ is_empty firsts.now (sym_of S.number symbol) }
+{
+    match symbol {
+        Symbol::Rule(rule) => firsts.is_epsilon_set(rule),
+        Symbol::Token(_) => false,
+    }
+}
