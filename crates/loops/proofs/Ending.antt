@@ -1,7 +1,7 @@
 -- A search for a loop, layer by layer: it begins, it ends, and what it has found is a shortest loop.
-use Rattle.std.proofs.Common.{◌≡◌, ℕ, zero, suc, ◌+◌, ◌<◌, ◌≤◌, ◌⊎◌, inl, inr, List, [], ◌∷◌, ◌++◌, Option, Some, None, true, false, cond, is_none, is_some, Contains, length, replicate, reverse, arith, refl, sym, ap, ◌∙◌, subst, true≢false, Result, IfOk, MatchOption, Vec, Global, ◌==◌}
+use Rattle.std.proofs.Common.{◌≡◌, ℕ, zero, suc, ◌+◌, ◌<◌, ◌≤◌, ◌⊎◌, inl, inr, List, [], ◌∷◌, ◌++◌, Option, Some, None, true, false, cond, is_none, is_some, Contains, length, get_or, replicate, reverse, arith, refl, sym, ap, ◌∙◌, subst, true≢false, Result, IfOk, MatchOption, Vec, Global, ◌==◌}
 use Rattle.std.proofs.lemmas.Bool.{cases_lt, eqb-true}
-use Rattle.std.proofs.lemmas.List.{get_or_past, length-replicate, length-reverse, length_push, reverse-append}
+use Rattle.std.proofs.lemmas.List.{get_or_default, get_or_past, length-replicate, length-reverse, length_push, reverse-append}
 use Rattle.std.proofs.lemmas.Option.{same_Some}
 use Rattle.std.proofs.lemmas.Result.{IfOk-weaker}
 use Rattle.std.proofs.lemmas.List.Sums.{count_by-le-length, sum_by-set}
@@ -181,6 +181,10 @@ module _ (steps : List (List Step)) (table : List (Option Found)) (rule : ℕ) (
 
     pub before_within : 1 < found.length → found.from < length table
     before_within more = let f = (found_before more).2 in within_noted table found.from f.found f.is
+
+    -- what the code sees there
+    pub before_seen : 1 < found.length → (o : Option Found) → o ≡ get_or table found.from o → noted table found.from ≡ o
+    before_seen more o is = get_or_default table found.from None o (before_within more) ∙ sym is
 
     pub before_read : 1 < found.length → (before : Found) → noted table found.from ≡ Some before → (now : List Step) → now ≡ row ++ before.step ∷ []
         → ReadOff steps table rule last before now

@@ -1,6 +1,6 @@
 use Rattle.std.proofs.Common.{None, arith, sym, ap, subst, ◌<◌, ◌∷◌, ◌++◌, [], ◌∙◌}
 use Rattle.std.proofs.lemmas.List.{get_or_default}
-use Rattle.loops.proofs.Ending.{all_read, before_read, before_shorter, before_within, last_read, none_noted_before}
+use Rattle.loops.proofs.Ending.{all_read, before_read, before_seen, before_shorter, before_within, last_read, none_noted_before}
 use Rattle.loops.proofs.shortest.Layers.loop_of.Goals as goal
 
 pub loop-found-init : goal.loop-found-init
@@ -17,27 +17,24 @@ index-requires-in-loop-found c =
 
 pub returns-in_default-index : goal.returns-in_default-index
 returns-in_default-index c =
-    let table = c.args.self.now.found.items in
     let more : 1 < c.loop-found.found.length = omega (arith, c.loop-found-test.true) in
-    let within = before_within _ _ _ c.requires.layers c.in-Some.last _ _ c.loop-found.invariant more in
+    let seen = before_seen _ _ _ c.requires.layers c.in-Some.last _ _ c.loop-found.invariant more c.index-in-loop-found.result.now c.index-in-loop-found.ensures in
     absurd (none_noted_before _ _ _ c.requires.layers c.in-Some.last _ _ c.loop-found.invariant more
-    (get_or_default table c.loop-found.found.from None c.index-in-loop-found.result.now within ∙ sym c.index-in-loop-found.ensures ∙ c.in_default-index.is))
+    (seen ∙ c.in_default-index.is))
 
 pub loop-found-smaller : goal.loop-found-smaller
 loop-found-smaller c =
-    let table = c.args.self.now.found.items in
     let more : 1 < c.loop-found.found.length = omega (arith, c.loop-found-test.true) in
-    let within = before_within _ _ _ c.requires.layers c.in-Some.last _ _ c.loop-found.invariant more in
+    let seen = before_seen _ _ _ c.requires.layers c.in-Some.last _ _ c.loop-found.invariant more c.index-in-loop-found.result.now c.index-in-loop-found.ensures in
     before_shorter _ _ _ c.requires.layers c.in-Some.last _ _ c.loop-found.invariant more c.in-Some-index.before
-    (get_or_default table c.loop-found.found.from None c.index-in-loop-found.result.now within ∙ sym c.index-in-loop-found.ensures ∙ c.in-Some-index.is)
+    (seen ∙ c.in-Some-index.is)
 
 pub loop-found-preserved : goal.loop-found-preserved
 loop-found-preserved c =
-    let table = c.args.self.now.found.items in
     let more : 1 < c.loop-found.found.length = omega (arith, c.loop-found-test.true) in
-    let within = before_within _ _ _ c.requires.layers c.in-Some.last _ _ c.loop-found.invariant more in
+    let seen = before_seen _ _ _ c.requires.layers c.in-Some.last _ _ c.loop-found.invariant more c.index-in-loop-found.result.now c.index-in-loop-found.ensures in
     before_read _ _ _ c.requires.layers c.in-Some.last _ _ c.loop-found.invariant more c.in-Some-index.before
-    (get_or_default table c.loop-found.found.from None c.index-in-loop-found.result.now within ∙ sym c.index-in-loop-found.ensures ∙ c.in-Some-index.is)
+    (seen ∙ c.in-Some-index.is)
     _ c.in_ok-push-2.ensures.items
 
 pub returns : goal.returns
