@@ -1,0 +1,129 @@
+-- What is odd about a grammar without errors, which is this syntax and these numbers. Rules and productions that the file doesn't
+-- have are told of nothing.
+use Rattle.std.specs.Prelude.{◌≡◌, ℕ, ◌+◌, ◌<◌, ◌≤◌, List, [], ◌∷◌, ◌++◌, Contains, Option, Some, None, if◌then◌else◌, is_some, length, map, slice_get}
+use Rattle.std.specs.List.Sorted.{IsPermutation, IsSortedByKey, IsStableByKey}
+use Rattle.std.specs.Cmp.{nat_cmp}
+use Rattle.derivation.specs.Grammar.{Sym, Rule, HasProduction}
+use Rattle.derivation.specs.Sentence.{Sentence}
+use Rattle.loops.specs.Alone.{DerivesItself}
+use Rattle.loops.specs.Rows.{IsShortestLoop}
+use Rattle.loops.specs.Steps.{IsStep}
+use Rattle.loops.specs.Uses.{IsUsable}
+use Rattle.loops.specs.declared.rows.Step.{Step}
+use Rattle.cfgbase.specs.declared.span.Span.{Span}
+use Rattle.cfgleast.specs.Generator.{HasNone}
+use Rattle.cfgast.specs.Syntax.{Production, Syntax}
+use Rattle.cfgast.specs.declared.precedence.Precedence.{Precedence}
+use Rattle.cfgtree.specs.Unused.{AreWarnings, TokenName, entry_token, name_of}
+use Rattle.cfgwarnings.specs.Warnings.{GrammarWarning}
+use Rattle.cfgtables.specs.Openings.{nth_production}
+use Rattle.cfgnumbers.specs.Numbered.{Numbered, core}
+use Rattle.cfglint.specs.Shown.{ShownFinding, derives_itself, no_sentence, place_of, repeated, unusable, unused_precedence, warned}
+
+-- Of each number below this one in order, what is told: `Tells n (Some finding)` says that this is told of n, and `Tells n None` that
+-- nothing is.
+pub data TellsBelow (Tells : ℕ → Option ShownFinding → Type 0) : ℕ → List ShownFinding → Type 0 where
+  none : TellsBelow Tells 0 []
+  told : {n : ℕ} {findings : List ShownFinding} {finding : ShownFinding}
+      → TellsBelow Tells n findings → Tells n (Some finding) → TellsBelow Tells (n + 1) (findings ++ finding ∷ [])
+  left : {n : ℕ} {findings : List ShownFinding}
+      → TellsBelow Tells n findings → Tells n None → TellsBelow Tells (n + 1) findings
+
+module _ (g : Numbered) where
+  -- how many rules are added before those of the file: the start rule, and in a file with implicit tokens the two for these
+  abbrev pub rules_added : ℕ
+  rules_added = if is_some g.implicit_rule then 3 else 1
+
+  -- a rule of the file that has no sentence
+  pub record LacksSentence (r : ℕ) : Type 0 where
+    pub ours : rules_added ≤ r
+    pub none : HasNone (HasProduction (core g)) r
+
+  abbrev pub TellsNoSentence : ℕ → Option ShownFinding → Type 0
+  TellsNoSentence r (Some finding) = LacksSentence r × (finding ≡ no_sentence g r)
+  TellsNoSentence r None = LacksSentence r → ⊥
+
+  -- a production of the file, whose rule has a sentence, and none that uses it
+  pub record IsUnusable (p : ℕ) : Type 0 where
+    pub ours : p < g.start_production
+    pub sentence : List ℕ
+    pub is : Sentence (HasProduction (core g)) (nth_production (core g) p).rule sentence
+    pub unused : IsUsable (HasProduction (core g)) (nth_production (core g) p).rule (nth_production (core g) p).symbols → ⊥
+
+  -- the first rule among the symbols that has no sentence
+  pub record IsFirstWithout (symbols : List Sym) (q : ℕ) : Type 0 where
+    pub front : List Sym
+    pub back : List Sym
+    pub stands : symbols ≡ front ++ Rule q ∷ back
+    pub none : HasNone (HasProduction (core g)) q
+    pub before : (r : ℕ) → Contains front (Rule r) → HasNone (HasProduction (core g)) r → ⊥
+
+  abbrev pub TellsUnusable : ℕ → Option ShownFinding → Type 0
+  TellsUnusable p (Some finding) = IsUnusable p × (q : ℕ) × IsFirstWithout (nth_production (core g) p).symbols q × (finding ≡ unusable g p q)
+  TellsUnusable p None = IsUnusable p → ⊥
+
+  -- a rule that derives itself by one or more steps, so each of its sentences has infinitely many trees
+  pub record IsOwnHeir (r : ℕ) : Type 0 where
+    pub ours : rules_added ≤ r
+    pub derives : DerivesItself (HasProduction (core g)) r
+
+  abbrev pub TellsLoop : ℕ → Option ShownFinding → Type 0
+  TellsLoop r (Some finding) = IsOwnHeir r × (row : List Step) × IsShortestLoop (IsStep (core g)) r row × (finding ≡ derives_itself g r row)
+  TellsLoop r None = IsOwnHeir r → ⊥
+
+  -- an earlier production of the same rule with the same symbols
+  pub record IsTwin (p earlier : ℕ) : Type 0 where
+    pub ours : p < g.start_production
+    pub before : earlier < p
+    pub rule : (nth_production (core g) earlier).rule ≡ (nth_production (core g) p).rule
+    pub symbols : (nth_production (core g) earlier).symbols ≡ (nth_production (core g) p).symbols
+
+  -- of several the first is told
+  abbrev pub TellsRepeated : ℕ → Option ShownFinding → Type 0
+  TellsRepeated p (Some finding) = (earlier : ℕ) × IsTwin p earlier × ((other : ℕ) → IsTwin p other → earlier ≤ other) × (finding ≡ repeated g p earlier)
+  TellsRepeated p None = (earlier : ℕ) → IsTwin p earlier → ⊥
+
+module _ (s : Syntax) where
+  -- a token of this name takes part: a production holds it, a `%prec` names it, or it is an implicit token
+  pub data TakesPart (name : List ℕ) : Type 0 where
+    held : {production : Production} → Contains s.productions production → Contains (map name_of production.symbols) (TokenName name) → TakesPart name
+    asked : {production : Production} → Contains s.productions production → production.precedence ≡ Some name → TakesPart name
+    implicit : {table : List (List ℕ × Span)} → s.tables.implicit_tokens ≡ Some table → Contains (map entry_token table) (TokenName name) → TakesPart name
+
+  -- the n-th token that is given a precedence takes no part: its name is misspelled more often than not
+  pub record IsIdle (n : ℕ) (name : List ℕ) (span : Span) : Type 0 where
+    pub precedence : Precedence
+    pub given : slice_get s.tables.precedences n ≡ Some (name, (precedence, span))
+    pub idle : TakesPart name → ⊥
+
+  abbrev pub TellsPrecedence : ℕ → Option ShownFinding → Type 0
+  TellsPrecedence n (Some finding) = (name : List ℕ) × (span : Span) × IsIdle n name span × (finding ≡ unused_precedence name span)
+  TellsPrecedence n None = (name : List ℕ) (span : Span) → IsIdle n name span → ⊥
+
+-- the warnings of the syntax, and what is told of rules, productions and precedences, one list behind the other
+pub record AreToldInTurn (s : Syntax) (g : Numbered) (told : List ShownFinding) : Type 0 where
+  pub warnings : List GrammarWarning
+  pub without : List ShownFinding
+  pub useless : List ShownFinding
+  pub loops : List ShownFinding
+  pub repeats : List ShownFinding
+  pub precedences : List ShownFinding
+  pub are_warnings : AreWarnings s warnings
+  pub are_without : TellsBelow (TellsNoSentence g) (length g.rules) without
+  pub are_useless : TellsBelow (TellsUnusable g) g.start_production useless
+  pub are_loops : TellsBelow (TellsLoop g) (length g.rules) loops
+  pub are_repeats : TellsBelow (TellsRepeated g) g.start_production repeats
+  pub are_precedences : TellsBelow (TellsPrecedence s) (length s.tables.precedences) precedences
+  pub is : told ≡ map warned warnings ++ (without ++ (useless ++ (loops ++ (repeats ++ precedences))))
+
+-- the same findings in the order of their places; those of one place stay in their order
+pub record AreByPlace (told all : List ShownFinding) : Type 0 where
+  pub same : IsPermutation told all
+  pub sorted : IsSortedByKey place_of nat_cmp all
+  pub stable : IsStableByKey place_of nat_cmp told all
+
+-- all findings, each once
+pub record AreFindings (s : Syntax) (g : Numbered) (all : List ShownFinding) : Type 0 where
+  pub told : List ShownFinding
+  pub in_turn : AreToldInTurn s g told
+  pub by_place : AreByPlace told all

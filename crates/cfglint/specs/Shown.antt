@@ -1,0 +1,106 @@
+-- A finding as plain data: what callers see of a `Finding`. And the texts of findings.
+use Rattle.std.specs.Prelude.{ℕ, ◌+◌, List, [], ◌∷◌, ◌++◌, drop, map, take, codes, slice_get, slice_index_or, unwrap_or}
+use Rattle.std.specs.List.{concat, flat_map}
+use Rattle.std.specs.Option.{option_map_or}
+use Rattle.derivation.specs.Grammar.{Sym, Rule, Token}
+use Rattle.loops.specs.declared.rows.Step.{Step}
+use Rattle.cfgbase.specs.declared.span.Span.{Span}
+use Rattle.cfgbase.specs.declared.span.SpansKind.{SpansKind}
+use Rattle.cfgbase.specs.declared.span.SpansKind.TheVariants.{DuplicationError, Error}
+use Rattle.cfgcheck.specs.Check.{nowhere}
+use Rattle.cfgwarnings.specs.Texts.{warning_text}
+use Rattle.cfgwarnings.specs.Warnings.{GrammarWarning}
+use Rattle.cfgwarnings.specs.declared.warning.YaccGrammarWarningKind.{YaccGrammarWarningKind}
+use Rattle.cfgwarnings.specs.declared.warning.YaccGrammarWarningKind.TheVariants as warnings
+use Rattle.cfgnumbers.specs.Numbered.{Numbered, core}
+use Rattle.cfgnumbers.specs.Shown.{production_part, rule_part, sym_name}
+use Rattle.cfgtables.specs.Openings.{nth_production}
+use Rattle.cfglint.specs.declared.finding.FindingKind.{FindingKind}
+use Rattle.cfglint.specs.declared.finding.FindingKind.TheVariants.{DerivesItself, NoSentence, RepeatedProduction, UnusableProduction, UnusedPrecedence, UnusedRule, UnusedToken}
+
+-- what is odd, its places, and what is told of it
+pub record ShownFinding : Type 0 where
+  pub kind : FindingKind
+  pub spans : List Span
+  pub text : List ℕ
+
+-- what the spans stand for: of a repeated production both places are told
+abbrev pub spanskind_of : FindingKind → SpansKind
+spanskind_of RepeatedProduction = DuplicationError
+spanskind_of _ = Error
+
+-- where a finding is: the start of its first span
+abbrev pub place_of : ShownFinding → ℕ
+place_of finding = option_map_or (λ (span : Span). span.start) (slice_get finding.spans 0) 0
+
+abbrev pub kind_of_warning : YaccGrammarWarningKind → FindingKind
+kind_of_warning warnings.UnusedRule = UnusedRule
+kind_of_warning warnings.UnusedToken = UnusedToken
+
+-- a warning, as a finding
+abbrev pub warned : GrammarWarning → ShownFinding
+warned warning = record { kind = kind_of_warning warning.kind; spans = warning.spans; text = warning_text warning.kind }
+
+-- the name in quotes
+abbrev pub quoted : List ℕ → List ℕ
+quoted name = codes "'" ++ (name ++ codes "'")
+
+module _ (g : Numbered) where
+  abbrev pub rule_name : ℕ → List ℕ
+  rule_name r = sym_name g (Rule r)
+
+  abbrev pub rule_span : ℕ → Span
+  rule_span r = unwrap_or (rule_part (λ rule. rule.span) g r) nowhere
+
+  abbrev pub production_span : ℕ → Span
+  production_span p = unwrap_or (production_part (λ production. production.span) g p) nowhere
+
+  -- that the rule has no sentence
+  abbrev pub no_sentence : ℕ → ShownFinding
+  no_sentence r = record {
+    kind = NoSentence;
+    spans = rule_span r ∷ [];
+    text = codes "Rule " ++ (quoted (rule_name r) ++ codes " has no sentence");
+  }
+
+  -- that the production can't be used, since this rule in it has no sentence
+  abbrev pub unusable : ℕ → ℕ → ShownFinding
+  unusable p q = record {
+    kind = UnusableProduction;
+    spans = production_span p ∷ [];
+    text = codes "Unusable production: rule " ++ (quoted (rule_name q) ++ codes " has no sentence");
+  }
+
+  -- ` [NAME]` of each symbol, which vanishes
+  abbrev pub vanishing : List Sym → List ℕ
+  vanishing symbols = flat_map (λ symbol. codes " [" ++ (sym_name g symbol ++ codes "]")) symbols
+
+  -- ` -> ` and the symbols of the step's production: the rule to which it leads, and in brackets those that vanish
+  abbrev pub step_text : Step → List ℕ
+  step_text step =
+      let symbols = (nth_production (core g) step.production).symbols in
+      codes " ->" ++ (vanishing (take step.place symbols) ++ (codes " " ++ (rule_name step.rule ++ vanishing (drop (step.place + 1) symbols))))
+
+  -- that the rule derives itself, by this row of steps
+  abbrev pub derives_itself : ℕ → List Step → ShownFinding
+  derives_itself r row = record {
+    kind = DerivesItself;
+    spans = rule_span r ∷ [];
+    text = codes "Rule " ++ (quoted (rule_name r) ++ (codes " derives itself: " ++ (rule_name r ++ flat_map step_text row)));
+  }
+
+  -- that the production has the symbols of an earlier one of its rule
+  abbrev pub repeated : ℕ → ℕ → ShownFinding
+  repeated p earlier = record {
+    kind = RepeatedProduction;
+    spans = production_span p ∷ (production_span earlier ∷ []);
+    text = codes "Repeated production: each sentence by it has two trees";
+  }
+
+-- that nothing goes by the precedence of the token of this name, which is given here
+abbrev pub unused_precedence : List ℕ → Span → ShownFinding
+unused_precedence name span = record {
+  kind = UnusedPrecedence;
+  spans = span ∷ [];
+  text = codes "Unused precedence: no production has " ++ (quoted name ++ codes ", and no '%prec' names it");
+}

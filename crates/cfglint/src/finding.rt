@@ -1,0 +1,114 @@
+//! What is odd about a grammar, and where.
+
+ghost use Rattle.std.specs.Prelude.{◌≡◌, [], ◌∷◌, IfOk, Some, string_bytes};
+ghost use Rattle.cfglint.specs.Shown.{place_of};
+
+use cfgbase::{Span, Spanned, SpansKind};
+use std::alloc::{AllocError, Global};
+use std::fmt;
+use std::marker::Model;
+
+/// What is odd about a grammar without errors.
+#[derive(Clone, Copy, Debug, PartialEq, Eq)]
+pub enum FindingKind {
+    /// No row of productions reaches this rule from the start rule.
+    UnusedRule,
+    /// No row of productions reaches this token from the start rule.
+    UnusedToken,
+    /// The rule derives no list of tokens.
+    NoSentence,
+    /// No sentence of the production's rule uses it, since a rule in it has none.
+    UnusableProduction,
+    /// The rule derives itself by one or more steps, so each of its sentences has infinitely many trees.
+    DerivesItself,
+    /// The rule has an earlier production with the same symbols, so each sentence by one of the two has two trees.
+    RepeatedProduction,
+    /// The token is given a precedence, and no production has it and no `%prec` names it.
+    UnusedPrecedence,
+}
+
+/// What is odd about a grammar, at one place or more.
+#[derive(Debug, Drop)]
+pub struct Finding {
+    kind: FindingKind,
+    spans: Vec<Span>,
+    text: String,
+}
+
+impl Model for Finding {
+    ghost use Rattle.std.specs.Prelude.{string_bytes};
+    ghost use Rattle.cfglint.specs.Shown.{ShownFinding};
+
+    ghost Value = { ShownFinding };
+
+    ghost view = { λ x. record { kind = x.kind; spans = x.spans.items; text = string_bytes x.text } };
+}
+
+impl Finding {
+    /// A finding at one place.
+    pub(crate) fn at(
+        alloc: Global,
+        kind: FindingKind,
+        span: Span,
+        text: String,
+    ) -> Result<Finding, AllocError>
+        ensures { IfOk result (λ x. x ≡ record { kind = kind; spans = span ∷ []; text = string_bytes text }) }
+    {
+        let mut spans = Vec::new(alloc);
+        spans.push(span)?;
+        Ok(Finding { kind, spans, text })
+    }
+
+    /// Where it is: the start of its first span.
+    pub(crate) fn place(&self) -> usize
+        ensures { result ≡ place_of self.now }
+    {
+        match self.spans.first() {
+            Some(span) => span.start(),
+            None => 0,
+        }
+    }
+
+    /// What is odd.
+    pub fn kind(&self) -> FindingKind
+        ensures { result ≡ self.now.kind }
+    {
+        self.kind
+    }
+
+    /// What is told of it.
+    pub fn text(&self) -> &str
+        ensures { result.now ≡ self.now.text }
+    {
+        &self.text
+    }
+}
+
+impl fmt::Display for Finding {
+    ghost output = { λ x. Some x.text };
+
+    ghost styled_output = { λ x _. Some x.text };
+
+    fn fmt<W: fmt::Write>(&self, f: &mut fmt::Formatter<W>) -> fmt::Result {
+        f.write_str(&self.text)
+    }
+}
+
+impl Spanned for Finding {
+    ghost use Rattle.cfglint.specs.Shown.{spanskind_of};
+
+    ghost spans = { λ x. x.spans };
+
+    ghost spanskind = { λ x. spanskind_of x.kind };
+
+    fn spans(&self) -> &[Span] {
+        self.spans.as_slice()
+    }
+
+    fn spanskind(&self) -> SpansKind {
+        match self.kind {
+            FindingKind::RepeatedProduction => SpansKind::DuplicationError,
+            _ => SpansKind::Error,
+        }
+    }
+}

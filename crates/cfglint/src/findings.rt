@@ -1,0 +1,33 @@
+//! All that is odd about a grammar.
+
+ghost use Rattle.std.specs.Prelude.{◌≡◌, IfOk};
+ghost use Rattle.cfgtree.specs.View.{syntax};
+ghost use Rattle.cfglint.specs.Findings.{AreFindings};
+
+use crate::finding::Finding;
+use cfgrammar::yacc::YaccGrammar;
+use cfgrammar::yacc::ast::GrammarAST;
+use std::alloc::{AllocError, Global};
+
+/// What is odd about a grammar without errors, in the order of places; what stands at one place in the order of
+/// [`FindingKind`](crate::FindingKind). `ast` is the tree of the text, and `grammar` its numbers.
+///
+/// # Errors
+///
+/// Want of memory.
+pub fn findings(
+    alloc: Global,
+    ast: &GrammarAST,
+    grammar: &YaccGrammar<u32>,
+) -> Result<Vec<Finding>, AllocError>
+    ensures { IfOk result (λ all. AreFindings (syntax ast.now) grammar.now all.items) }
+{
+    let mut all = Vec::new(alloc);
+    push_warnings(alloc, &mut all, ast)?;
+    push_sentences(alloc, &mut all, grammar)?;
+    push_loops(alloc, &mut all, grammar)?;
+    push_repeats(alloc, &mut all, grammar)?;
+    push_precedences(alloc, &mut all, ast)?;
+    all.sort_by_key(|finding| finding.place())?;
+    Ok(all)
+}

@@ -1,0 +1,22 @@
+//! What a person wants to know of a grammar file: what is wrong with it or odd about it, where, and why; and the program
+//! `cfglint`, as a library.
+#![tactic(auto)]
+
+pub mod finding;
+mod findings;
+mod laws;
+pub mod linter;
+mod loops;
+mod precedences;
+pub mod program;
+mod repeats;
+mod sentences;
+pub mod system;
+mod teller;
+mod warned;
+
+pub use cfgshell::{Counted, Input, KindArg, Sink, SinkFault, Source};
+pub use finding::{Finding, FindingKind};
+pub use findings::findings;
+pub use program::lint;
+pub use system::{Ended, run_over};

@@ -1,0 +1,4 @@
+pub mod Words
+pub mod Tally
+pub mod Files
+pub mod Run

@@ -1,0 +1,73 @@
+-- How a run of the program ends, and what becomes of its source and its two outputs.
+use Rattle.std.specs.Prelude.{◌≡◌, ℕ, Bool, List, [], ◌++◌, Option, codes}
+use Rattle.std.specs.Io.KnownBytes.{Appends, Keeps}
+use Rattle.cfgshell.specs.Sinks.{AppendsBeginning}
+use Rattle.cfgshell.specs.declared.source.Input.{Input}
+use Rattle.cfgshell.specs.declared.words.KindArg.{KindArg}
+use Rattle.lintshell.specs.Files.{IsAsked, Lints}
+use Rattle.lintshell.specs.Tally.{Tally, Told, no_files, status_of, summary}
+use Rattle.lintshell.specs.Words.{Asked, Help, Lint, Version, Wrong, asked, files_asked, help, usage, version}
+
+-- what a run has to write to its output and to its errors, and the status that it then ends with
+pub record Answer : Type 0 where
+  pub output : List ℕ
+  pub errors : List ℕ
+  pub status : ℕ
+
+-- how a run ends: with its answer, or with one that the output did not take whole, or without memory for one
+pub data Ending : Type 0 where
+  Answered : Answer → Ending
+  Unwritten : Answer → Ending
+  NoMemory : Ending
+
+abbrev pub ending_status : Ending → ℕ
+ending_status (Answered answer) = answer.status
+ending_status (Unwritten answer) = 2
+ending_status NoMemory = 3
+
+-- what is written to the errors
+abbrev pub ending_errors : Ending → List ℕ
+ending_errors (Answered answer) = answer.errors
+ending_errors (Unwritten answer) = answer.errors ++ codes "cfglint: cannot write\n"
+ending_errors NoMemory = codes "cfglint: out of memory\n"
+
+-- how many faults of its output a run that ends so met
+abbrev pub ending_faults : Ending → ℕ
+ending_faults (Answered answer) = 0
+ending_faults (Unwritten answer) = 1
+ending_faults NoMemory = 0
+
+-- the answer behind a run through files
+abbrev pub answer_of : Bool → Tally → Answer
+answer_of denies tally = record { output = tally.lines ++ summary tally; errors = tally.faults; status = status_of denies tally }
+
+-- the answer to words that ask for no files, or for nothing
+abbrev pub written : List ℕ → Answer
+written text = record { output = text; errors = []; status = 0 }
+
+abbrev pub refused : Answer
+refused = record { output = []; errors = usage; status = 2 }
+
+-- `Tells` says what may be told of a text, and `Fetches` what a source may answer for a file, and what becomes of it: a source that
+-- was `before`, and is `after`.
+module _ (Tells : Option KindArg → List ℕ → List ℕ → Told → Type 0) {S : Type 0} (Fetches : S → List ℕ → Input → S → Type 0) (before after : S) where
+  -- the answer to what is asked
+  abbrev pub Answers : Asked → Answer → Type 0
+  Answers Help answer = (after ≡ before) × (answer ≡ written help)
+  Answers Version answer = (after ≡ before) × (answer ≡ written version)
+  Answers Wrong answer = (after ≡ before) × (answer ≡ refused)
+  Answers (Lint wanted) answer = (tally : Tally) × Lints Tells wanted.kind Fetches before no_files wanted.files after tally
+      × (answer ≡ answer_of wanted.denies tally)
+
+  -- the source was asked for the first of the files that the words name, and for nothing else
+  pub record IsCutOff (words : List (List ℕ)) : Type 0 where
+    pub front : List (List ℕ)
+    pub back : List (List ℕ)
+    pub files : files_asked (asked words) ≡ front ++ back
+    pub fetched : IsAsked Fetches before front after
+
+  -- what a run does with its words, and its output's known bytes
+  abbrev pub Handles : List (List ℕ) → Option (List ℕ) → Option (List ℕ) → Ending → Type 0
+  Handles words old new (Answered answer) = Answers (asked words) answer × Appends old new answer.output
+  Handles words old new (Unwritten answer) = Answers (asked words) answer × AppendsBeginning old new answer.output
+  Handles words old new NoMemory = IsCutOff words × Keeps old new

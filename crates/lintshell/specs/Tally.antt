@@ -1,0 +1,70 @@
+-- What is told of files, one after the other, and the summary behind it.
+use Rattle.std.specs.Prelude.{ℕ, ◌+◌, ◌==◌, ◌||◌, nat_lt, Bool, true, false, ◌&&◌, List, [], ◌∷◌, ◌++◌, codes, if◌then◌else◌}
+use Rattle.std.specs.Fmt.{decimal}
+
+-- What is told of a text: lines as people read them, whether the text names no kind, so that one was taken, and how many errors
+-- and warnings there are.
+pub record Told : Type 0 where
+  pub lines : List ℕ
+  pub is_taken : Bool
+  pub errors : ℕ
+  pub warnings : ℕ
+
+-- what became of a file: it could not be read, or is no text, or this was told of it
+pub data Fate : Type 0 where
+  Unread : Fate
+  NoText : Fate
+  Linted : Told → Fate
+
+-- What was told of files: lines on their texts, and lines on those that have none; how many texts there were, and how many of these
+-- name no kind; how many errors and warnings there are; whether there was a file without a text.
+pub record Tally : Type 0 where
+  pub lines : List ℕ
+  pub faults : List ℕ
+  pub texts : ℕ
+  pub taken : ℕ
+  pub errors : ℕ
+  pub warnings : ℕ
+  pub is_short : Bool
+
+abbrev pub no_files : Tally
+no_files = record { lines = []; faults = []; texts = 0; taken = 0; errors = 0; warnings = 0; is_short = false }
+
+-- the line on a file without a text
+abbrev pub unread_line : List ℕ → List ℕ
+unread_line file = codes "cfglint: cannot read " ++ (file ++ codes "\n")
+
+abbrev pub no_text_line : List ℕ → List ℕ
+no_text_line file = codes "cfglint: " ++ (file ++ codes " is not UTF-8\n")
+
+-- with one more file
+abbrev pub with_file : List ℕ → Fate → Tally → Tally
+with_file file Unread t = record t { faults = t.faults ++ unread_line file; is_short = true }
+with_file file NoText t = record t { faults = t.faults ++ no_text_line file; is_short = true }
+with_file file (Linted told) t = record t {
+  lines = t.lines ++ told.lines;
+  texts = t.texts + 1;
+  taken = t.taken + (if told.is_taken then 1 else 0);
+  errors = t.errors + told.errors;
+  warnings = t.warnings + told.warnings;
+}
+
+-- `1 file`, `2 files`
+abbrev pub counted : ℕ → List ℕ → List ℕ
+counted n word = decimal n ++ (codes " " ++ (word ++ (if n == 1 then [] else codes "s")))
+
+-- how many texts name no kind, if some do
+abbrev pub taken_text : ℕ → List ℕ
+taken_text n = if n == 0 then [] else codes "; " ++ (counted n (codes "file") ++ codes " read as original-noaction")
+
+-- the last line
+abbrev pub summary : Tally → List ℕ
+summary t = counted t.texts (codes "file") ++ (codes ": " ++ (counted t.errors (codes "error") ++ (codes ", "
+    ++ (counted t.warnings (codes "warning") ++ (taken_text t.taken ++ codes "\n")))))
+
+-- whether something was found that counts: an error, or a warning where these are denied
+abbrev pub has_findings : Bool → Tally → Bool
+has_findings denies t = nat_lt 0 t.errors || (denies && nat_lt 0 t.warnings)
+
+abbrev pub status_of : Bool → Tally → ℕ
+status_of denies t = if t.is_short then 2 else if has_findings denies t then 1 else 0

@@ -1,0 +1,14 @@
+//! The shell of the program `cfglint`: its words, the files that it goes through, its summary, and how it ends.
+#![tactic(auto)]
+
+mod files;
+mod linter;
+mod program;
+mod runtime;
+mod summary;
+mod tally;
+mod words;
+
+pub use linter::{Linter, Report};
+pub use program::lint;
+pub use runtime::run_over;

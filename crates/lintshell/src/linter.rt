@@ -1,0 +1,60 @@
+//! What lints a text, and what it tells.
+
+ghost use Rattle.std.specs.Prelude.{IfOk};
+
+use cfgshell::KindArg;
+use std::alloc::{AllocError, Global};
+use std::marker::Model;
+
+/// What is told of a text.
+#[derive(Debug, Drop)]
+pub struct Report {
+    /// Its errors, or what is odd about it, as people read them.
+    pub lines: String,
+    /// Whether the text names no kind, so that one was taken.
+    pub is_taken: bool,
+    /// How many errors it has.
+    pub errors: usize,
+    /// How many warnings there are of it.
+    pub warnings: usize,
+}
+
+impl Model for Report {
+    ghost use Rattle.std.specs.Prelude.{string_bytes};
+    ghost use Rattle.lintshell.specs.Tally.{Told};
+
+    ghost Value = { Told };
+
+    ghost view = { λ x. record {
+      lines = string_bytes x.lines;
+      is_taken = x.is_taken;
+      errors = x.errors;
+      warnings = x.warnings;
+    } };
+}
+
+/// What lints texts.
+pub trait Linter {
+    ghost use Rattle.std.specs.Prelude.{ℕ, List, Option};
+    ghost use Rattle.cfgshell.specs.declared.words.KindArg.{KindArg};
+    ghost use Rattle.lintshell.specs.Tally.{Told};
+
+    // What may be told of a text in a file of this name, as a file of the kind; where there is none, as one of the kind
+    // that it names itself.
+    ghost tells: { Option KindArg → List ℕ → List ℕ → Told → Type 0 };
+
+    /// Lints a text in a file of this name, as a file of the kind; where there is none, as one of the kind that it names
+    /// itself.
+    ///
+    /// # Errors
+    ///
+    /// Want of memory.
+    fn lint(
+        &self,
+        alloc: Global,
+        kind: Option<KindArg>,
+        name: &str,
+        text: &str,
+    ) -> Result<Report, AllocError>
+        ensures { IfOk result (tells kind name.now text.now) };
+}
