@@ -2,7 +2,7 @@
 -- have are told of nothing.
 use Rattle.std.specs.Prelude.{◌≡◌, ℕ, ◌+◌, ◌<◌, ◌≤◌, List, [], ◌∷◌, ◌++◌, Contains, Option, Some, None, if◌then◌else◌, is_some, length, map, slice_get}
 use Rattle.std.specs.List.Sorted.{IsPermutation, IsSortedByKey, IsStableByKey}
-use Rattle.std.specs.Cmp.{nat_cmp}
+use Rattle.std.specs.Ordering.{nat_cmp}
 use Rattle.derivation.specs.Grammar.{Sym, Rule, HasProduction}
 use Rattle.derivation.specs.Sentence.{Sentence}
 use Rattle.loops.specs.Alone.{DerivesItself}
