@@ -45,6 +45,13 @@ impl Model for Finding {
 }
 
 impl Finding {
+    /// A finding of this kind, with its places and what is told of it.
+    pub(crate) fn new(kind: FindingKind, spans: Vec<Span>, text: String) -> Finding
+        ensures { result ≡ record { kind = kind; spans = spans.items; text = string_bytes text } }
+    {
+        Finding { kind, spans, text }
+    }
+
     /// A finding at one place.
     pub(crate) fn at(
         alloc: Global,

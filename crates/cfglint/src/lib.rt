@@ -2,11 +2,12 @@
 //! `cfglint`, as a library.
 #![tactic(auto)]
 
+mod added;
 pub mod finding;
-mod findings;
-mod laws;
+mod found;
+pub mod laws;
 pub mod linter;
-mod loops;
+mod own_heirs;
 mod precedences;
 pub mod program;
 mod repeats;
@@ -17,6 +18,6 @@ mod warned;
 
 pub use cfgshell::{Counted, Input, KindArg, Sink, SinkFault, Source};
 pub use finding::{Finding, FindingKind};
-pub use findings::findings;
+pub use found::findings;
 pub use program::lint;
 pub use system::{Ended, run_over};

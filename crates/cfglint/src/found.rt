@@ -5,6 +5,11 @@ ghost use Rattle.cfgtree.specs.View.{syntax};
 ghost use Rattle.cfglint.specs.Findings.{AreFindings};
 
 use crate::finding::Finding;
+use crate::own_heirs::push_loops;
+use crate::precedences::push_precedences;
+use crate::repeats::push_repeats;
+use crate::sentences::push_sentences;
+use crate::warned::push_warnings;
 use cfgrammar::yacc::YaccGrammar;
 use cfgrammar::yacc::ast::GrammarAST;
 use std::alloc::{AllocError, Global};

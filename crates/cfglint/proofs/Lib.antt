@@ -1,0 +1,4 @@
+pub mod Lacking
+pub mod Read
+pub mod Texts
+pub mod Unusable

@@ -1,0 +1,43 @@
+-- Productions that no sentence of their rule uses, where it is known which productions are used.
+use Rattle.std.proofs.Common.{◌≡◌, ◌↔◌, ℕ, ◌<◌, false, List, ◌∷◌, Some, Contains, length, sym, subst}
+use Rattle.std.proofs.lemmas.List.Elements.{Contains-append_right}
+use Rattle.lemmas.proofs.Contained.{contains_first}
+use Rattle.derivation.specs.Grammar.{HasProduction, Rule, Sym}
+use Rattle.derivation.specs.Sentence.{Sentence}
+use Rattle.loops.specs.Uses.{IsUsable}
+use Rattle.cfgtables.specs.Openings.{nth_production}
+use Rattle.cfgnumbers.specs.Numbered.{Numbered, core}
+use Rattle.cfgnumbers.specs.Shown.{production_part}
+use Rattle.cfglint.specs.Findings.{IsFirstWithout, IsUnusable}
+use Rattle.cfglint.specs.Inner.Lacks.{LacksOrHas}
+use Rattle.cfglint.proofs.Read.{has_read, rule_read, symbols_read}
+
+-- some sentence uses a production exactly if each rule in it has a sentence
+abbrev pub UsesByRules : Numbered → Type 0
+UsesByRules g = (r : ℕ) (symbols : List Sym) → HasProduction (core g) r symbols
+    → IsUsable (HasProduction (core g)) r symbols ↔ ((q : ℕ) → Contains symbols (Rule q) → (v : List ℕ) × Sentence (HasProduction (core g)) q v)
+
+module _ (g : Numbered) (law : UsesByRules g) (p : ℕ) (within : p < length g.productions) (rule : ℕ) (symbols : List Sym)
+    (owner : production_part (λ production. production.rule) g p ≡ Some rule) (held : production_part (λ production. production.symbols) g p ≡ Some symbols) where
+  -- each rule in it has a sentence
+  pub not_unusable : ((q : ℕ) → Contains symbols (Rule q) → LacksOrHas g q false) → IsUnusable g p → ⊥
+  not_unusable each unusable =
+      let read = symbols_read g p within symbols held in
+      unusable.unused ((law _ _ (has_read g p within)).1 (λ q among. each q (subst (λ l. Contains l (Rule q)) read among)))
+
+  -- one has none, though its own rule has one
+  pub is_unusable : p < g.start_production → LacksOrHas g rule false → (q : ℕ) → IsFirstWithout g symbols q → IsUnusable g p
+  is_unusable ours (sentence, is) q first =
+      let read = symbols_read g p within symbols held in
+      let stands = subst (λ l. Contains l (Rule q)) (sym first.stands) (Contains-append_right first.front (Rule q ∷ first.back) (Rule q) (contains_first (Rule q) first.back)) in
+      let among = subst (λ l. Contains l (Rule q)) (sym read) stands in
+      record {
+        ours = ours;
+        sentence = sentence;
+        is = subst (λ r. Sentence (HasProduction (core g)) r sentence) (sym (rule_read g p within rule owner)) is;
+        unused = λ usable. let (w, has) = (law _ _ (has_read g p within)).0 usable q among in first.none w has;
+      }
+
+  -- the first one that has none, in what is shown of the production
+  pub first_read : (q : ℕ) → IsFirstWithout g symbols q → IsFirstWithout g (nth_production (core g) p).symbols q
+  first_read q first = subst (λ l. IsFirstWithout g l q) (sym (symbols_read g p within symbols held)) first

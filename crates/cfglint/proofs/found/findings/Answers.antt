@@ -1,0 +1,52 @@
+use Rattle.std.proofs.Common.{◌≡◌, ◌++◌, List, [], map, nat_cmp, refl, sym, subst, ap, ◌∙◌, append_assoc, rules}
+use Rattle.std.specs.List.Sorted.{IsPermutation, IsStableByKey}
+use Rattle.std.proofs.lemmas.Fn.{always_returns_same}
+use Rattle.cfglint.specs.Shown.{ShownFinding, place_of, warned}
+use Rattle.cfglint.specs.Findings.{AreByPlace}
+use Rattle.cfglint.proofs.found.findings.Goals as goal
+
+joined : (a0 a1 a2 a3 a4 a5 w s u l r p : List ShownFinding) → a0 ≡ [] → a1 ≡ a0 ++ w → a2 ≡ a1 ++ (s ++ u) → a3 ≡ a2 ++ l → a4 ≡ a3 ++ r → a5 ≡ a4 ++ p
+    → a5 ≡ w ++ (s ++ (u ++ (l ++ (r ++ p))))
+joined a0 a1 a2 a3 a4 a5 w s u l r p e0 e1 e2 e3 e4 e5 =
+    let all : a5 ≡ ((((w ++ (s ++ u)) ++ l) ++ r) ++ p) =
+    e5 ∙ ap (λ t. t ++ p) (e4 ∙ ap (λ t. t ++ r) (e3 ∙ ap (λ t. t ++ l) (e2 ∙ ap (λ t. t ++ (s ++ u)) (e1 ∙ ap (λ t. t ++ w) e0)))) in
+    all ∙ simp append_assoc
+
+pub returns : goal.returns
+returns c =
+    let (warnings, are_warnings, warned_is) = c.in_ok-push_warnings.ensures in
+    let (without, useless, are_without, are_useless, sentences_is) = c.in_ok-push_sentences.ensures in
+    let (loops, are_loops, loops_is) = c.in_ok-push_loops.ensures in
+    let (repeats, are_repeats, repeats_is) = c.in_ok-push_repeats.ensures in
+    let (precedences, are_precedences, precedences_is) = c.in_ok-push_precedences.ensures in
+    let before = c.push_precedences.new.all.items in
+    let after = c.sort_by_key.new.self.items in
+    let told : List ShownFinding = map warned warnings ++ (without ++ (useless ++ (loops ++ (repeats ++ precedences)))) in
+    let is : before ≡ told = joined c.new-all.result.items c.push_warnings.new.all.items c.push_sentences.new.all.items
+    c.push_loops.new.all.items c.push_repeats.new.all.items before (map warned warnings) without useless loops repeats precedences
+    c.new-all.ensures.items warned_is sentences_is loops_is repeats_is precedences_is in
+    let sorted = c.in_ok-sort_by_key.ensures.sorted place_of (always_returns_same _ _ _ (λ a r f called. search rules)) in
+    let stable = c.in_ok-sort_by_key.ensures.stable place_of (always_returns_same _ _ _ (λ a r f called. search rules)) in
+    record {
+      told = told;
+      in_turn = record {
+        warnings = warnings;
+        without = without;
+        useless = useless;
+        loops = loops;
+        repeats = repeats;
+        precedences = precedences;
+        are_warnings = are_warnings;
+        are_without = are_without;
+        are_useless = are_useless;
+        are_loops = are_loops;
+        are_repeats = are_repeats;
+        are_precedences = are_precedences;
+        is = refl;
+      };
+      by_place = record {
+        same = subst (λ (l : List ShownFinding). IsPermutation l after) is c.in_ok-sort_by_key.ensures.permutation;
+        sorted = sorted;
+        stable = subst (λ (l : List ShownFinding). IsStableByKey place_of nat_cmp l after) is stable;
+      };
+    }

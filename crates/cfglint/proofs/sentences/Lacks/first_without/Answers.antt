@@ -1,0 +1,47 @@
+use Rattle.std.proofs.Common.{◌≡◌, ℕ, ◌+◌, false, map, take, drop, sym, ◌∙◌, subst}
+use Rattle.std.proofs.lemmas.List.{get_or_default}
+use Rattle.derivation.specs.Grammar.{Rule, Token}
+use Rattle.cfgindex.specs.declared.idxnewtype.Symbol.{Symbol}
+use Rattle.cfgindex.specs.declared.idxnewtype.Symbol.TheVariants as symbols
+use Rattle.cfgnumbers.specs.Shown.{IsSymbolWithin}
+use Rattle.cfgtables.specs.Symbols.{sym_of}
+use Rattle.cfglint.specs.Inner.Lacks.{LacksOrHas}
+use Rattle.cfglint.proofs.Lacking.{around, one_more_rule}
+use Rattle.cfglint.proofs.sentences.Lacks.first_without.Goals as goal
+use Rattle.cfglint.proofs.sentences.Lacks.first_without.Goals.{in-Rule+else-lacks, in_default}
+
+pub loop-symbol-preserved : goal.loop-symbol-preserved
+loop-symbol-preserved c =
+    let g = c.args.self.now in
+    let all = c.args.symbols.now in
+    let n = c.loop-symbol.symbol-index in
+    let Has : ℕ → Type 0 = λ q. LacksOrHas g q false in
+    elim c.match-symbol.branch [
+      | in-Rule+else-lacks w ↦
+          let x : Symbol ℕ = symbols.Rule w.in-Rule.rule in
+          let is = sym w.in-Rule.is ∙ get_or_default all n _ x c.loop-symbol-test.true in
+          one_more_rule (sym_of (λ s. s)) all n x c.loop-symbol-test.true is Has c.loop-symbol.invariant
+          (λ q same. let number : w.in-Rule.rule.0 ≡ q = cc in subst Has number w.if-lacks.ensures)
+      | in_default w ↦
+          let x : Symbol ℕ = symbols.Token w.in_default.field-0 in
+          let is = sym w.in_default.is ∙ get_or_default all n _ x c.loop-symbol-test.true in
+          one_more_rule (sym_of (λ s. s)) all n x c.loop-symbol-test.true is Has c.loop-symbol.invariant
+          (λ q same. let no : Token w.in_default.field-0.0 ≡ Rule q = same in cc)
+    ]
+
+pub returns-then-lacks : goal.returns-then-lacks
+returns-then-lacks c =
+    let all = c.args.symbols.now in
+    let n = c.loop-symbol.symbol-index in
+    let x : Symbol ℕ = symbols.Rule c.in-Rule.rule in
+    let is = sym c.in-Rule.is ∙ get_or_default all n _ x c.loop-symbol-test.true in
+    record {
+      first = record {
+        front = map (sym_of (λ s. s)) (take n all);
+        back = map (sym_of (λ s. s)) (drop (n + 1) all);
+        stands = around (sym_of (λ s. s)) all n x c.loop-symbol-test.true is;
+        none = c.if-lacks.ensures;
+        before = λ r held none. let (sentence, has) = c.loop-symbol.invariant r held in none sentence has;
+      };
+      within = subst (IsSymbolWithin (λ s. s) c.args.self.now) (sym is) (c.requires n x c.loop-symbol-test.true);
+    }

@@ -1,0 +1,14 @@
+use Rattle.std.proofs.Common.{false, get_or, sym, subst, ap, ◌∙◌, arith}
+use Rattle.std.proofs.lemmas.List.{get_or_read}
+use Rattle.cfgnumbers.specs.Numbered.{Numbered}
+use Rattle.cfglint.specs.Inner.Lacks.{AreLacks, LacksOrHas}
+use Rattle.cfglint.proofs.sentences.Lacks.lacks.Goals as goal
+
+-- what is said of a rule stands at its number
+pub returns : goal.returns
+returns c =
+    let bits = c.self.inside.rules.items in
+    let rule = c.args.rule.0 in
+    let is : AreLacks c.args.self.now bits = subst (λ (g : Numbered). AreLacks g bits) c.self.view_is c.self.invariant in
+    let read = get_or_read bits c.from.result c.index.result.now (omega (arith, c.from.ensures, is.long, c.requires)) c.index.ensures false in
+    subst (LacksOrHas c.args.self.now rule) (sym (read ∙ ap (λ r. get_or bits r false) c.from.ensures)) (is.each rule c.requires)

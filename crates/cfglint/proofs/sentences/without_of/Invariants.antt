@@ -1,0 +1,12 @@
+use Rattle.std.proofs.Common.{◌≡◌, ◌<◌, ◌≤◌, ℕ, false, get_or, length}
+use Rattle.cfglint.specs.Inner.Lacks.{LacksOrHas}
+use Rattle.cfglint.proofs.sentences.without_of.Given as goal
+
+-- the indices that are left are those of rules, and it is said of those before them whether they have no sentence
+abbrev pub invariant-loop-rule : goal.invariant-loop-rule
+invariant-loop-rule l = record {
+  all : l.rule-iterator.end ≡ length l.grammar.rules;
+  within : l.rule-iterator.start ≤ l.rule-iterator.end;
+  long : length l.lacks.items ≡ l.rule-iterator.start;
+  each : (r : ℕ) → r < l.rule-iterator.start → LacksOrHas l.grammar r (get_or l.lacks.items r false);
+}

@@ -1,0 +1,2 @@
+-- Words of clauses inside the crate. No call that users make rests on them.
+pub mod Lacks

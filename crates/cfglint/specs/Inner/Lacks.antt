@@ -1,0 +1,15 @@
+-- Which rules have no sentence.
+use Rattle.std.specs.Prelude.{◌≡◌, ℕ, ◌<◌, Bool, false, List, MatchBool, length, slice_index_or}
+use Rattle.derivation.specs.Grammar.{HasProduction}
+use Rattle.derivation.specs.Sentence.{Sentence}
+use Rattle.cfgleast.specs.Generator.{HasNone}
+use Rattle.cfgnumbers.specs.Numbered.{Numbered, core}
+
+-- what is said of a rule: `true` that it has no sentence, and `false` that it has one
+abbrev pub LacksOrHas : Numbered → ℕ → Bool → Type 0
+LacksOrHas g r lacks = MatchBool lacks (HasNone (HasProduction (core g)) r) ((w : List ℕ) × Sentence (HasProduction (core g)) r w)
+
+-- what is said of each rule of the grammar
+pub record AreLacks (g : Numbered) (lacks : List Bool) : Type 0 where
+  pub long : length lacks ≡ length g.rules
+  pub each : (r : ℕ) → r < length g.rules → LacksOrHas g r (slice_index_or lacks r false)

@@ -1,0 +1,14 @@
+//! What `==` and `clone` of kinds of findings compare and copy. They are derived, so the law names the impl, as in
+//! `⟦<FindingKind as PartialEq>⟧`, and holds of every value.
+
+ghost use Rattle.std.specs.Prelude.{◌≡◌, ◌↔◌, IsTrue};
+ghost use Rattle.cfglint.specs.declared.finding.FindingKind.{FindingKind};
+
+use crate::finding::FindingKind;
+
+/// The kinds of findings differ, and each is equal to itself. A clone is its source, and takes no memory.
+pub fn finding_kinds_are_told_apart()
+    ensures equal { (a b : FindingKind) → IsTrue (⟦<FindingKind as PartialEq>⟧.eq a b) ↔ (a ≡ b) }
+    ensures clone { (a b : FindingKind) → ⟦<FindingKind as Clone>⟧.is_clone a b → b ≡ a }
+    ensures cloned { (a : FindingKind) → ⟦<FindingKind as Clone>⟧.is_infallible a }
+{}

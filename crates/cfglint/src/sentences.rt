@@ -1,0 +1,208 @@
+//! Rules that have no sentence, and productions that no sentence uses.
+
+ghost use Rattle.std.specs.Prelude.{◌≡◌, ◌++◌, ◌<◌, ℕ, false, List, All, Contains, length, map};
+ghost use Rattle.std.specs.Prelude.{IfOk, IfSome, MatchOption, OnOk};
+ghost use Rattle.derivation.specs.Grammar.{Rule};
+ghost use Rattle.cfgnumbers.specs.Numbered.{core};
+ghost use Rattle.cfgnumbers.specs.Shown.{IsSymbolWithin};
+ghost use Rattle.cfgtables.specs.Symbols.{sym_of};
+ghost use Rattle.cfglint.specs.Findings.{IsFirstWithout, TellsBelow, TellsNoSentence, TellsUnusable};
+ghost use Rattle.cfglint.specs.Inner.Lacks.{AreLacks, LacksOrHas};
+ghost use Rattle.cfglint.specs.Shown.{ShownFinding};
+
+use crate::added::rules_added;
+use crate::finding::{Finding, FindingKind};
+use crate::teller::{Teller, push_told};
+use cfgindex::{PIdx, RIdx, Symbol, to_storage};
+use cfgrammar::yacc::YaccGrammar;
+use cfgrammar::yacc::sentences::{CostError, SentenceGenerator};
+use loops::laws::usable_productions_hold_sentences;
+use std::alloc::{AllocError, Global};
+use std::marker::Model;
+
+/// Puts behind the findings the rules of the file that have no sentence, and then its productions that can't be used.
+pub(crate) fn push_sentences(
+    alloc: Global,
+    all: &mut Vec<Finding>,
+    grammar: &YaccGrammar<u32>,
+) -> Result<(), AllocError>
+    ensures { OnOk result ((without useless : List ShownFinding)
+        × TellsBelow (TellsNoSentence grammar.now) (length grammar.now.rules) without
+        × TellsBelow (TellsUnusable grammar.now) grammar.now.start_production useless
+        × (all.new.items ≡ all.old.items ++ (without ++ useless))) }
+{
+    let lacks = Lacks::new(alloc, grammar)?;
+    push_told(alloc, all, &Rules(&lacks), usize::from(grammar.rules_len()))?;
+    push_told(
+        alloc,
+        all,
+        &Productions(&lacks),
+        usize::from(grammar.start_prod()),
+    )
+}
+
+/// A grammar, and for each of its rules whether it has no sentence.
+#[derive(Drop)]
+struct Lacks<'a> {
+    grammar: &'a YaccGrammar<u32>,
+    rules: Vec<bool>,
+}
+
+impl<'a> Model for Lacks<'a> {
+    ghost use Rattle.cfgnumbers.specs.Numbered.{Numbered};
+    ghost use Rattle.cfglint.specs.Inner.Lacks.{AreLacks};
+
+    ghost Value = { Numbered };
+
+    ghost view = { λ x. x.grammar.now };
+
+    ghost invariant = { λ x. AreLacks x.grammar.now x.rules.items };
+}
+
+impl<'a> Lacks<'a> {
+    /// Which rules of the grammar have no sentence.
+    fn new(alloc: Global, grammar: &'a YaccGrammar<u32>) -> Result<Self, AllocError>
+        ensures { IfOk result (λ x. x ≡ grammar.now) }
+    {
+        let rules = rules_without(alloc, grammar)?;
+        Ok(Lacks { grammar, rules })
+    }
+
+    /// Whether the rule has no sentence.
+    fn lacks(&self, rule: RIdx<u32>) -> bool
+        requires { rule.0 < length self.now.rules }
+        ensures { LacksOrHas self.now rule.0 result }
+    {
+        self.rules[usize::from(rule)]
+    }
+
+    /// The first rule among the symbols that has no sentence.
+    fn first_without(&self, symbols: &[Symbol<u32>]) -> Option<RIdx<u32>>
+        requires { All (IsSymbolWithin (λ s. s) self.now) symbols.now }
+        ensures first { MatchOption result
+            ((q : ℕ) → Contains (map (sym_of (λ s. s)) symbols.now) (Rule q) → LacksOrHas self.now q false)
+            (λ q. IsFirstWithout self.now (map (sym_of (λ s. s)) symbols.now) q.0) }
+        ensures within { IfSome result (λ q. q.0 < length self.now.rules) }
+    {
+        for symbol in symbols {
+            if let Symbol::Rule(rule) = symbol {
+                if self.lacks(*rule) {
+                    return Some(*rule);
+                }
+            }
+        }
+        None
+    }
+
+    /// What is told of a rule: that it has no sentence, if it is of the file.
+    fn tell_rule(&self, alloc: Global, number: usize) -> Result<Option<Finding>, AllocError>
+        requires { number < length self.now.rules }
+        ensures { IfOk result (TellsNoSentence self.now number) }
+    {
+        let grammar = self.grammar;
+        grammar.invariant_holds();
+        let rule = RIdx(to_storage(number));
+        if number < rules_added(grammar) || !self.lacks(rule) {
+            return Ok(None);
+        }
+        let name = grammar.rule_name_str(rule);
+        let text = format!(in alloc; "Rule '{name}' has no sentence")?;
+        let span = grammar.rule_name_span(rule);
+        Ok(Some(Finding::at(alloc, FindingKind::NoSentence, span, text)?))
+    }
+
+    /// What is told of a production of the file: that it can't be used, if its rule has a sentence.
+    fn tell_production(&self, alloc: Global, number: usize) -> Result<Option<Finding>, AllocError>
+        requires { number < self.now.start_production }
+        ensures { IfOk result (TellsUnusable self.now number) }
+    {
+        let grammar = self.grammar;
+        usable_productions_hold_sentences();
+        let _start = grammar.start_prod();
+        let production = PIdx(to_storage(number));
+        if self.lacks(grammar.prod_to_rule(production)) {
+            return Ok(None);
+        }
+        let Some(rule) = self.first_without(grammar.prod(production)) else {
+            return Ok(None);
+        };
+        let name = grammar.rule_name_str(rule);
+        let text = format!(in alloc; "Unusable production: rule '{name}' has no sentence")?;
+        let span = grammar.prod_span(production);
+        Ok(Some(Finding::at(alloc, FindingKind::UnusableProduction, span, text)?))
+    }
+}
+
+/// For each rule of the grammar whether it has no sentence.
+fn rules_without(alloc: Global, grammar: &YaccGrammar<u32>) -> Result<Vec<bool>, AllocError>
+    ensures { IfOk result (λ lacks. AreLacks grammar.now lacks.items) }
+{
+    let generator = grammar.sentence_generator(alloc, |_| 1)?;
+    without_of(alloc, grammar, &generator)
+}
+
+/// What the generator says of each rule.
+fn without_of(
+    alloc: Global,
+    grammar: &YaccGrammar<u32>,
+    generator: &SentenceGenerator<'_, u32, YaccGrammar<u32>>,
+) -> Result<Vec<bool>, AllocError>
+    requires { generator.now.grammar ≡ core grammar.now }
+    ensures { IfOk result (λ lacks. AreLacks grammar.now lacks.items) }
+{
+    let mut lacks = Vec::new(alloc);
+    for rule in grammar.iter_rules() {
+        lacks.push(has_none(grammar, generator, rule))?;
+    }
+    Ok(lacks)
+}
+
+/// Whether the rule has no sentence, by the generator.
+fn has_none(
+    grammar: &YaccGrammar<u32>,
+    generator: &SentenceGenerator<'_, u32, YaccGrammar<u32>>,
+    rule: RIdx<u32>,
+) -> bool
+    requires within { rule.0 < length grammar.now.rules }
+    requires same { generator.now.grammar ≡ core grammar.now }
+    ensures { LacksOrHas grammar.now rule.0 result }
+{
+    match generator.min_sentence_cost(rule) {
+        Ok(_) => false,
+        Err(CostError::CostTooLarge) => false,
+        Err(CostError::NoSentence) => true,
+    }
+}
+
+/// The rules of a grammar, told of where they have no sentence.
+#[derive(Drop)]
+struct Rules<'a>(&'a Lacks<'a>);
+
+impl<'a> Teller for Rules<'a> {
+    ghost use Rattle.std.specs.Prelude.{length};
+    ghost use Rattle.cfglint.specs.Findings.{TellsNoSentence};
+
+    ghost count = { λ x. length x.0.now.rules };
+
+    ghost tells = { λ x. TellsNoSentence x.0.now };
+
+    fn tell(&self, alloc: Global, number: usize) -> Result<Option<Finding>, AllocError> {
+        self.0.tell_rule(alloc, number)
+    }
+}
+
+/// The productions of a grammar, told of where they can't be used.
+#[derive(Drop)]
+struct Productions<'a>(&'a Lacks<'a>);
+
+impl<'a> Teller for Productions<'a> {
+    ghost use Rattle.cfglint.specs.Findings.{TellsUnusable};
+
+    ghost count = { λ x. x.0.now.start_production };
+
+    ghost tells = { λ x. TellsUnusable x.0.now };
+
+    fn tell(&self, alloc: Global, number: usize) -> Result<Option<Finding>, AllocError> {
+        self.0.tell_production(alloc, number)
+    }
+}
