@@ -24,4 +24,4 @@ pub use cfghash::NameHashes;
 pub use cfgindex::{PIdx, RIdx, SIdx, Storage, Symbol, TIdx, Vob, idxnewtype, storage};
 pub use cfglines::{FeedError, NewlineCache, newlinecache};
 pub use cfgmarks::markmap;
-pub use cfgrender::render;
+pub use cfgrender::{render, render_all};

@@ -1,4 +1,5 @@
 pub mod Carets
 pub mod Columns
+pub mod Several
 pub mod ShownLines
 pub mod Told

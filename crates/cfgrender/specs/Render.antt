@@ -70,3 +70,11 @@ told_also Error name text spans = []
 abbrev pub rendered : List ℕ → List ℕ → List ℕ → List Span → SpansKind → List ℕ
 rendered name text message [] kind = plain_line name message
 rendered name text message (span ∷ spans) kind = told name text message span ++ told_also kind name text spans
+
+-- What is read of several, one behind the other, where `Prints` says of each what it prints.
+pub data RendersEach {A : Type 0} (Prints : A → List ℕ → Type 0) (spans : A → List Span) (kind : A → SpansKind) (name text : List ℕ)
+    : List A → List ℕ → Type 0 where
+  none : RendersEach Prints spans kind name text [] []
+  more : {errors : List A} {error : A} {message out : List ℕ}
+      → RendersEach Prints spans kind name text errors out → Prints error message
+      → RendersEach Prints spans kind name text (errors ++ error ∷ []) (out ++ rendered name text message (spans error) (kind error))

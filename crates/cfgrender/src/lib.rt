@@ -6,4 +6,4 @@ pub mod laws;
 pub mod message;
 mod source;
 
-pub use message::render;
+pub use message::{render, render_all};

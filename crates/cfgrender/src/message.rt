@@ -1,7 +1,7 @@
 //! An error or a warning, as a person reads it.
 
-ghost use Rattle.std.specs.Prelude.{◌≡◌, ℕ, List, IfOk, IfSome, string_bytes};
-ghost use Rattle.cfgrender.specs.Render.{rendered};
+ghost use Rattle.std.specs.Prelude.{◌≡◌, ◌++◌, ℕ, List, IfOk, IfSome, OnOk, string_bytes};
+ghost use Rattle.cfgrender.specs.Render.{RendersEach, rendered};
 
 use crate::source::Source;
 use cfgbase::Spanned;
@@ -23,9 +23,46 @@ pub fn render<E: Spanned>(
     ensures { IfOk result (λ out. (message : List ℕ) × IfSome (E.output error.now) (λ printed. message ≡ printed)
         × (string_bytes out ≡ rendered name.now text.now message (E.spans error.now) (E.spanskind error.now))) }
 {
-    let message = error.to_string(alloc)?;
     let source = Source::new(alloc, name, text)?;
     let mut out = String::new(alloc);
-    source.push_rendered(&mut out, &message, error.spans(), error.spanskind())?;
+    push_error(alloc, &mut out, &source, error)?;
     Ok(out)
+}
+
+/// What [`render`] answers of each of the errors or warnings, one behind the other. The lines of the text are found
+/// once for all of them.
+///
+/// # Errors
+///
+/// Want of memory.
+pub fn render_all<E: Spanned>(
+    alloc: Global,
+    name: &str,
+    text: &str,
+    errors: &[E],
+) -> Result<String, AllocError>
+    ensures { IfOk result (λ out. RendersEach (λ error message. IfSome (E.output error) (λ printed. message ≡ printed))
+        E.spans E.spanskind name.now text.now errors.now (string_bytes out)) }
+{
+    let source = Source::new(alloc, name, text)?;
+    let mut out = String::new(alloc);
+    for error in errors {
+        push_error(alloc, &mut out, &source, error)?;
+    }
+    Ok(out)
+}
+
+/// Writes what is read of an error or a warning.
+fn push_error<E: Spanned>(
+    alloc: Global,
+    out: &mut String,
+    source: &Source<'_>,
+    error: &E,
+) -> Result<(), AllocError>
+    ensures { OnOk result ((message : List ℕ) × IfSome (E.output error.now) (λ printed. message ≡ printed)
+        × (string_bytes out.new ≡ string_bytes out.old
+        ++ rendered source.now.name.now source.now.places message (E.spans error.now) (E.spanskind error.now))) }
+{
+    let message = error.to_string(alloc)?;
+    source.push_rendered(out, &message, error.spans(), error.spanskind())
 }
