@@ -9,7 +9,7 @@ use Rattle.loops.specs.Inner.Layers.{AreLayers, Finds, InLayer, RowTo, noted}
 
 module _ (Has : ℕ → Step → Type 0) (first : ℕ) where
   -- a row and a step behind it
-  leads_then : (a : ℕ) (row : List Step) (b : ℕ) (step : Step) → Leads Has a row b → Has b step → Leads Has a (row ++ (step ∷ [])) step.rule
+  pub leads_then : (a : ℕ) (row : List Step) (b : ℕ) (step : Step) → Leads Has a row b → Has b step → Leads Has a (row ++ (step ∷ [])) step.rule
   leads_then a [] b step e h = (subst (λ n. Has n step) (sym e) h, refl)
   leads_then a (next ∷ row) b step l h = (l.0, leads_then next.rule row b step l.1 h)
 

@@ -1,3 +1,4 @@
+pub mod AcyclicRules
 pub mod Alone
 pub mod EmptyPlaces
 pub mod Ending

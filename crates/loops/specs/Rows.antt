@@ -1,5 +1,6 @@
 -- Rows of steps from rule to rule, and loops: rows from a rule to itself. `Has a s` says that rule a has the step s.
-use Rattle.std.specs.Prelude.{◌≡◌, ℕ, ◌<◌, ◌≤◌, List, [], ◌∷◌, length}
+use Rattle.std.specs.Prelude.{◌≡◌, ℕ, ◌<◌, ◌≤◌, List, [], ◌∷◌, length, Option, MatchOption, Vec}
+use Rattle.std.specs.Global.{Global}
 use Rattle.loops.specs.declared.rows.Step.{Step}
 
 module _ (Has : ℕ → Step → Type 0) where
@@ -17,3 +18,7 @@ module _ (Has : ℕ → Step → Type 0) where
   pub record IsShortestLoop (rule : ℕ) (row : List Step) : Type 0 where
     pub itself : IsLoop rule row
     pub least : (other : List Step) → IsLoop rule other → length row ≤ length other
+
+  -- a shortest loop of the rule, or none where the rule has no loop
+  abbrev pub IsShortestOf : ℕ → Option (Vec Step Global) → Type 0
+  IsShortestOf rule found = MatchOption found ((row : List Step) → IsLoop rule row → ⊥) (λ row. IsShortestLoop rule row.items)

@@ -1,6 +1,7 @@
 //! Rules that derive themselves alone, and the rows of steps by which they do.
 #![tactic(auto)]
 
+mod acyclic;
 pub mod laws;
 pub mod rows;
 mod shortest;
@@ -8,6 +9,6 @@ mod stepping;
 pub mod steps;
 
 pub use rows::Step;
-pub use shortest::shortest_loop;
+pub use shortest::{shortest_loop, shortest_loops};
 pub use stepping::alone_steps;
 pub use steps::Steps;

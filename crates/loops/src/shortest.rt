@@ -1,10 +1,11 @@
 //! Shortest loops, by layers of rules.
 
-ghost use Rattle.std.specs.Prelude.{◌≡◌, ℕ, ◌<◌, List, [], None, Some, Contains, is_some, length, replicate, IfOk, MatchOption, OnOk};
+ghost use Rattle.std.specs.Prelude.{◌≡◌, ℕ, ◌<◌, List, [], None, Some, Contains, get_or, is_some, length, replicate, IfOk, MatchOption, OnOk};
 ghost use Rattle.loops.specs.Lists.{AreWithin, HasStep};
 ghost use Rattle.loops.specs.Inner.Layers.{Finds, HaveLayers, IsRowTo, noted};
-ghost use Rattle.loops.specs.Rows.{IsLoop, IsShortestLoop};
+ghost use Rattle.loops.specs.Rows.{IsShortestOf};
 
+use crate::acyclic::acyclic_rules;
 use crate::rows::Step;
 use crate::steps::Steps;
 use std::alloc::{AllocError, Global};
@@ -22,9 +23,7 @@ pub fn shortest_loop(
 ) -> Result<Option<Vec<Step>>, AllocError>
     requires rule { rule < length steps.now }
     requires within { AreWithin steps.now }
-    ensures { IfOk result (λ found. MatchOption found
-        ((row : List Step) → IsLoop (HasStep steps.now) rule row → ⊥)
-        (λ row. IsShortestLoop (HasStep steps.now) rule row.items)) }
+    ensures { IfOk result (λ found. IsShortestOf (HasStep steps.now) rule found) }
 {
     let mut layers = Layers::new(alloc, steps)?;
     let mut layer = vec![in alloc; rule; 1]?;
@@ -34,6 +33,31 @@ pub fn shortest_loop(
         layer = layers.next(alloc, &layer, count)?;
     }
     layers.loop_of(alloc, rule)
+}
+
+/// For each rule a shortest row of steps from it to itself, or that there is none. Rules from which no row of steps comes
+/// to a loop take together the time of a look at each of their steps; each other rule takes a search of its own.
+///
+/// # Errors
+///
+/// Want of memory.
+pub fn shortest_loops(alloc: Global, steps: &Steps) -> Result<Vec<Option<Vec<Step>>>, AllocError>
+    requires { AreWithin steps.now }
+    ensures rules { IfOk result (λ found. length found.items ≡ length steps.now) }
+    ensures each { IfOk result (λ found. (rule : ℕ) → rule < length steps.now
+        → IsShortestOf (HasStep steps.now) rule (get_or found.items rule None)) }
+{
+    let ends = acyclic_rules(alloc, steps)?;
+    let mut loops = Vec::new(alloc);
+    for rule in 0..steps.len() {
+        let found = if ends[rule] {
+            None
+        } else {
+            shortest_loop(alloc, steps, rule)?
+        };
+        loops.push(found)?;
+    }
+    Ok(loops)
 }
 
 /// How a rule was found: a step of this rule leads to it, and ends a row of so many steps.

@@ -1,0 +1,72 @@
+-- What is told of a rule that derives itself.
+use Rattle.std.proofs.Common.{◌≡◌, ℕ, ◌+◌, ◌-◌, ◌<◌, List, [], ◌∷◌, ◌++◌, Some, codes, drop, length, map, take, unwrap_or, arith, sym, ap, subst, ◌∙◌, append_assoc}
+use Rattle.std.proofs.lemmas.List.{drop-drop, drop-map, length-drop, length-map, take-map, take_all}
+use Rattle.std.specs.List.{flat_map}
+use Rattle.derivation.specs.Grammar.{Sym}
+use Rattle.cfgbase.specs.declared.span.Span.{Span}
+use Rattle.cfgcheck.specs.Check.{nowhere}
+use Rattle.cfgindex.specs.declared.idxnewtype.Symbol.{Symbol}
+use Rattle.cfgtables.specs.Openings.{nth_production}
+use Rattle.cfgtables.specs.Symbols.{sym_of}
+use Rattle.cfgnumbers.specs.Numbered.{Numbered, core, production_core}
+use Rattle.cfgnumbers.specs.Shown.{production_part, rule_part}
+use Rattle.cfgrammar.proofs.Shows.{rule_named}
+use Rattle.loops.specs.declared.rows.Step.{Step}
+use Rattle.cfglint.specs.Shown.{ShownFinding, derives_itself, rule_name, rule_span, step_text, vanishing}
+use Rattle.cfglint.proofs.Read.{symbols_read}
+use Rattle.cfglint.specs.declared.finding.FindingKind.TheVariants.{DerivesItself}
+
+regroup : (t a b c d e : List ℕ) → (((t ++ a) ++ b) ++ (c ++ d)) ++ e ≡ t ++ (a ++ (b ++ (c ++ (d ++ e))))
+regroup t a b c d e = simp append_assoc
+
+-- the parts of a step's text, one behind the other
+pub step_written : (g : Numbered) (step : Step) (front back : List Sym) (name before arrow vanished led now : List ℕ)
+    → front ≡ take step.place (nth_production (core g) step.production).symbols
+    → back ≡ drop (step.place + 1) (nth_production (core g) step.production).symbols
+    → rule_name g step.rule ≡ name
+    → arrow ≡ before ++ codes " ->" → vanished ≡ arrow ++ vanishing g front → led ≡ vanished ++ (codes " " ++ name) → now ≡ led ++ vanishing g back
+    → now ≡ before ++ step_text g step
+step_written g step front back name before arrow vanished led now stands behind named e f h k =
+    k ∙ ap (λ t. t ++ vanishing g back) (h ∙ ap (λ t. t ++ (codes " " ++ name)) (f ∙ ap (λ t. t ++ vanishing g front) e))
+    ∙ regroup before (codes " ->") (vanishing g front) (codes " ") name (vanishing g back)
+    ∙ (λ i. before ++ (codes " ->" ++ (vanishing g (stands i) ++ (codes " " ++ (sym named i ++ vanishing g (behind i))))))
+
+-- the symbols before and behind the place of a step, as they are read
+module _ (g : Numbered) (step : Step) (there : step.production < length (core g).productions) (stored : ℕ) (same : stored ≡ step.production)
+    (symbols : List (Symbol ℕ)) (read : production_part (λ production. production.symbols) g stored ≡ Some (map (sym_of (λ s. s)) symbols)) where
+  abbrev numbered : List Sym
+  numbered = map (sym_of {S = ℕ} (λ s. s)) symbols
+
+  held : numbered ≡ (nth_production (core g) step.production).symbols
+  held = sym (symbols_read g step.production (subst (λ n. step.production < n) (length-map g.productions production_core) there) numbered
+      (subst (λ p. production_part (λ production. production.symbols) g p ≡ Some numbered) same read))
+
+  pub front_shown : (front : List (Symbol ℕ)) → front ≡ take step.place symbols → map (sym_of (λ s. s)) front ≡ take step.place (nth_production (core g) step.production).symbols
+  front_shown front is =
+      ap (map (sym_of {S = ℕ} (λ s. s))) is ∙ sym (take-map (sym_of {S = ℕ} (λ s. s)) step.place symbols) ∙ ap (take step.place) held
+
+  pub back_shown : (back : List (Symbol ℕ)) → back ≡ drop step.place symbols
+      → map (sym_of (λ s. s)) (take (length back - 1) (drop 1 back)) ≡ drop (step.place + 1) (nth_production (core g) step.production).symbols
+  back_shown back is =
+      let rest : take (length back - 1) (drop 1 back) ≡ drop 1 back = take_all (length back - 1) (drop 1 back) (omega (arith, length-drop 1 back)) in
+      ap (map (sym_of {S = ℕ} (λ s. s))) (rest ∙ ap (drop 1) is ∙ drop-drop 1 step.place symbols)
+      ∙ sym (drop-map (sym_of {S = ℕ} (λ s. s)) (step.place + 1) symbols) ∙ ap (drop (step.place + 1)) held
+
+quote : (name rest : List ℕ) → (codes "Rule '" ++ (name ++ (codes "' derives itself: " ++ name))) ++ rest
+    ≡ codes "Rule " ++ ((codes "'" ++ (name ++ codes "'")) ++ (codes " derives itself: " ++ (name ++ rest)))
+quote name rest = simp append_assoc
+
+pub heir_told : (g : Numbered) (stored rule : ℕ) → stored ≡ rule → (name : List ℕ) → rule_part (λ rule. rule.name) g stored ≡ Some name
+    → (span : Span) → rule_part (λ rule. rule.span) g stored ≡ Some span → (row : List Step) (begun text : List ℕ)
+    → begun ≡ codes "Rule '" ++ (name ++ (codes "' derives itself: " ++ name)) → text ≡ begun ++ flat_map (step_text g) row
+    → (finding : ShownFinding) → finding ≡ record { kind = DerivesItself; spans = span ∷ []; text = text } → finding ≡ derives_itself g rule row
+heir_told g stored rule same name named span placed row begun text first written finding is =
+    let called : rule_name g rule ≡ name = ap (rule_name g) (sym same) ∙ rule_named g stored name named in
+    let there : rule_span g rule ≡ span = ap (rule_span g) (sym same) ∙ ap (λ o. unwrap_or o nowhere) placed in
+    let told = written ∙ ap (λ t. t ++ flat_map (step_text g) row) first ∙ quote name (flat_map (step_text g) row) in
+    is ∙ (λ i. record { kind = DerivesItself; spans = sym there i ∷ []; text = told i })
+    ∙ (λ i. record {
+      kind = DerivesItself;
+      spans = rule_span g rule ∷ [];
+      text = codes "Rule " ++ ((codes "'" ++ (sym called i ++ codes "'")) ++ (codes " derives itself: " ++ (sym called i ++ flat_map (step_text g) row)));
+    })

@@ -1,0 +1,29 @@
+use Rattle.std.proofs.Common.{◌≤◌, All, None, Some, sym, subst}
+use Rattle.cfgnumbers.specs.Numbered.{core}
+use Rattle.loops.specs.Rows.{IsShortestLoop}
+use Rattle.loops.specs.Steps.{IsStep}
+use Rattle.cfglint.specs.Findings.{TellsLoop}
+use Rattle.cfglint.specs.Inner.OwnHeirs.{IsSomeStep}
+use Rattle.cfglint.proofs.OwnLoops.{found_at, steps_of_row, tells_loop, tells_none}
+use Rattle.cfglint.proofs.own_heirs.OwnHeirsTeller.tell.Goals as goal
+
+pub own_heir-requires-clause-steps : goal.own_heir-requires-clause-steps
+own_heir-requires-clause-steps c =
+    let g = c.self.inside.grammar.now in
+    let found = found_at g _ c.self.view_is _ c.self.invariant c.args.number c.requires _ (Some c.in-Some.row) c.index.ensures c.in-Some.is in
+    subst (All (IsSomeStep g)) (sym c.deref.ensures.value) (steps_of_row g c.args.number c.in-Some.row.items c.args.number found.itself.leads)
+
+pub returns-in_ok-own_heir-in-Some : goal.returns-in_ok-own_heir-in-Some
+returns-in_ok-own_heir-in-Some c =
+    let g = c.self.inside.grammar.now in
+    let found = found_at g _ c.self.view_is _ c.self.invariant c.args.number c.requires _ (Some c.in-Some.row) c.index.ensures c.in-Some.is in
+    let shortest = subst (IsShortestLoop (IsStep (core g)) c.args.number) (sym c.deref.ensures.value) found in
+    let ours = subst (λ n. n ≤ c.args.number) c.rules_added.ensures c.if-number-rules_added.false in
+    subst (λ g. TellsLoop g c.args.number (Some c.in_ok-own_heir-in-Some.field-0)) c.self.view_is
+    (tells_loop c.loops_are_derivations.ensures g c.args.number ours c.deref.result.now shortest _ c.in_ok-own_heir-in-Some.ensures)
+
+pub returns-in-None : goal.returns-in-None
+returns-in-None c =
+    let g = c.self.inside.grammar.now in
+    let found = found_at g _ c.self.view_is _ c.self.invariant c.args.number c.requires _ None c.index.ensures c.in-None.is in
+    subst (λ g. TellsLoop g c.args.number None) c.self.view_is (tells_none c.loops_are_derivations.ensures g c.args.number found)

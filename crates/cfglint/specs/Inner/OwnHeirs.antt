@@ -1,0 +1,16 @@
+-- Rules that derive themselves, and their loops.
+use Rattle.std.specs.Prelude.{◌≡◌, ℕ, ◌<◌, List, Option, None, Vec, get_or, length}
+use Rattle.std.specs.Global.{Global}
+use Rattle.cfgnumbers.specs.Numbered.{Numbered, core}
+use Rattle.loops.specs.Rows.{IsShortestOf}
+use Rattle.loops.specs.Steps.{IsStep}
+use Rattle.loops.specs.declared.rows.Step.{Step}
+
+-- for each rule a shortest loop, or none where it has no loop
+pub record AreLoops (g : Numbered) (found : List (Option (Vec Step Global))) : Type 0 where
+  pub rules : length found ≡ length g.rules
+  pub each : (rule : ℕ) → rule < length g.rules → IsShortestOf (IsStep (core g)) rule (get_or found rule None)
+
+-- the step is one of some rule
+abbrev pub IsSomeStep : Numbered → Step → Type 0
+IsSomeStep g step = (rule : ℕ) × IsStep (core g) rule step

@@ -1,0 +1,131 @@
+//! Rules from which each row of steps ends, so that they have no loop.
+
+ghost use Rattle.std.specs.Prelude.{◌≡◌, ℕ, ◌<◌, ◌≤◌, ◌⊎◌, Contains, false, get_or, length, replicate, IfOk, OnOk};
+ghost use Rattle.loops.specs.Lists.{AreWithin, HasStep};
+ghost use Rattle.loops.specs.Inner.Acyclic.{AreVisits, Ends, IsKnown, IsVisit, left_to_visit};
+
+use crate::rows::Step;
+use crate::steps::Steps;
+use std::alloc::{AllocError, Global};
+
+/// For each rule whether it is known that each row of steps from it ends. The search in depth finds it of all rules but
+/// those from which a row of steps comes to a loop, and looks at each step two or three times.
+///
+/// # Errors
+///
+/// Want of memory.
+pub(crate) fn acyclic_rules(alloc: Global, steps: &Steps) -> Result<Vec<bool>, AllocError>
+    requires { AreWithin steps.now }
+    ensures shape { IfOk result (λ known. length known.items ≡ length steps.now) }
+    ensures ends { IfOk result (λ known. (rule : ℕ) → IsKnown known.items rule → Ends (HasStep steps.now) rule) }
+{
+    let mut search = Search::new(alloc, steps.len())?;
+    let mut visits = all_rules(alloc, steps.len())?;
+    while let Some(visit) = visits.pop() {
+        search.visit(steps, visit, &mut visits)?;
+    }
+    Ok(search.ends)
+}
+
+/// A rule to be looked at. Its steps before this place lead to rules that are known to end.
+#[derive(Clone, Copy)]
+pub(crate) struct Visit {
+    rule: usize,
+    place: usize,
+}
+
+/// A visit to each rule, from its first step on.
+fn all_rules(alloc: Global, rules: usize) -> Result<Vec<Visit>, AllocError>
+    ensures { IfOk result (λ visits. (visit : _) → Contains visits.items visit → (visit.rule < rules) × (visit.place ≡ 0)) }
+{
+    let mut visits = Vec::new(alloc);
+    for rule in 0..rules {
+        visits.push(Visit { rule, place: 0 })?;
+    }
+    Ok(visits)
+}
+
+/// What a search in depth knows of rules.
+#[derive(Drop)]
+struct Search {
+    /// The rule is known to end.
+    ends: Vec<bool>,
+    /// A step led to the rule.
+    met: Vec<bool>,
+}
+
+impl Search {
+    /// Nothing is known of so many rules.
+    fn new(alloc: Global, rules: usize) -> Result<Self, AllocError>
+        ensures ends { IfOk result (λ x. x.ends.items ≡ replicate rules false) }
+        ensures met { IfOk result (λ x. x.met.items ≡ replicate rules false) }
+    {
+        let ends = vec![in alloc; false; rules]?;
+        let met = vec![in alloc; false; rules]?;
+        Ok(Search { ends, met })
+    }
+
+    /// Goes along the rule's steps as far as they lead to rules that are known to end. If all do, so does the rule. Else
+    /// the next one leads to a rule that is visited first, unless it was met before.
+    fn visit(
+        &mut self,
+        steps: &Steps,
+        visit: Visit,
+        visits: &mut Vec<Visit>,
+    ) -> Result<(), AllocError>
+        requires within { AreWithin steps.now }
+        requires visits { AreVisits steps.now self.old.ends.items self.old.met.items visits.old.items }
+        requires visit { IsVisit steps.now self.old.ends.items visit }
+        ensures visits { OnOk result (AreVisits steps.now self.new.ends.items self.new.met.items visits.new.items) }
+        ensures fewer { OnOk result (left_to_visit self.new.met.items visits.new.items
+            ≤ left_to_visit self.old.met.items visits.old.items) }
+    {
+        let row = steps.of(visit.rule);
+        let place = self.first_open(row, visit.place);
+        let Some(step) = row.get(place) else {
+            self.ends[visit.rule] = true;
+            return Ok(());
+        };
+        self.visit_first(step.rule, Visit { place, ..visit }, visits)
+    }
+
+    /// Puts the visit behind the others, and behind it one to the next rule, which so is looked at first; or neither, if
+    /// that rule was met before.
+    fn visit_first(
+        &mut self,
+        next: usize,
+        visit: Visit,
+        visits: &mut Vec<Visit>,
+    ) -> Result<(), AllocError>
+        requires { next < length self.old.met.items }
+        ensures ends { self.new.ends.items ≡ self.old.ends.items }
+        ensures shape { length self.new.met.items ≡ length self.old.met.items }
+        ensures visits { OnOk result ((other : _) → Contains visits.new.items other
+            → Contains visits.old.items other ⊎ (other ≡ visit) ⊎ ((other.rule ≡ next) × (other.place ≡ 0))) }
+        ensures fewer { OnOk result (left_to_visit self.new.met.items visits.new.items
+            ≤ left_to_visit self.old.met.items visits.old.items) }
+    {
+        if !self.met[next] {
+            self.met[next] = true;
+            visits.push(visit)?;
+            visits.push(Visit {
+                rule: next,
+                place: 0,
+            })?;
+        }
+        Ok(())
+    }
+
+    /// The first place from this one on whose step leads to a rule that isn't known to end, or past the last.
+    fn first_open(&self, row: &[Step], place: usize) -> usize
+        requires { (step : _) → Contains row.now step → step.rule < length self.now.ends.items }
+        ensures { (k : ℕ) (step : _) → place ≤ k → k < result → k < length row.now → get_or row.now k step ≡ step
+            → IsKnown self.now.ends.items step.rule }
+    {
+        let mut reached = place;
+        while reached < row.len() && self.ends[row[reached].rule] {
+            reached += 1;
+        }
+        reached
+    }
+}
