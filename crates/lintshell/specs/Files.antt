@@ -23,7 +23,7 @@ module _ (Tells : Option KindArg → List ℕ → List ℕ → Told → Type 0) 
   -- From a source and a tally, files one after the other lead to a source and a tally.
   pub data Lints {S : Type 0} (Fetches : S → List ℕ → Input → S → Type 0) : S → Tally → List (List ℕ) → S → Tally → Type 0 where
     none : {source : S} {tally : Tally} → Lints Fetches source tally [] source tally
-    next : {source between after : S} {tally last : Tally} {file : List ℕ} {files : List (List ℕ)} {answer : Input} {fate : Fate}
+    next : {source between after : S} {tally last : Tally} {file : List ℕ} {files : List (List ℕ)} {answer : Input} (fate : Fate)
         → Fetches source file answer between → IsFate file answer fate
         → Lints Fetches between (with_file file fate tally) files after last
         → Lints Fetches source tally (file ∷ files) after last
