@@ -62,7 +62,7 @@ impl From<ReportFault> for RunFault<'_> {
 
 /// Why there are no words to run on.
 #[derive(Clone, Copy, Debug, PartialEq, Eq)]
-pub(crate) enum WordsFault {
+pub enum WordsFault {
     /// One of them is not UTF-8.
     NotUtf8,
     /// No memory was left for them.

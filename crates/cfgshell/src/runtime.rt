@@ -50,7 +50,11 @@ fn run_on_words<R: Env + Files + Input + Print + Eprint + AllocGlobal, P: Report
 }
 
 /// The words behind the program's name.
-fn words<R: Env + AllocGlobal>(rt: &R) -> Result<Vec<String>, WordsFault> {
+///
+/// # Errors
+///
+/// One that is not UTF-8, or want of memory.
+pub fn words<R: Env + AllocGlobal>(rt: &R) -> Result<Vec<String>, WordsFault> {
     match env::args(rt) {
         Ok(words) => Ok(words.skip(1).collect(rt.alloc())?),
         Err(error) if error.kind() == io::ErrorKind::OutOfMemory => Err(WordsFault::OutOfMemory),
@@ -60,8 +64,9 @@ fn words<R: Env + AllocGlobal>(rt: &R) -> Result<Vec<String>, WordsFault> {
 
 /// The files of a runtime, and its standard input under the name `-`.
 #[derive(Drop)]
-struct SystemFiles<'a, R> {
-    rt: &'a R,
+pub struct SystemFiles<'a, R> {
+    /// The runtime.
+    pub rt: &'a R,
 }
 
 impl<R: Files + Input + AllocGlobal> Source for SystemFiles<'_, R> {
@@ -87,8 +92,9 @@ impl<R: Files + Input + AllocGlobal> Source for SystemFiles<'_, R> {
 
 /// Standard error of a runtime. It takes text alone.
 #[derive(Drop)]
-struct ErrorStream<'a, R> {
-    rt: &'a R,
+pub struct ErrorStream<'a, R> {
+    /// The runtime.
+    pub rt: &'a R,
 }
 
 impl<R: Eprint> Write for ErrorStream<'_, R> {

@@ -2,3 +2,4 @@ pub mod Words
 pub mod Tally
 pub mod Files
 pub mod Run
+pub mod Inner

@@ -34,7 +34,7 @@ asked_files wanted (file ∷ files) = Lint wanted
 
 -- What these words ask for behind those that wanted this. Behind `--kind` stands a word that names one. The first word of
 -- the two that ask for no lint, and of those that are wrong, counts.
-pub words_ask : Bool → Wanted → List (List ℕ) → Asked
+unfoldable pub words_ask : Bool → Wanted → List (List ℕ) → Asked
 words_ask true wanted [] = Wrong
 words_ask true wanted (word ∷ words) =
     option_map_or (λ kind. words_ask false (record wanted { kind = Some kind }) words) (kind_named word) Wrong

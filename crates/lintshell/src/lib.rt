@@ -1,6 +1,7 @@
 //! The shell of the program `cfglint`: its words, the files that it goes through, its summary, and how it ends.
 #![tactic(auto)]
 
+mod answer;
 mod files;
 mod linter;
 mod program;

@@ -1,10 +1,16 @@
 //! A run of the program.
 
-ghost use Rattle.std.specs.Prelude.{◌≡◌, ◌+◌, ◌-◌, ◌^◌, ◌<◌, ◌≤◌, map};
+ghost use Rattle.std.specs.Prelude.{◌≡◌, ◌+◌, ◌-◌, ◌^◌, ◌<◌, ◌≤◌, IfOk, OnErr, map};
 ghost use Rattle.cfgshell.specs.Sinks.{AppendsOrFaults};
-ghost use Rattle.lintshell.specs.Run.{Ending, Handles, ending_errors, ending_faults, ending_status};
+ghost use Rattle.lintshell.specs.Inner.{AsksFirst, wanted_view};
+ghost use Rattle.lintshell.specs.Run.{Answers, Ending, Handles, IsCutOff, ending_errors, ending_faults, ending_status};
+ghost use Rattle.lintshell.specs.Words.{asked};
+ghost use Rattle.lintshell.specs.Words as words;
 
+use crate::answer::{Answer, tell};
+use crate::files::lint_files;
 use crate::linter::Linter;
+use crate::words::{Asked, HELP, VERSION, Wanted, asked_by};
 use cfgshell::sink::{Sink, write_whole};
 use cfgshell::source::Source;
 use std::alloc::{AllocError, Global};
@@ -31,10 +37,53 @@ pub fn lint<L: Linter, S: Source, O: Sink, E: Sink>(
         (E.faults_counted err.old) (E.faults_counted err.new) (ending_errors ending) }
 {
     match answered(alloc, linter, args, source) {
-        Ok(answer) => told(&answer, out, err),
+        Ok(answer) => tell(&answer, out, err),
         Err(AllocError) => {
             let _ = write_whole(err, b"cfglint: out of memory\n");
             3
         }
     }
+}
+
+/// The answer to the words.
+///
+/// # Errors
+///
+/// Want of memory.
+fn answered<L: Linter, S: Source>(
+    alloc: Global,
+    linter: &L,
+    args: &[&str],
+    source: &mut S,
+) -> Result<Answer, AllocError>
+    ensures ok { IfOk result (λ answer. Answers L.tells S.fetches source.old source.new
+        (asked (map (λ word. word.now) args.now)) answer) }
+    ensures err { OnErr result (IsCutOff L.tells S.fetches source.old source.new
+        (map (λ word. word.now) args.now)) }
+{
+    match asked_by(alloc, args)? {
+        Asked::Help => Answer::written(alloc, HELP),
+        Asked::Version => Answer::written(alloc, VERSION),
+        Asked::Wrong => Answer::refused(alloc),
+        Asked::Lint(wanted) => linted(alloc, linter, &wanted, source),
+    }
+}
+
+/// The answer to words that ask for files.
+///
+/// # Errors
+///
+/// Want of memory; `source` was then asked for the first of the files alone.
+fn linted<L: Linter, S: Source>(
+    alloc: Global,
+    linter: &L,
+    wanted: &Wanted<'_>,
+    source: &mut S,
+) -> Result<Answer, AllocError>
+    ensures ok { IfOk result (λ answer. Answers L.tells S.fetches source.old source.new
+        (words.Lint (wanted_view wanted.now)) answer) }
+    ensures err { OnErr result (AsksFirst S.fetches source.old source.new (wanted_view wanted.now).files) }
+{
+    let tally = lint_files(alloc, linter, wanted.kind, &wanted.files, source)?;
+    Answer::of_files(alloc, tally, wanted.denies)
 }

@@ -1,7 +1,7 @@
 //! What is told of files, one after the other.
 
-ghost use Rattle.std.specs.Prelude.{◌≡◌, ◌+◌, ◌*◌, ◌^◌, ◌<◌, ◌≤◌, OnOk};
-ghost use Rattle.lintshell.specs.Tally.{Linted, NoText, Unread, no_files, status_of, with_file};
+ghost use Rattle.std.specs.Prelude.{◌≡◌, ◌-◌, ◌^◌, ◌<◌, ℕ, List, OnOk};
+ghost use Rattle.lintshell.specs.Tally.{Linted, NoText, Unread, has_findings, no_files, status_of, with_file};
 
 use crate::linter::Report;
 use std::alloc::{AllocError, Global};
@@ -18,4 +18,87 @@ pub(crate) struct Tally {
     pub(crate) errors: u128,
     pub(crate) warnings: u128,
     pub(crate) is_short: bool,
+}
+
+impl Model for Tally {
+    ghost use Rattle.std.specs.Prelude.{◌*◌, ◌^◌, ◌≤◌, string_bytes};
+    ghost use Rattle.lintshell.specs.Tally as told;
+
+    ghost Value = { told.Tally };
+
+    ghost view = { λ x. record {
+      lines = string_bytes x.lines;
+      faults = string_bytes x.faults;
+      texts = x.texts;
+      taken = x.taken;
+      errors = x.errors;
+      warnings = x.warnings;
+      is_short = x.is_short;
+    } };
+
+    ghost invariant = { λ x. (x.taken ≤ x.texts) × (x.errors ≤ x.texts * 2 ^ 64) × (x.warnings ≤ x.texts * 2 ^ 64) };
+}
+
+impl Tally {
+    /// Before the first file.
+    pub(crate) fn new(alloc: Global) -> Self
+        ensures { result ≡ no_files }
+    {
+        Tally {
+            lines: String::new(alloc),
+            faults: String::new(alloc),
+            texts: 0,
+            taken: 0,
+            errors: 0,
+            warnings: 0,
+            is_short: false,
+        }
+    }
+
+    /// Adds a file of whose text this is told.
+    pub(crate) fn add_report(&mut self, report: &Report) -> Result<(), AllocError>
+        requires { self.old.texts < 2 ^ 64 - 1 }
+        ensures { OnOk result ((file : List ℕ) → self.new ≡ with_file file (Linted report.now) self.old) }
+    {
+        self.lines.push_str(&report.lines)?;
+        self.texts += 1;
+        self.taken += u64::from(report.is_taken);
+        self.errors += report.errors as u128;
+        self.warnings += report.warnings as u128;
+        Ok(())
+    }
+
+    /// Adds a file that could not be read.
+    pub(crate) fn add_unread(&mut self, file: &str) -> Result<(), AllocError>
+        ensures { OnOk result (self.new ≡ with_file file.now Unread self.old) }
+    {
+        self.is_short = true;
+        writeln!(self.faults, "cfglint: cannot read {file}")
+    }
+
+    /// Adds a file that is no text.
+    pub(crate) fn add_no_text(&mut self, file: &str) -> Result<(), AllocError>
+        ensures { OnOk result (self.new ≡ with_file file.now NoText self.old) }
+    {
+        self.is_short = true;
+        writeln!(self.faults, "cfglint: {file} is not UTF-8")
+    }
+
+    /// The status that the program ends with, where warnings are denied or not.
+    pub(crate) fn status(&self, denies: bool) -> u8
+        ensures { result ≡ status_of denies self.now }
+    {
+        if self.is_short {
+            2
+        } else {
+            u8::from(self.has_findings(denies))
+        }
+    }
+
+    /// Whether something was found that counts.
+    fn has_findings(&self, denies: bool) -> bool
+        ensures { result ≡ has_findings denies self.now }
+    {
+        self.errors > 0 || (denies && self.warnings > 0)
+    }
 }

@@ -1,7 +1,8 @@
-//! What the words of the program ask for.
+//! What the words of the program ask for, and what it says of itself.
 
 ghost use Rattle.std.specs.Prelude.{◌≡◌, IfOk, map};
-ghost use Rattle.lintshell.specs.Words.{asked, asked_view, is_option};
+ghost use Rattle.lintshell.specs.Inner.{asked_view};
+ghost use Rattle.lintshell.specs.Words.{asked, is_option};
 
 use cfgshell::KindArg;
 use cfgshell::words::kind_of;
@@ -14,7 +15,22 @@ pub(crate) const USAGE: &str = "usage: cfglint [--kind KIND] [--deny-warnings] F
 pub(crate) const VERSION: &str = "cfglint 0.15.0\n";
 
 /// What it says to `--help`.
-pub(crate) const HELP: &str = "cfglint tells what is wrong with Yacc grammar files, and what is odd about them.\n\nusage: cfglint [--kind KIND] [--deny-warnings] FILE..\n";
+pub(crate) const HELP: &str =
+    "cfglint tells what is wrong with Yacc grammar files, and what is odd about them.
+
+usage: cfglint [--kind KIND] [--deny-warnings] FILE..
+
+  --kind KIND      original-noaction, original-useraction, original-genericparsetree, grmtools, eco or section
+                   (the kind that the file's section names). Without it the section names the kind; a file that
+                   names none is read as original-noaction.
+  --deny-warnings  Warnings end with status 1 too.
+  --help           Writes this.
+  --version        Writes the version.
+  FILE             A path, or - for standard input.
+
+status: 0 without findings, or with warnings that aren't denied; 1 with findings; 2 where the words are wrong, a
+file can't be read or the output can't be written; 3 where there is no memory left
+";
 
 /// What the words ask for.
 #[derive(Drop)]
@@ -44,7 +60,7 @@ pub(crate) struct Wanted<'a> {
 /// # Errors
 ///
 /// Want of memory.
-pub(crate) fn asked<'a>(alloc: Global, words: &[&'a str]) -> Result<Asked<'a>, AllocError>
+pub(crate) fn asked_by<'a>(alloc: Global, words: &[&'a str]) -> Result<Asked<'a>, AllocError>
     ensures { IfOk result (λ x. asked_view x ≡ asked (map (λ word. word.now) words.now)) }
 {
     let mut wanted = Wanted {
@@ -52,32 +68,26 @@ pub(crate) fn asked<'a>(alloc: Global, words: &[&'a str]) -> Result<Asked<'a>, A
         denies: false,
         files: Vec::new(alloc),
     };
-    let mut left = words;
-    while let [word, more @ ..] = left {
-        left = more;
+    let mut awaits_kind = false;
+    for word in words {
+        if awaits_kind {
+            let Some(kind) = kind_of(word) else {
+                return Ok(Asked::Wrong);
+            };
+            wanted.kind = Some(kind);
+            awaits_kind = false;
+            continue;
+        }
         match *word {
             "--help" => return Ok(Asked::Help),
             "--version" => return Ok(Asked::Version),
             "--deny-warnings" => wanted.denies = true,
-            "--kind" => {
-                let [kind, more @ ..] = more else {
-                    return Ok(Asked::Wrong);
-                };
-                let Some(kind) = kind_of(kind) else {
-                    return Ok(Asked::Wrong);
-                };
-                wanted.kind = Some(kind);
-                left = more;
-            }
-            file => {
-                if is_option(file) {
-                    return Ok(Asked::Wrong);
-                }
-                wanted.files.push(file)?;
-            }
+            "--kind" => awaits_kind = true,
+            file if is_option(file) => return Ok(Asked::Wrong),
+            file => wanted.files.push(file)?,
         }
     }
-    if wanted.files.is_empty() {
+    if awaits_kind || wanted.files.is_empty() {
         return Ok(Asked::Wrong);
     }
     Ok(Asked::Lint(wanted))

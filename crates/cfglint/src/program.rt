@@ -1,0 +1,34 @@
+//! A run of the program.
+
+ghost use Rattle.std.specs.Prelude.{◌≡◌, ◌+◌, ◌-◌, ◌^◌, ◌<◌, ◌≤◌, map};
+ghost use Rattle.cfgshell.specs.Sinks.{AppendsOrFaults};
+ghost use Rattle.lintshell.specs.Run.{Ending, Handles, ending_errors, ending_faults, ending_status};
+ghost use Rattle.cfglint.specs.Told.{TellsText};
+
+use crate::linter::Lints;
+use cfgshell::sink::Sink;
+use cfgshell::source::Source;
+use std::alloc::Global;
+
+/// Runs the program on the words after its name, and answers its status. What it tells of the files that the words name,
+/// and a summary, is written to `out`, and a line for each file without a text, or on what else went wrong, to `err`, as
+/// far as `err` takes it. Nothing is written before all files are read. Words that are wrong leave `source` as it was.
+pub fn lint<S: Source, O: Sink, E: Sink>(
+    alloc: Global,
+    args: &[&str],
+    source: &mut S,
+    out: &mut O,
+    err: &mut E,
+) -> u8
+    requires out_counts { O.faults_counted out.old < 2 ^ 64 - 1 }
+    requires err_counts { E.faults_counted err.old < 2 ^ 64 - 1 }
+    ensures small { result ≤ 3 }
+    ensures ends { (ending : Ending) × (result ≡ ending_status ending)
+        × Handles TellsText S.fetches source.old source.new (map (λ word. word.now) args.now)
+        (O.written out.old) (O.written out.new) ending
+        × (O.faults_counted out.new ≡ O.faults_counted out.old + ending_faults ending)
+        × AppendsOrFaults (E.written err.old) (E.written err.new)
+        (E.faults_counted err.old) (E.faults_counted err.new) (ending_errors ending) }
+{
+    lintshell::lint(alloc, &Lints, args, source, out, err)
+}

@@ -1,0 +1,3 @@
+pub mod AskedWords
+pub mod FilesInTurn
+pub mod CutOff

@@ -1,0 +1,11 @@
+-- The files so far are linted, and there are no more texts than these.
+use Rattle.std.proofs.Common.{◌≤◌, map, take}
+use Rattle.lintshell.specs.Files.{Lints}
+use Rattle.lintshell.specs.Tally.{no_files}
+use Rattle.lintshell.proofs.files.lint_files.Given as goal
+
+abbrev pub invariant-loop-file : goal.invariant-loop-file
+invariant-loop-file g l = record {
+  linted : Lints g.L.Linter.tells l.kind g.S.Source.fetches l.initial.source no_files (map (λ file. file.now) (take l.file-index l.files)) l.source l.tally;
+  few : l.tally.texts ≤ l.file-index;
+}

@@ -1,0 +1,77 @@
+//! Linting of files, one after the other.
+
+ghost use Rattle.std.specs.Prelude.{◌≡◌, ◌++◌, ◌-◌, ◌^◌, ◌<◌, ℕ, List, IfOk, OnErr, OnOk, map};
+ghost use Rattle.cfgshell.specs.declared.source.Input.{Input};
+ghost use Rattle.lintshell.specs.Files.{IsFate, IsTold, Lints};
+ghost use Rattle.lintshell.specs.Inner.{AsksFirst};
+ghost use Rattle.lintshell.specs.Tally.{Fate, no_files, with_file};
+
+use crate::linter::Linter;
+use crate::tally::Tally;
+use cfgshell::KindArg;
+use cfgshell::source::{Input, Source};
+use std::alloc::{AllocError, Global};
+
+/// What is told of files, one after the other, as files of the kind; where there is none, each as one of the kind that
+/// it names.
+///
+/// # Errors
+///
+/// Want of memory; `source` was then asked for the first of the files alone.
+pub(crate) fn lint_files<L: Linter, S: Source>(
+    alloc: Global,
+    linter: &L,
+    kind: Option<KindArg>,
+    files: &[&str],
+    source: &mut S,
+) -> Result<Tally, AllocError>
+    ensures ok { IfOk result (λ tally. Lints L.tells kind S.fetches source.old no_files
+        (map (λ file. file.now) files.now) source.new tally) }
+    ensures err { OnErr result (AsksFirst S.fetches source.old source.new (map (λ file. file.now) files.now)) }
+{
+    let mut tally = Tally::new(alloc);
+    for file in files {
+        lint_file(alloc, linter, kind, file, source, &mut tally)?;
+    }
+    Ok(tally)
+}
+
+/// Adds what is told of a file.
+fn lint_file<L: Linter, S: Source>(
+    alloc: Global,
+    linter: &L,
+    kind: Option<KindArg>,
+    file: &str,
+    source: &mut S,
+    tally: &mut Tally,
+) -> Result<(), AllocError>
+    requires { tally.old.texts < 2 ^ 64 - 1 }
+    ensures ok { OnOk result ((answer : Input) × (fate : Fate) × S.fetches source.old file.now answer source.new
+        × IsFate L.tells kind file.now answer fate × (tally.new ≡ with_file file.now fate tally.old)) }
+    ensures err { OnErr result ((answer : Input) × S.fetches source.old file.now answer source.new) }
+{
+    match source.fetch(file) {
+        Input::Bytes(bytes) => lint_bytes(alloc, linter, kind, file, &bytes, tally),
+        Input::Unreadable => tally.add_unread(file),
+        Input::OutOfMemory => Err(AllocError),
+    }
+}
+
+/// Adds what is told of the bytes of a file.
+fn lint_bytes<L: Linter>(
+    alloc: Global,
+    linter: &L,
+    kind: Option<KindArg>,
+    file: &str,
+    bytes: &[u8],
+    tally: &mut Tally,
+) -> Result<(), AllocError>
+    requires { tally.old.texts < 2 ^ 64 - 1 }
+    ensures { OnOk result ((fate : Fate) × IsTold L.tells kind file.now bytes.now fate
+        × (tally.new ≡ with_file file.now fate tally.old)) }
+{
+    match std::str::from_utf8(bytes) {
+        Ok(text) => tally.add_report(&linter.lint(alloc, kind, file, text)?),
+        Err(_) => tally.add_no_text(file),
+    }
+}
