@@ -1,9 +1,9 @@
 //! What is odd about a grammar.
 
+use cfglint::findings;
 use cfgrammar::render_all;
 use cfgrammar::yacc::YaccGrammar;
 use cfgrammar::yacc::ast::GrammarAST;
-use cfglint::findings;
 use std::alloc::{AllocError, Global};
 
 /// What is odd about the grammar of a text, which is this tree and these numbers, as people read it; empty where nothing is.
