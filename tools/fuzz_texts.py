@@ -37,7 +37,13 @@ class Texts:
         self.random, self.found, self.names = random, found, 'A'
 
     def make(self):
-        """A row's type, its kind, and its text."""
+        """A row's type, its kind, and its text. Of some texts it is told what cfglint says, where there need be no kind."""
+        ty, kind, text = self.made()
+        if ty == 'row' and self.random.random() < 0.25:
+            return 'lint', self.random.choice((kind, '')), text
+        return ty, kind, text
+
+    def made(self):
         pick = self.random.random()
         if pick < 0.4:
             ty, kind, text = max(self.random.choices(self.found, k=2), key=lambda it: len(it[2]))

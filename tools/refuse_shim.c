@@ -27,7 +27,7 @@ enum { TOLD = 41, UNNEEDED = 42, WRONG = 43 };
 
 void *__libc_malloc(size_t), *__libc_realloc(void *, size_t), *__libc_calloc(size_t, size_t), *__libc_memalign(size_t, size_t);
 
-static const char WANT[] = "out of memory\n", WANT_OF_PROGRAM[] = "cfgtool: out of memory\n", WITHOUT[] = "\nwithout memory\n";
+static const char WANT[] = "out of memory\n", WITHOUT[] = "\nwithout memory\n";
 
 /* Of a row: its requests, the bytes of its answers, how long it takes, and that each stride-th request is refused; where rows
    are counted, in place of that the requests behind the line `without memory`, or -1 where there is no such line. */
@@ -117,10 +117,16 @@ static int judge_row(void)
     return TOLD;
 }
 
+/* Whether a program said that memory ended, and nothing else. */
+static int wants_memory(void)
+{
+    return is_text(taken_errors, taken_errors_len, "cfgtool: out of memory\n") || is_text(taken_errors, taken_errors_len, "cfglint: out of memory\n");
+}
+
 /* How a run of a program ended: with want of memory and nothing on standard output, or as ever. */
 static int judge_program(int status)
 {
-    if (status == 3 && !taken_len && is_text(taken_errors, taken_errors_len, WANT_OF_PROGRAM)) return TOLD;
+    if (status == 3 && !taken_len && wants_memory()) return TOLD;
     if (status == wanted_status && !taken_errors_len && taken_len == answers_len && !memcmp(taken, answers, answers_len)) return UNNEEDED;
     char why[64];
     snprintf(why, sizeof why, "status %d, %zu bytes on standard output", status, taken_len);

@@ -37,8 +37,8 @@ impl Answers for All {
             "errors" => kinds::tell(out, row, text),
             "tree" => written::tell(out, row, text),
             "report" => reports::tell(out, row, text),
-            "run" => runs::tell(out, row, text),
-            "program" => programs::tell(out, rt, row, text),
+            "run" | "lint" => runs::tell(out, row, text),
+            "program" | "lint-program" => programs::tell(out, rt, row, text),
             "guide" => guide(out, row.name, text),
             _ => writeln!(out, "no such row: {}", row.tries),
         }

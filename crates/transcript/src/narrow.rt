@@ -62,7 +62,8 @@ impl Narrow {
     /// Whether memory ended for a run with this status, of which this is the output: then nothing is written here, and
     /// the other one says so. Nothing is told by that where the input is one for which memory ended.
     pub(crate) fn is_wanted(&self, status: u8, errors: &Narrow, is_input: bool) -> bool {
-        let says_so = b"cfgtool: out of memory\n".starts_with(errors.bytes());
+        let says_so = b"cfgtool: out of memory\n".starts_with(errors.bytes())
+            || b"cfglint: out of memory\n".starts_with(errors.bytes());
         let is_told = status == 3 && says_so && self.taken.is_empty();
         self.wants_memory || errors.wants_memory || (is_told && !is_input)
     }

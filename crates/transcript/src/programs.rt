@@ -1,10 +1,9 @@
-//! Rows on runs of the program over a runtime, as its `main` runs it.
+//! Rows on runs of the two programs over a runtime, as their `main`s run them.
 
 use crate::desk::Desk;
 use crate::given::Given;
 use crate::narrow::Narrow;
-use crate::runs::write_bytes;
-use cfgtool::run_over;
+use crate::runs::{program_of, write_bytes};
 use rows::page::Page;
 use rows::row::Row;
 use std::alloc::{AllocError, Global};
@@ -12,7 +11,7 @@ use std::cell::{Cell, RefCell};
 use std::io::ErrorKind;
 use std::rt::Files;
 
-/// Runs the program over a runtime that has the row's words, its text as standard input, and the files of the folder,
+/// Runs the row's program over a runtime that has the row's words, its text as standard input, and the files of the folder,
 /// and writes the status, what was written to the two outputs, and what was read.
 pub(crate) fn tell<R: Files + AllocGlobal>(out: &mut Page, rt: &R, row: &Row<'_>, text: &str) {
     let given = row.first("words").unwrap_or("");
@@ -28,18 +27,21 @@ pub(crate) fn tell<R: Files + AllocGlobal>(out: &mut Page, rt: &R, row: &Row<'_>
         opened: RefCell::new(String::new(out.alloc)),
         readers: Cell::new(0),
     };
-    let ended = run_over(&desk);
-    if desk.is_wanted(row, ended.status()) {
+    let status = match row.tries {
+        "lint-program" => cfglint::run_over(&desk).status(),
+        _ => cfgtool::run_over(&desk).status(),
+    };
+    if desk.is_wanted(row, status) {
         return out.tear();
     }
-    writeln!(out, "cfgtool {given}");
-    writeln!(out, "status {}", ended.status());
+    writeln!(out, "{} {given}", program_of(row));
+    writeln!(out, "status {status}");
     write_taken(out, "output", &desk.output);
     write_taken(out, "errors", &desk.errors);
     write_read(out, &desk);
 }
 
-/// The program's name, and the words. In a word � stands for a byte that is no UTF-8.
+/// A program's name, which neither asks for, and the words. In a word � stands for a byte that is no UTF-8.
 fn words_of(alloc: Global, given: &str) -> Result<Vec<Vec<u8>>, AllocError> {
     let mut words = Vec::new(alloc);
     words.push(b"cfgtool".to_vec(alloc)?)?;

@@ -1,7 +1,8 @@
-//! Rows on runs of the program.
+//! Rows on runs of the two programs.
 
 use crate::narrow::Narrow;
 use crate::rooms::{Run, write_rooms};
+use cfglint::lint;
 use cfgtool::{Counted, Input, Sink, Source, run};
 use rows::page::Page;
 use rows::row::Row;
@@ -24,7 +25,7 @@ impl Source for TwoFiles {
     }
 }
 
-/// Runs the program on the row's words, where its file holds the text or what the row says in place of it, and writes
+/// Runs the row's program on its words, where its file holds the text or what the row says in place of it, and writes
 /// the status, what was written to the two outputs, and how many faults these had.
 pub(crate) fn tell(out: &mut Page, row: &Row<'_>, text: &str) {
     let words = row.first("words").unwrap_or("");
@@ -33,11 +34,19 @@ pub(crate) fn tell(out: &mut Page, row: &Row<'_>, text: &str) {
     let Ok(status) = run_over(out.alloc, row, text, &mut output, &mut errors) else {
         return out.tear();
     };
-    writeln!(out, "cfgtool {words}");
+    writeln!(out, "{} {words}", program_of(row));
     writeln!(out, "status {status}");
     write_taken(out, "output", &output);
     write_taken(out, "errors", &errors);
     write_asked_rooms(out, row, text, (output.bytes(), errors.bytes()))
+}
+
+/// The program that a row runs.
+pub(crate) fn program_of(row: &Row<'_>) -> &'static str {
+    match row.tries {
+        "lint" | "lint-program" => "cfglint",
+        _ => "cfgtool",
+    }
 }
 
 /// Writes how the program ends on outputs of every room, where the row asks for one of the two.
@@ -101,7 +110,10 @@ fn run_over(
     let mut source = TwoFiles { first, second };
     let mut to_output = Counted::new(&mut *output);
     let mut to_errors = Counted::new(&mut *errors);
-    let status = run(alloc, &args, &mut source, &mut to_output, &mut to_errors);
+    let status = match row.tries {
+        "lint" => lint(alloc, &args, &mut source, &mut to_output, &mut to_errors),
+        _ => run(alloc, &args, &mut source, &mut to_output, &mut to_errors),
+    };
     let (faults, more_faults) = (to_output.faults(), to_errors.faults());
     output.faults = faults;
     errors.faults = more_faults;
@@ -121,7 +133,7 @@ fn input(alloc: Global, row: &Row<'_>, text: &str) -> Result<Input, AllocError> 
     })
 }
 
-/// What the second file holds, where the row says that: a lexer's names.
+/// What the second file holds, where the row says that: a lexer's names, or a grammar.
 fn second_input(alloc: Global, row: &Row<'_>) -> Result<Option<Input>, AllocError> {
     match row.first("names") {
         Some(line) => {

@@ -1,11 +1,13 @@
 //! What these callers answer of a text, by their names.
 
 use crate::errors::show_errors;
+use crate::findings::show_findings;
 use crate::productions::print_productions;
 use crate::repairs::print_repairs;
 use crate::sections::print_indent;
 use crate::tables::print_table;
 use cfgrammar::header::HeaderFault;
+use cfgrammar::yacc::ast::ASTWithValidityInfo;
 use cfgrammar::yacc::{YaccFault, YaccGrammar, YaccKind, YaccOriginalActionKind};
 use lending::lend;
 use std::alloc::{AllocError, Global};
@@ -28,10 +30,23 @@ fn answer(alloc: Global, call: &str, text: &str) -> Result<String, YaccFault> {
     match call {
         "show_errors" => Ok(show_errors(alloc, "list.y", text)?),
         "print_indent" => Ok(indent(alloc, text)?),
+        "show_findings" => shown_findings(alloc, kind, text),
         _ => lend(YaccGrammar::<u32>::new(alloc, kind, text), |grammar| {
             Ok(answer_of(alloc, call, grammar)?)
         }),
     }
+}
+
+/// The function that reads the text owns its tree, and another one its numbers.
+fn shown_findings(alloc: Global, kind: YaccKind, text: &str) -> Result<String, YaccFault> {
+    let parsed = ASTWithValidityInfo::new(alloc, kind, text)?;
+    lend(
+        YaccGrammar::<u32>::new_from_ast_with_validity_info(alloc, &parsed),
+        |grammar| {
+            let made = (parsed.ast(), grammar);
+            Ok(show_findings(alloc, "list.y", text, made)?)
+        },
+    )
 }
 
 fn indent(alloc: Global, text: &str) -> Result<String, AllocError> {

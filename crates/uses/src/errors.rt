@@ -1,6 +1,6 @@
 //! What is wrong with a text.
 
-use cfgrammar::render;
+use cfgrammar::render_all;
 use cfgrammar::yacc::{YaccFault, YaccGrammar, YaccKind, YaccOriginalActionKind};
 use std::alloc::{AllocError, Global};
 
@@ -11,14 +11,9 @@ use std::alloc::{AllocError, Global};
 /// Want of memory.
 pub fn show_errors(alloc: Global, name: &str, text: &str) -> Result<String, AllocError> {
     let kind = YaccKind::Original(YaccOriginalActionKind::GenericParseTree);
-    let errors = match YaccGrammar::<u32>::new(alloc, kind, text) {
-        Ok(_) => return Ok(String::new(alloc)),
-        Err(YaccFault::OutOfMemory) => return Err(AllocError),
-        Err(YaccFault::Errors(errors)) => errors,
-    };
-    let mut shown = String::new(alloc);
-    for error in &errors {
-        shown.push_str(&render(alloc, name, text, error)?)?;
+    match YaccGrammar::<u32>::new(alloc, kind, text) {
+        Ok(_) => Ok(String::new(alloc)),
+        Err(YaccFault::OutOfMemory) => Err(AllocError),
+        Err(YaccFault::Errors(errors)) => render_all(alloc, name, text, &errors),
     }
-    Ok(shown)
 }

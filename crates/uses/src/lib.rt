@@ -3,6 +3,7 @@
 
 pub mod answers;
 mod errors;
+mod findings;
 mod productions;
 mod repairs;
 mod sections;

@@ -1,0 +1,26 @@
+// Searches in an archive: words and phrases, joined by operators. It has two mistakes, of which cfglint tells.
+
+%token WORD PHRASE
+
+%left "or"
+%left "and"
+%right "NOT"
+
+%%
+
+Search: Terms ;
+
+// Terms that stand side by side have to be found together.
+Terms:
+    Term
+  | Terms Term
+  ;
+
+Term:
+    WORD
+  | PHRASE
+  | Term "or" Term
+  | Term "and" Term
+  | "not" Term
+  | Terms
+  ;
