@@ -1,0 +1,3 @@
+pub mod NoKind
+pub mod Rendered
+pub mod TextTold
