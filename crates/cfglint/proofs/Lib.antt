@@ -1,4 +1,9 @@
+pub mod HeirTexts
 pub mod Lacking
+pub mod NoKind
+pub mod OwnLoops
 pub mod Read
+pub mod Rendered
+pub mod TextTold
 pub mod Texts
 pub mod Unusable

@@ -1,2 +1,3 @@
 -- Words of clauses inside the crate. No call that users make rests on them.
 pub mod Lacks
+pub mod OwnHeirs

@@ -1,0 +1,16 @@
+-- What is read of several, where it is known what each says.
+use Rattle.std.proofs.Common.{◌≡◌, ℕ, List, [], ◌++◌, refl, ap, ◌∙◌}
+use Rattle.std.proofs.lemmas.List.{flat_map_more}
+use Rattle.std.specs.List.{flat_map}
+use Rattle.cfgbase.specs.declared.span.Span.{Span}
+use Rattle.cfgbase.specs.declared.span.SpansKind.{SpansKind}
+use Rattle.cfgrender.specs.Render.{RendersEach, none, more, rendered}
+
+module _ {A : Type 0} (text_of : A → List ℕ) (spans : A → List Span) (kind : A → SpansKind) (name text : List ℕ) where
+  pub each_rendered : {all : List A} {out : List ℕ} → RendersEach (λ x message. message ≡ text_of x) spans kind name text all out
+      → out ≡ flat_map (λ x. rendered name text (text_of x) (spans x) (kind x)) all
+  each_rendered none = refl
+  each_rendered (more {errors = shown} {error = next} {message = message} {out = out} before prints) =
+      ap (λ lines. lines ++ rendered name text message (spans next) (kind next)) (each_rendered before)
+      ∙ ap (λ message. flat_map (λ x. rendered name text (text_of x) (spans x) (kind x)) shown ++ rendered name text message (spans next) (kind next)) prints
+      ∙ flat_map_more (λ x. rendered name text (text_of x) (spans x) (kind x)) [] shown next

@@ -1,0 +1,12 @@
+use Rattle.std.proofs.Common.{false, length}
+use Rattle.cfgerrors.specs.Errors.{GrammarError}
+use Rattle.cfgerrors.specs.Errors as errors
+use Rattle.cfgerrors.specs.Texts.{error_text}
+use Rattle.cfglint.proofs.Rendered.{each_rendered}
+use Rattle.cfglint.proofs.linter.report_errors.Goals as goal
+
+pub returns : goal.returns
+returns c =
+    let lines = each_rendered (λ (error : GrammarError). error_text error.kind) (λ (error : GrammarError). error.spans)
+    (λ (error : GrammarError). errors.spanskind_of error.kind) c.args.name.now c.args.text.now c.in_ok-lines.ensures in
+    λ i. record { lines = lines i; is_taken = false; errors = length c.args.errors.now; warnings = 0 }
