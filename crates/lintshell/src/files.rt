@@ -1,6 +1,6 @@
 //! Linting of files, one after the other.
 
-ghost use Rattle.std.specs.Prelude.{◌≡◌, ◌++◌, ◌-◌, ◌^◌, ◌<◌, ℕ, List, IfOk, OnErr, OnOk, map};
+ghost use Rattle.std.specs.Prelude.{◌≡◌, ◌-◌, ◌^◌, ◌<◌, IfOk, OnErr, OnOk, map};
 ghost use Rattle.cfgshell.specs.declared.source.Input.{Input};
 ghost use Rattle.lintshell.specs.Files.{IsFate, IsTold, Lints};
 ghost use Rattle.lintshell.specs.Inner.{AsksFirst};
