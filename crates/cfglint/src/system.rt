@@ -2,7 +2,6 @@
 
 ghost use Rattle.std.specs.Prelude.{◌≡◌, ◌≤◌};
 ghost use Rattle.std.specs.Process.{exit_status};
-ghost use Rattle.lintshell.specs.Run.{Ending, ending_status};
 
 use crate::linter::Lints;
 use std::process::{ExitCode, Termination};
@@ -36,8 +35,7 @@ impl Termination for Ended {
 /// runtime's files, its standard input under the name `-`, its standard output and its standard error. Words that are
 /// not UTF-8 are wrong usage.
 pub fn run_over<R: Env + Files + Input + Print + Eprint + AllocGlobal>(rt: &R) -> Ended
-    ensures small { result.status ≤ 3 }
-    ensures ends { (ending : Ending) × (result.status ≡ ending_status ending) }
+    ensures { result.status ≤ 3 }
 {
     let status = lintshell::run_over(rt, &Lints);
     Ended { status }

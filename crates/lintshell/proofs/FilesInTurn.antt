@@ -1,12 +1,11 @@
 -- Files one after the other: what is told of them, and what a source is asked for.
-use Rattle.std.proofs.Common.{◌≡◌, ℕ, ◌+◌, ◌<◌, ◌≤◌, List, [], ◌∷◌, ◌++◌, length, map, take, drop, get_or, Option, Result, Ok, Err, sym, ap, ◌∙◌, subst, arith}
+use Rattle.std.proofs.Common.{◌≡◌, ℕ, ◌+◌, ◌<◌, ◌≤◌, List, [], ◌∷◌, ◌++◌, length, map, take, drop, get_or, Option, Result, Ok, Err, refl, sym, ap, ◌∙◌, subst, arith}
 use Rattle.std.specs.Prelude.{OnErr}
 use Rattle.std.specs.Borrow.{Bor}
 use Rattle.std.proofs.lemmas.List.{append-nil, map-append, take-append-drop, take_more}
 use Rattle.cfgshell.specs.declared.source.Input.{Input}
 use Rattle.cfgshell.specs.declared.words.KindArg.{KindArg}
-use Rattle.lintshell.specs.Files.{IsAsked, IsFate, Lints}
-use Rattle.lintshell.specs.Inner.{AsksFirst}
+use Rattle.lintshell.specs.Files.{AsksFirst, IsAsked, IsFate, Lints}
 use Rattle.lintshell.specs.Tally.{Fate, Linted, NoText, Tally, Told, Unread, with_file}
 
 -- a file is at most one text
@@ -30,6 +29,10 @@ module _ {S : Type 0} (Fetches : S → List ℕ → Input → S → Type 0) wher
       → IsAsked Fetches before files between → Fetches between file answer after → IsAsked Fetches before (files ++ file ∷ []) after
   IsAsked-more file answer IsAsked.none fetched = IsAsked.next fetched IsAsked.none
   IsAsked-more file answer (IsAsked.next first rest) fetched = IsAsked.next first (IsAsked-more file answer rest fetched)
+
+  -- before any file is asked for
+  pub none_asked : (source : S) (files : List (List ℕ)) → AsksFirst Fetches source source files
+  none_asked source files = record { front = []; back = files; are = refl; fetched = IsAsked.none }
 
   -- all files are asked for
   pub all_asked : (before after : S) (files : List (List ℕ)) → IsAsked Fetches before files after → AsksFirst Fetches before after files

@@ -1,3 +1,2 @@
 pub mod AskedWords
 pub mod FilesInTurn
-pub mod CutOff

@@ -1,6 +1,6 @@
 -- A run through files: what a source answers for each, and what is told of it. `Tells` says what may be told of a text, and
 -- `Fetches` what a source may answer for a file, and what becomes of it.
-use Rattle.std.specs.Prelude.{◌≡◌, ℕ, List, [], ◌∷◌, Option}
+use Rattle.std.specs.Prelude.{◌≡◌, ℕ, List, [], ◌∷◌, ◌++◌, Option}
 use Rattle.std.specs.Str.{IsUtf8}
 use Rattle.cfgshell.specs.declared.source.Input.{Input}
 use Rattle.cfgshell.specs.declared.source.Input.TheVariants as input
@@ -33,3 +33,10 @@ pub data IsAsked {S : Type 0} (Fetches : S → List ℕ → Input → S → Type
   none : {source : S} → IsAsked Fetches source [] source
   next : {source between after : S} {file : List ℕ} {files : List (List ℕ)} {answer : Input}
       → Fetches source file answer between → IsAsked Fetches between files after → IsAsked Fetches source (file ∷ files) after
+
+-- the source was asked for the first of the files, and for nothing else
+pub record AsksFirst {S : Type 0} (Fetches : S → List ℕ → Input → S → Type 0) (before after : S) (files : List (List ℕ)) : Type 0 where
+  pub front : List (List ℕ)
+  pub back : List (List ℕ)
+  pub are : files ≡ front ++ back
+  pub fetched : IsAsked Fetches before front after

@@ -1,12 +1,10 @@
 -- What the crate's own functions say of one another.
-use Rattle.std.specs.Prelude.{◌≡◌, ℕ, List, ◌++◌, Option, map}
+use Rattle.std.specs.Prelude.{◌≡◌, ℕ, List, Option, map}
 use Rattle.std.specs.Io.KnownBytes.{Appends}
 use Rattle.cfgshell.specs.Sinks.{AppendsBeginning}
-use Rattle.cfgshell.specs.declared.source.Input.{Input}
 use Rattle.lintshell.specs.declared.words.Asked as asked_code
 use Rattle.lintshell.specs.declared.words.Asked.TheVariants as variants
 use Rattle.lintshell.specs.declared.words.Wanted as wanted_code
-use Rattle.lintshell.specs.Files.{IsAsked}
 use Rattle.lintshell.specs.Run.{Answer, Answered, Ending, NoMemory, Unwritten}
 use Rattle.lintshell.specs.Words.{Asked, Help, Lint, Version, Wanted, Wrong}
 
@@ -19,13 +17,6 @@ asked_view variants.Help = Help
 asked_view variants.Version = Version
 asked_view variants.Wrong = Wrong
 asked_view (variants.Lint wanted) = Lint (wanted_view wanted)
-
--- The source was asked for the first of the files, and for nothing else.
-pub record AsksFirst {S : Type 0} (Fetches : S → List ℕ → Input → S → Type 0) (before after : S) (files : List (List ℕ)) : Type 0 where
-  pub front : List (List ℕ)
-  pub back : List (List ℕ)
-  pub are : files ≡ front ++ back
-  pub fetched : IsAsked Fetches before front after
 
 -- how a run with this answer ends, and what its output then gets
 abbrev pub IsEnding : Answer → Option (List ℕ) → Option (List ℕ) → Ending → Type 0

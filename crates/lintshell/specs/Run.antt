@@ -4,7 +4,7 @@ use Rattle.std.specs.Io.KnownBytes.{Appends, Keeps}
 use Rattle.cfgshell.specs.Sinks.{AppendsBeginning}
 use Rattle.cfgshell.specs.declared.source.Input.{Input}
 use Rattle.cfgshell.specs.declared.words.KindArg.{KindArg}
-use Rattle.lintshell.specs.Files.{IsAsked, Lints}
+use Rattle.lintshell.specs.Files.{AsksFirst, Lints}
 use Rattle.lintshell.specs.Tally.{Tally, Told, no_files, status_of, summary}
 use Rattle.lintshell.specs.Words.{Asked, Help, Lint, Version, Wrong, asked, files_asked, help, usage, version}
 
@@ -59,15 +59,9 @@ module _ (Tells : Option KindArg → List ℕ → List ℕ → Told → Type 0) 
   Answers (Lint wanted) answer = (tally : Tally) × Lints Tells wanted.kind Fetches before no_files wanted.files after tally
       × (answer ≡ answer_of wanted.denies tally)
 
-  -- the source was asked for the first of the files that the words name, and for nothing else
-  pub record IsCutOff (words : List (List ℕ)) : Type 0 where
-    pub front : List (List ℕ)
-    pub back : List (List ℕ)
-    pub files : files_asked (asked words) ≡ front ++ back
-    pub fetched : IsAsked Fetches before front after
-
-  -- what a run does with its words, and its output's known bytes
+  -- what a run does with its words, and its output's known bytes: without memory the source was asked for the first of the files that
+  -- the words name, and for nothing else
   abbrev pub Handles : List (List ℕ) → Option (List ℕ) → Option (List ℕ) → Ending → Type 0
   Handles words old new (Answered answer) = Answers (asked words) answer × Appends old new answer.output
   Handles words old new (Unwritten answer) = Answers (asked words) answer × AppendsBeginning old new answer.output
-  Handles words old new NoMemory = IsCutOff words × Keeps old new
+  Handles words old new NoMemory = AsksFirst Fetches before after (files_asked (asked words)) × Keeps old new

@@ -32,8 +32,8 @@ abbrev pub asked_files : Wanted → List (List ℕ) → Asked
 asked_files wanted [] = Wrong
 asked_files wanted (file ∷ files) = Lint wanted
 
--- What these words ask for behind those that wanted this. Behind `--kind` stands a word that names one. The first word of
--- the two that ask for no lint, and of those that are wrong, counts.
+-- What these words ask for behind those that wanted this, where a word that names a kind has to come first, or hasn't. The first word
+-- decides that asks for something else, or is wrong.
 unfoldable pub words_ask : Bool → Wanted → List (List ℕ) → Asked
 words_ask true wanted [] = Wrong
 words_ask true wanted (word ∷ words) =

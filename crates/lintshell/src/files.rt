@@ -2,8 +2,7 @@
 
 ghost use Rattle.std.specs.Prelude.{◌≡◌, ◌-◌, ◌^◌, ◌<◌, IfOk, OnErr, OnOk, map};
 ghost use Rattle.cfgshell.specs.declared.source.Input.{Input};
-ghost use Rattle.lintshell.specs.Files.{IsFate, IsTold, Lints};
-ghost use Rattle.lintshell.specs.Inner.{AsksFirst};
+ghost use Rattle.lintshell.specs.Files.{AsksFirst, IsFate, IsTold, Lints};
 ghost use Rattle.lintshell.specs.Tally.{Fate, no_files, with_file};
 
 use crate::linter::Linter;

@@ -2,9 +2,10 @@
 
 ghost use Rattle.std.specs.Prelude.{◌≡◌, ◌+◌, ◌-◌, ◌^◌, ◌<◌, ◌≤◌, IfOk, OnErr, map};
 ghost use Rattle.cfgshell.specs.Sinks.{AppendsOrFaults};
-ghost use Rattle.lintshell.specs.Inner.{AsksFirst, wanted_view};
-ghost use Rattle.lintshell.specs.Run.{Answers, Ending, Handles, IsCutOff, ending_errors, ending_faults, ending_status};
-ghost use Rattle.lintshell.specs.Words.{asked};
+ghost use Rattle.lintshell.specs.Files.{AsksFirst};
+ghost use Rattle.lintshell.specs.Inner.{wanted_view};
+ghost use Rattle.lintshell.specs.Run.{Answers, Ending, Handles, ending_errors, ending_faults, ending_status};
+ghost use Rattle.lintshell.specs.Words.{asked, files_asked};
 ghost use Rattle.lintshell.specs.Words as words;
 
 use crate::answer::{Answer, tell};
@@ -58,8 +59,8 @@ fn answered<L: Linter, S: Source>(
 ) -> Result<Answer, AllocError>
     ensures ok { IfOk result (λ answer. Answers L.tells S.fetches source.old source.new
         (asked (map (λ word. word.now) args.now)) answer) }
-    ensures err { OnErr result (IsCutOff L.tells S.fetches source.old source.new
-        (map (λ word. word.now) args.now)) }
+    ensures err { OnErr result (AsksFirst S.fetches source.old source.new
+        (files_asked (asked (map (λ word. word.now) args.now)))) }
 {
     match asked_by(alloc, args)? {
         Asked::Help => Answer::written(alloc, HELP),

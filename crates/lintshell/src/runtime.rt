@@ -1,7 +1,6 @@
 //! The program over a runtime.
 
-ghost use Rattle.std.specs.Prelude.{◌≡◌, ◌≤◌, IfOk};
-ghost use Rattle.lintshell.specs.Run.{Ending, ending_status};
+ghost use Rattle.std.specs.Prelude.{◌≤◌, IfOk};
 
 use crate::linter::Linter;
 use crate::program::lint;
@@ -19,8 +18,7 @@ pub fn run_over<R: Env + Files + Input + Print + Eprint + AllocGlobal, L: Linter
     rt: &R,
     linter: &L,
 ) -> u8
-    ensures small { result ≤ 3 }
-    ensures ends { (ending : Ending) × (result ≡ ending_status ending) }
+    ensures { result ≤ 3 }
 {
     match run_on_words(rt, linter) {
         Ok(status) => status,
@@ -37,8 +35,7 @@ fn run_on_words<R: Env + Files + Input + Print + Eprint + AllocGlobal, L: Linter
     rt: &R,
     linter: &L,
 ) -> Result<u8, WordsFault>
-    ensures small { IfOk result (λ status. status ≤ 3) }
-    ensures ends { IfOk result (λ status. (ending : Ending) × (status ≡ ending_status ending)) }
+    ensures { IfOk result (λ status. status ≤ 3) }
 {
     let words = words(rt)?;
     let args: Vec<&str> = words.iter().map(|word| word.as_str()).collect(rt.alloc())?;
@@ -55,8 +52,7 @@ fn run_on_words<R: Env + Files + Input + Print + Eprint + AllocGlobal, L: Linter
 /// Ends a run that has no words, and answers its status. A line on why is written to standard error, as far as it is
 /// taken.
 fn refuse_words<R: Eprint>(rt: &R, fault: WordsFault) -> u8
-    ensures small { result ≤ 3 }
-    ensures ends { (ending : Ending) × (result ≡ ending_status ending) }
+    ensures { result ≤ 3 }
 {
     let (line, status) = match fault {
         WordsFault::NotUtf8 => (USAGE, 2),

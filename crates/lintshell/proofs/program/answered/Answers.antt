@@ -4,12 +4,11 @@ use Rattle.std.proofs.lemmas.Result.{IfOk-weaker}
 use Rattle.lintshell.specs.Inner.{asked_view}
 use Rattle.lintshell.specs.Run.{Answers}
 use Rattle.lintshell.specs.Words.{Asked, Help, asked}
-use Rattle.lintshell.proofs.FilesInTurn.{on_err}
-use Rattle.lintshell.proofs.CutOff.{cut_off_at_once}
+use Rattle.lintshell.proofs.FilesInTurn.{none_asked, on_err}
 use Rattle.lintshell.proofs.program.answered.Goals as goal
 
 pub returns-in_err-asked_by-clause-err : goal.returns-in_err-asked_by-clause-err
-returns-in_err-asked_by-clause-err g c = on_err c.from_residual.result (cut_off_at_once g.L.Linter.tells g.S.Source.fetches c.args.source.now _)
+returns-in_err-asked_by-clause-err g c = on_err c.from_residual.result (none_asked g.S.Source.fetches c.args.source.now _)
 
 pub returns-in-Help-clause-ok : goal.returns-in-Help-clause-ok
 returns-in-Help-clause-ok g c =
@@ -18,10 +17,10 @@ returns-in-Help-clause-ok g c =
     (IfOk-weaker c.written.result _ _ (λ answer is. (refl, is)) c.written.ensures)
 
 pub returns-in-Help-clause-err : goal.returns-in-Help-clause-err
-returns-in-Help-clause-err g c = on_err c.written.result (cut_off_at_once g.L.Linter.tells g.S.Source.fetches c.args.source.now _)
+returns-in-Help-clause-err g c = on_err c.written.result (none_asked g.S.Source.fetches c.args.source.now _)
 
 pub returns-in-Version-clause-err : goal.returns-in-Version-clause-err
-returns-in-Version-clause-err g c = on_err c.written-in-Version.result (cut_off_at_once g.L.Linter.tells g.S.Source.fetches c.args.source.now _)
+returns-in-Version-clause-err g c = on_err c.written-in-Version.result (none_asked g.S.Source.fetches c.args.source.now _)
 
 pub returns-in-Wrong-clause-err : goal.returns-in-Wrong-clause-err
-returns-in-Wrong-clause-err g c = on_err c.refused.result (cut_off_at_once g.L.Linter.tells g.S.Source.fetches c.args.source.now _)
+returns-in-Wrong-clause-err g c = on_err c.refused.result (none_asked g.S.Source.fetches c.args.source.now _)

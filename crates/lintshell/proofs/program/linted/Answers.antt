@@ -1,6 +1,6 @@
 use Rattle.std.proofs.Common.{subst, map, List, ℕ}
 use Rattle.std.specs.Borrow.{Bor}
-use Rattle.lintshell.specs.Inner.{AsksFirst}
+use Rattle.lintshell.specs.Files.{AsksFirst}
 use Rattle.lintshell.proofs.FilesInTurn.{IsAsked-from_lints, all_asked, on_err}
 use Rattle.lintshell.proofs.program.linted.Goals as goal
 
