@@ -1,0 +1,3 @@
+pub mod FirstAlike
+pub mod Marking
+pub mod Telling
