@@ -1,3 +1,5 @@
 -- Words of clauses inside the crate. No call that users make rests on them.
+pub mod Firsts
 pub mod Lacks
 pub mod OwnHeirs
+pub mod Taking

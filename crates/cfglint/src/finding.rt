@@ -66,6 +66,26 @@ impl Finding {
         Ok(Finding { kind, spans, text })
     }
 
+    /// A finding at two places, in this order.
+    pub(crate) fn at_both(
+        alloc: Global,
+        kind: FindingKind,
+        span: Span,
+        other: Span,
+        text: String,
+    ) -> Result<Finding, AllocError>
+        ensures { IfOk result (λ x. x ≡ record {
+          kind = kind;
+          spans = span ∷ (other ∷ []);
+          text = string_bytes text;
+        }) }
+    {
+        let mut spans = Vec::new(alloc);
+        spans.push(span)?;
+        spans.push(other)?;
+        Ok(Finding { kind, spans, text })
+    }
+
     /// Where it is: the start of its first span.
     pub(crate) fn place(&self) -> usize
         ensures { result ≡ place_of self.now }

@@ -1,0 +1,33 @@
+use Rattle.std.proofs.Common.{◌≡◌, ◌<◌, List, [], ◌∷◌, ℕ, map, ap, sym, subst, ◌∙◌, position, bytes_eq, Some, length, arith}
+use Rattle.std.specs.List.{IsDistinct}
+use Rattle.std.proofs.lemmas.List.{length-map}
+use Rattle.cfgbase.specs.declared.span.Span.{Span}
+use Rattle.cfgast.specs.declared.precedence.Precedence.{Precedence}
+use Rattle.cfgast.specs.Syntax.{entry_name}
+use Rattle.cfgast.specs.View.{precedence_entry}
+use Rattle.cfgtree.specs.View.{syntax}
+use Rattle.cfglint.specs.Inner.Taking.{Marks}
+use Rattle.cfglint.proofs.Marking.{marks_nothing, marks_one, precedence_position, precedences_differ}
+use Rattle.cfglint.proofs.precedences.mark.Goals as goal
+
+pub returns-in-Some : goal.returns-in-Some
+returns-in-Some c =
+    let s = syntax c.args.ast.now in
+    let name = c.args.name.now in
+    let entries = c.precs.result.now.entries in
+    let Entries = List (List ℕ × (Precedence × Span)) in
+    let distinct : IsDistinct bytes_eq (map entry_name s.tables.precedences) = subst (λ (es : Entries). IsDistinct bytes_eq (map entry_name es)) c.precs.ensures (precedences_differ entries c.in-Some.ensures.unique) in
+    let found : position (bytes_eq name) (map entry_name s.tables.precedences) ≡ Some c.in-Some.place =
+    ap (λ (es : Entries). position (bytes_eq name) (map entry_name es)) (sym c.precs.ensures) ∙ precedence_position name entries ∙ sym c.in-Some.ensures.index in
+    let within : c.in-Some.place < length c.args.taking.now = omega (arith, c.requires, c.in-Some.ensures.within, length-map entries precedence_entry, ap length c.precs.ensures) in
+    subst (Marks s (name ∷ []) c.args.taking.now) (sym c.set.ensures.bits) (marks_one s distinct name c.args.taking.now c.in-Some.place within found)
+
+pub returns-in_default : goal.returns-in_default
+returns-in_default c =
+    let s = syntax c.args.ast.now in
+    let name = c.args.name.now in
+    let entries = c.precs.result.now.entries in
+    let Entries = List (List ℕ × (Precedence × Span)) in
+    let distinct : IsDistinct bytes_eq (map entry_name s.tables.precedences) = subst (λ (es : Entries). IsDistinct bytes_eq (map entry_name es)) c.precs.ensures (precedences_differ entries c.in_default.ensures.unique) in
+    marks_nothing s distinct name c.args.taking.now
+    (ap (λ (es : Entries). position (bytes_eq name) (map entry_name es)) (sym c.precs.ensures) ∙ precedence_position name entries ∙ sym c.in_default.ensures.index)

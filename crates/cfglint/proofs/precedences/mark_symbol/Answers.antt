@@ -1,0 +1,13 @@
+use Rattle.std.proofs.Common.{sym, subst}
+use Rattle.cfgast.specs.View.{symbol_view}
+use Rattle.cfgast.specs.declared.symbol.Symbol.{Symbol}
+use Rattle.cfgtree.specs.View.{syntax}
+use Rattle.cfglint.specs.Inner.Taking.{Marks, symbol_names}
+use Rattle.cfglint.proofs.Marking.{marks_none}
+use Rattle.cfglint.proofs.precedences.mark_symbol.Goals as goal
+
+pub returns-in_default : goal.returns-in_default
+returns-in_default c =
+    let s = syntax c.args.ast.now in
+    let taking = c.args.taking.now in
+    subst (λ (symbol : Symbol). Marks s (symbol_names (symbol_view symbol)) taking taking) (sym c.in_default.is) (marks_none s taking)

@@ -1,0 +1,9 @@
+use Rattle.std.proofs.Common.{take}
+use Rattle.std.specs.List.{flat_map}
+use Rattle.cfgast.specs.View.{symbol_view}
+use Rattle.cfgtree.specs.View.{syntax}
+use Rattle.cfglint.specs.Inner.Taking.{Marks, symbol_names}
+use Rattle.cfglint.proofs.precedences.mark_symbols.Given as goal
+
+abbrev pub invariant-loop-symbol : goal.invariant-loop-symbol
+invariant-loop-symbol l = Marks (syntax l.ast) (flat_map (λ symbol. symbol_names (symbol_view symbol)) (take l.symbol-index l.symbols)) l.fn.taking l.taking

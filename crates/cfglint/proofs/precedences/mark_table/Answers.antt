@@ -1,0 +1,46 @@
+use Rattle.std.proofs.Common.{◌≡◌, ◌<◌, ◌+◌, [], ◌∷◌, Some, None, String, Global, arith, length, take, sym, subst, ◌∙◌}
+use Rattle.std.specs.List.{flat_map}
+use Rattle.std.proofs.lemmas.List.Concat.{flat_map_single}
+use Rattle.std.proofs.lemmas.Option.{get_or_from_slice_get}
+use Rattle.std.proofs.lemmas.Simd.{map-map}
+use Rattle.lemmas.proofs.Elements.{element_at}
+use Rattle.cfgbase.specs.declared.span.Span.{Span}
+use Rattle.cfgast.specs.Syntax.{entry_name}
+use Rattle.cfgast.specs.View.{span_entry}
+use Rattle.cfgtree.specs.View.{syntax}
+use Rattle.cfglint.specs.Inner.Taking.{Marks}
+use Rattle.cfglint.proofs.Marking.{marks_all, marks_more, marks_none}
+use Rattle.cfglint.proofs.precedences.mark_table.Goals as goal
+use Rattle.cfglint.proofs.precedences.mark_table.Goals.{in-Some, in_default}
+
+pub loop-place-init : goal.loop-place-init
+loop-place-init c = marks_none _ _
+
+pub mark-requires : goal.mark-requires
+mark-requires c = c.loop-place.invariant.shape ∙ c.requires
+
+pub loop-place-preserved : goal.loop-place-preserved
+loop-place-preserved c =
+    let s = syntax c.args.ast.now in
+    let entries = c.args.table.now.entries in
+    let place = c.loop-place.place in
+    let names = λ (entry : String Global × Span). entry_name (span_entry entry) ∷ [] in
+    let within : place < length entries = omega (arith, c.loop-place-test.true, c.len-place-end.ensures.len) in
+    elim c.match-get_index.branch [
+      | in-Some w ↦
+          let at = sym w.in-Some.ensures.entry in
+          subst (Marks s (flat_map names (take (place + 1) entries)) c.args.taking.now) (sym w.taking-is)
+          (marks_more s names entries place _ _ _ _ within (sym (get_or_from_slice_get entries place _ _ at)) c.loop-place.invariant
+          (subst (λ name. Marks s (name ∷ []) c.loop-place.taking w.mark.new.taking) w.deref.ensures w.mark.ensures))
+      | in_default w ↦
+          let (entry, at) = element_at entries place within in
+          let no : None ≡ Some entry = w.in_default.ensures.entry ∙ at in cc
+    ]
+
+pub returns : goal.returns
+returns c =
+    let entries = c.args.table.now.entries in
+    let names = λ (entry : String Global × Span). entry_name (span_entry entry) ∷ [] in
+    subst (λ all. Marks (syntax c.args.ast.now) all c.args.taking.now c.loop-place.taking)
+    (flat_map_single (λ (entry : String Global × Span). entry_name (span_entry entry)) entries ∙ sym (map-map entry_name span_entry entries))
+    (marks_all _ names entries _ _ _ (omega (arith, c.loop-place-test.false, c.len-place-end.ensures.len)) c.loop-place.invariant)

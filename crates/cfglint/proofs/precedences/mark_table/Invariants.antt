@@ -1,0 +1,10 @@
+use Rattle.std.proofs.Common.{[], ◌∷◌, take}
+use Rattle.std.specs.List.{flat_map}
+use Rattle.cfgast.specs.Syntax.{entry_name}
+use Rattle.cfgast.specs.View.{span_entry}
+use Rattle.cfgtree.specs.View.{syntax}
+use Rattle.cfglint.specs.Inner.Taking.{Marks}
+use Rattle.cfglint.proofs.precedences.mark_table.Given as goal
+
+abbrev pub invariant-loop-place : goal.invariant-loop-place
+invariant-loop-place l = Marks (syntax l.ast) (flat_map (λ entry. entry_name (span_entry entry) ∷ []) (take l.place l.table.entries)) l.fn.taking l.taking

@@ -1,0 +1,29 @@
+use Rattle.std.proofs.Common.{List, Bool, Option, ℕ, false, replicate, map, sym, subst}
+use Rattle.std.specs.List.{flat_map}
+use Rattle.cfgbase.specs.declared.span.Span.{Span}
+use Rattle.cfgast.specs.Syntax.{Production}
+use Rattle.cfgast.specs.View.{production_view}
+use Rattle.cfgtree.specs.View.{syntax}
+use Rattle.cfglint.specs.Inner.Taking.{Marks, production_names}
+use Rattle.cfglint.proofs.Marking.{are_marked, marks_none, marks_then, table_names}
+use Rattle.cfglint.proofs.precedences.taking_part.Goals as goal
+use Rattle.cfglint.proofs.precedences.taking_part.Goals.{in-Some, in_default}
+
+pub returns : goal.returns
+returns c =
+    let s = syntax c.args.ast.now in
+    let none = replicate c.len.result false in
+    let mid = c.mark_productions.new.taking in
+    let new = c.match-implicit_tokens.taking in
+    let held : Marks s (flat_map production_names s.productions) none mid =
+    subst (λ (productions : List Production). Marks s (flat_map production_names productions) none mid) c.prods.ensures
+    (subst (λ (old : List Bool). Marks s (flat_map production_names (map production_view c.prods.result.now)) old mid) c.in_ok-taking.ensures c.mark_productions.ensures) in
+    let implicit : Marks s (table_names s.tables.implicit_tokens) mid new = elim c.match-implicit_tokens.branch [
+      | in-Some w ↦
+          subst (λ (o : Option (List (List ℕ × Span))). Marks s (table_names o) mid new) (rw w.in-Some.is at c.implicit_tokens.ensures)
+          (subst (Marks s _ mid) (sym w.taking-is) w.mark_table.ensures)
+      | in_default w ↦
+          subst (λ (o : Option (List (List ℕ × Span))). Marks s (table_names o) mid new) (rw w.in_default.is at c.implicit_tokens.ensures)
+          (subst (Marks s _ mid) (sym w.taking-is) (marks_none s mid))
+    ] in
+    are_marked s c.len.result new (marks_then s _ _ none mid new held implicit)

@@ -1,0 +1,10 @@
+use Rattle.std.proofs.Common.{◌≡◌, ◌++◌, [], ◌∷◌, List, ℕ, IfOk, codes, append_assoc, sym, ap, subst, ◌∙◌}
+use Rattle.cfglint.specs.Shown.{ShownFinding}
+use Rattle.cfglint.specs.declared.finding.FindingKind.TheVariants.{UnusedPrecedence}
+use Rattle.cfglint.proofs.precedences.unused_precedence.Goals as goal
+
+pub returns : goal.returns
+returns c = subst (λ (text : List ℕ). IfOk c.at.result (λ (x : ShownFinding). x ≡ record { kind = UnusedPrecedence; spans = c.args.span ∷ []; text = text }))
+    (c.in_ok-text.ensures.ok
+    ∙ ap (λ rest. codes "Unused precedence: no production has '" ++ rest) (sym (append_assoc c.args.name.now (codes "'") (codes ", and no '%prec' names it"))))
+    c.at.ensures

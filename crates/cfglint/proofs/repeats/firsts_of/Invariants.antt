@@ -1,0 +1,10 @@
+use Rattle.cfgnumbers.specs.Numbered.{core}
+use Rattle.cfglint.specs.Inner.Firsts.{AreFirsts}
+use Rattle.cfglint.proofs.FirstAlike.{AreKnown}
+use Rattle.cfglint.proofs.repeats.firsts_of.Given as goal
+
+abbrev pub invariant-loop-number : goal.invariant-loop-number
+invariant-loop-number l = record {
+  firsts : AreFirsts (core l.grammar) l.number l.firsts.items;
+  known : AreKnown (core l.grammar) l.number l.known;
+}

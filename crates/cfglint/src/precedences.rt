@@ -1,0 +1,152 @@
+//! Precedences of tokens that take no part.
+
+ghost use Rattle.std.specs.Prelude.{◌≡◌, [], ◌∷◌, ◌++◌, length, map, IfOk, OnOk};
+ghost use Rattle.std.specs.List.{flat_map};
+ghost use Rattle.cfgast.specs.Syntax.{entry_name};
+ghost use Rattle.cfgast.specs.View.{production_view, span_entry, symbol_view};
+ghost use Rattle.cfgtree.specs.View.{syntax};
+ghost use Rattle.cfglint.specs.Findings.{TellsBelow, TellsPrecedence};
+ghost use Rattle.cfglint.specs.Inner.Taking.{AreMarked, Marks, production_names, symbol_names};
+ghost use Rattle.cfglint.specs.Shown.{unused_precedence};
+
+use crate::finding::{Finding, FindingKind};
+use crate::teller::{Teller, push_told};
+use cfgast::{Production, Symbol};
+use cfgrammar::yacc::ast::GrammarAST;
+use cfgrammar::{NameHashes, Span, Vob};
+use indexmap::IndexMap;
+use std::alloc::{AllocError, Global};
+
+/// Puts behind the findings the tokens that are given a precedence and take no part.
+///
+/// # Errors
+///
+/// Want of memory.
+pub(crate) fn push_precedences(
+    alloc: Global,
+    all: &mut Vec<Finding>,
+    ast: &GrammarAST,
+) -> Result<(), AllocError>
+    ensures { OnOk result ((told : _) × TellsBelow (TellsPrecedence (syntax ast.now))
+        (length (syntax ast.now).tables.precedences) told × (all.new.items ≡ all.old.items ++ told)) }
+{
+    let taking = taking_part(alloc, ast)?;
+    let idle = Idle { ast, taking };
+    push_told(alloc, all, &idle, ast.precs().len())
+}
+
+/// Tells of tokens that are given a precedence and take no part.
+#[derive(Drop)]
+struct Idle<'a> {
+    ast: &'a GrammarAST,
+    /// In the order of the precedences, whether the token takes part.
+    taking: Vob,
+}
+
+impl Teller for Idle<'_> {
+    ghost use Rattle.std.specs.Prelude.{length};
+    ghost use Rattle.cfgtree.specs.View.{syntax};
+    ghost use Rattle.cfglint.specs.Findings.{TellsPrecedence};
+    ghost use Rattle.cfglint.specs.Inner.Taking.{AreMarked};
+
+    ghost count = { λ x. length (syntax x.ast.now).tables.precedences };
+
+    ghost tells = { λ x n told. AreMarked (syntax x.ast.now) x.taking → TellsPrecedence (syntax x.ast.now) n told };
+
+    fn tell(&self, alloc: Global, number: usize) -> Result<Option<Finding>, AllocError> {
+        let takes_part = self.taking.get(number).unwrap_or(false);
+        if takes_part {
+            return Ok(None);
+        }
+        match self.ast.precs().get_index(number) {
+            Some((name, (_, span))) => Ok(Some(unused_precedence(alloc, name, *span)?)),
+            None => Ok(None),
+        }
+    }
+}
+
+/// That nothing goes by the precedence of the token of this name, which is given here.
+fn unused_precedence(alloc: Global, name: &str, span: Span) -> Result<Finding, AllocError>
+    ensures { IfOk result (λ x. x ≡ unused_precedence name.now span) }
+{
+    let text = format!(in alloc;
+        "Unused precedence: no production has '{name}', and no '%prec' names it"
+    )?;
+    Finding::at(alloc, FindingKind::UnusedPrecedence, span, text)
+}
+
+/// Of each token that is given a precedence, in order, whether it takes part.
+fn taking_part(alloc: Global, ast: &GrammarAST) -> Result<Vob, AllocError>
+    ensures { IfOk result (AreMarked (syntax ast.now)) }
+{
+    let mut taking = Vob::from_elem(alloc, false, ast.precs().len())?;
+    mark_productions(ast, &mut taking, ast.prods());
+    if let Some(table) = ast.implicit_tokens() {
+        mark_table(ast, &mut taking, table);
+    }
+    Ok(taking)
+}
+
+/// Marks what productions hold and what their `%prec` names.
+fn mark_productions(ast: &GrammarAST, taking: &mut Vob, productions: &[Production])
+    requires { length taking.old ≡ length (syntax ast.now).tables.precedences }
+    ensures { Marks (syntax ast.now) (flat_map production_names (map production_view productions.now))
+        taking.old taking.new }
+{
+    for production in productions {
+        mark_production(ast, taking, production);
+    }
+}
+
+/// Marks what a production holds and what its `%prec` names.
+fn mark_production(ast: &GrammarAST, taking: &mut Vob, production: &Production)
+    requires { length taking.old ≡ length (syntax ast.now).tables.precedences }
+    ensures { Marks (syntax ast.now) (production_names (production_view production.now)) taking.old taking.new }
+{
+    mark_symbols(ast, taking, &production.symbols);
+    if let Some(name) = &production.precedence {
+        mark(ast, taking, name);
+    }
+}
+
+/// Marks the tokens among symbols.
+fn mark_symbols(ast: &GrammarAST, taking: &mut Vob, symbols: &[Symbol])
+    requires { length taking.old ≡ length (syntax ast.now).tables.precedences }
+    ensures { Marks (syntax ast.now) (flat_map symbol_names (map symbol_view symbols.now)) taking.old taking.new }
+{
+    for symbol in symbols {
+        mark_symbol(ast, taking, symbol);
+    }
+}
+
+/// Marks a token; a rule is none.
+fn mark_symbol(ast: &GrammarAST, taking: &mut Vob, symbol: &Symbol)
+    requires { length taking.old ≡ length (syntax ast.now).tables.precedences }
+    ensures { Marks (syntax ast.now) (symbol_names (symbol_view symbol.now)) taking.old taking.new }
+{
+    if let Symbol::Token(name, _) = symbol {
+        mark(ast, taking, name);
+    }
+}
+
+/// Marks the tokens of a table.
+fn mark_table(ast: &GrammarAST, taking: &mut Vob, table: &IndexMap<String, Span, NameHashes>)
+    requires { length taking.old ≡ length (syntax ast.now).tables.precedences }
+    ensures { Marks (syntax ast.now) (map entry_name (map span_entry table.now.entries)) taking.old taking.new }
+{
+    for place in 0..table.len() {
+        if let Some((name, _)) = table.get_index(place) {
+            mark(ast, taking, name);
+        }
+    }
+}
+
+/// Marks the token of this name, where it is given a precedence.
+fn mark(ast: &GrammarAST, taking: &mut Vob, name: &str)
+    requires { length taking.old ≡ length (syntax ast.now).tables.precedences }
+    ensures { Marks (syntax ast.now) (name.now ∷ []) taking.old taking.new }
+{
+    if let Some(place) = ast.precs().get_index_of(name) {
+        taking.set(place, true);
+    }
+}

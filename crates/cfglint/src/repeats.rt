@@ -1,0 +1,161 @@
+//! Productions with the symbols of an earlier one of their rule.
+
+ghost use Rattle.std.specs.Prelude.{◌≡◌, ◌++◌, ◌<◌, Some, length, map, IfOk, MatchOption, OnOk, unwrap_or};
+ghost use Rattle.std.specs.BTreeMap.{IsUnchanged, Updates, get};
+ghost use Rattle.cfgnumbers.specs.Numbered.{core};
+ghost use Rattle.cfgtables.specs.Openings.{nth_production};
+ghost use Rattle.cfglint.specs.Findings.{TellsBelow, TellsRepeated};
+ghost use Rattle.cfglint.specs.Inner.Firsts.{AreFirsts, ordered_symbol, production_of};
+ghost use Rattle.cfglint.specs.Shown.{repeated};
+
+use crate::finding::{Finding, FindingKind};
+use crate::teller::{Teller, push_told};
+use cfgindex::to_storage;
+use cfgrammar::yacc::YaccGrammar;
+use cfgrammar::{PIdx, Symbol};
+use std::alloc::{AllocError, Global};
+use std::collections::BTreeMap;
+
+/// Puts behind the findings the productions with the symbols of an earlier one of their rule.
+///
+/// # Errors
+///
+/// Want of memory.
+pub(crate) fn push_repeats(
+    alloc: Global,
+    all: &mut Vec<Finding>,
+    grammar: &YaccGrammar<u32>,
+) -> Result<(), AllocError>
+    ensures { OnOk result ((told : _) × TellsBelow (TellsRepeated grammar.now) grammar.now.start_production told
+        × (all.new.items ≡ all.old.items ++ told)) }
+{
+    let firsts = firsts_of(alloc, grammar)?;
+    let repeats = Repeats { grammar, firsts };
+    push_told(alloc, all, &repeats, usize::from(grammar.start_prod()))
+}
+
+/// Tells of productions with the symbols of an earlier one of their rule.
+#[derive(Drop)]
+struct Repeats<'a> {
+    grammar: &'a YaccGrammar<u32>,
+    /// Of each production of the file, the first one of its rule with its symbols.
+    firsts: Vec<usize>,
+}
+
+impl Teller for Repeats<'_> {
+    ghost use Rattle.cfgnumbers.specs.Numbered.{core};
+    ghost use Rattle.cfglint.specs.Findings.{TellsRepeated};
+    ghost use Rattle.cfglint.specs.Inner.Firsts.{AreFirsts};
+
+    ghost count = { λ x. x.grammar.now.start_production };
+
+    ghost tells = { λ x n told. AreFirsts (core x.grammar.now) x.grammar.now.start_production x.firsts.items
+        → TellsRepeated x.grammar.now n told };
+
+    fn tell(&self, alloc: Global, number: usize) -> Result<Option<Finding>, AllocError> {
+        match self.firsts.get(number) {
+            Some(first) if *first < number => {
+                Ok(Some(repeated(alloc, self.grammar, number, *first)?))
+            }
+            _ => Ok(None),
+        }
+    }
+}
+
+/// That the production has the symbols of an earlier one of its rule.
+fn repeated(
+    alloc: Global,
+    grammar: &YaccGrammar<u32>,
+    number: usize,
+    earlier: usize,
+) -> Result<Finding, AllocError>
+    requires within { number < grammar.now.start_production }
+    requires before { earlier < number }
+    ensures { IfOk result (λ x. x ≡ repeated grammar.now number earlier) }
+{
+    grammar.invariant_holds();
+    let span = grammar.prod_span(PIdx(to_storage(number)));
+    let earlier_span = grammar.prod_span(PIdx(to_storage(earlier)));
+    let text = String::from_str(
+        alloc,
+        "Repeated production: each sentence by it has two trees",
+    )?;
+    Finding::at_both(
+        alloc,
+        FindingKind::RepeatedProduction,
+        span,
+        earlier_span,
+        text,
+    )
+}
+
+/// A symbol, in an order of symbols.
+#[derive(PartialEq, Eq, PartialOrd, Ord, Drop)]
+enum OrderedSymbol {
+    Rule(u32),
+    Token(u32),
+}
+
+/// The rule and the symbols of a production, in an order of productions.
+type Shape = (u32, Vec<OrderedSymbol>);
+
+/// Of each production of the file, the first one of its rule with its symbols.
+fn firsts_of(alloc: Global, grammar: &YaccGrammar<u32>) -> Result<Vec<usize>, AllocError>
+    ensures { IfOk result (λ x. AreFirsts (core grammar.now) grammar.now.start_production x.items) }
+{
+    let mut firsts = Vec::new(alloc);
+    let mut known = BTreeMap::new(alloc);
+    for number in 0..usize::from(grammar.start_prod()) {
+        let shape = shape_of(alloc, grammar, number)?;
+        firsts.push(first_known(&mut known, shape, number)?)?;
+    }
+    Ok(firsts)
+}
+
+/// The number that is known under the shape; where none is, it is now this one.
+fn first_known(
+    known: &mut BTreeMap<Shape, usize>,
+    shape: Shape,
+    number: usize,
+) -> Result<usize, AllocError>
+    ensures first { IfOk result (λ first. first ≡ unwrap_or (get ⟦<Shape as Ord>⟧.cmp known.old shape) number) }
+    ensures known { OnOk result (MatchOption (get ⟦<Shape as Ord>⟧.cmp known.old shape)
+        (Updates ⟦<Shape as Ord>⟧.cmp known.old known.new shape (Some number)) (λ _. IsUnchanged known.old known.new)) }
+{
+    if let Some(first) = known.get(&shape) {
+        return Ok(*first);
+    }
+    known.insert(shape, number)?;
+    Ok(number)
+}
+
+/// The shape of a production.
+fn shape_of(alloc: Global, grammar: &YaccGrammar<u32>, number: usize) -> Result<Shape, AllocError>
+    requires { number < length grammar.now.productions }
+    ensures { IfOk result (λ shape. production_of shape ≡ nth_production (core grammar.now) number) }
+{
+    grammar.invariant_holds();
+    let pidx = PIdx(to_storage(number));
+    let symbols = all_ordered(alloc, grammar.prod(pidx))?;
+    Ok((u32::from(grammar.prod_to_rule(pidx)), symbols))
+}
+
+/// The symbols, as they are ordered.
+fn all_ordered(alloc: Global, symbols: &[Symbol<u32>]) -> Result<Vec<OrderedSymbol>, AllocError>
+    ensures { IfOk result (λ x. x.items ≡ map ordered_symbol symbols.now) }
+{
+    symbols
+        .iter()
+        .map(|symbol| ordered_symbol(*symbol))
+        .collect(alloc)
+}
+
+/// The symbol, as it is ordered.
+fn ordered_symbol(symbol: Symbol<u32>) -> OrderedSymbol
+    ensures { result ≡ ordered_symbol symbol }
+{
+    match symbol {
+        Symbol::Rule(ridx) => OrderedSymbol::Rule(u32::from(ridx)),
+        Symbol::Token(tidx) => OrderedSymbol::Token(u32::from(tidx)),
+    }
+}
