@@ -1,8 +1,8 @@
 -- A finding as plain data: what callers see of a `Finding`. And the texts of findings.
-use Rattle.std.specs.Prelude.{ℕ, ◌+◌, List, [], ◌∷◌, ◌++◌, drop, map, take, codes, slice_get, slice_index_or, unwrap_or}
-use Rattle.std.specs.List.{concat, flat_map}
+use Rattle.std.specs.Prelude.{ℕ, ◌+◌, List, [], ◌∷◌, ◌++◌, drop, take, codes, slice_get, unwrap_or}
+use Rattle.std.specs.List.{flat_map}
 use Rattle.std.specs.Option.{option_map_or}
-use Rattle.derivation.specs.Grammar.{Sym, Rule, Token}
+use Rattle.derivation.specs.Grammar.{Sym, Rule}
 use Rattle.loops.specs.declared.rows.Step.{Step}
 use Rattle.cfgbase.specs.declared.span.Span.{Span}
 use Rattle.cfgbase.specs.declared.span.SpansKind.{SpansKind}

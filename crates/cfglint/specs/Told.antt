@@ -1,5 +1,5 @@
 -- What is told of a text: its errors, or the findings of its grammar.
-use Rattle.std.specs.Prelude.{◌≡◌, ℕ, ◌⊎◌, Bool, true, false, List, [], ◌∷◌, Option, Some, None, Ok, length, codes}
+use Rattle.std.specs.Prelude.{◌≡◌, ℕ, ◌⊎◌, Bool, true, false, List, [], Option, Some, None, Ok, length, codes}
 use Rattle.std.specs.List.{flat_map}
 use Rattle.cfgkinds.specs.declared.kind.YaccKind.TheVariants.{Original}
 use Rattle.cfgkinds.specs.declared.kind.YaccOriginalActionKind.TheVariants.{NoAction}

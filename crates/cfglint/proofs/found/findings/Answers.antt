@@ -1,8 +1,7 @@
-use Rattle.std.proofs.Common.{◌≡◌, ◌++◌, List, [], map, nat_cmp, refl, sym, subst, ap, ◌∙◌, append_assoc, rules}
+use Rattle.std.proofs.Common.{◌≡◌, ◌++◌, List, [], map, nat_cmp, refl, subst, ap, ◌∙◌, append_assoc, rules}
 use Rattle.std.specs.List.Sorted.{IsPermutation, IsStableByKey}
 use Rattle.std.proofs.lemmas.Fn.{always_returns_same}
 use Rattle.cfglint.specs.Shown.{ShownFinding, place_of, warned}
-use Rattle.cfglint.specs.Findings.{AreByPlace}
 use Rattle.cfglint.proofs.found.findings.Goals as goal
 
 joined : (a0 a1 a2 a3 a4 a5 w s u l r p : List ShownFinding) → a0 ≡ [] → a1 ≡ a0 ++ w → a2 ≡ a1 ++ (s ++ u) → a3 ≡ a2 ++ l → a4 ≡ a3 ++ r → a5 ≡ a4 ++ p
