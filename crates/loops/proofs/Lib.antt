@@ -8,5 +8,6 @@ pub mod Paths
 pub mod Places
 pub mod Pushed
 pub mod Putting
+pub mod Turned
 pub mod Uses
 pub mod Vanishing

@@ -2,3 +2,4 @@
 pub mod Acyclic
 pub mod Layers
 pub mod Putting
+pub mod Reversed

@@ -3,6 +3,7 @@
 
 mod acyclic;
 pub mod laws;
+mod reversed;
 pub mod rows;
 mod shortest;
 mod stepping;

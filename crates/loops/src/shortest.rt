@@ -6,6 +6,7 @@ ghost use Rattle.loops.specs.Inner.Layers.{Finds, HaveLayers, IsRowTo, noted};
 ghost use Rattle.loops.specs.Rows.{IsShortestOf};
 
 use crate::acyclic::acyclic_rules;
+use crate::reversed::rules_behind_no_loop;
 use crate::rows::Step;
 use crate::steps::Steps;
 use std::alloc::{AllocError, Global};
@@ -36,7 +37,8 @@ pub fn shortest_loop(
 }
 
 /// For each rule a shortest row of steps from it to itself, or that there is none. Rules from which no row of steps comes
-/// to a loop take together the time of a look at each of their steps; each other rule takes a search of its own.
+/// to a loop, and those to which none comes from a loop, take together the time of a few looks at each step; each other
+/// rule takes a search of its own.
 ///
 /// # Errors
 ///
@@ -48,9 +50,10 @@ pub fn shortest_loops(alloc: Global, steps: &Steps) -> Result<Vec<Option<Vec<Ste
         → IsShortestOf (HasStep steps.now) rule (get_or found.items rule None)) }
 {
     let ends = acyclic_rules(alloc, steps)?;
+    let behind = rules_behind_no_loop(alloc, steps)?;
     let mut loops = Vec::new(alloc);
     for rule in 0..steps.len() {
-        let found = if ends[rule] {
+        let found = if ends[rule] || behind[rule] {
             None
         } else {
             shortest_loop(alloc, steps, rule)?

@@ -4,19 +4,25 @@ use Rattle.loops.specs.Lists.{HasStep}
 use Rattle.loops.specs.Rows.{IsShortestOf}
 use Rattle.loops.proofs.AcyclicRules.{ends_without_loop, one_more_rule}
 use Rattle.loops.proofs.shortest.shortest_loops.Goals as goal
-use Rattle.loops.proofs.shortest.shortest_loops.Goals.{then-index, else-index+in_ok-found}
+use Rattle.loops.proofs.shortest.shortest_loops.Goals.{then-index, else-index, then-index-2, else-index-2+in_ok-found}
 
 pub loop-rule-preserved : goal.loop-rule-preserved
 loop-rule-preserved c =
-    let found : IsShortestOf (HasStep c.args.steps.now) c.loop-rule.rule c.if-index.found = elim c.if-index.branch [
-      | then-index w ↦ subst (IsShortestOf (HasStep c.args.steps.now) c.loop-rule.rule) (sym w.found-is)
-          (ends_without_loop _ (c.in_ok-ends.ensures.ends c.loop-rule.rule
-          (get_or_default c.in_ok-ends.ends.items c.loop-rule.rule false c.index.result.now
-          (omega (arith, c.loop-rule-test.true, c.len-rule-end.ensures, c.in_ok-ends.ensures.shape)) ∙ sym c.index.ensures ∙ w.if-index.true)))
-      | else-index+in_ok-found w ↦ subst (IsShortestOf (HasStep c.args.steps.now) c.loop-rule.rule) (sym w.found-is) w.in_ok-found.ensures
+    let found : IsShortestOf (HasStep c.args.steps.now) c.loop-rule.rule c.if-index-2.found = elim c.if-index-2.branch [
+      | then-index-2 w ↦ subst (IsShortestOf (HasStep c.args.steps.now) c.loop-rule.rule) (sym w.found-is)
+          (elim c.if-index.branch [
+            | then-index v ↦ ends_without_loop _ (c.in_ok-ends.ensures.ends c.loop-rule.rule
+                (get_or_default c.in_ok-ends.ends.items c.loop-rule.rule false c.index.result.now
+                (omega (arith, c.loop-rule-test.true, c.len-rule-end.ensures, c.in_ok-ends.ensures.shape)) ∙ sym c.index.ensures ∙ v.if-index.true))
+            | else-index v ↦ λ row. c.in_ok-behind.ensures.none c.loop-rule.rule row
+                (get_or_default c.in_ok-behind.behind.items c.loop-rule.rule false v.index-else-index.result.now
+                (omega (arith, c.loop-rule-test.true, c.len-rule-end.ensures, c.in_ok-behind.ensures.shape))
+                ∙ sym v.index-else-index.ensures ∙ sym v.value-is ∙ w.if-index-2.true)
+          ])
+      | else-index-2+in_ok-found w ↦ subst (IsShortestOf (HasStep c.args.steps.now) c.loop-rule.rule) (sym w.found-is) w.in_ok-found.ensures
     ] in
     record {
-      rules = let long = ap length c.in_ok-push.ensures.items ∙ length_push c.loop-rule.loops.items c.if-index.found in omega (arith, long, c.loop-rule.invariant.rules);
-      each = one_more_rule (IsShortestOf (HasStep c.args.steps.now)) c.loop-rule.loops.items c.push.new.self.items None c.if-index.found c.loop-rule.rule
+      rules = let long = ap length c.in_ok-push.ensures.items ∙ length_push c.loop-rule.loops.items c.if-index-2.found in omega (arith, long, c.loop-rule.invariant.rules);
+      each = one_more_rule (IsShortestOf (HasStep c.args.steps.now)) c.loop-rule.loops.items c.push.new.self.items None c.if-index-2.found c.loop-rule.rule
           c.in_ok-push.ensures.items c.loop-rule.invariant.rules c.loop-rule.invariant.each found;
     }
