@@ -1,11 +1,10 @@
 //! The parts of a production: its symbols, `%prec` and `%empty`.
 
 ghost use Rattle.std.specs.Prelude.{◌≡◌, ◌≤◌, ℕ, [], ◌∷◌, IfOk, IfSome, OnOk, length, option_map};
-ghost use Rattle.cfgwords.specs.Text.{place, fault_at};
-ghost use Rattle.cfgwords.specs.declared.fault.FaultKind.TheVariants.{NonEmptyProduction};
+ghost use Rattle.reading.specs.Construct.{again, then};
+ghost use Rattle.cfgwords.specs.Text.{place};
 ghost use Rattle.cfgreader.specs.Inner.Builds.{part_view, parts_view};
-ghost use Rattle.cfgreader.specs.Rules.{EmptyPart, PrecedencePart, empty, front_part, front_parts};
-ghost use Rattle.cfgreader.specs.Rules.{part_end, may_follow_empty, more_parts, part};
+ghost use Rattle.cfgreader.specs.Rules.{empty, front_part, front_parts, may_follow_empty, more_parts, part, part_end};
 ghost use Rattle.cfgreader.specs.Rules.{precedence, symbol_part, with_parts};
 
 use super::reader::{ReadFault, Reader};
@@ -61,20 +60,19 @@ impl<'a> Parts<'a> {
 
 impl<'a> Reader<'a> {
     ghost use Rattle.cfgreader.specs.Inner.Builds.{Builds};
-    ghost use Rattle.cfgast.specs.View.{token_view};
 
     /// Passes what stands behind `%prec`.
     #[tactic(auto, unfolding(crate::specs::Rules::precedence))]
-    fn precedence(&mut self) -> Result<Token<'a>, ReadFault>
-        ensures read { Builds (λ token. PrecedencePart (token_view token)) self.old self.new result
-            (precedence self.old.len) }
-        ensures after { IfOk result (λ token. place self.old.len self.old.rest.now ≤ token.end) }
+    fn precedence(&mut self) -> Result<Option<Part<'a>>, ReadFault>
+        ensures read { Builds (option_map part_view) self.old self.new result (then (precedence self.old.len) again) }
+        ensures after { IfOk result (λ part. IfSome part
+            (λ part. place self.old.len self.old.rest.now ≤ part_end (part_view part))) }
     {
         self.blank(true)?;
         let token = self.token()?;
         self.tree.use_precedence(self.alloc, token.word())?;
         self.blank(true)?;
-        Ok(token)
+        Ok(Some(Part::Precedence(token)))
     }
 
     /// Whether a `|`, a `;`, an action or a `%prec` stands here.
@@ -84,16 +82,18 @@ impl<'a> Reader<'a> {
         matches!(self.rest.as_bytes(), [b'|' | b';' | b'{', ..]) || self.stands("%prec")
     }
 
-    /// Passes the blank behind the `%empty` that begins at `text`, and answers where the `%empty` ends.
+    /// Passes the blank behind the `%empty` that begins at `text`.
     #[tactic(auto, unfolding(crate::specs::Rules::empty))]
-    fn empty(&mut self, text: &'a str) -> Result<usize, ReadFault>
-        ensures read { Builds EmptyPart self.old self.new result (empty self.old.len text.now) }
-        ensures after { IfOk result (λ end. end ≡ place self.old.len self.old.rest.now) }
+    fn empty(&mut self, text: &'a str) -> Result<Option<Part<'a>>, ReadFault>
+        ensures read { Builds (option_map part_view) self.old self.new result
+            (then (empty self.old.len text.now) again) }
+        ensures after { IfOk result (λ part. IfSome part
+            (λ part. place self.old.len self.old.rest.now ≤ part_end (part_view part))) }
     {
         let end = self.place();
         self.blank(true)?;
         if self.may_follow_empty() {
-            Ok(end)
+            Ok(Some(Part::Empty(end)))
         } else {
             Err(self.fault_at(FaultKind::NonEmptyProduction, text))
         }
@@ -108,9 +108,9 @@ impl<'a> Reader<'a> {
     {
         let text = self.rest;
         if self.accept("%prec") {
-            Ok(Some(Part::Precedence(self.precedence()?)))
+            self.precedence()
         } else if self.accept("%empty") {
-            Ok(Some(Part::Empty(self.empty(text)?)))
+            self.empty(text)
         } else {
             Ok(None)
         }
@@ -144,7 +144,7 @@ impl<'a> Reader<'a> {
     {
         let text = self.rest;
         if self.accept("%prec") {
-            Ok(Some(Part::Precedence(self.precedence()?)))
+            self.precedence()
         } else if self.accept("%empty") {
             self.blank(true)?;
             Err(self.fault_at(FaultKind::NonEmptyProduction, text))

@@ -117,10 +117,11 @@ impl<'a> Reader<'a> {
 
     /// Passes the word, where it stands here.
     pub(super) fn accept(&mut self, word: &str) -> bool
-        ensures { MatchBool result
+        ensures passed { MatchBool result
             ((strip word.now self.old.rest.now ≡ Some self.new.rest.now) × (self.new.len ≡ self.old.len)
             × (self.new.tree ≡ self.old.tree))
             ((strip word.now self.old.rest.now ≡ None) × (self.new ≡ self.old)) }
+        ensures shorter { length self.new.rest.now ≤ length self.old.rest.now }
     {
         match after_word(self.rest, word) {
             Some(rest) => {

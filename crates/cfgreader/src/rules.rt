@@ -6,7 +6,7 @@ ghost use Rattle.cfgwords.specs.Text.{place};
 ghost use Rattle.cfgast.specs.Items.{Alternative};
 ghost use Rattle.cfgreader.specs.Inner.Builds.{IsActionHere, parts_view};
 ghost use Rattle.cfgreader.specs.Grammar.{file, programs};
-ghost use Rattle.cfgreader.specs.Rules.{another, end_fault, end_of, finish, is_grmtools, is_rule_next, production};
+ghost use Rattle.cfgreader.specs.Rules.{another, end_fault, finish, is_rule_next, production};
 ghost use Rattle.cfgreader.specs.Rules.{production_end, rule, rule_body, rule_type};
 
 use super::bodies::Parts;
