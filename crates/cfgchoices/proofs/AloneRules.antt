@@ -20,6 +20,14 @@ module _ {S : Type 0} (kinds : List (Kind S)) (g : Grammar) where
     pub one : (r : ℕ) → get_or alone r false ≡ true → (p q : ℕ) → p < n → q < n → IsCounted kinds p → IsCounted kinds q
         → (nth_production g p).rule ≡ r → (nth_production g q).rule ≡ r → p ≡ q
 
+  pub alone_none : (alone seen : List Bool) → length alone ≡ g.rules → length seen ≡ g.rules → AloneSoFar 0 alone seen
+  alone_none alone seen flags rules = record {
+    flags = flags;
+    rules = rules;
+    none = λ _ _ _ lt. absurd (omega (arith, lt));
+    one = λ _ _ _ _ lt. absurd (omega (arith, lt));
+  }
+
   module _ (n : ℕ) (alone seen : List Bool) (a : AloneSoFar n alone seen) where
     old_or_new : (p : ℕ) → p < n + 1 → (p < n) ⊎ (p ≡ n)
     old_or_new p lt = elim (cases_lt p n) [ inl less ↦ inl less | inr ge ↦ inr (omega (arith, lt, ge)) ]

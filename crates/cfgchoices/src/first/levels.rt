@@ -1,10 +1,11 @@
 //! Levels of rules that cost the same, by rising cost.
 
-ghost use Rattle.std.specs.Prelude.{◌+◌, ◌<◌, IfOk, OnOk};
+ghost use Rattle.std.specs.Prelude.{◌≡◌, ◌+◌, ◌<◌, IfOk, OnOk, map};
+ghost use Rattle.cfgleast.specs.Certificate.{choice_of};
 ghost use Rattle.cfgleast.specs.Generator.{IsGeneratorOf, settled_tables, tables_of};
 ghost use Rattle.cfgchoices.specs.Inner.FirstChoices.{AreFirst, Walks};
 ghost use Rattle.cfgchoices.specs.Inner.Kinds.{AreKinds};
-ghost use Rattle.cfgchoices.specs.Inner.Offers.{Climbed, chosen_tables, offers_of};
+ghost use Rattle.cfgchoices.specs.Inner.Offers.{Climbed, by, chosen_tables, offers_of};
 
 use crate::first::lists::{Listed, no_productions};
 use crate::first::offers::Firsts;
@@ -56,6 +57,35 @@ impl<S: Storage> Firsts<S> {
     }
 }
 
+/// The choices of all rules, made by rising cost.
+///
+/// # Errors
+///
+/// Want of memory.
+fn choices_by_cost<S: Storage, T: Tables<S>>(
+    alloc: Global,
+    tight: &TightTables<S, T>,
+    rules_len: usize,
+) -> Result<Vec<Option<(PIdx<S>, u32)>>, AllocError>
+    requires { rules_len ≡ tight.now.tables.grammar.rules }
+    ensures walks { IfOk result (λ firsts. Walks (by tight.now.tables (map (choice_of S.number) firsts.items))) }
+    ensures first { IfOk result (λ firsts. AreFirst (by tight.now.tables (map (choice_of S.number) firsts.items))) }
+{
+    let choices = no_choices(alloc, rules_len)?;
+    let foremost = no_productions(alloc, rules_len)?;
+    let mut firsts = Firsts {
+        alloc,
+        choices,
+        number: 0,
+        cost: 0,
+        ready: Vec::new(alloc),
+        level: VecDeque::new(alloc),
+        foremost,
+    };
+    firsts.choose_by_cost(tight)?;
+    Ok(firsts.choices)
+}
+
 /// For each rule that costs something the production by which its first minimal sentence is made, and a number, which is
 /// greater than those of the rules in the production.
 ///
@@ -77,17 +107,6 @@ pub fn first_choices<S: Storage, T: Tables<S>>(
     ensures first { IfOk result (λ firsts. AreFirst (tables_of S.number (T.grammar tables.now) costs.now
         settled.now.least.items firsts.items)) }
 {
-    let rules_len = usize::from(tables.rules_len());
     let tight = TightTables::new(alloc, tables, costs, settled, kinds)?;
-    let mut firsts = Firsts {
-        alloc,
-        choices: no_choices(alloc, rules_len)?,
-        number: 0,
-        cost: 0,
-        ready: Vec::new(alloc),
-        level: VecDeque::new(alloc),
-        foremost: no_productions(alloc, rules_len)?,
-    };
-    firsts.choose_by_cost(&tight)?;
-    Ok(firsts.choices)
+    choices_by_cost(alloc, &tight, usize::from(tables.rules_len()))
 }

@@ -1,10 +1,10 @@
-use Rattle.std.proofs.Common.{◌≡◌, ◌<◌, [], length, sym, ap, subst, ◌∙◌, arith}
+use Rattle.std.proofs.Common.{◌≡◌, ℕ, ◌<◌, ◌≤◌, [], length, sym, ap, subst, ◌∙◌, arith}
 use Rattle.std.proofs.lemmas.List.{get_or_default}
 use Rattle.std.proofs.lemmas.List.Elements.{All-get_or}
 use Rattle.derivation.specs.Grammar.{Production}
 use Rattle.cfgtables.specs.Openings.{nth_production}
 use Rattle.cfgchoices.specs.declared.kinds.Kind.TheVariants.{Slack}
-use Rattle.cfgchoices.proofs.AloneRules.{alone_first, alone_second, alone_slack}
+use Rattle.cfgchoices.proofs.AloneRules.{alone_first, alone_none, alone_second, alone_slack}
 use Rattle.cfgchoices.proofs.first.tight.alone_rules.Given.{Over}
 use Rattle.cfgchoices.proofs.first.tight.alone_rules.Goals.{After-from-rule}
 use Rattle.cfgchoices.proofs.first.tight.alone_rules.Goals as goal
@@ -17,6 +17,43 @@ within g c =
     let x = g.T.Tables.grammar c.args.tables.now in
     subst (λ r. r < x.rules) (sym (at g c)) (All-get_or (λ (p : Production). p.rule < x.rules) x.productions c.loop-number.number (record { rule = 0; symbols = [] })
     (subst (λ m. c.loop-number.number < m) c.requires c.loop-number-test.true) c.invariant_holds.ensures.content.owners)
+
+below : {n k : ℕ} → n < k → n ≤ k
+below lt = omega (arith, lt)
+
+fits : {n k m most : ℕ} → n < k → k ≡ m → m ≤ most → n ≤ most
+fits lt same le = omega (arith, lt, same, le)
+
+pub loop-number-init : goal.loop-number-init
+loop-number-init g c =
+    let rules = c.from-rules_len.ensures ∙ c.rules_len.ensures.value in
+    alone_none c.args.kinds.now (g.T.Tables.grammar c.args.tables.now) c.in_ok-alone.alone.items c.in_ok-seen.seen.items (sym c.in_ok-alone.alone.ok.0 ∙ c.in_ok-alone.ensures.len ∙ rules) (sym c.in_ok-seen.seen.ok.0 ∙ c.in_ok-seen.ensures.len ∙ rules)
+
+pub offset_bounds-kinds-number : goal.offset_bounds-kinds-number
+offset_bounds-kinds-number g c = below c.loop-number-test.true
+
+pub bounds-kinds-number : goal.bounds-kinds-number
+bounds-kinds-number g c = c.loop-number-test.true
+
+pub bounds : goal.bounds
+bounds g c = c.loop-number-test.true
+
+pub to_storage-requires : goal.to_storage-requires
+to_storage-requires g c = fits c.loop-number-test.true c.requires c.invariant_holds.ensures.productions
+
+pub prod_to_rule-requires : goal.prod_to_rule-requires
+prod_to_rule-requires g c = subst (λ m. m < length (g.T.Tables.grammar c.args.tables.now).productions) (sym c.to_storage.ensures)
+    (subst (λ m. c.loop-number.number < m) c.requires c.loop-number-test.true)
+
+pub index-requires : goal.index-requires
+index-requires g c = subst (λ m. c.from-rule.result < m) (sym (c.loop-number.seen.ok.0 ∙ c.loop-number.invariant.rules)) (within g (goal.at.index-requires g c).After-from-rule)
+
+pub index_mut-requires : goal.index_mut-requires
+index_mut-requires g c = subst (λ m. c.from-rule.result < m) (sym (c.loop-number.alone.ok.0 ∙ c.loop-number.invariant.flags)) (within g (goal.at.index_mut-requires g c).After-from-rule)
+
+pub index_mut-requires-in-loop-number : goal.index_mut-requires-in-loop-number
+index_mut-requires-in-loop-number g c =
+    subst (λ m. c.from-rule.result < m) (sym (c.loop-number.seen.ok.0 ∙ c.loop-number.invariant.rules)) (within g (goal.at.index_mut-requires-in-loop-number g c).After-from-rule)
 
 pub loop-number-preserved-in-Slack : goal.loop-number-preserved-in-Slack
 loop-number-preserved-in-Slack g c = alone_slack c.args.kinds.now (g.T.Tables.grammar c.args.tables.now) c.loop-number.number c.loop-number.alone.items c.loop-number.seen.items c.loop-number.invariant
@@ -33,6 +70,9 @@ loop-number-preserved g c =
     let there = (goal.at.loop-number-preserved g c).After-from-rule in
     alone_first c.args.kinds.now (g.T.Tables.grammar c.args.tables.now) c.loop-number.number c.loop-number.alone.items c.loop-number.seen.items c.loop-number.invariant
     c.from-rule.result (at g there) (within g there) c.index.result.now c.index.ensures c.if-index.false
+
+pub returns-clause-flags : goal.returns-clause-flags
+returns-clause-flags g c = c.loop-number.invariant.flags
 
 pub returns-clause-alone : goal.returns-clause-alone
 returns-clause-alone g c =

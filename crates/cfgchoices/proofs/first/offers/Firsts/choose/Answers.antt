@@ -96,3 +96,22 @@ returns g c =
       cost = adds.cost ∙ taken_cost _ _ _ _ t;
       left = chosen_left _ _ _ _ t c.requires m known (unset g at) (inside g at) f' adds;
     }
+
+pub index-requires : goal.index-requires
+index-requires g c =
+    let items = c.next.new.self.choices.items in
+    let t = c.in-Some.ensures c.args.tight.now c.requires.offering.level in
+    let inside = subst (λ i. i < c.args.tight.now.tables.grammar.rules) (sym c.from.ensures) c.rule_of-rule.ensures.within in
+    let within = entry_within (choice_of g.S.Storage.number) items _ c.from.result c.from.result t.level.choosing.listed refl inside in
+    omega (arith, within, c.next.new.self.choices.ok.0)
+
+pub index_mut-requires : goal.index_mut-requires
+index_mut-requires g c =
+    let items = c.next.new.self.choices.items in
+    let t = c.in-Some.ensures c.args.tight.now c.requires.offering.level in
+    let inside = subst (λ i. i < c.args.tight.now.tables.grammar.rules) (sym c.from-2.ensures) c.rule_of-rule.ensures.within in
+    let within = entry_within (choice_of g.S.Storage.number) items _ c.from-2.result c.from-2.result t.level.choosing.listed refl inside in
+    omega (arith, within, c.next.new.self.choices.ok.0)
+
+pub offer_listed-requires-clause-list : goal.offer_listed-requires-clause-list
+offer_listed-requires-clause-list g c = c.rule_of-rule.ensures.within

@@ -1,4 +1,4 @@
-use Rattle.std.proofs.Common.{◌≡◌, ◌<◌, inl, Some, None, get_or, sym, subst, ◌∙◌, ap, true≢false}
+use Rattle.std.proofs.Common.{◌≡◌, ◌<◌, inl, Some, None, get_or, refl, sym, subst, ◌∙◌, ap, true≢false, arith}
 use Rattle.std.specs.Ordering.{is_le}
 use Rattle.cfgleast.specs.Certificate.{choice_of}
 use Rattle.cfgchoices.specs.Inner.Offers.{HasChoice, IsOffered, offers_of, owner, place_of}
@@ -48,3 +48,27 @@ returns-in_ok-ordering-in-Some g c =
     let some = (goal.at.returns-in_ok-ordering-in-Some g c).In-Some in
     λ e. foremost_handled c.args.tight.now (offers_of g.S.Storage.number c.args.self.now) c.requires.offering _ c.requires.offered _ (foremost g some) (not_chosen g some)
     (λ u v h k greater. true≢false (sym (sym c.is_le.ensures ∙ e) ∙ ap is_le (c.in_ok-ordering-in-Some.ensures u v h k ∙ greater)))
+
+pub rule_of-requires : goal.rule_of-requires
+rule_of-requires g c = c.requires.offered.tight.place
+
+pub index-requires : goal.index-requires
+index-requires g c =
+    let inside = subst (λ i. i < c.args.tight.now.tables.grammar.rules) (sym c.from-rule.ensures) c.rule_of.ensures.within in
+    let within = entry_within (choice_of g.S.Storage.number) c.args.self.now.choices.items _ c.from-rule.result c.from-rule.result c.requires.offering.level.choosing.listed refl inside in
+    omega (arith, within, c.args.self.now.choices.ok.0)
+
+pub index-requires-2 : goal.index-requires-2
+index-requires-2 g c =
+    let inside = subst (λ i. i < c.args.tight.now.tables.grammar.rules) (sym c.from-rule.ensures) c.rule_of.ensures.within in
+    let within = entry_within (place_of g.S.Storage.number) c.args.self.now.foremost.items _ c.from-rule.result c.from-rule.result c.requires.offering.listed refl inside in
+    omega (arith, within, c.args.self.now.foremost.ok.0)
+
+pub compare-requires-clause-choosing : goal.compare-requires-clause-choosing
+compare-requires-clause-choosing g c = c.requires.offering.level.choosing
+
+pub compare-requires-clause-other : goal.compare-requires-clause-other
+compare-requires-clause-other g c = c.requires.offered
+
+pub returns-in-None : goal.returns-in-None
+returns-in-None g c = λ e. absurd (true≢false (sym e))

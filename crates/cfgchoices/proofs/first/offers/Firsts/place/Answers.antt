@@ -37,3 +37,28 @@ loop-low-preserved-then-is_lt g c = to_front _ _ c.requires.level _ c.requires.o
 pub loop-low-preserved : goal.loop-low-preserved
 loop-low-preserved g c = to_back _ _ c.requires.level _ c.requires.offered _ _ _ _ c.loop-low.invariant c.probe-middle.ensures.from c.probe-middle.ensures.to
     (middle g (goal.at.loop-low-preserved g c).After-index) _ c.in_ok-compare.ensures (sym c.is_lt.ensures ∙ c.if-is_lt.false)
+
+pub probe-middle-requires : goal.probe-middle-requires
+probe-middle-requires g c = c.loop-low-test.true
+
+pub compare-requires-clause-choosing : goal.compare-requires-clause-choosing
+compare-requires-clause-choosing g c = c.requires.level.choosing
+
+pub compare-requires-clause-other : goal.compare-requires-clause-other
+compare-requires-clause-other g c = c.requires.offered
+
+pub loop-low-smaller-then-is_lt : goal.loop-low-smaller-then-is_lt
+loop-low-smaller-then-is_lt g c = omega (arith, c.probe-middle.ensures.from, c.probe-middle.ensures.to)
+
+pub loop-low-smaller : goal.loop-low-smaller
+loop-low-smaller g c = omega (arith, c.probe-middle.ensures.from, c.probe-middle.ensures.to)
+
+pub returns : goal.returns
+returns g c =
+    let len = length-map c.args.self.now.level.items (λ p. g.S.Storage.number p.0) in
+    let at = c.loop-low.invariant in
+    record {
+      within = omega (arith, at.within, at.ordered, len);
+      before = at.before;
+      behind = λ i le lt. at.behind i (omega (arith, le, c.loop-low-test.false)) (omega (arith, lt, len));
+    }
