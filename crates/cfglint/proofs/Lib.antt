@@ -1,3 +1,4 @@
+pub mod AskedPlaces
 pub mod FirstAlike
 pub mod HeirTexts
 pub mod Lacking

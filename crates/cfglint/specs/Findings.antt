@@ -16,6 +16,7 @@ use Rattle.cfgast.specs.Syntax.{Production, Syntax}
 use Rattle.cfgast.specs.declared.precedence.Precedence.{Precedence}
 use Rattle.cfgtree.specs.Unused.{AreWarnings, TokenName, entry_token, name_of}
 use Rattle.cfgwarnings.specs.Warnings.{GrammarWarning}
+use Rattle.cfgwarnings.specs.declared.warning.YaccGrammarWarningKind.TheVariants.{UnusedToken}
 use Rattle.cfgtables.specs.Openings.{nth_production}
 use Rattle.cfgnumbers.specs.Numbered.{Numbered, core}
 use Rattle.cfglint.specs.Shown.{ShownFinding, derives_itself, no_sentence, place_of, repeated, unusable, unused_precedence, warned}
@@ -100,21 +101,45 @@ module _ (s : Syntax) where
   TellsPrecedence n (Some finding) = (name : List ℕ) × (span : Span) × IsIdle n name span × (finding ≡ unused_precedence name span)
   TellsPrecedence n None = (name : List ℕ) (span : Span) → IsIdle n name span → ⊥
 
--- the warnings of the syntax, and what is told of rules, productions and precedences, one list behind the other
+  -- a token stands first at this place, and a `%prec` names it: it is there for its precedence
+  pub record IsPrecToken (span : Span) : Type 0 where
+    pub place : ℕ
+    pub name : List ℕ
+    pub token : slice_get s.tokens place ≡ Some name
+    pub there : slice_get s.spans place ≡ Some span
+    pub production : Production
+    pub listed : Contains s.productions production
+    pub asked : production.precedence ≡ Some name
+
+  -- an unused token that a `%prec` names
+  pub record IsAskedFor (warning : GrammarWarning) : Type 0 where
+    pub kind : warning.kind ≡ UnusedToken
+    pub span : Span
+    pub first : slice_get warning.spans 0 ≡ Some span
+    pub token : IsPrecToken span
+
+  -- of the warnings of the tree, which are these, all but those of tokens that a `%prec` names
+  abbrev pub TellsWarning : List GrammarWarning → ℕ → Option ShownFinding → Type 0
+  TellsWarning warnings n (Some finding) = (warning : GrammarWarning) × (slice_get warnings n ≡ Some warning) × (IsAskedFor warning → ⊥) × (finding ≡ warned warning)
+  TellsWarning warnings n None = (warning : GrammarWarning) → slice_get warnings n ≡ Some warning → IsAskedFor warning
+
+-- the warnings of the syntax that are told, and what is told of rules, productions and precedences, one list behind the other
 pub record AreToldInTurn (s : Syntax) (g : Numbered) (told : List ShownFinding) : Type 0 where
   pub warnings : List GrammarWarning
+  pub unused : List ShownFinding
   pub without : List ShownFinding
   pub useless : List ShownFinding
   pub loops : List ShownFinding
   pub repeats : List ShownFinding
   pub precedences : List ShownFinding
   pub are_warnings : AreWarnings s warnings
+  pub are_unused : TellsBelow (TellsWarning s warnings) (length warnings) unused
   pub are_without : TellsBelow (TellsNoSentence g) (length g.rules) without
   pub are_useless : TellsBelow (TellsUnusable g) g.start_production useless
   pub are_loops : TellsBelow (TellsLoop g) (length g.rules) loops
   pub are_repeats : TellsBelow (TellsRepeated g) g.start_production repeats
   pub are_precedences : TellsBelow (TellsPrecedence s) (length s.tables.precedences) precedences
-  pub is : told ≡ map warned warnings ++ (without ++ (useless ++ (loops ++ (repeats ++ precedences))))
+  pub is : told ≡ unused ++ (without ++ (useless ++ (loops ++ (repeats ++ precedences))))
 
 -- the same findings in the order of their places; those of one place stay in their order
 pub record AreByPlace (told all : List ShownFinding) : Type 0 where

@@ -1,4 +1,5 @@
 -- Words of clauses inside the crate. No call that users make rests on them.
+pub mod Asked
 pub mod Firsts
 pub mod Lacks
 pub mod OwnHeirs

@@ -3,6 +3,7 @@
 #![tactic(auto)]
 
 mod added;
+mod asked;
 pub mod finding;
 mod found;
 pub mod laws;

@@ -1,42 +1,95 @@
 //! The warnings of a tree, as findings.
 
-ghost use Rattle.std.specs.Prelude.{◌≡◌, ◌++◌, List, map, IfOk, OnOk};
+ghost use Rattle.std.specs.Prelude.{◌≡◌, ◌++◌, List, length, IfOk, MatchBool, OnOk};
+ghost use Rattle.cfgast.specs.Syntax.{Syntax};
 ghost use Rattle.cfgtree.specs.Unused.{AreWarnings};
 ghost use Rattle.cfgtree.specs.View.{syntax};
 ghost use Rattle.cfgwarnings.specs.Warnings.{GrammarWarning};
+ghost use Rattle.cfglint.specs.Findings.{IsAskedFor, TellsBelow, TellsWarning};
+ghost use Rattle.cfglint.specs.Inner.Asked.{AreAskedBy};
 ghost use Rattle.cfglint.specs.Shown.{kind_of_warning, warned};
 
+use crate::asked::{Places, has_span, places_asked};
 use crate::finding::{Finding, FindingKind};
+use crate::teller::{Teller, push_told};
 use cfgbase::Spanned;
 use cfgrammar::yacc::ast::GrammarAST;
 use cfgwarnings::{YaccGrammarWarning, YaccGrammarWarningKind};
 use std::alloc::{AllocError, Global};
 
-/// Puts the warnings of the tree behind the findings.
+/// Puts behind the findings the warnings of the tree, but for unused tokens that a `%prec` names.
+///
+/// # Errors
+///
+/// Want of memory.
 pub(crate) fn push_warnings(
     alloc: Global,
     all: &mut Vec<Finding>,
     ast: &GrammarAST,
 ) -> Result<(), AllocError>
     ensures { OnOk result ((warnings : List GrammarWarning) × AreWarnings (syntax ast.now) warnings
-        × (all.new.items ≡ all.old.items ++ map warned warnings)) }
+        × (told : _) × TellsBelow (TellsWarning (syntax ast.now) warnings) (length warnings) told
+        × (all.new.items ≡ all.old.items ++ told)) }
 {
     let warnings = ast.warnings(alloc)?;
-    push_each(alloc, all, &warnings)
+    push_unasked(alloc, all, ast, &warnings)
 }
 
-/// Puts warnings behind the findings.
-fn push_each(
+/// Puts behind the findings those of the warnings that aren't of tokens that a `%prec` names.
+fn push_unasked(
     alloc: Global,
     all: &mut Vec<Finding>,
+    ast: &GrammarAST,
     warnings: &[YaccGrammarWarning],
 ) -> Result<(), AllocError>
-    ensures { OnOk result (all.new.items ≡ all.old.items ++ map warned warnings.now) }
+    ensures { OnOk result ((told : _) × TellsBelow (TellsWarning (syntax ast.now) warnings.now) (length warnings.now) told
+        × (all.new.items ≡ all.old.items ++ told)) }
 {
-    for warning in warnings {
-        all.push(finding_of(alloc, warning)?)?;
+    let asked = places_asked(alloc, ast)?;
+    let unasked = Unasked { warnings, asked };
+    push_told(alloc, all, &unasked, warnings.len())
+}
+
+/// Tells of warnings that aren't of tokens that a `%prec` names.
+#[derive(Drop)]
+struct Unasked<'a> {
+    warnings: &'a [YaccGrammarWarning],
+    /// The places of the tokens that a `%prec` names.
+    asked: Places,
+}
+
+impl Teller for Unasked<'_> {
+    ghost use Rattle.std.specs.Prelude.{length};
+    ghost use Rattle.cfgast.specs.Syntax.{Syntax};
+    ghost use Rattle.cfglint.specs.Findings.{TellsWarning};
+    ghost use Rattle.cfglint.specs.Inner.Asked.{AreAskedBy};
+
+    ghost count = { λ x. length x.warnings.now };
+
+    ghost tells = { λ x n told. (s : Syntax) → AreAskedBy s s.productions x.asked → TellsWarning s x.warnings.now n told };
+
+    fn tell(&self, alloc: Global, number: usize) -> Result<Option<Finding>, AllocError> {
+        match self.warnings.get(number) {
+            Some(warning) if !is_asked_for(&self.asked, warning) => {
+                Ok(Some(finding_of(alloc, warning)?))
+            }
+            _ => Ok(None),
+        }
     }
-    Ok(())
+}
+
+/// Whether the warning is of a token at one of these places, those of the tokens that a `%prec` names.
+fn is_asked_for(asked: &Places, warning: &YaccGrammarWarning) -> bool
+    ensures { (s : Syntax) → AreAskedBy s s.productions asked.now
+        → MatchBool result (IsAskedFor s warning.now) (IsAskedFor s warning.now → ⊥) }
+{
+    match warning.kind() {
+        YaccGrammarWarningKind::UnusedRule => false,
+        YaccGrammarWarningKind::UnusedToken => match warning.spans().first() {
+            Some(span) => has_span(asked, *span),
+            None => false,
+        },
+    }
 }
 
 /// A warning, as a finding at its places.

@@ -1,7 +1,7 @@
-use Rattle.std.proofs.Common.{◌≡◌, ◌++◌, List, [], map, nat_cmp, refl, subst, ap, ◌∙◌, append_assoc, rules}
+use Rattle.std.proofs.Common.{◌≡◌, ◌++◌, List, [], nat_cmp, refl, subst, ap, ◌∙◌, append_assoc, rules}
 use Rattle.std.specs.List.Sorted.{IsPermutation, IsStableByKey}
 use Rattle.std.proofs.lemmas.Fn.{always_returns_same}
-use Rattle.cfglint.specs.Shown.{ShownFinding, place_of, warned}
+use Rattle.cfglint.specs.Shown.{ShownFinding, place_of}
 use Rattle.cfglint.proofs.found.findings.Goals as goal
 
 joined : (a0 a1 a2 a3 a4 a5 w s u l r p : List ShownFinding) → a0 ≡ [] → a1 ≡ a0 ++ w → a2 ≡ a1 ++ (s ++ u) → a3 ≡ a2 ++ l → a4 ≡ a3 ++ r → a5 ≡ a4 ++ p
@@ -13,29 +13,31 @@ joined a0 a1 a2 a3 a4 a5 w s u l r p e0 e1 e2 e3 e4 e5 =
 
 pub returns : goal.returns
 returns c =
-    let (warnings, are_warnings, warned_is) = c.in_ok-push_warnings.ensures in
+    let (warnings, are_warnings, unused, are_unused, unused_is) = c.in_ok-push_warnings.ensures in
     let (without, useless, are_without, are_useless, sentences_is) = c.in_ok-push_sentences.ensures in
     let (loops, are_loops, loops_is) = c.in_ok-push_loops.ensures in
     let (repeats, are_repeats, repeats_is) = c.in_ok-push_repeats.ensures in
     let (precedences, are_precedences, precedences_is) = c.in_ok-push_precedences.ensures in
     let before = c.push_precedences.new.all.items in
     let after = c.sort_by_key.new.self.items in
-    let told : List ShownFinding = map warned warnings ++ (without ++ (useless ++ (loops ++ (repeats ++ precedences)))) in
+    let told : List ShownFinding = unused ++ (without ++ (useless ++ (loops ++ (repeats ++ precedences)))) in
     let is : before ≡ told = joined c.new-all.result.items c.push_warnings.new.all.items c.push_sentences.new.all.items
-    c.push_loops.new.all.items c.push_repeats.new.all.items before (map warned warnings) without useless loops repeats precedences
-    c.new-all.ensures.items warned_is sentences_is loops_is repeats_is precedences_is in
+    c.push_loops.new.all.items c.push_repeats.new.all.items before unused without useless loops repeats precedences
+    c.new-all.ensures.items unused_is sentences_is loops_is repeats_is precedences_is in
     let sorted = c.in_ok-sort_by_key.ensures.sorted place_of (always_returns_same _ _ _ (λ a r f called. search rules)) in
     let stable = c.in_ok-sort_by_key.ensures.stable place_of (always_returns_same _ _ _ (λ a r f called. search rules)) in
     record {
       told = told;
       in_turn = record {
         warnings = warnings;
+        unused = unused;
         without = without;
         useless = useless;
         loops = loops;
         repeats = repeats;
         precedences = precedences;
         are_warnings = are_warnings;
+        are_unused = are_unused;
         are_without = are_without;
         are_useless = are_useless;
         are_loops = are_loops;

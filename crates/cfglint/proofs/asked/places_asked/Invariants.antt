@@ -1,0 +1,8 @@
+use Rattle.std.proofs.Common.{map, take}
+use Rattle.cfgast.specs.View.{production_view}
+use Rattle.cfgtree.specs.View.{syntax}
+use Rattle.cfglint.specs.Inner.Asked.{AreAskedBy}
+use Rattle.cfglint.proofs.asked.places_asked.Given as goal
+
+abbrev pub invariant-loop-production : goal.invariant-loop-production
+invariant-loop-production l = AreAskedBy (syntax l.ast) (map production_view (take l.production-index l.production-items)) l.places

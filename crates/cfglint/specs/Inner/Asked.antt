@@ -1,0 +1,38 @@
+-- The places of tokens that a `%prec` names, as a set.
+use Rattle.std.specs.Prelude.{◌≡◌, ℕ, ◌⊎◌, false, List, Contains, Some, MatchBool, IsTrue, slice_get, Bool}
+use Rattle.std.specs.BTreeSet.{BTreeSet, contains}
+use Rattle.std.specs.Ordering.{nat_cmp, ordering_then}
+use Rattle.std.specs.declared.cmp.Ordering.{Ordering}
+use Rattle.cfgbase.specs.declared.span.Span.{Span}
+use Rattle.cfgast.specs.Syntax.{Production, Syntax}
+
+-- an order of places
+abbrev pub place_cmp : ℕ × ℕ → ℕ × ℕ → Ordering
+place_cmp x y = ordering_then (nat_cmp x.0 y.0) (nat_cmp x.1 y.1)
+
+-- a span is among the places
+abbrev pub has_span : BTreeSet (ℕ × ℕ) → Span → Bool
+has_span places span = contains place_cmp places (span.start, span.end)
+
+module _ (s : Syntax) where
+  -- the token of this name stands first at this place
+  pub record IsPlaceOf (name : List ℕ) (span : Span) : Type 0 where
+    pub place : ℕ
+    pub token : slice_get s.tokens place ≡ Some name
+    pub there : slice_get s.spans place ≡ Some span
+
+  -- the `%prec` of one of the productions names the token that stands first at this place
+  pub record IsAskedBy (productions : List Production) (span : Span) : Type 0 where
+    pub production : Production
+    pub listed : Contains productions production
+    pub name : List ℕ
+    pub asked : production.precedence ≡ Some name
+    pub place : IsPlaceOf name span
+
+  -- the places of all tokens that the productions' `%prec`s name
+  abbrev pub AreAskedBy : List Production → BTreeSet (ℕ × ℕ) → Type 0
+  AreAskedBy productions places = (span : Span) → MatchBool (has_span places span) (IsAskedBy productions span) (IsAskedBy productions span → ⊥)
+
+  -- the place of the token of this name was added, if there is one
+  abbrev pub Notes : List ℕ → BTreeSet (ℕ × ℕ) → BTreeSet (ℕ × ℕ) → Type 0
+  Notes name old new = (span : Span) → MatchBool (has_span new span) (IsTrue (has_span old span) ⊎ IsPlaceOf name span) ((has_span old span ≡ false) × (IsPlaceOf name span → ⊥))
