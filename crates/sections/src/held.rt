@@ -3,6 +3,7 @@
 use cfgbase::{Location, Span};
 use cfgerrors::HeaderError;
 use cfgkinds::{HeaderValue, KindFault, Namespaced, Setting, Value, YaccKind};
+use rows::made::Writer;
 use rows::page::Page;
 use rows::pen;
 
@@ -25,6 +26,21 @@ impl Place for Location {
             Location::CommandLine => out.push_str(" command line"),
             Location::Other(words) => pen::name(out, " ", words.as_str()),
         }
+    }
+}
+
+/// What keys have, as it is written once it is made.
+pub(crate) struct Held;
+
+impl<T: Place, E> Writer<HeaderValue<T>, E> for Held {
+    fn write(&self, out: &mut Page, held: &mut HeaderValue<T>) {
+        write_held(out, held);
+    }
+}
+
+impl<T: Place, E> Writer<Value<T>, E> for Held {
+    fn write(&self, out: &mut Page, value: &mut Value<T>) {
+        write_value(out, value);
     }
 }
 

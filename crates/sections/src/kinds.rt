@@ -88,63 +88,49 @@ fn write_parts(out: &mut Page, error: &YaccGrammarError) {
     write!(out, " {:?}", error.spanskind());
 }
 
-/// The kinds that hold no name, by their names. One that holds a character has `µ`.
-const PLAIN: [(&str, Kind); 30] = [
-    ("IllegalInteger", Kind::IllegalInteger),
-    ("IllegalName", Kind::IllegalName),
-    ("IllegalString", Kind::IllegalString),
-    ("InvalidString", Kind::InvalidString),
-    ("ReachedEOL", Kind::ReachedEOL),
-    ("PrematureEnd", Kind::PrematureEnd),
-    ("ExpectedInput", Kind::ExpectedInput('µ')),
-    ("StorageTooSmall", Kind::StorageTooSmall),
-    ("NoStartRule", Kind::NoStartRule),
-    ("IncompleteRule", Kind::IncompleteRule),
-    ("IncompleteComment", Kind::IncompleteComment),
-    ("IncompleteAction", Kind::IncompleteAction),
-    ("MissingColon", Kind::MissingColon),
-    ("MissingRightArrow", Kind::MissingRightArrow),
-    ("MismatchedBrace", Kind::MismatchedBrace),
-    ("NonEmptyProduction", Kind::NonEmptyProduction),
-    ("ProductionNotTerminated", Kind::ProductionNotTerminated),
-    ("PrecNotFollowedByToken", Kind::PrecNotFollowedByToken),
-    ("ProgramsNotSupported", Kind::ProgramsNotSupported),
-    ("UnknownDeclaration", Kind::UnknownDeclaration),
-    ("UnknownSymbol", Kind::UnknownSymbol),
-    ("DuplicatePrecedence", Kind::DuplicatePrecedence),
-    (
-        "DuplicateAvoidInsertDeclaration",
-        Kind::DuplicateAvoidInsertDeclaration,
-    ),
-    (
-        "DuplicateImplicitTokensDeclaration",
-        Kind::DuplicateImplicitTokensDeclaration,
-    ),
-    (
-        "DuplicateExpectDeclaration",
-        Kind::DuplicateExpectDeclaration,
-    ),
-    (
-        "DuplicateExpectRRDeclaration",
-        Kind::DuplicateExpectRRDeclaration,
-    ),
-    ("DuplicateStartDeclaration", Kind::DuplicateStartDeclaration),
-    (
-        "DuplicateActiontypeDeclaration",
-        Kind::DuplicateActiontypeDeclaration,
-    ),
-    ("DuplicateEPP", Kind::DuplicateEPP),
-    ("InvalidYaccKind", Kind::InvalidYaccKind),
-];
-
 /// The kind of this name. A kind that holds a name holds this one.
 fn kind_of(alloc: Global, name: &str, held: &str) -> Result<Kind, AllocError> {
-    for (other, kind) in &PLAIN {
-        if *other == name {
-            return kind.clone();
-        }
+    match plain_kind(name) {
+        Some(kind) => Ok(kind),
+        None => Ok(kind_with(String::from_str(alloc, held)?, name)),
     }
-    Ok(kind_with(String::from_str(alloc, held)?, name))
+}
+
+/// The kind of this name, of those that hold no name. One that holds a character has `µ`.
+fn plain_kind(name: &str) -> Option<Kind> {
+    Some(match name {
+        "IllegalInteger" => Kind::IllegalInteger,
+        "IllegalName" => Kind::IllegalName,
+        "IllegalString" => Kind::IllegalString,
+        "InvalidString" => Kind::InvalidString,
+        "ReachedEOL" => Kind::ReachedEOL,
+        "PrematureEnd" => Kind::PrematureEnd,
+        "ExpectedInput" => Kind::ExpectedInput('µ'),
+        "StorageTooSmall" => Kind::StorageTooSmall,
+        "NoStartRule" => Kind::NoStartRule,
+        "IncompleteRule" => Kind::IncompleteRule,
+        "IncompleteComment" => Kind::IncompleteComment,
+        "IncompleteAction" => Kind::IncompleteAction,
+        "MissingColon" => Kind::MissingColon,
+        "MissingRightArrow" => Kind::MissingRightArrow,
+        "MismatchedBrace" => Kind::MismatchedBrace,
+        "NonEmptyProduction" => Kind::NonEmptyProduction,
+        "ProductionNotTerminated" => Kind::ProductionNotTerminated,
+        "PrecNotFollowedByToken" => Kind::PrecNotFollowedByToken,
+        "ProgramsNotSupported" => Kind::ProgramsNotSupported,
+        "UnknownDeclaration" => Kind::UnknownDeclaration,
+        "UnknownSymbol" => Kind::UnknownSymbol,
+        "DuplicatePrecedence" => Kind::DuplicatePrecedence,
+        "DuplicateAvoidInsertDeclaration" => Kind::DuplicateAvoidInsertDeclaration,
+        "DuplicateImplicitTokensDeclaration" => Kind::DuplicateImplicitTokensDeclaration,
+        "DuplicateExpectDeclaration" => Kind::DuplicateExpectDeclaration,
+        "DuplicateExpectRRDeclaration" => Kind::DuplicateExpectRRDeclaration,
+        "DuplicateStartDeclaration" => Kind::DuplicateStartDeclaration,
+        "DuplicateActiontypeDeclaration" => Kind::DuplicateActiontypeDeclaration,
+        "DuplicateEPP" => Kind::DuplicateEPP,
+        "InvalidYaccKind" => Kind::InvalidYaccKind,
+        _ => return None,
+    })
 }
 
 /// The kind of this name, of those that hold one.

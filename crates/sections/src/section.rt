@@ -2,12 +2,13 @@
 
 ghost use Rattle.std.specs.Str.{IsCharBoundary};
 
-use crate::held::{write_held, write_value};
+use crate::held::{Held, write_held, write_value};
 use crate::plain;
 use cfgbase::{Location, Span, Spanned};
 use cfgerrors::HeaderError;
 use cfgheader::{GrmtoolsSectionParser, Header, HeaderFault};
 use cfgkinds::{HeaderValue, Value, YaccKind, YaccOriginalActionKind};
+use rows::made::write_made;
 use rows::page::Page;
 use rows::row::Row;
 use rows::{pen, text};
@@ -87,10 +88,7 @@ fn write_parsed(out: &mut Page, (header, end): &(Header<Span>, usize)) {
 fn write_key(out: &mut Page, key: &str, held: &HeaderValue<Span>) {
     let (mut told, mut located) = (Page::new(out.alloc), Page::new(out.alloc));
     write_held(&mut told, held);
-    match held.to_location(out.alloc) {
-        Ok(held) => write_held(&mut located, &held),
-        Err(_) => out.tear(),
-    }
+    write_made(&mut located, &Held, held.to_location(out.alloc));
     pen::name(out, "    ", key);
     write_told(out, &told, &located);
     out.push('\n');
@@ -165,19 +163,16 @@ fn write_entry(out: &mut Page, (key, span, value, end): &(String, Span, Value<Sp
 fn write_both_ways(out: &mut Page, value: &Value<Span>) {
     let (mut told, mut located) = (Page::new(out.alloc), Page::new(out.alloc));
     write_value(&mut told, value);
-    match to_location(out.alloc, value) {
-        Ok(value) => write_value(&mut located, &value),
-        Err(_) => out.tear(),
-    }
+    write_made(&mut located, &Held, to_location(out.alloc, value));
     write_told(out, &told, &located);
 }
 
 /// A value with locations in place of spans.
 fn to_location(alloc: Global, value: &Value<Span>) -> Result<Value<Location>, AllocError> {
-    Ok(match value {
-        Value::Setting(setting) => Value::Setting(setting.to_location(alloc)?),
-        Value::Flag(..) => value.to_location(alloc)?,
-    })
+    match value {
+        Value::Setting(setting) => Ok(Value::Setting(setting.to_location(alloc)?)),
+        Value::Flag(..) => value.to_location(alloc),
+    }
 }
 
 /// Writes the value of each kind.
@@ -195,9 +190,6 @@ fn write_kinds(out: &mut Page) {
 
 fn write_kind(out: &mut Page, kind: YaccKind) {
     write!(out, "{kind:?}: ");
-    match Value::try_from_kind(out.alloc, kind) {
-        Ok(value) => write_value(out, &value),
-        Err(_) => out.tear(),
-    }
+    write_made(out, &Held, Value::try_from_kind(out.alloc, kind));
     out.push('\n');
 }

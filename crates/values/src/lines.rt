@@ -1,6 +1,6 @@
 //! Rows on lines and columns, of texts that are fed whole and in pieces.
 
-ghost use Rattle.std.specs.Prelude.{◌++◌, IfOk, IfSome, List, OnOk, ℕ};
+ghost use Rattle.std.specs.Prelude.{[], ◌++◌, IfOk, IsTrue, List, OnOk, ℕ};
 ghost use Rattle.cfglines.specs.Lines.{StandsFor};
 
 use cfgbase::Span;
@@ -106,29 +106,37 @@ fn try_lengths(
 /// Feeds a text in pieces of these lengths, and then the rest, and writes so where a cache then answers something else
 /// than where it is fed whole.
 fn try_way(out: &mut Page, row: &Row<'_>, text: &str, lengths: &[usize], whole: &str) {
-    match answers_same(out, row, text, lengths, whole) {
-        Ok(true) => {}
-        Ok(false) => writeln!(
-            out,
-            "otherwise where it is fed by {lengths:?} bytes and the rest"
-        ),
+    let mut cache = NewlineCache::new(out.alloc);
+    match feed_pieces(out, row, &mut cache, text, lengths) {
+        Ok(true) => compare(out, row, &cache, text, lengths, whole),
+        Ok(false) => write_otherwise(out, lengths),
         Err(_) => out.tear(),
     }
 }
 
-/// Whether a cache of a text fed in pieces of these lengths, and then the rest, answers what the whole text does.
-fn answers_same(
+/// Writes so where a cache of a text answers something else than `whole`.
+fn compare(
     out: &mut Page,
     row: &Row<'_>,
+    cache: &NewlineCache,
     text: &str,
     lengths: &[usize],
     whole: &str,
-) -> Result<bool, AllocError> {
-    match feed_pieces(out, row, text, lengths) {
-        Ok(Some(cache)) => Ok(answers(out.alloc, row, &cache, text)?.as_str() == whole),
-        Ok(None) => Ok(false),
-        Err(_) => Err(AllocError),
+)
+    requires { StandsFor cache.now text.now }
+{
+    match answers(out.alloc, row, cache, text) {
+        Ok(answers) if answers.as_str() == whole => {}
+        Ok(_) => write_otherwise(out, lengths),
+        Err(_) => out.tear(),
     }
+}
+
+fn write_otherwise(out: &mut Page, lengths: &[usize]) {
+    writeln!(
+        out,
+        "otherwise where it is fed by {lengths:?} bytes and the rest"
+    );
 }
 
 /// The lengths that a line tells.
@@ -149,27 +157,27 @@ fn even_lengths(alloc: Global, text: &str, length: usize) -> Result<Vec<usize>, 
     vec![in alloc; length; count]
 }
 
-/// The cache of a text that is fed in pieces: these lengths, and then the rest. There is none where a character would
-/// be cut.
+/// Feeds an empty cache a text in pieces: these lengths, and then the rest. Whether no character would be cut.
 fn feed_pieces(
     out: &mut Page,
     row: &Row<'_>,
+    cache: &mut NewlineCache,
     text: &str,
     lengths: &[usize],
-) -> Result<Option<NewlineCache>, FeedError>
-    ensures { IfOk result (λ fed. IfSome fed (λ cache. StandsFor cache text.now)) }
+) -> Result<bool, FeedError>
+    requires { StandsFor cache.old [] }
+    ensures { IfOk result (λ is_fed. IsTrue is_fed → StandsFor cache.new text.now) }
 {
-    let mut cache = NewlineCache::new(out.alloc);
     let mut rest = text;
     for length in lengths {
         let Some((piece, behind)) = rest.split_at_checked(*length) else {
-            return Ok(None);
+            return Ok(false);
         };
-        feed(out, row, &mut cache, before(text, rest), piece)?;
+        feed(out, row, cache, before(text, rest), piece)?;
         rest = behind;
     }
-    feed(out, row, &mut cache, before(text, rest), rest)?;
-    Ok(Some(cache))
+    feed(out, row, cache, before(text, rest), rest)?;
+    Ok(true)
 }
 
 /// What stands in a text before its end.
