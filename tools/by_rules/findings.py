@@ -24,7 +24,10 @@ def findings_of(tree, grammar, is_told):
 
 
 def unused(tree):
-    return [Finding(kind, [span], WARNINGS[kind]) for kind, span in warnings_of(tree)]
+    """The warnings, but for the tokens that a `%prec` names."""
+    asked = {tree.tokens[p.precedence] for p in tree.productions if p.precedence in tree.tokens}
+    return [Finding(kind, [span], WARNINGS[kind]) for kind, span in warnings_of(tree)
+            if kind == 'UnusedRule' or span not in asked]
 
 
 def own_rules(grammar):

@@ -13,7 +13,7 @@ use std::marker::Model;
 pub enum FindingKind {
     /// No row of productions reaches this rule from the start rule.
     UnusedRule,
-    /// No row of productions reaches this token from the start rule.
+    /// No row of productions reaches this token from the start rule, and no `%prec` names it.
     UnusedToken,
     /// The rule derives no list of tokens.
     NoSentence,
