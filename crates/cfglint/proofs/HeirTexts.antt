@@ -4,7 +4,7 @@ use Rattle.std.proofs.lemmas.List.{drop-drop, drop-map, length-drop, length-map,
 use Rattle.std.specs.List.{flat_map}
 use Rattle.derivation.specs.Grammar.{Sym}
 use Rattle.cfgbase.specs.declared.span.Span.{Span}
-use Rattle.cfgcheck.specs.Check.{nowhere}
+use Rattle.cfgtree.specs.Check.{nowhere}
 use Rattle.cfgindex.specs.declared.idxnewtype.Symbol.{Symbol}
 use Rattle.cfgtables.specs.Openings.{nth_production}
 use Rattle.cfgtables.specs.Symbols.{sym_of}

@@ -1,7 +1,7 @@
 -- The texts of findings, as they are written.
 use Rattle.std.proofs.Common.{◌≡◌, ℕ, List, [], ◌∷◌, ◌++◌, Some, codes, unwrap_or, sym, ap, ◌∙◌, append_assoc}
 use Rattle.cfgbase.specs.declared.span.Span.{Span}
-use Rattle.cfgcheck.specs.Check.{nowhere}
+use Rattle.cfgtree.specs.Check.{nowhere}
 use Rattle.cfgnumbers.specs.Numbered.{Numbered}
 use Rattle.cfgnumbers.specs.Shown.{production_part, rule_part}
 use Rattle.cfgrammar.proofs.Shows.{rule_named}

@@ -7,7 +7,7 @@ use Rattle.loops.specs.declared.rows.Step.{Step}
 use Rattle.cfgbase.specs.declared.span.Span.{Span}
 use Rattle.cfgbase.specs.declared.span.SpansKind.{SpansKind}
 use Rattle.cfgbase.specs.declared.span.SpansKind.TheVariants.{DuplicationError, Error}
-use Rattle.cfgcheck.specs.Check.{nowhere}
+use Rattle.cfgtree.specs.Check.{nowhere}
 use Rattle.cfgwarnings.specs.Texts.{warning_text}
 use Rattle.cfgwarnings.specs.Warnings.{GrammarWarning}
 use Rattle.cfgwarnings.specs.declared.warning.YaccGrammarWarningKind.{YaccGrammarWarningKind}

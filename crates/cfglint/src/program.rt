@@ -1,7 +1,7 @@
 //! A run of the program.
 
 ghost use Rattle.std.specs.Prelude.{◌≡◌, ◌+◌, ◌-◌, ◌^◌, ◌<◌, ◌≤◌, map};
-ghost use Rattle.cfgshell.specs.Sinks.{AppendsOrFaults};
+ghost use Rattle.cfgsink.specs.Sinks.{AppendsOrFaults};
 ghost use Rattle.lintshell.specs.Run.{Ending, Handles, ending_errors, ending_faults, ending_status};
 ghost use Rattle.cfglint.specs.Told.{TellsText};
 

@@ -13,7 +13,7 @@ use Rattle.std.proofs.lemmas.Slice.Zip.{firsts-zip}
 use Rattle.cfgbase.specs.declared.span.Span.{Span}
 use Rattle.cfgast.specs.Syntax.{Syntax}
 use Rattle.lemmas.proofs.Places.{position-distinct, position-map}
-use Rattle.cfgcheck.specs.Sound.{IsSound}
+use Rattle.cfgtree.specs.Sound.{IsSound}
 use Rattle.cfgnumbers.specs.Numbered.{Numbered, NumberedRule, NumberedToken, numbered_by, added_rules, file_rule, file_token, end_token}
 use Rattle.cfgnumbers.specs.Shown.{rule_part, token_part, has_token_name}
 use Rattle.cfgnumbers.specs.WellNumbered.{HasDistinctNames}

@@ -6,9 +6,9 @@ use Rattle.std.proofs.lemmas.Option.{slice_get-get_or}
 use Rattle.cfgwords.specs.Words.{Word}
 use Rattle.cfgast.specs.Building.{has_rule}
 use Rattle.cfgast.specs.Syntax.{Syntax, Production}
-use Rattle.cfgcheck.specs.Check.{first_error, start_error, symbol_error, precedence_error, printed_error, production_error, place_error, rule_error, check_of}
+use Rattle.cfgtree.specs.Check.{first_error, start_error, symbol_error, precedence_error, printed_error, production_error, place_error, rule_error, check_of}
 use Rattle.cfgerrors.specs.Errors.{GrammarError, InvalidStartRule, error_at}
-use Rattle.cfgcheck.specs.Sound.{IsSound}
+use Rattle.cfgtree.specs.Sound.{IsSound}
 use Rattle.cfgnumbers.specs.Inner.Resolved.{IsResolved}
 use Rattle.cfgnumbers.proofs.Places.{listed_somewhere}
 

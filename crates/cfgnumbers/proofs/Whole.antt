@@ -18,9 +18,9 @@ use Rattle.cfgwords.specs.Words.{Word}
 use Rattle.derivation.specs.Grammar.{Sym, Rule, Token, Grammar, IsSymbolOf}
 use Rattle.cfgast.specs.Building.{has_name, has_rule}
 use Rattle.cfgast.specs.Syntax.{Syntax, Production, Symbol, RuleSymbol, TokenSymbol}
-use Rattle.cfgcheck.specs.Check.{symbol_error}
+use Rattle.cfgtree.specs.Check.{symbol_error}
 use Rattle.cfgerrors.specs.Errors.{GrammarError, UnknownRuleRef, UnknownToken, error_at}
-use Rattle.cfgcheck.specs.Sound.{IsSound}
+use Rattle.cfgtree.specs.Sound.{IsSound}
 use Rattle.cfgbase.specs.declared.span.Span.{Span}
 use Rattle.cfgtree.specs.WellFormed.{IsWellFormed}
 use Rattle.cfgnumbers.specs.Numbered.{NumberedProduction, rules_before, rule_index, token_index, file_symbol, file_symbols, spaced, start_symbols, added_production, added_productions, Numbered, core, production_core, numbered_by, file_production, file_token, end_token}

@@ -10,7 +10,7 @@ use Rattle.cfgast.specs.Syntax as file
 use Rattle.cfgast.specs.declared.precedence.Precedence.{Precedence}
 use Rattle.cfgast.specs.Building.{has_entry}
 use Rattle.cfgast.specs.Syntax.{Settings, Syntax, RuleSymbol, TokenSymbol, entry_name, index_of, last_of}
-use Rattle.cfgcheck.specs.Check.{nowhere}
+use Rattle.cfgtree.specs.Check.{nowhere}
 use Rattle.cfgkinds.specs.declared.kind.YaccKind.{YaccKind}
 use Rattle.cfgkinds.specs.declared.kind.YaccKind.TheVariants.{Eco}
 

@@ -7,7 +7,7 @@ use Rattle.cfgast.specs.declared.settings.Settings.{Settings}
 use Rattle.cfgast.specs.Syntax.{Syntax}
 use Rattle.cfgast.specs.View.{settings_view}
 use Rattle.cfgerrors.specs.Errors.{GrammarError}
-use Rattle.cfgcheck.specs.Sound.{IsSound}
+use Rattle.cfgtree.specs.Sound.{IsSound}
 use Rattle.cfgkinds.specs.declared.kind.YaccKind.{YaccKind}
 use Rattle.cfgerrors.specs.declared.error.YaccFault.{YaccFault}
 use Rattle.cfgerrors.specs.declared.error.YaccFault.TheVariants as faults

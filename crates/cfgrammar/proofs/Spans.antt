@@ -9,7 +9,7 @@ use Rattle.lemmas.proofs.Zips.{All-zip}
 use Rattle.cfgbase.specs.declared.span.Span.{Span}
 use Rattle.cfgwords.specs.Places.{IsPiece}
 use Rattle.cfgast.specs.Syntax.{EachProductionSpan, EachSpan, Production, Syntax}
-use Rattle.cfgcheck.specs.Check.{nowhere}
+use Rattle.cfgtree.specs.Check.{nowhere}
 use Rattle.cfgerrors.specs.Errors.{StorageTooSmall, error_at}
 use Rattle.cfgsyntax.specs.Spans.{EachErrorSpan}
 use Rattle.cfgkinds.specs.declared.kind.YaccKind.{YaccKind}

@@ -5,8 +5,8 @@ use Rattle.std.specs.Borrow.{Bor}
 use Rattle.std.specs.Io.KnownBytes.{Keeps}
 use Rattle.std.specs.Str.{IsUtf8}
 use Rattle.std.proofs.KnownBytes.{Keeps-refl}
-use Rattle.cfgshell.specs.declared.outcome.Outcome.{Outcome}
-use Rattle.cfgshell.specs.declared.outcome.ReportFault.{ReportFault}
+use Rattle.cfgsink.specs.declared.outcome.Outcome.{Outcome}
+use Rattle.cfgsink.specs.declared.outcome.ReportFault.{ReportFault}
 use Rattle.cfgshell.specs.declared.faults.RunFault.{RunFault}
 use Rattle.cfgshell.specs.declared.source.Input.{Input}
 use Rattle.cfgshell.specs.declared.source.Input.TheVariants as input

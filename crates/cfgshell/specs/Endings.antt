@@ -5,23 +5,12 @@ use Rattle.cfgshell.specs.declared.faults.RunFault.{RunFault}
 use Rattle.cfgshell.specs.declared.faults.RunFault.TheVariants as why
 use Rattle.cfgshell.specs.declared.faults.WordsFault.{WordsFault}
 use Rattle.cfgshell.specs.declared.faults.WordsFault.TheVariants as words
-use Rattle.cfgshell.specs.declared.outcome.Outcome.{Outcome}
-use Rattle.cfgshell.specs.declared.outcome.Outcome.TheVariants.{Done, Refused}
-use Rattle.cfgshell.specs.declared.outcome.ReportFault.{ReportFault}
-use Rattle.cfgshell.specs.declared.outcome.ReportFault.TheVariants as faults
+use Rattle.cfgsink.specs.declared.outcome.Outcome.{Outcome}
+use Rattle.cfgsink.specs.declared.outcome.Outcome.TheVariants.{Done, Refused}
+use Rattle.cfgsink.specs.declared.outcome.ReportFault.{ReportFault}
+use Rattle.cfgsink.specs.declared.outcome.ReportFault.TheVariants as faults
 use Rattle.cfgshell.specs.declared.source.Input.{Input}
 use Rattle.cfgshell.specs.declared.source.Input.TheVariants as input
-
--- how many faults of its sink a report meets
-abbrev pub faults_met : Result Outcome ReportFault → ℕ
-faults_met (Ok outcome) = 0
-faults_met (Err faults.Write) = 1
-faults_met (Err faults.OutOfMemory) = 0
-
--- what `{}` prints of why a report was not told
-abbrev pub fault_text : ReportFault → List ℕ
-fault_text faults.Write = codes "cannot write"
-fault_text faults.OutOfMemory = codes "out of memory"
 
 -- how a run ends: with a report, or why there is none
 pub data Ending : Type 0 where

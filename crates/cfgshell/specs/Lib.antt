@@ -1,4 +1,3 @@
-pub mod Sinks
 pub mod Words
 pub mod Endings
 pub mod Run

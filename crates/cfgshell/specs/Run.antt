@@ -6,8 +6,8 @@ use Rattle.std.specs.Str.{IsUtf8}
 use Rattle.std.specs.Io.KnownBytes.{Keeps}
 use Rattle.cfgshell.specs.Endings.{Ending, Usage, Unreadable, NotUtf8, NoMemory, ending_of}
 use Rattle.cfgshell.specs.Words.{asks_lexer, command_named, kind_named}
-use Rattle.cfgshell.specs.declared.outcome.Outcome.{Outcome}
-use Rattle.cfgshell.specs.declared.outcome.ReportFault.{ReportFault}
+use Rattle.cfgsink.specs.declared.outcome.Outcome.{Outcome}
+use Rattle.cfgsink.specs.declared.outcome.ReportFault.{ReportFault}
 use Rattle.cfgshell.specs.declared.source.Input.{Input}
 use Rattle.cfgshell.specs.declared.source.Input.TheVariants as input
 use Rattle.cfgshell.specs.declared.words.Command.{Command}

@@ -2,7 +2,7 @@
 
 ghost use Rattle.std.specs.Prelude.{◌≡◌, ◌++◌, ◌+◌, ◌-◌, ◌^◌, ◌<◌, Err};
 ghost use Rattle.cfgshell.specs.Endings.{ending_of, ending_with, ending_without, line_of, status_of};
-ghost use Rattle.cfgshell.specs.Sinks.{AppendsOrFaults};
+ghost use Rattle.cfgsink.specs.Sinks.{AppendsOrFaults};
 ghost use Rattle.cfgshell.specs.declared.faults.WordsFault.TheVariants as words_fault;
 
 use crate::outcome::ReportFault;

@@ -3,15 +3,12 @@
 
 pub mod faults;
 pub mod laws;
-pub mod outcome;
 pub mod program;
 pub mod runtime;
-pub mod sink;
 pub mod source;
 pub mod words;
 
-pub use outcome::{Outcome, ReportFault};
+pub use cfgsink::{Counted, Outcome, ReportFault, Sink, SinkFault, outcome, sink};
 pub use program::{Reporter, run};
-pub use sink::{Counted, Sink, SinkFault};
 pub use source::{Input, Source};
 pub use words::{Command, KindArg};

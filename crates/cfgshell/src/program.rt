@@ -2,12 +2,13 @@
 
 ghost use Rattle.std.specs.Prelude.{◌≡◌, ◌+◌, ◌-◌, ◌^◌, ◌<◌, ◌≤◌, map, true, IfOk, IfErr};
 ghost use Rattle.std.specs.Str.{IsUtf8};
-ghost use Rattle.cfgshell.specs.Endings.{Ending, NotUtf8, IsFetched, ending_in, ending_with, faults_at, faults_met};
+ghost use Rattle.cfgshell.specs.Endings.{Ending, NotUtf8, IsFetched, ending_in, ending_with, faults_at};
 ghost use Rattle.cfgshell.specs.Endings.{line_of, status_of};
 ghost use Rattle.cfgshell.specs.Run.{HandlesLexer, HandlesNames, HandlesWords};
 ghost use Rattle.cfgshell.specs.Words.{command_named, kind_named};
 ghost use Rattle.cfgshell.specs.declared.source.Input.{Input};
-ghost use Rattle.cfgshell.specs.Sinks.{AppendsOrFaults};
+ghost use Rattle.cfgsink.specs.Reports.{faults_met};
+ghost use Rattle.cfgsink.specs.Sinks.{AppendsOrFaults};
 
 use crate::faults::{RunFault, tell};
 use crate::outcome::{Outcome, ReportFault};
@@ -19,8 +20,8 @@ use std::alloc::Global;
 /// What writes the report of a text.
 pub trait Reporter {
     ghost use Rattle.std.specs.Prelude.{List, Option, Result, ℕ};
-    ghost use Rattle.cfgshell.specs.declared.outcome.Outcome.{Outcome};
-    ghost use Rattle.cfgshell.specs.declared.outcome.ReportFault.{ReportFault};
+    ghost use Rattle.cfgsink.specs.declared.outcome.Outcome.{Outcome};
+    ghost use Rattle.cfgsink.specs.declared.outcome.ReportFault.{ReportFault};
     ghost use Rattle.cfgshell.specs.declared.words.Command.{Command};
     ghost use Rattle.cfgshell.specs.declared.words.KindArg.{KindArg};
 

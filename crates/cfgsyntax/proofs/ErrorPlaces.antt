@@ -31,7 +31,7 @@ use Rattle.cfgheader.specs.SectionPlaces.{IsErrorAt as IsSectionErrorAt}
 use Rattle.cfgheader.proofs.SectionOne.{section_answered}
 use Rattle.cfgheader.proofs.SectionPlaces.{IsSectionAt, section_at}
 use Rattle.cfgerrors.specs.Errors.{ErrorKind, GrammarError, header_error, InvalidStartRule, UnknownRuleRef, UnknownToken, NoPrecForToken, UnknownEPP, NoStartRule, error_at}
-use Rattle.cfgcheck.specs.Check.{nowhere, first_error, start_error, symbol_error, precedence_error, production_error, printed_error, place_error, rule_error, check_of}
+use Rattle.cfgtree.specs.Check.{nowhere, first_error, start_error, symbol_error, precedence_error, production_error, printed_error, place_error, rule_error, check_of}
 use Rattle.cfgsyntax.specs.Faults.{kind_of, error_of, duplicate_error, stop_errors, errors_of}
 use Rattle.cfgwords.specs.Places.{IsPiece, IsWithin}
 use Rattle.cfgsyntax.specs.Reads.{Stop, InSection, InFile, ReadsFile, ReadsBehind, Reads}

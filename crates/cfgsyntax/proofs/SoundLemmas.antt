@@ -5,13 +5,13 @@ use Rattle.cfgast.specs.Building.{has_rule}
 use Rattle.cfgast.specs.Syntax.{Syntax, syntax_of}
 use Rattle.cfgkinds.specs.declared.kind.YaccKind.{YaccKind}
 use Rattle.cfgerrors.specs.Errors.{GrammarError, InvalidStartRule, error_at}
-use Rattle.cfgcheck.specs.Check.{first_error, start_error, rule_error, printed_error, symbol_error, check_of}
+use Rattle.cfgtree.specs.Check.{first_error, start_error, rule_error, printed_error, symbol_error, check_of}
 use Rattle.cfgsyntax.specs.Faults.{all_errors, errors_of}
 use Rattle.cfgsyntax.specs.Reads.{Stop, Reads, HasOneReading}
 use Rattle.cfgast.specs.Items.{Item}
 use Rattle.cfgwords.specs.Words.{Word}
 use Rattle.cfgtree.specs.Writing.{started_at}
-use Rattle.cfgcheck.specs.Sound.{IsSound}
+use Rattle.cfgtree.specs.Sound.{IsSound}
 
 -- no errors at all, so none of the last kind
 none_second : (first : List GrammarError) (second : Option GrammarError) → [] ≡ first ++ option_to_list second → second ≡ None

@@ -12,7 +12,7 @@ use Rattle.cfgtree.specs.Duplicates.{Duplicate, duplicates}
 use Rattle.cfgast.specs.Syntax.{Syntax, syntax_of}
 use Rattle.cfgerrors.specs.Errors as kinds
 use Rattle.cfgerrors.specs.Errors.{ErrorKind, GrammarError, error_at, header_error}
-use Rattle.cfgcheck.specs.Check.{check_of}
+use Rattle.cfgtree.specs.Check.{check_of}
 use Rattle.cfgsyntax.specs.Reads.{Stop, InSection, InFile}
 
 abbrev pub kind_of : FaultKind → ErrorKind

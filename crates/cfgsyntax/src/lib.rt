@@ -2,6 +2,7 @@
 #![tactic(auto)]
 
 mod read;
+mod validation;
 pub mod yacc;
 
 pub use cfgerrors::laws;

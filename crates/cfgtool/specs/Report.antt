@@ -7,10 +7,10 @@ use Rattle.cfgrammar.specs.Answer.{Found, Unnamed, WasRead, IsRefused, in_number
 use Rattle.cfgnumbers.specs.Fits.{Fits}
 use Rattle.cfgrammar.specs.GrammarOf.{IsFoundAs, IsFoundItself}
 use Rattle.cfgnumbers.specs.Numbered.{Numbered}
-use Rattle.cfgshell.specs.declared.outcome.Outcome.{Outcome}
-use Rattle.cfgshell.specs.declared.outcome.Outcome.TheVariants.{Done, Refused}
-use Rattle.cfgshell.specs.declared.outcome.ReportFault.{ReportFault}
-use Rattle.cfgshell.specs.declared.outcome.ReportFault.TheVariants as faults
+use Rattle.cfgsink.specs.declared.outcome.Outcome.{Outcome}
+use Rattle.cfgsink.specs.declared.outcome.Outcome.TheVariants.{Done, Refused}
+use Rattle.cfgsink.specs.declared.outcome.ReportFault.{ReportFault}
+use Rattle.cfgsink.specs.declared.outcome.ReportFault.TheVariants as faults
 use Rattle.cfgshell.specs.declared.words.Command.{Command}
 use Rattle.cfgshell.specs.declared.words.Command.TheVariants.{Grammar, Firsts, Follows, Sentences, Warnings}
 use Rattle.cfgshell.specs.declared.words.KindArg.{KindArg}
@@ -22,7 +22,7 @@ use Rattle.cfgtool.specs.SentenceLines.{AreSentenceLines}
 use Rattle.cfgtool.specs.LexerLines.{lexer_lines, names_in}
 use Rattle.cfgtool.specs.declared.engine.Request.{Request}
 use Rattle.cfgtool.specs.declared.engine.Request.TheVariants as requests
-use Rattle.cfgshell.specs.Sinks.{AppendsBeginning}
+use Rattle.cfgsink.specs.Sinks.{AppendsBeginning}
 
 -- what a text is found to be, as a file of the kind that is asked for, or else of the one that it names itself
 abbrev pub IsFound : KindArg → List ℕ → Found → Type 0

@@ -1,6 +1,6 @@
 //! The report of a text.
 
-ghost use Rattle.std.specs.Prelude.{◌≡◌, ◌+◌, ◌-◌, ◌^◌, ◌<◌, Some, Ok, IfOk, IsErrOf, string_bytes};
+ghost use Rattle.std.specs.Prelude.{◌≡◌, ◌+◌, ◌-◌, ◌^◌, ◌<◌, Some, Ok, Err, IfErr, IfOk, IsErrOf, string_bytes};
 ghost use Rattle.cfgwords.specs.Places.{IsPiece, IsWithin};
 ghost use Rattle.cfgast.specs.Syntax.{EachSpan};
 ghost use Rattle.cfgtree.specs.View.{syntax};
@@ -12,8 +12,8 @@ ghost use Rattle.cfgtool.specs.FollowLines.{AreFollowLines};
 ghost use Rattle.cfgtool.specs.Lines.{AreWarningLines};
 ghost use Rattle.cfgtool.specs.Report.{AreAskedLines, AreLinesOf, IsFound, IsReport, Tells};
 ghost use Rattle.cfgtool.specs.Report.{TellsLexer, TellsText};
-ghost use Rattle.cfgshell.specs.Endings.{faults_met};
-ghost use Rattle.cfgshell.specs.declared.outcome.ReportFault.TheVariants as variants;
+ghost use Rattle.cfgsink.specs.Reports.{faults_met};
+ghost use Rattle.cfgsink.specs.declared.outcome.ReportFault.TheVariants as variants;
 
 use crate::first_lines::first_lines;
 use crate::follow_lines::follow_lines;
@@ -23,9 +23,10 @@ use crate::sentence_lines::sentence_lines;
 use cfgrammar::yacc::ast::{ASTWithValidityInfo, GrammarAST};
 use cfgrammar::yacc::parser::YaccFault;
 use cfgrammar::yacc::{YaccGrammar, YaccKind};
-pub use cfgshell::outcome::{Outcome, ReportFault};
-use cfgshell::sink::{Sink, write_whole};
 use cfgshell::words::{Command, KindArg};
+pub use cfgsink::{Outcome, ReportFault};
+use cfgsink::{Sink, write_report};
+use lending::lend;
 use std::alloc::{AllocError, Global};
 
 /// Writes what the command tells of the text's grammar, whose indices have 32 bits, or else the errors of the text,
@@ -46,7 +47,7 @@ pub fn report<W: Sink>(
     ensures faults { W.faults_counted out.new ≡ W.faults_counted out.old + faults_met result }
     ensures untouched { IsErrOf result variants.OutOfMemory → out.new ≡ out.old }
 {
-    write_report(alloc, kind, Request::Command(command), text, out)
+    write_asked(alloc, kind, Request::Command(command), text, out)
 }
 
 /// Writes where the tokens of the text's grammar and the names that a lexer gives differ, or else the errors of the
@@ -67,7 +68,7 @@ pub fn report_lex<W: Sink>(
     ensures faults { W.faults_counted out.new ≡ W.faults_counted out.old + faults_met result }
     ensures untouched { IsErrOf result variants.OutOfMemory → out.new ≡ out.old }
 {
-    write_report(alloc, kind, Request::Names(names), text, out)
+    write_asked(alloc, kind, Request::Names(names), text, out)
 }
 
 /// What is asked of a text's grammar.
@@ -79,8 +80,8 @@ pub(crate) enum Request<'a> {
     Names(&'a str),
 }
 
-/// Writes the whole report, or nothing where memory ends.
-fn write_report<W: Sink>(
+/// Makes the whole report, and then writes it.
+fn write_asked<W: Sink>(
     alloc: Global,
     kind: KindArg,
     request: Request<'_>,
@@ -93,9 +94,8 @@ fn write_report<W: Sink>(
     ensures faults { W.faults_counted out.new ≡ W.faults_counted out.old + faults_met result }
     ensures untouched { IsErrOf result variants.OutOfMemory → out.new ≡ out.old }
 {
-    let (outcome, lines) = report_text(alloc, kind, request, text)?;
-    write_whole(out, lines.as_bytes())?;
-    Ok(outcome)
+    let made = report_text(alloc, kind, request, text);
+    write_report(out, made)
 }
 
 /// The whole report, before any of it is written.
@@ -124,7 +124,7 @@ fn report_as(
     ensures { (found : Found) × IsFoundAs kind text.now found × IfOk result (λ told.
         IsReport (AreAskedLines request.entry text.now) text.now found told.0 (string_bytes told.1)) }
 {
-    let parsed = ASTWithValidityInfo::new(alloc, kind, text)?;
+    let parsed = ASTWithValidityInfo::new(alloc, kind, text);
     report_made(alloc, request, text, parsed)
 }
 
@@ -138,28 +138,30 @@ fn report_itself(
         IsReport (AreAskedLines request.entry text.now) text.now found told.0 (string_bytes told.1)) }
 {
     match ASTWithValidityInfo::from_str(alloc, text) {
-        Ok(parsed) => report_made(alloc, request, text, parsed),
+        Ok(parsed) => report_made(alloc, request, text, Ok(parsed)),
         Err(YaccFault::Errors(errors)) => {
-            let lines = error_lines(alloc, text, &errors)?;
-            Ok((Outcome::Refused, lines))
+            ended(Outcome::Refused, error_lines(alloc, text, &errors))
         }
         Err(YaccFault::OutOfMemory) => Err(AllocError),
     }
 }
 
-/// The report of a text of which this was made, and is used no more: a function that also makes it drops it on each way
-/// out, which costs its proof many times as much.
+/// The report of a text of which this was made, and is used no more.
 fn report_made(
     alloc: Global,
     request: Request<'_>,
     text: &str,
-    parsed: ASTWithValidityInfo,
+    parsed: Result<ASTWithValidityInfo, AllocError>,
 ) -> Result<(Outcome, String), AllocError>
-    requires { EachParsedSpan (IsPiece text.now) (IsWithin text.now) parsed }
-    ensures { IfOk result (λ told. IsReport (AreAskedLines request.entry text.now) text.now (WasRead parsed)
-        told.0 (string_bytes told.1)) }
+    requires { IfOk parsed (EachParsedSpan (IsPiece text.now) (IsWithin text.now)) }
+    ensures told { IfOk parsed (λ parsed. IfOk result (λ told.
+        IsReport (AreAskedLines request.entry text.now) text.now (WasRead parsed) told.0 (string_bytes told.1))) }
+    ensures refused { IfErr parsed (λ fault. result ≡ Err fault) }
 {
-    report_parsed(alloc, request, text, &parsed)
+    lend(
+        parsed,
+        |parsed| report_parsed(alloc, request, text, parsed),
+    )
 }
 
 /// The report of a text that was read.

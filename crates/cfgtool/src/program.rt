@@ -2,7 +2,7 @@
 
 ghost use Rattle.std.specs.Prelude.{◌≡◌, ◌+◌, ◌-◌, ◌^◌, ◌<◌, ◌≤◌, map};
 ghost use Rattle.cfgshell.specs.Endings.{Ending, faults_at, line_of, status_of};
-ghost use Rattle.cfgshell.specs.Sinks.{AppendsOrFaults};
+ghost use Rattle.cfgsink.specs.Sinks.{AppendsOrFaults};
 ghost use Rattle.cfgtool.specs.Run.{HandlesWords};
 
 use crate::engine::{Outcome, ReportFault, report, report_lex};

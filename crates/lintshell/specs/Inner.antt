@@ -1,7 +1,7 @@
 -- What the crate's own functions say of one another.
 use Rattle.std.specs.Prelude.{◌≡◌, ℕ, List, Option, map}
 use Rattle.std.specs.Io.KnownBytes.{Appends}
-use Rattle.cfgshell.specs.Sinks.{AppendsBeginning}
+use Rattle.cfgsink.specs.Sinks.{AppendsBeginning}
 use Rattle.lintshell.specs.declared.words.Asked as asked_code
 use Rattle.lintshell.specs.declared.words.Asked.TheVariants as variants
 use Rattle.lintshell.specs.declared.words.Wanted as wanted_code

@@ -1,7 +1,7 @@
 -- How a run of the program ends, and what becomes of its source and its two outputs.
 use Rattle.std.specs.Prelude.{◌≡◌, ℕ, Bool, List, [], ◌++◌, Option, codes}
 use Rattle.std.specs.Io.KnownBytes.{Appends, Keeps}
-use Rattle.cfgshell.specs.Sinks.{AppendsBeginning}
+use Rattle.cfgsink.specs.Sinks.{AppendsBeginning}
 use Rattle.cfgshell.specs.declared.source.Input.{Input}
 use Rattle.cfgshell.specs.declared.words.KindArg.{KindArg}
 use Rattle.lintshell.specs.Files.{AsksFirst, Lints}

@@ -1,7 +1,7 @@
 //! What a run answers, and how that is told.
 
 ghost use Rattle.std.specs.Prelude.{◌≡◌, ◌+◌, ◌-◌, ◌^◌, ◌<◌, ◌≤◌, ◌++◌, IfOk};
-ghost use Rattle.cfgshell.specs.Sinks.{AppendsOrFaults};
+ghost use Rattle.cfgsink.specs.Sinks.{AppendsOrFaults};
 ghost use Rattle.lintshell.specs.Inner.{IsEnding};
 ghost use Rattle.lintshell.specs.Run.{Ending, answer_of, ending_errors, ending_faults, ending_status, refused, written};
 

@@ -1,7 +1,7 @@
 //! A run of the program.
 
 ghost use Rattle.std.specs.Prelude.{◌≡◌, ◌+◌, ◌-◌, ◌^◌, ◌<◌, ◌≤◌, IfOk, OnErr, map};
-ghost use Rattle.cfgshell.specs.Sinks.{AppendsOrFaults};
+ghost use Rattle.cfgsink.specs.Sinks.{AppendsOrFaults};
 ghost use Rattle.lintshell.specs.Files.{AsksFirst};
 ghost use Rattle.lintshell.specs.Inner.{wanted_view};
 ghost use Rattle.lintshell.specs.Run.{Answers, Ending, Handles, ending_errors, ending_faults, ending_status};

@@ -3,6 +3,7 @@
 
 pub mod digest;
 pub mod files;
+pub mod indices;
 pub mod made;
 pub mod page;
 pub mod pen;

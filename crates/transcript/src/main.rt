@@ -11,15 +11,13 @@ mod reports;
 mod rooms;
 mod runs;
 
-use held::costs;
 use rows::files::{Answers, write_files};
 use rows::page::Page;
 use rows::row::Row;
 use sections::kinds;
 use std::io;
-use trees::written;
+use trees::{every, written};
 use values::{lines, marks, numbers};
-use vectors::every;
 
 /// What is answered of rows of all kinds.
 struct All;

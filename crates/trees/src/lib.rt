@@ -5,6 +5,7 @@
 mod copies;
 pub mod cuts;
 pub mod errors;
+pub mod every;
 pub mod read;
 pub mod syntax;
 pub mod warnings;

@@ -5,8 +5,9 @@ ghost use Rattle.std.specs.Prelude.{◌<◌, length};
 
 use cfgrammar::yacc::{Precedence, YaccGrammar};
 use cfgrammar::{PIdx, RIdx, TIdx};
-use held::pen::{self, Piece};
+use rows::indices;
 use rows::page::Page;
+use rows::pen::{self, Piece};
 use rows::said::write_precedence;
 
 /// Writes a line for each rule, production and token of a grammar, and one for the whole.
@@ -83,7 +84,7 @@ fn write_token(out: &mut Page, grammar: &YaccGrammar<u32>, tidx: TIdx<u32>)
 
 /// Writes what is said of the grammar as a whole.
 fn write_whole(out: &mut Page, grammar: &YaccGrammar<u32>) {
-    let implicit = pen::rule_number(grammar.implicit_rule());
+    let implicit = indices::rule_number(grammar.implicit_rule());
     let pieces = [
         Piece::NumberOr("    implicit_rule ", implicit, "    implicit_rule none"),
         Piece::NumberOr(", expect ", grammar.expect(), ", expect none"),

@@ -1,13 +1,13 @@
 //! Rows on the texts of grammars.
 
+use crate::held::{firsts, plain};
 use crate::{accessors, names, openings, paths, rendered, starts, tables};
 use cfgrammar::yacc::ast::ASTWithValidityInfo;
 use cfgrammar::yacc::{YaccFault, YaccGrammar, YaccGrammarError, YaccGrammarResult, YaccKind};
-use held::{firsts, pen, plain};
 use rows::made::{Writer, write_made};
 use rows::page::Page;
 use rows::row::{Row, numbers};
-use rows::text;
+use rows::{pen, text};
 use std::alloc::Global;
 use trees::read::{kind_of, parse};
 use trees::{cuts, errors, syntax, warnings};

@@ -2,8 +2,8 @@
 #![tactic(auto)]
 
 mod accessors;
-pub mod every;
 mod grammar;
+mod held;
 mod names;
 mod openings;
 mod paths;

@@ -4,8 +4,8 @@ ghost use Rattle.std.specs.Prelude.{◌<◌, length};
 
 use cfgrammar::RIdx;
 use cfgrammar::yacc::YaccGrammar;
-use held::pen;
 use rows::page::Page;
+use rows::pen;
 
 /// Writes for each rule the rules to which it leads.
 pub(crate) fn write_paths(out: &mut Page, grammar: &YaccGrammar<u32>) {

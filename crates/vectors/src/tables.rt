@@ -1,11 +1,11 @@
 //! The tables of a grammar at every index type, and of a syntax.
 
+use crate::held::tables::{write_grammar, write_lengths};
+use crate::held::{firsts, follows};
 use cfgrammar::Storage;
 use cfgrammar::yacc::YaccGrammar;
 use cfgrammar::yacc::ast::ASTWithValidityInfo;
 use cfgrammar::yacc::parser::{YaccFault, YaccGrammarError, YaccGrammarResult};
-use held::tables::{write_grammar, write_lengths};
-use held::{firsts, follows};
 use rows::made::{Writer, write_made};
 use rows::page::Page;
 use rows::pen;

@@ -3,7 +3,7 @@ use Rattle.std.specs.Prelude.{◌≡◌, ℕ, List, Option, true, All, IfSome, S
 use Rattle.cfgwords.specs.Words.{Word}
 use Rattle.cfgast.specs.Building.{has_name, has_rule}
 use Rattle.cfgast.specs.Syntax.{Syntax, Production}
-use Rattle.cfgcheck.specs.Check.{symbol_error}
+use Rattle.cfgtree.specs.Check.{symbol_error}
 
 -- the symbols name rules and tokens of the syntax
 abbrev pub Resolves : Syntax → Production → Type 0

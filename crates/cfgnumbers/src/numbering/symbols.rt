@@ -3,7 +3,7 @@
 ghost use Rattle.std.specs.Prelude.{◌≡◌, ◌+◌, ◌≤◌, ◌++◌, ◌∷◌, [], true, All, None, map, OnOk};
 ghost use Rattle.cfgast.specs.Building.{has_name, has_rule};
 ghost use Rattle.cfgast.specs.View.{symbol_view};
-ghost use Rattle.cfgcheck.specs.Check.{symbol_error};
+ghost use Rattle.cfgtree.specs.Check.{symbol_error};
 ghost use Rattle.cfgnumbers.specs.Fits.{LeavesRoom};
 ghost use Rattle.cfgnumbers.specs.Numbered.{rule_index, rules_before, token_index, file_symbol, file_symbols, spaced};
 ghost use Rattle.cfgnumbers.specs.Numbered.{start_symbols};

@@ -17,13 +17,13 @@ ghost use Rattle.cfgsyntax.specs.Faults.{errors_of};
 ghost use Rattle.cfgwords.specs.Places.{IsPiece, IsWithin};
 ghost use Rattle.cfgsyntax.specs.OfItself.{AnswersNaming};
 ghost use Rattle.cfgsyntax.specs.Reads.{Reads, HasOneReading, Stop};
-ghost use Rattle.cfgcheck.specs.Sound.{IsSound};
+ghost use Rattle.cfgtree.specs.Sound.{IsSound};
 ghost use Rattle.cfgsyntax.specs.Spans.{EachFaultSpan, EachParsedSpan};
 ghost use Rattle.cfgsyntax.specs.Starts.{restarted, IsStartFault};
 
 use crate::read::read;
+use crate::validation::has_rule;
 pub use cfgast::{Production, Rule, Settings, Symbol};
-use cfgcheck::has_rule;
 use cfgerrors::{YaccGrammarError, YaccGrammarErrorKind, YaccGrammarResult};
 use cfgkinds::YaccKind;
 pub use cfgtree::GrammarAST;
@@ -45,7 +45,7 @@ pub struct ASTWithValidityInfo {
 impl Model for ASTWithValidityInfo {
     ghost use Rattle.cfgtree.specs.View.{syntax};
     ghost use Rattle.cfgsyntax.specs.Parsed.{Parsed};
-    ghost use Rattle.cfgcheck.specs.Sound.{IsSound};
+    ghost use Rattle.cfgtree.specs.Sound.{IsSound};
 
     ghost Value = { Parsed };
 

@@ -9,7 +9,7 @@ ghost use Rattle.std.specs.String.{string_bytes};
 ghost use Rattle.cfgwords.specs.Places.{IsPiece, IsWithin};
 ghost use Rattle.cfgast.specs.View.{pair_view};
 ghost use Rattle.cfgtree.specs.View.{syntax};
-ghost use Rattle.cfgcheck.specs.Sound.{IsSound};
+ghost use Rattle.cfgtree.specs.Sound.{IsSound};
 ghost use Rattle.cfgsyntax.specs.Spans.{EachParsedSpan};
 ghost use Rattle.cfgkinds.specs.declared.kind.YaccKind.{YaccKind};
 ghost use Rattle.cfgrammar.specs.Answer.{IsAnswer, WasRead};

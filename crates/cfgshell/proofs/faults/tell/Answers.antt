@@ -1,7 +1,7 @@
 use Rattle.std.proofs.Common.{inr, ◌≡◌, ◌++◌, ◌∙◌, subst}
-use Rattle.cfgshell.specs.Sinks.{AppendsOrFaults}
+use Rattle.cfgsink.specs.Sinks.{AppendsOrFaults}
 use Rattle.cfgshell.specs.Endings.{line_of, ending_with}
-use Rattle.cfgshell.proofs.Beginnings.{beginning_of_first, whole_or_faults, then_or_faults}
+use Rattle.cfgsink.proofs.Beginnings.{beginning_of_first, whole_or_faults, then_or_faults}
 use Rattle.cfgshell.proofs.faults.tell.Goals as goal
 
 pub returns-in_err-write_whole-2 : goal.returns-in_err-write_whole-2

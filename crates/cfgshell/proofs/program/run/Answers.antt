@@ -1,7 +1,7 @@
 use Rattle.std.proofs.Common.{inl, refl}
 use Rattle.std.proofs.KnownBytes.{Appends-nil}
 use Rattle.cfgshell.specs.Endings.{Told}
-use Rattle.cfgshell.specs.declared.outcome.Outcome.TheVariants.{Done, Refused}
+use Rattle.cfgsink.specs.declared.outcome.Outcome.TheVariants.{Done, Refused}
 use Rattle.cfgshell.proofs.program.run.Goals as goal
 
 pub returns-in-Ok-Done-clause-ends : goal.returns-in-Ok-Done-clause-ends

@@ -11,9 +11,9 @@ ghost use Rattle.cfgsyntax.specs.Inner.Steps.{stop_view};
 
 use super::fault::error_of;
 use crate::read::Stopped;
+use crate::validation::check;
 use cfgast::{Occurrence, UniqueKind};
 use cfgbase::Span;
-use cfgcheck::check;
 use cfgerrors::YaccGrammarErrorKind::{
     DuplicateActiontypeDeclaration, DuplicateAvoidInsertDeclaration, DuplicateEPP,
     DuplicateExpectDeclaration, DuplicateExpectRRDeclaration, DuplicateImplicitTokensDeclaration,

@@ -7,7 +7,7 @@ use Rattle.cfgsyntax.specs.Spans.{EachErrorSpan}
 use Rattle.cfgnumbers.specs.Numbered.{Numbered}
 use Rattle.cfgrammar.specs.Answer.{WasRead, in_numbers}
 use Rattle.cfgtool.specs.Lines.{error_lines}
-use Rattle.cfgshell.specs.declared.outcome.Outcome.TheVariants.{Done, Refused}
+use Rattle.cfgsink.specs.declared.outcome.Outcome.TheVariants.{Done, Refused}
 use Rattle.cfgtool.specs.Report.{AreAskedLines, IsReport}
 use Rattle.cfgtool.proofs.OfText.{ended_told}
 use Rattle.cfgtool.proofs.engine.report_parsed.Goals as goal

@@ -1,7 +1,7 @@
 use Rattle.std.proofs.Common.{refl, ap, sym, subst, add-zero, ◌++◌, ◌∙◌, codes}
 use Rattle.std.specs.Io.KnownBytes.{Appends}
-use Rattle.cfgshell.specs.Sinks.{AppendsBeginning, AppendsOrFaults}
-use Rattle.cfgshell.proofs.Beginnings.{whole_or_faults}
+use Rattle.cfgsink.specs.Sinks.{AppendsBeginning, AppendsOrFaults}
+use Rattle.cfgsink.proofs.Beginnings.{whole_or_faults}
 use Rattle.lintshell.specs.Run.{Answer, Answered, Unwritten}
 use Rattle.lintshell.proofs.answer.tell.Goals as goal
 

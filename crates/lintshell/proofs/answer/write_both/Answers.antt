@@ -1,4 +1,4 @@
-use Rattle.cfgshell.proofs.Beginnings.{whole_or_faults, then_or_faults}
+use Rattle.cfgsink.proofs.Beginnings.{whole_or_faults, then_or_faults}
 use Rattle.lintshell.proofs.answer.write_both.Goals as goal
 
 pub returns : goal.returns

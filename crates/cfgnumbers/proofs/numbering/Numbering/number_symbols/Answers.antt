@@ -2,7 +2,7 @@ use Rattle.std.proofs.Common.{◌≡◌, ◌++◌, None, map, arith, sym, ap, su
 use Rattle.std.proofs.lemmas.List.{get_or-map, length-map, take_all}
 use Rattle.cfgast.specs.Syntax.{Symbol}
 use Rattle.cfgast.specs.View.{symbol_view}
-use Rattle.cfgcheck.specs.Check.{symbol_error}
+use Rattle.cfgtree.specs.Check.{symbol_error}
 use Rattle.cfgnumbers.specs.Numbered.{file_symbol, file_symbols, spaced}
 use Rattle.cfgnumbers.specs.View.{file_of, implicit_in}
 use Rattle.cfgnumbers.proofs.Symbols.{more_symbols}

@@ -1,6 +1,6 @@
 use Rattle.std.proofs.Common.{◌≡◌, None, All, map, sym, subst}
 use Rattle.cfgast.specs.View.{symbol_view}
-use Rattle.cfgcheck.specs.Check.{symbol_error}
+use Rattle.cfgtree.specs.Check.{symbol_error}
 use Rattle.cfgnumbers.specs.View.{file_of}
 use Rattle.cfgnumbers.proofs.numbering.Numbering.push_file_row.Goals as goal
 

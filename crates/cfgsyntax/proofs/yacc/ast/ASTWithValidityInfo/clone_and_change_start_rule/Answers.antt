@@ -3,7 +3,7 @@ use Rattle.cfgast.specs.Building.{has_rule}
 use Rattle.cfgast.specs.View.{named_view}
 use Rattle.cfgtree.specs.View.{syntax}
 use Rattle.cfgtree.specs.Writing.{started_at}
-use Rattle.cfgcheck.specs.Sound.{IsSound}
+use Rattle.cfgtree.specs.Sound.{IsSound}
 use Rattle.cfgsyntax.proofs.SoundLemmas.{IsSound-restarted}
 use Rattle.cfgsyntax.proofs.yacc.ast.ASTWithValidityInfo.clone_and_change_start_rule.Goals as goal
 

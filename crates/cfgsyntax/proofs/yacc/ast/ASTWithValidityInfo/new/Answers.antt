@@ -1,6 +1,6 @@
 use Rattle.std.proofs.Common.{All, option_map, sym, subst}
 use Rattle.cfgsyntax.specs.Inner.Steps.{stop_view}
-use Rattle.cfgcheck.specs.Check.{check_of}
+use Rattle.cfgtree.specs.Check.{check_of}
 use Rattle.cfgtree.specs.WellFormed.{IsWellFormed}
 use Rattle.cfgtree.proofs.WellFormedLemmas.{syntax_of-IsWellFormed}
 use Rattle.cfgwords.proofs.NameStarts.{begins_as_name}

@@ -4,7 +4,7 @@ use Rattle.std.specs.List.{zip}
 use Rattle.cfgast.specs.View.{production_view}
 use Rattle.cfgtree.specs.View.{syntax}
 use Rattle.cfgtree.specs.WellFormed.{IsWellFormed}
-use Rattle.cfgcheck.specs.Sound.{IsSound}
+use Rattle.cfgtree.specs.Sound.{IsSound}
 use Rattle.cfgnumbers.specs.Fits.{LeavesRoom}
 use Rattle.cfgnumbers.specs.Numbered.{added_productions, added_rules, file_production, file_rule, file_token}
 use Rattle.cfgnumbers.specs.Inner.Resolved.{AreTokens, IsResolved}

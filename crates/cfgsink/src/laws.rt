@@ -1,0 +1,22 @@
+//! What `==` and `clone` of outcomes and faults compare and copy. They are derived, so each law names the impl, as in
+//! `⟦<Outcome as PartialEq>⟧`, and holds of every value.
+
+ghost use Rattle.std.specs.Prelude.{◌≡◌, ◌↔◌, IsTrue};
+ghost use Rattle.cfgsink.specs.declared.outcome.Outcome.{Outcome};
+ghost use Rattle.cfgsink.specs.declared.outcome.ReportFault.{ReportFault};
+ghost use Rattle.cfgsink.specs.declared.sink.SinkFault.{SinkFault};
+
+use crate::outcome::{Outcome, ReportFault};
+use crate::sink::SinkFault;
+
+/// Outcomes and faults are equal exactly where they are the same. A clone is its source, and takes no memory.
+pub fn outcomes_are_told_apart()
+    ensures equal { (a b : Outcome) → IsTrue (⟦<Outcome as PartialEq>⟧.eq a b) ↔ (a ≡ b) }
+    ensures clone { (a b : Outcome) → ⟦<Outcome as Clone>⟧.is_clone a b → b ≡ a }
+    ensures cloned { (a : Outcome) → ⟦<Outcome as Clone>⟧.is_infallible a }
+    ensures equal_faults { (a b : ReportFault) → IsTrue (⟦<ReportFault as PartialEq>⟧.eq a b) ↔ (a ≡ b) }
+    ensures clone_fault { (a b : ReportFault) → ⟦<ReportFault as Clone>⟧.is_clone a b → b ≡ a }
+    ensures cloned_fault { (a : ReportFault) → ⟦<ReportFault as Clone>⟧.is_infallible a }
+    ensures equal_sinks { (a b : SinkFault) → IsTrue (⟦<SinkFault as PartialEq>⟧.eq a b) ↔ (a ≡ b) }
+    ensures cloned_sink { (a : SinkFault) → ⟦<SinkFault as Clone>⟧.is_infallible a }
+{}

@@ -1,0 +1,9 @@
+//! What a program writes to: sinks that count their faults, and how a report ends that is written to one.
+#![tactic(auto)]
+
+pub mod laws;
+pub mod outcome;
+pub mod sink;
+
+pub use outcome::{Outcome, ReportFault, write_report};
+pub use sink::{Counted, Sink, SinkFault, write_whole};

@@ -1,0 +1,107 @@
+//! What the program writes to.
+
+ghost use Rattle.std.specs.Prelude.{◌≡◌, ℕ, ◌+◌, ◌-◌, ◌^◌, ◌<◌, List, Option, Some, OnErr};
+ghost use Rattle.std.specs.Prelude.{OnOk, codes, length};
+ghost use Rattle.std.specs.Io.{WritesAtMost};
+ghost use Rattle.std.specs.Io.KnownBytes.{Appends, WriteAppends};
+ghost use Rattle.cfgsink.specs.Sinks.{AppendsBeginning, faults_of};
+
+use std::error::Error;
+use std::fmt;
+use std::io::Write;
+
+/// That a sink took no bytes.
+#[derive(Clone, Copy, Debug, PartialEq, Eq)]
+pub struct SinkFault;
+
+impl fmt::Display for SinkFault {
+    ghost output = { λ _. Some (codes "cannot write") };
+
+    fn fmt<W: fmt::Write>(&self, f: &mut fmt::Formatter<W>) -> fmt::Result {
+        f.write_str("cannot write")
+    }
+}
+
+impl Error for SinkFault {}
+
+/// A taker of bytes that counts its faults.
+pub trait Sink {
+    ghost written: { Self → Option (List ℕ) };
+
+    ghost faults_counted: { Self → ℕ };
+
+    /// Takes the first of these bytes, and answers how many.
+    ///
+    /// # Errors
+    ///
+    /// A fault; no byte is then taken.
+    fn write(&mut self, bytes: &[u8]) -> Result<usize, SinkFault>
+        requires { faults_counted self.old < 2 ^ 64 - 1 }
+        ensures bound { WritesAtMost result bytes.now }
+        ensures bytes { WriteAppends (written self.old) (written self.new) result bytes.now }
+        ensures faults { faults_counted self.new ≡ faults_counted self.old + faults_of result bytes.now };
+
+    /// How many writes answered a fault, or took nothing of a slice with bytes.
+    fn faults(&self) -> u64
+        ensures { result ≡ faults_counted self.now };
+}
+
+/// A writer, with a count of its faults.
+#[derive(Drop)]
+pub struct Counted<W> {
+    writer: W,
+    faults: u64,
+}
+
+impl<W: Write> Counted<W> {
+    /// The writer, with no faults yet.
+    pub fn new(writer: W) -> Self
+        ensures { result ≡ record { writer = writer; faults = 0 } }
+    {
+        Counted { writer, faults: 0 }
+    }
+}
+
+impl<W: Write> Sink for Counted<W> {
+    ghost written = { λ counted. W.contents counted.writer };
+
+    ghost faults_counted = { λ counted. counted.faults };
+
+    fn write(&mut self, bytes: &[u8]) -> Result<usize, SinkFault> {
+        match self.writer.write(bytes) {
+            Ok(count) => {
+                if count == 0 && !bytes.is_empty() {
+                    self.faults += 1;
+                }
+                Ok(count)
+            }
+            Err(_) => {
+                self.faults += 1;
+                Err(SinkFault)
+            }
+        }
+    }
+
+    fn faults(&self) -> u64 {
+        self.faults
+    }
+}
+
+/// Writes all bytes, as many at a time as the sink takes. Where it takes nothing, that is a fault too.
+pub fn write_whole<W: Sink>(out: &mut W, bytes: &[u8]) -> Result<(), SinkFault>
+    requires { W.faults_counted out.old < 2 ^ 64 - 1 }
+    ensures ok { OnOk result (Appends (W.written out.old) (W.written out.new) bytes.now) }
+    ensures ok_faults { OnOk result (W.faults_counted out.new ≡ W.faults_counted out.old) }
+    ensures err { OnErr result (AppendsBeginning (W.written out.old) (W.written out.new) bytes.now) }
+    ensures err_faults { OnErr result (W.faults_counted out.new ≡ W.faults_counted out.old + 1) }
+{
+    let mut taken = 0;
+    while taken < bytes.len() {
+        let count = out.write(&bytes[taken..])?;
+        if count == 0 {
+            return Err(SinkFault);
+        }
+        taken += count;
+    }
+    Ok(())
+}

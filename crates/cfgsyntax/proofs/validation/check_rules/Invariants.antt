@@ -1,0 +1,10 @@
+use Rattle.std.proofs.Common.{◌≡◌, map}
+use Rattle.cfgast.specs.View.{rule_entry}
+use Rattle.cfgtree.specs.View.{syntax}
+use Rattle.cfgtree.specs.Check.{first_error, rule_error}
+use Rattle.cfgsyntax.proofs.validation.check_rules.Given as goal
+
+abbrev pub invariant-loop-rule : goal.invariant-loop-rule
+invariant-loop-rule l =
+    first_error (rule_error (syntax l.ast)) (syntax l.ast).rules
+    ≡ first_error (rule_error (syntax l.ast)) (map rule_entry l.rule-iterator)

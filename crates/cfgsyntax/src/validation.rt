@@ -1,0 +1,185 @@
+//! Validation: whether what a syntax names is there.
+
+ghost use Rattle.std.specs.Prelude.{◌≡◌, IfOk, map, option_map, string_bytes};
+ghost use Rattle.cfgast.specs.Building.{has_entry, has_name, has_rule};
+ghost use Rattle.cfgast.specs.View.{symbol_view, production_view};
+ghost use Rattle.cfgtree.specs.View.{syntax};
+ghost use Rattle.cfgtree.specs.Check.{start_error, symbol_error};
+ghost use Rattle.cfgtree.specs.Check.{precedence_error, production_error, printed_error, place_error, rule_error};
+ghost use Rattle.cfgtree.specs.Check.{first_error, check_of};
+ghost use Rattle.cfgsyntax.specs.Inner.Unfit.{found, unfit_error};
+
+use cfgast::{Production, Rule, Symbol};
+use cfgbase::Span;
+use cfgerrors::YaccGrammarErrorKind::{
+    InvalidStartRule, NoPrecForToken, NoStartRule, UnknownEPP, UnknownRuleRef, UnknownToken,
+};
+use cfgerrors::{YaccGrammarError, error_at};
+use cfgtree::GrammarAST;
+use std::alloc::{AllocError, Global};
+
+/// What a check finds wrong. It borrows the name, so that to look for it takes no memory.
+#[derive(Drop)]
+pub(crate) enum Unfit<'a> {
+    /// No rule is the start.
+    NoStart,
+    /// The start, whose name and place these are, is no rule.
+    Start(&'a str, Span),
+    /// No rule has the name that stands at this place.
+    Rule(&'a str, Span),
+    /// No token has the name that stands at this place, or, where the place is empty and at the text's front, the name
+    /// that a `%prec` gives.
+    Token(&'a str, Span),
+    /// The token of a `%prec` has no precedence.
+    Precedence(&'a str),
+    /// The key of an `%epp`, with its place, is no token.
+    PrintedForm(&'a str, Span),
+}
+
+impl Unfit<'_> {
+    /// The error that tells it.
+    ///
+    /// # Errors
+    ///
+    /// Want of memory.
+    pub(crate) fn error(self, alloc: Global) -> Result<YaccGrammarError, AllocError>
+        ensures { IfOk result (λ error. error ≡ unfit_error self.entry) }
+    {
+        let (kind, span) = match self {
+            Unfit::NoStart => (NoStartRule, Span::new(0, 0)),
+            Unfit::Start(name, span) => (InvalidStartRule(String::from_str(alloc, name)?), span),
+            Unfit::Rule(name, span) => (UnknownRuleRef(String::from_str(alloc, name)?), span),
+            Unfit::Token(name, span) => (UnknownToken(String::from_str(alloc, name)?), span),
+            Unfit::Precedence(name) => (
+                NoPrecForToken(String::from_str(alloc, name)?),
+                Span::new(0, 0),
+            ),
+            Unfit::PrintedForm(name, span) => (UnknownEPP(String::from_str(alloc, name)?), span),
+        };
+        error_at(alloc, kind, span)
+    }
+}
+
+/// Whether a rule of the tree has the name.
+pub(crate) fn has_rule(ast: &GrammarAST, name: &str) -> bool
+    ensures { result ≡ has_rule name.now (syntax ast.now).rules }
+{
+    ast.get_rule(name).is_some()
+}
+
+fn has_token(ast: &GrammarAST, name: &str) -> bool
+    ensures { result ≡ has_name name.now (syntax ast.now).tokens }
+{
+    ast.has_token(name)
+}
+
+fn check_start(ast: &GrammarAST) -> Result<(), Unfit<'_>>
+    ensures { found result ≡ start_error (syntax ast.now) (syntax ast.now).start }
+{
+    match ast.start() {
+        None => Err(Unfit::NoStart),
+        Some((name, _)) if has_rule(ast, name.as_str()) => Ok(()),
+        Some((name, span)) => Err(Unfit::Start(name.as_str(), *span)),
+    }
+}
+
+fn check_symbol<'a>(ast: &GrammarAST, symbol: &'a Symbol) -> Result<(), Unfit<'a>>
+    ensures { found result ≡ symbol_error (syntax ast.now) (symbol_view symbol.now) }
+{
+    match symbol {
+        Symbol::Rule(name, _) if has_rule(ast, name.as_str()) => Ok(()),
+        Symbol::Rule(name, span) => Err(Unfit::Rule(name.as_str(), *span)),
+        Symbol::Token(name, _) if has_token(ast, name.as_str()) => Ok(()),
+        Symbol::Token(name, span) => Err(Unfit::Token(name.as_str(), *span)),
+    }
+}
+
+fn has_precedence(ast: &GrammarAST, name: &str) -> bool
+    ensures { result ≡ has_entry name.now (syntax ast.now).tables.precedences }
+{
+    ast.precs().contains_key(name)
+}
+
+fn check_precedence<'a>(ast: &GrammarAST, token: &'a Option<String>) -> Result<(), Unfit<'a>>
+    ensures { found result ≡ precedence_error (syntax ast.now) (option_map string_bytes token.now) }
+{
+    match token {
+        None => Ok(()),
+        Some(name) if !has_token(ast, name.as_str()) => {
+            Err(Unfit::Token(name.as_str(), Span::new(0, 0)))
+        }
+        Some(name) if has_precedence(ast, name.as_str()) => Ok(()),
+        Some(name) => Err(Unfit::Precedence(name.as_str())),
+    }
+}
+
+fn check_symbols<'a>(ast: &GrammarAST, symbols: &'a [Symbol]) -> Result<(), Unfit<'a>>
+    ensures { found result ≡ first_error (symbol_error (syntax ast.now)) (map symbol_view symbols.now) }
+{
+    for symbol in symbols {
+        check_symbol(ast, symbol)?;
+    }
+    Ok(())
+}
+
+fn check_production<'a>(ast: &GrammarAST, production: &'a Production) -> Result<(), Unfit<'a>>
+    ensures { found result ≡ production_error (syntax ast.now) (production_view production.now) }
+{
+    check_precedence(ast, &production.precedence)?;
+    check_symbols(ast, &production.symbols)
+}
+
+fn check_place(ast: &GrammarAST, place: usize) -> Result<(), Unfit<'_>>
+    ensures { found result ≡ place_error (syntax ast.now) place }
+{
+    match ast.prods().get(place) {
+        None => Ok(()),
+        Some(production) => check_production(ast, production),
+    }
+}
+
+fn check_rule<'a>(ast: &'a GrammarAST, rule: &Rule) -> Result<(), Unfit<'a>>
+    ensures { found result ≡ first_error (place_error (syntax ast.now)) rule.now.pidxs.items }
+{
+    for place in &rule.pidxs {
+        check_place(ast, *place)?;
+    }
+    Ok(())
+}
+
+fn check_rules(ast: &GrammarAST) -> Result<(), Unfit<'_>>
+    ensures { found result ≡ first_error (rule_error (syntax ast.now)) (syntax ast.now).rules }
+{
+    for (_, rule) in ast.rules() {
+        check_rule(ast, rule)?;
+    }
+    Ok(())
+}
+
+fn check_printed_forms(ast: &GrammarAST) -> Result<(), Unfit<'_>>
+    ensures { found result ≡ first_error (printed_error (syntax ast.now)) (syntax ast.now).tables.printed_forms }
+{
+    for (name, (span, _)) in ast.epp() {
+        if !has_token(ast, name.as_str()) {
+            return Err(Unfit::PrintedForm(name.as_str(), *span));
+        }
+    }
+    Ok(())
+}
+
+/// Validates a tree: that its start is a rule; rule by rule and production by production, that the token of a `%prec` is
+/// a token and has a precedence, and that what each symbol names is there; that each key of `%epp` is a token; and that
+/// what each symbol of `%expect-unused` names is there. It takes no memory.
+///
+/// # Errors
+///
+/// The first check that the syntax fails.
+#[tactic(auto, unfolding(cfgtree::specs::Check::check_of))]
+pub(crate) fn check(ast: &GrammarAST) -> Result<(), Unfit<'_>>
+    ensures { found result ≡ check_of (syntax ast.now) }
+{
+    check_start(ast)?;
+    check_rules(ast)?;
+    check_printed_forms(ast)?;
+    check_symbols(ast, ast.expect_unused())
+}

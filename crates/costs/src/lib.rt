@@ -1,0 +1,11 @@
+//! Worked rows on what sentences cost: a grammar's costs, its minimal sentences, and what is asked of their checkers.
+#![tactic(auto)]
+
+mod asked;
+mod certificate;
+mod grammar;
+mod openings;
+mod plain;
+mod rules;
+
+pub use grammar::tell;

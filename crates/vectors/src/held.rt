@@ -1,0 +1,6 @@
+//! What a grammar holds: its tables, and its FIRST and FOLLOW sets.
+
+pub(crate) mod firsts;
+pub(crate) mod follows;
+pub(crate) mod plain;
+pub(crate) mod tables;
