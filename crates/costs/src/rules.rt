@@ -7,6 +7,7 @@ use cfgrammar::yacc::YaccGrammar;
 use cfgrammar::yacc::sentences::{CostError, SentenceError, SentenceGenerator};
 use cfgrammar::{RIdx, TIdx};
 use rows::page::Page;
+use rows::pen::{self, Piece};
 use rows::row::Row;
 
 /// How many sentences of a rule are written, and how many tokens of a sentence; of more than these their number is.
@@ -49,7 +50,12 @@ fn write_rule(
 )
     requires { ridx.0 < generator.now.grammar.rules }
 {
-    write!(out, "    rule {} {name}", usize::from(ridx));
+    let pieces = [
+        Piece::Number("    rule ", usize::from(ridx)),
+        Piece::Text(" "),
+        Piece::Text(name),
+    ];
+    pen::pieces(out, &pieces);
     write_costs(out, generator, ridx);
     out.push_str("; sentence ");
     match generator.min_sentence(out.alloc, ridx) {
@@ -69,7 +75,11 @@ pub(crate) fn write_costs(
     write_cost(out, ": least ", generator.min_sentence_cost(ridx).map(Some));
     write_cost(out, ", greatest ", generator.max_sentence_cost(ridx));
     match generator.choice(ridx) {
-        Some((pidx, number)) => write!(out, "; production {} at {number}", usize::from(pidx)),
+        Some((pidx, number)) => pen::numbers(
+            out,
+            ("; production ", usize::from(pidx)),
+            (" at ", number as usize),
+        ),
         None => out.push_str("; production none"),
     }
 }
@@ -78,7 +88,7 @@ pub(crate) fn write_costs(
 fn write_cost(out: &mut Page, before: &str, cost: Result<Option<u16>, CostError>) {
     out.push_str(before);
     match cost {
-        Ok(Some(cost)) => write!(out, "{cost}"),
+        Ok(Some(cost)) => pen::number(out, "", usize::from(cost)),
         Ok(None) => out.push_str("unbounded"),
         Err(CostError::NoSentence) => out.push_str("none"),
         Err(CostError::CostTooLarge) => out.push_str("too large"),
@@ -97,12 +107,16 @@ pub(crate) fn write_refusal(out: &mut Page, error: SentenceError) {
 /// Writes a sentence by its tokens' indices, or how many there are.
 fn write_sentence(out: &mut Page, sentence: &[TIdx<u32>]) {
     if sentence.len() > MOST {
-        return write!(out, "{} tokens", sentence.len());
+        pen::number(out, "", sentence.len());
+        return out.push_str(" tokens");
     }
     out.push('[');
     for (place, tidx) in sentence.iter().enumerate() {
-        out.push_str(if place > 0 { " " } else { "" });
-        write!(out, "{}", usize::from(*tidx));
+        pen::number(
+            out,
+            if place > 0 { " " } else { "" },
+            usize::from(*tidx),
+        );
     }
     out.push(']');
 }
@@ -110,7 +124,7 @@ fn write_sentence(out: &mut Page, sentence: &[TIdx<u32>]) {
 /// Writes all minimal sentences, or how many there are, or why there are none.
 fn write_sentences(out: &mut Page, sentences: Result<Vec<Vec<TIdx<u32>>>, SentenceError>) {
     match sentences {
-        Ok(sentences) if sentences.len() > MOST => write!(out, "; all {}", sentences.len()),
+        Ok(sentences) if sentences.len() > MOST => pen::number(out, "; all ", sentences.len()),
         Ok(sentences) => write_each(out, &sentences),
         Err(SentenceError::OutOfMemory) => out.tear(),
         Err(error) => {

@@ -37,11 +37,21 @@ fn answer(alloc: Global, call: &str, text: &str) -> Result<String, YaccFault> {
     }
 }
 
-/// The function that reads the text owns its tree, and another one its numbers.
 fn shown_findings(alloc: Global, kind: YaccKind, text: &str) -> Result<String, YaccFault> {
-    let parsed = ASTWithValidityInfo::new(alloc, kind, text)?;
+    let parsed = ASTWithValidityInfo::new(alloc, kind, text);
     lend(
-        YaccGrammar::<u32>::new_from_ast_with_validity_info(alloc, &parsed),
+        parsed.map_err(YaccFault::from),
+        |parsed| findings_of(alloc, text, parsed),
+    )
+}
+
+fn findings_of(
+    alloc: Global,
+    text: &str,
+    parsed: &ASTWithValidityInfo,
+) -> Result<String, YaccFault> {
+    lend(
+        YaccGrammar::<u32>::new_from_ast_with_validity_info(alloc, parsed),
         |grammar| {
             let made = (parsed.ast(), grammar);
             Ok(show_findings(alloc, "list.y", text, made)?)

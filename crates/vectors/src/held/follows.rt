@@ -8,6 +8,7 @@ use cfgrammar::yacc::follows::YaccFollows;
 use cfgrammar::{RIdx, Storage};
 use rows::indices;
 use rows::page::Page;
+use rows::pen;
 
 /// Writes each rule's FOLLOW set: the tokens by their indices, and where the two accessors differ.
 pub(crate) fn write_follows<S: Storage>(out: &mut Page, grammar: &YaccGrammar<S>) {
