@@ -1,6 +1,6 @@
 //! What is told of a text.
 
-ghost use Rattle.std.specs.Prelude.{◌≡◌, ◌↔◌, List, None, false, length, codes, Err, IfErr, IfOk, IsTrue};
+ghost use Rattle.std.specs.Prelude.{◌≡◌, ◌↔◌, List, None, false, length, codes, IfOk, IsTrue};
 ghost use Rattle.cfgheader.specs.SectionGrammar.{Entry};
 ghost use Rattle.cfgheader.specs.SectionReads.{IsHeaderOf, given};
 ghost use Rattle.cfgrammar.specs.Answer.{Found, WasRead};
@@ -18,7 +18,6 @@ use cfgrammar::yacc::parser::YaccFault;
 use cfgrammar::yacc::{YaccGrammar, YaccGrammarError, YaccKind, YaccOriginalActionKind};
 use cfgrammar::{Span, render_all};
 use cfgshell::KindArg;
-use lending::lend;
 use lintshell::{Linter, Report};
 use std::alloc::{AllocError, Global};
 
@@ -98,7 +97,7 @@ fn report_as(alloc: Global, kind: YaccKind, name: &str, text: &str) -> Result<Re
     ensures { IfOk result (λ told. (told.is_taken ≡ false)
         × (found : Found) × IsFoundAs kind text.now found × TellsFound name.now text.now told found) }
 {
-    let parsed = ASTWithValidityInfo::new(alloc, kind, text);
+    let parsed = ASTWithValidityInfo::new(alloc, kind, text)?;
     report_made(alloc, name, text, parsed)
 }
 
@@ -108,27 +107,23 @@ fn report_itself(alloc: Global, name: &str, text: &str) -> Result<Report, AllocE
         × (found : Found) × IsFoundItself text.now found × TellsFound name.now text.now told found) }
 {
     match ASTWithValidityInfo::from_str(alloc, text) {
-        Ok(parsed) => report_made(alloc, name, text, Ok(parsed)),
+        Ok(parsed) => report_made(alloc, name, text, parsed),
         Err(YaccFault::Errors(errors)) => report_errors(alloc, name, text, &errors),
         Err(YaccFault::OutOfMemory) => Err(AllocError),
     }
 }
 
-/// The report of a text of which this was made, and is used no more.
+/// The report of a text of which this was made, and is used no more: a function that also makes it drops it on each way
+/// out, which costs its proof many times as much.
 fn report_made(
     alloc: Global,
     name: &str,
     text: &str,
-    parsed: Result<ASTWithValidityInfo, AllocError>,
+    parsed: ASTWithValidityInfo,
 ) -> Result<Report, AllocError>
-    ensures told { IfOk parsed (λ parsed. IfOk result (λ told.
-        (told.is_taken ≡ false) × TellsFound name.now text.now told (WasRead parsed))) }
-    ensures refused { IfErr parsed (λ fault. result ≡ Err fault) }
+    ensures { IfOk result (λ told. (told.is_taken ≡ false) × TellsFound name.now text.now told (WasRead parsed)) }
 {
-    lend(
-        parsed,
-        |parsed| report_parsed(alloc, name, text, parsed),
-    )
+    report_parsed(alloc, name, text, &parsed)
 }
 
 /// The report of a text that was read.

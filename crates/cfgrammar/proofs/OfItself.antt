@@ -1,6 +1,5 @@
 -- What a text is found to be, by what is parsed of it.
-use Rattle.std.proofs.Common.{◌≡◌, List, ℕ, map, Option, Result, Ok, Err, IfOk, IfErr, refl, ap, sym, subst}
-use Rattle.cfgast.specs.Items.{Item}
+use Rattle.std.proofs.Common.{◌≡◌, List, ℕ, map, Ok, Err, refl, ap, sym}
 use Rattle.cfgkinds.specs.declared.kind.YaccKind.{YaccKind}
 use Rattle.cfgheader.specs.Named.{HasOneNaming, Naming, Names}
 use Rattle.cfgerrors.specs.Errors.{header_error}
@@ -10,10 +9,10 @@ use Rattle.cfgast.specs.Syntax.{syntax_of}
 use Rattle.cfgsyntax.specs.Faults.{errors_of}
 use Rattle.cfgsyntax.specs.OfItself.{IsParsedAs, AnswersNaming}
 use Rattle.cfgsyntax.specs.Parsed.{Parsed}
-use Rattle.cfgsyntax.specs.Reads.{HasOneReading, Reads, Stop}
+use Rattle.cfgsyntax.specs.Reads.{HasOneReading}
 use Rattle.cfgsyntax.proofs.OneReading.{one_reading}
 use Rattle.cfgrammar.specs.Answer.{Found, Unnamed, WasRead}
-use Rattle.cfgrammar.specs.GrammarOf.{IsFoundAs, IsFoundNamed, IsFoundItself}
+use Rattle.cfgrammar.specs.GrammarOf.{IsFoundNamed, IsFoundItself}
 
 -- what a text's one reading makes
 abbrev pub parsed_of : (kind : YaccKind) (text : List ℕ) → HasOneReading kind text → Parsed
@@ -53,16 +52,3 @@ pub refused_itself : (text : List ℕ) → HasOneNaming text → (fault : YaccFa
 refused_itself text one fault answer =
     let it = refused_named text fault one.naming (answer one.naming one.names) in
     (it.0, (one, it.1), it.2)
-
--- what is told where a text was parsed as a file of this kind, or a fault in its place
-pub made_as : {A E : Type 0} (kind : YaccKind) (text : List ℕ) → HasOneReading kind text → (Tells : Found → A → Type 0) (parsed : Result Parsed E)
-    → IfOk parsed (λ parsed. parsed.kind ≡ kind)
-    → IfOk parsed (λ parsed. (items : List Item) (stop : Option Stop) → Reads kind text items stop → parsed.syntax ≡ syntax_of items)
-    → IfOk parsed (λ parsed. (items : List Item) (stop : Option Stop) → Reads kind text items stop → parsed.errors ≡ errors_of items stop)
-    → (told : Result A E) → IfOk parsed (λ parsed. IfOk told (Tells (WasRead parsed))) → IfErr parsed (λ fault. told ≡ Err fault)
-    → (found : Found) × IsFoundAs kind text found × IfOk told (Tells found)
-made_as kind text one Tells (Ok parsed) kind_is syntax errors told is refused =
-    (WasRead parsed, record { one = one; kind_is = kind_is; syntax = syntax; errors = errors }, is)
-made_as kind text one Tells (Err fault) kind_is syntax errors told is refused =
-    let found = WasRead (parsed_of kind text one) in
-    (found, is_parsed_of kind text one, subst (λ told. IfOk told (Tells found)) (sym refused) tt)

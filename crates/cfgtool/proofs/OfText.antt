@@ -29,4 +29,7 @@ pub made_told : {E : Type 0} (AreLines : Syntax → Numbered → List ℕ → Ty
 made_told AreLines text found (Ok made) old new (Ok outcome) is (same, appends) =
     (string_bytes made.1, subst (λ outcome. IsReport AreLines text found outcome (string_bytes made.1)) (sym same) is, appends)
 made_told AreLines text found (Ok made) old new (Err faults.Write) is began = (made.0, string_bytes made.1, is, began)
+made_told AreLines text found (Ok made) old new (Err faults.OutOfMemory) is wrong = absurd wrong
 made_told AreLines text found (Err refused) old new (Err faults.OutOfMemory) is keeps = keeps
+made_told AreLines text found (Err refused) old new (Ok outcome) is wrong = absurd wrong
+made_told AreLines text found (Err refused) old new (Err faults.Write) is wrong = absurd wrong

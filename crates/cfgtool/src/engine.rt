@@ -1,6 +1,6 @@
 //! The report of a text.
 
-ghost use Rattle.std.specs.Prelude.{◌≡◌, ◌+◌, ◌-◌, ◌^◌, ◌<◌, Some, Ok, Err, IfErr, IfOk, IsErrOf, string_bytes};
+ghost use Rattle.std.specs.Prelude.{◌≡◌, ◌+◌, ◌-◌, ◌^◌, ◌<◌, Some, Ok, IfOk, IsErrOf, string_bytes};
 ghost use Rattle.cfgwords.specs.Places.{IsPiece, IsWithin};
 ghost use Rattle.cfgast.specs.Syntax.{EachSpan};
 ghost use Rattle.cfgtree.specs.View.{syntax};
@@ -26,7 +26,6 @@ use cfgrammar::yacc::{YaccGrammar, YaccKind};
 use cfgshell::words::{Command, KindArg};
 pub use cfgsink::{Outcome, ReportFault};
 use cfgsink::{Sink, write_report};
-use lending::lend;
 use std::alloc::{AllocError, Global};
 
 /// Writes what the command tells of the text's grammar, whose indices have 32 bits, or else the errors of the text,
@@ -124,7 +123,7 @@ fn report_as(
     ensures { (found : Found) × IsFoundAs kind text.now found × IfOk result (λ told.
         IsReport (AreAskedLines request.entry text.now) text.now found told.0 (string_bytes told.1)) }
 {
-    let parsed = ASTWithValidityInfo::new(alloc, kind, text);
+    let parsed = ASTWithValidityInfo::new(alloc, kind, text)?;
     report_made(alloc, request, text, parsed)
 }
 
@@ -138,30 +137,28 @@ fn report_itself(
         IsReport (AreAskedLines request.entry text.now) text.now found told.0 (string_bytes told.1)) }
 {
     match ASTWithValidityInfo::from_str(alloc, text) {
-        Ok(parsed) => report_made(alloc, request, text, Ok(parsed)),
+        Ok(parsed) => report_made(alloc, request, text, parsed),
         Err(YaccFault::Errors(errors)) => {
-            ended(Outcome::Refused, error_lines(alloc, text, &errors))
+            let lines = error_lines(alloc, text, &errors)?;
+            Ok((Outcome::Refused, lines))
         }
         Err(YaccFault::OutOfMemory) => Err(AllocError),
     }
 }
 
-/// The report of a text of which this was made, and is used no more.
+/// The report of a text of which this was made, and is used no more: a function that also makes it drops it on each way
+/// out, which costs its proof many times as much.
 fn report_made(
     alloc: Global,
     request: Request<'_>,
     text: &str,
-    parsed: Result<ASTWithValidityInfo, AllocError>,
+    parsed: ASTWithValidityInfo,
 ) -> Result<(Outcome, String), AllocError>
-    requires { IfOk parsed (EachParsedSpan (IsPiece text.now) (IsWithin text.now)) }
-    ensures told { IfOk parsed (λ parsed. IfOk result (λ told.
-        IsReport (AreAskedLines request.entry text.now) text.now (WasRead parsed) told.0 (string_bytes told.1))) }
-    ensures refused { IfErr parsed (λ fault. result ≡ Err fault) }
+    requires { EachParsedSpan (IsPiece text.now) (IsWithin text.now) parsed }
+    ensures { IfOk result (λ told. IsReport (AreAskedLines request.entry text.now) text.now (WasRead parsed)
+        told.0 (string_bytes told.1)) }
 {
-    lend(
-        parsed,
-        |parsed| report_parsed(alloc, request, text, parsed),
-    )
+    report_parsed(alloc, request, text, &parsed)
 }
 
 /// The report of a text that was read.

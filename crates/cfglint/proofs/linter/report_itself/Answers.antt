@@ -18,7 +18,7 @@ returns-in-Ok c =
     (λ told. (told.is_taken ≡ false) × TellsFound name text told (WasRead c.in-Ok.parsed))
     (λ told. (told.is_taken ≡ false) × (found : Found) × IsFoundItself text found × TellsFound name text told found)
     (λ told it. (it.0, WasRead c.in-Ok.parsed, parsed_itself text parsed.one c.in-Ok.parsed parsed.answer, it.1))
-    c.report_made.ensures.told
+    c.report_made.ensures
 
 pub returns-in-Err-Errors : goal.returns-in-Err-Errors
 returns-in-Err-Errors c =

@@ -1,11 +1,15 @@
-use Rattle.std.proofs.Common.{string_bytes}
-use Rattle.cfgrammar.proofs.OfItself.{made_as}
-use Rattle.cfgtool.specs.Report.{AreAskedLines, IsReport}
+use Rattle.std.proofs.lemmas.Result.{err_from_is_err_and}
+use Rattle.cfgrammar.specs.Answer.{WasRead}
+use Rattle.cfgrammar.proofs.OfItself.{is_parsed_of, parsed_of}
 use Rattle.cfgtool.proofs.engine.report_as.Goals as goal
+
+pub returns-in_err-parsed : goal.returns-in_err-parsed
+returns-in_err-parsed c =
+    let p = err_from_is_err_and c.from_residual.result c.from_residual.ensures.1 in
+    let one = c.in_err-parsed.ensures.one in
+    rw p.1 (WasRead (parsed_of c.args.kind c.args.text.now one), is_parsed_of c.args.kind c.args.text.now one, tt)
 
 pub returns : goal.returns
 returns c =
-    let text = c.args.text.now in
-    let parsed = c.new.ensures in
-    made_as c.args.kind text parsed.one (λ found told. IsReport (AreAskedLines c.args.request text) text found told.0 (string_bytes told.1))
-    c.new.result parsed.kind parsed.syntax parsed.errors c.report_made.result c.report_made.ensures.told c.report_made.ensures.refused
+    let parsed = c.in_ok-parsed.ensures in
+    (WasRead c.in_ok-parsed.parsed, record { one = parsed.one; kind_is = parsed.kind; syntax = parsed.syntax; errors = parsed.errors }, c.report_made.ensures)
