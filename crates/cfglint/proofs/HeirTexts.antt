@@ -10,7 +10,7 @@ use Rattle.cfgtables.specs.Openings.{nth_production}
 use Rattle.cfgtables.specs.Symbols.{sym_of}
 use Rattle.cfgnumbers.specs.Numbered.{Numbered, core, production_core}
 use Rattle.cfgnumbers.specs.Shown.{production_part, rule_part}
-use Rattle.cfgrammar.proofs.Shows.{rule_named}
+use Rattle.cfgyacc.proofs.Shows.{rule_named}
 use Rattle.loops.specs.declared.rows.Step.{Step}
 use Rattle.cfglint.specs.Shown.{ShownFinding, derives_itself, rule_name, rule_span, step_text, vanishing}
 use Rattle.cfglint.proofs.Read.{symbols_read}

@@ -7,7 +7,7 @@ use Rattle.cfgkinds.specs.declared.kind.YaccOriginalActionKind.TheVariants.{NoAc
 use Rattle.cfgnumbers.specs.Fits.{Fits}
 use Rattle.cfgnumbers.specs.Numbered.{Numbered}
 use Rattle.cfgsyntax.specs.Parsed.{Parsed}
-use Rattle.cfgrammar.specs.Answer.{Found, Unnamed, WasRead, IsRefused, in_numbers}
+use Rattle.cfgyacc.specs.Answer.{Found, Unnamed, WasRead, IsRefused, in_numbers}
 use Rattle.cfgshell.specs.declared.words.KindArg.{KindArg}
 use Rattle.cfgshell.specs.declared.words.KindArg.TheVariants.{Named, Section}
 use Rattle.lintshell.specs.Tally.{Told}

@@ -4,7 +4,7 @@ use Rattle.cfgbase.specs.declared.span.Span.{Span}
 use Rattle.cfgtree.specs.Check.{nowhere}
 use Rattle.cfgnumbers.specs.Numbered.{Numbered}
 use Rattle.cfgnumbers.specs.Shown.{production_part, rule_part}
-use Rattle.cfgrammar.proofs.Shows.{rule_named}
+use Rattle.cfgyacc.proofs.Shows.{rule_named}
 use Rattle.cfglint.specs.Shown.{ShownFinding, no_sentence, production_span, quoted, rule_name, rule_span, unusable}
 use Rattle.cfglint.specs.declared.finding.FindingKind.{FindingKind}
 use Rattle.cfglint.specs.declared.finding.FindingKind.TheVariants.{NoSentence, UnusableProduction}

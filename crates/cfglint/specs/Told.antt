@@ -9,9 +9,9 @@ use Rattle.cfgerrors.specs.Errors.{GrammarError}
 use Rattle.cfgerrors.specs.Errors as errors
 use Rattle.cfgerrors.specs.Texts.{error_text}
 use Rattle.cfgrender.specs.Render.{rendered}
-use Rattle.cfgrammar.specs.Answer.{Found, Unnamed, WasRead, IsRefused, in_numbers}
+use Rattle.cfgyacc.specs.Answer.{Found, Unnamed, WasRead, IsRefused, in_numbers}
 use Rattle.cfgsyntax.specs.Parsed.{Parsed}
-use Rattle.cfgrammar.specs.GrammarOf.{IsFoundAs, IsFoundItself}
+use Rattle.cfgyacc.specs.GrammarOf.{IsFoundAs, IsFoundItself}
 use Rattle.cfgnumbers.specs.Fits.{Fits}
 use Rattle.cfgshell.specs.declared.words.KindArg.{KindArg}
 use Rattle.cfgshell.specs.declared.words.KindArg.TheVariants.{Named, Section}

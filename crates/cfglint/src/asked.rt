@@ -4,8 +4,8 @@ ghost use Rattle.std.specs.Prelude.{◌≡◌, IfOk, OnOk};
 ghost use Rattle.cfgtree.specs.View.{syntax};
 ghost use Rattle.cfglint.specs.Inner.Asked.{AreAskedBy, Notes, has_span};
 
-use cfgrammar::Span;
-use cfgrammar::yacc::ast::GrammarAST;
+use cfgbase::Span;
+use cfgtree::GrammarAST;
 use std::alloc::{AllocError, Global};
 use std::collections::BTreeSet;
 

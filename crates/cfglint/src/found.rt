@@ -10,8 +10,8 @@ use crate::precedences::push_precedences;
 use crate::repeats::push_repeats;
 use crate::sentences::push_sentences;
 use crate::warned::push_warnings;
-use cfgrammar::yacc::YaccGrammar;
-use cfgrammar::yacc::ast::GrammarAST;
+use cfgtree::GrammarAST;
+use cfgyacc::YaccGrammar;
 use std::alloc::{AllocError, Global};
 
 /// What is odd about a grammar without errors, in the order of places; what stands at one place in the order of

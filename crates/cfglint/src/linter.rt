@@ -3,8 +3,8 @@
 ghost use Rattle.std.specs.Prelude.{◌≡◌, ◌↔◌, List, None, false, length, codes, IfOk, IsTrue};
 ghost use Rattle.cfgheader.specs.SectionGrammar.{Entry};
 ghost use Rattle.cfgheader.specs.SectionReads.{IsHeaderOf, given};
-ghost use Rattle.cfgrammar.specs.Answer.{Found, WasRead};
-ghost use Rattle.cfgrammar.specs.GrammarOf.{IsFoundAs, IsFoundItself};
+ghost use Rattle.cfgyacc.specs.Answer.{Found, WasRead};
+ghost use Rattle.cfgyacc.specs.GrammarOf.{IsFoundAs, IsFoundItself};
 ghost use Rattle.cfgtree.specs.View.{syntax};
 ghost use Rattle.cfglint.specs.Findings.{AreFindings};
 ghost use Rattle.cfglint.specs.Shown.{ShownFinding};
@@ -12,12 +12,15 @@ ghost use Rattle.cfglint.specs.Told.{IsFound, NamesNoKind, TellsFound, TellsText
 
 use crate::finding::Finding;
 use crate::found::findings;
-use cfgrammar::header::{GrmtoolsSectionParser, Header, HeaderFault};
-use cfgrammar::yacc::ast::{ASTWithValidityInfo, GrammarAST};
-use cfgrammar::yacc::parser::YaccFault;
-use cfgrammar::yacc::{YaccGrammar, YaccGrammarError, YaccKind, YaccOriginalActionKind};
-use cfgrammar::{Span, render_all};
+use cfgbase::Span;
+use cfgerrors::{YaccFault, YaccGrammarError};
+use cfgheader::{GrmtoolsSectionParser, Header, HeaderFault};
+use cfgkinds::{YaccKind, YaccOriginalActionKind};
+use cfgrender::render_all;
 use cfgshell::KindArg;
+use cfgsyntax::yacc::ast::ASTWithValidityInfo;
+use cfgtree::GrammarAST;
+use cfgyacc::YaccGrammar;
 use lintshell::{Linter, Report};
 use std::alloc::{AllocError, Global};
 

@@ -12,7 +12,7 @@ use crate::added::rules_added;
 use crate::finding::{Finding, FindingKind};
 use crate::teller::{Teller, push_told};
 use cfgindex::{PIdx, RIdx, Symbol, to_storage};
-use cfgrammar::yacc::YaccGrammar;
+use cfgyacc::YaccGrammar;
 use loops::laws::loops_are_derivations;
 use loops::{Step, alone_steps, shortest_loops};
 use std::alloc::{AllocError, Global};

@@ -12,8 +12,10 @@ ghost use Rattle.cfglint.specs.Shown.{unused_precedence};
 use crate::finding::{Finding, FindingKind};
 use crate::teller::{Teller, push_told};
 use cfgast::{Production, Symbol};
-use cfgrammar::yacc::ast::GrammarAST;
-use cfgrammar::{NameHashes, Span, Vob};
+use cfgbase::Span;
+use cfghash::NameHashes;
+use cfgindex::Vob;
+use cfgtree::GrammarAST;
 use indexmap::IndexMap;
 use std::alloc::{AllocError, Global};
 

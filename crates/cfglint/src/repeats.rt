@@ -10,9 +10,8 @@ ghost use Rattle.cfglint.specs.Shown.{repeated};
 
 use crate::finding::{Finding, FindingKind};
 use crate::teller::{Teller, push_told};
-use cfgindex::to_storage;
-use cfgrammar::yacc::YaccGrammar;
-use cfgrammar::{PIdx, Symbol};
+use cfgindex::{PIdx, Symbol, to_storage};
+use cfgyacc::YaccGrammar;
 use std::alloc::{AllocError, Global};
 use std::collections::BTreeMap;
 

@@ -13,7 +13,7 @@ use crate::asked::{Places, has_span, places_asked};
 use crate::finding::{Finding, FindingKind};
 use crate::teller::{Teller, push_told};
 use cfgbase::Spanned;
-use cfgrammar::yacc::ast::GrammarAST;
+use cfgtree::GrammarAST;
 use cfgwarnings::{YaccGrammarWarning, YaccGrammarWarningKind};
 use std::alloc::{AllocError, Global};
 

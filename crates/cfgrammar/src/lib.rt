@@ -1,4 +1,5 @@
-//! Yacc grammars: read from the text of a Yacc file, validated, and turned into numbered tables.
+//! Yacc grammars: read from the text of a Yacc file, validated, and turned into numbered tables. This crate shows all that its users
+//! call, under the paths of the Rust crate; what it shows stands in the crates below.
 //!
 //! The productions of a text's grammar, a line each, as the crate `uses` writes them:
 //!
@@ -16,7 +17,6 @@
 #![tactic(auto)]
 
 pub mod header;
-pub mod lexcheck;
 pub mod yacc;
 
 pub use cfgbase::{Location, Span, Spanned, SpansKind, span};
@@ -25,3 +25,4 @@ pub use cfgindex::{PIdx, RIdx, SIdx, Storage, Symbol, TIdx, Vob, idxnewtype, sto
 pub use cfglines::{FeedError, NewlineCache, newlinecache};
 pub use cfgmarks::markmap;
 pub use cfgrender::{render, render_all};
+pub use cfgyacc::lexcheck;

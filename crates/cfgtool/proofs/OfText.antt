@@ -2,7 +2,7 @@
 use Rattle.std.proofs.Common.{◌≡◌, List, ℕ, Option, Result, Ok, Err, IfOk, String, Global, string_bytes, refl, sym, subst}
 use Rattle.cfgast.specs.Syntax.{Syntax}
 use Rattle.cfgerrors.specs.Errors.{GrammarError}
-use Rattle.cfgrammar.specs.Answer.{Found, Unnamed, IsRefused}
+use Rattle.cfgyacc.specs.Answer.{Found, Unnamed, IsRefused}
 use Rattle.cfgnumbers.specs.Numbered.{Numbered}
 use Rattle.cfgsink.specs.declared.outcome.Outcome.{Outcome}
 use Rattle.cfgsink.specs.declared.outcome.ReportFault.{ReportFault}

@@ -5,8 +5,8 @@ ghost use Rattle.cfgwords.specs.Places.{IsPiece, IsWithin};
 ghost use Rattle.cfgast.specs.Syntax.{EachSpan};
 ghost use Rattle.cfgtree.specs.View.{syntax};
 ghost use Rattle.cfgsyntax.specs.Spans.{EachParsedSpan};
-ghost use Rattle.cfgrammar.specs.Answer.{Found, WasRead};
-ghost use Rattle.cfgrammar.specs.GrammarOf.{IsFoundAs, IsFoundItself};
+ghost use Rattle.cfgyacc.specs.Answer.{Found, WasRead};
+ghost use Rattle.cfgyacc.specs.GrammarOf.{IsFoundAs, IsFoundItself};
 ghost use Rattle.cfgtool.specs.FirstLines.{AreFirstLines};
 ghost use Rattle.cfgtool.specs.FollowLines.{AreFollowLines};
 ghost use Rattle.cfgtool.specs.Lines.{AreWarningLines};
@@ -20,12 +20,14 @@ use crate::follow_lines::follow_lines;
 use crate::lexer_lines::lexer_lines;
 use crate::lines::{error_lines, production_lines, warning_lines};
 use crate::sentence_lines::sentence_lines;
-use cfgrammar::yacc::ast::{ASTWithValidityInfo, GrammarAST};
-use cfgrammar::yacc::parser::YaccFault;
-use cfgrammar::yacc::{YaccGrammar, YaccKind};
+use cfgerrors::YaccFault;
+use cfgkinds::YaccKind;
 use cfgshell::words::{Command, KindArg};
 pub use cfgsink::{Outcome, ReportFault};
 use cfgsink::{Sink, write_report};
+use cfgsyntax::yacc::ast::ASTWithValidityInfo;
+use cfgtree::GrammarAST;
+use cfgyacc::YaccGrammar;
 use std::alloc::{AllocError, Global};
 
 /// Writes what the command tells of the text's grammar, whose indices have 32 bits, or else the errors of the text,

@@ -8,9 +8,9 @@ ghost use Rattle.cfgtool.specs.FirstLines.{empty_word, first_line, first_lines};
 ghost use Rattle.cfgtool.specs.TokenSets.{Adds};
 
 use crate::token_sets::write_tokens;
-use cfgrammar::RIdx;
-use cfgrammar::yacc::YaccGrammar;
-use cfgrammar::yacc::firsts::YaccFirsts;
+use cfganalysis::YaccFirsts;
+use cfgindex::RIdx;
+use cfgyacc::YaccGrammar;
 use std::alloc::{AllocError, Global};
 
 /// FIRST sets, as of a grammar's rules, a line for each rule: its name and a colon, the tokens in its set, in double

@@ -7,9 +7,9 @@ ghost use Rattle.cfgtool.specs.FollowLines.{follow_line, follow_lines};
 ghost use Rattle.cfgtool.specs.TokenSets.{Adds};
 
 use crate::token_sets::write_tokens;
-use cfgrammar::RIdx;
-use cfgrammar::yacc::YaccGrammar;
-use cfgrammar::yacc::follows::YaccFollows;
+use cfganalysis::YaccFollows;
+use cfgindex::RIdx;
+use cfgyacc::YaccGrammar;
 use std::alloc::{AllocError, Global};
 
 /// FOLLOW sets, as of a grammar's rules, a line for each rule: its name and a colon, the tokens in its set, in double

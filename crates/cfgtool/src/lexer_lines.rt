@@ -4,9 +4,9 @@ ghost use Rattle.std.specs.Prelude.{◌≡◌, ◌++◌, ◌<◌, All, length, m
 ghost use Rattle.std.specs.List.{flat_map};
 ghost use Rattle.cfgtool.specs.LexerLines.{lexer_lines, missing_line_of, names_in, unknown_line_at};
 
-use cfgrammar::TIdx;
-use cfgrammar::lexcheck::check;
-use cfgrammar::yacc::YaccGrammar;
+use cfgindex::TIdx;
+use cfgyacc::YaccGrammar;
+use cfgyacc::lexcheck::check;
 use std::alloc::{AllocError, Global};
 
 /// A line for each name in the list that no token has, and one for each token whose name isn't in the list.

@@ -8,9 +8,12 @@ ghost use Rattle.cfgtool.specs.Lines.{EachWarningSpan, error_line, error_lines, 
 ghost use Rattle.cfgtool.specs.Lines.{production_lines, warning_line, warning_lines};
 ghost use Rattle.cfgtool.specs.TokenSets.{Adds};
 
+use cfgbase::{Span, Spanned};
+use cfgerrors::YaccGrammarError;
+use cfgindex::PIdx;
 use cfglines::Places;
-use cfgrammar::yacc::{YaccGrammar, YaccGrammarError, YaccGrammarWarning};
-use cfgrammar::{PIdx, Span, Spanned};
+use cfgwarnings::YaccGrammarWarning;
+use cfgyacc::YaccGrammar;
 use std::alloc::{AllocError, Global};
 
 /// The productions of a grammar, each as a line: its index, a space and its text.

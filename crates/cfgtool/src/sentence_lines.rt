@@ -9,9 +9,9 @@ ghost use Rattle.cfgnumbers.specs.Numbered.{core};
 ghost use Rattle.cfgtool.specs.SentenceLines.{AreNamed, AreSentenceLines, TellsEach, TellsRule};
 ghost use Rattle.cfgtool.specs.SentenceLines.{cost_line, greatest_word, least_word, sentence_line, token_text};
 
-use cfgrammar::yacc::YaccGrammar;
-use cfgrammar::yacc::sentences::{CostError, SentenceError, SentenceGenerator};
-use cfgrammar::{RIdx, TIdx};
+use cfgcosts::{CostError, SentenceError, SentenceGenerator};
+use cfgindex::{RIdx, TIdx};
+use cfgyacc::YaccGrammar;
 use std::alloc::{AllocError, Global};
 
 /// What the sentences of a grammar's rules cost, where each token costs 1: for each rule a line with its name, its

@@ -7,10 +7,9 @@ ghost use Rattle.cfganalysis.specs.Table.{bit};
 ghost use Rattle.cfgnumbers.specs.Shown.{token_part};
 ghost use Rattle.cfgtool.specs.TokenSets.{Adds, set_word};
 
-use cfgrammar::yacc::YaccGrammar;
-use cfgrammar::yacc::firsts::YaccFirsts;
-use cfgrammar::yacc::follows::YaccFollows;
-use cfgrammar::{RIdx, TIdx};
+use cfganalysis::{YaccFirsts, YaccFollows};
+use cfgindex::{RIdx, TIdx};
+use cfgyacc::YaccGrammar;
 use std::alloc::AllocError;
 
 /// Sets of tokens, one for each rule.

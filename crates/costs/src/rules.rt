@@ -112,11 +112,7 @@ fn write_sentence(out: &mut Page, sentence: &[TIdx<u32>]) {
     }
     out.push('[');
     for (place, tidx) in sentence.iter().enumerate() {
-        pen::number(
-            out,
-            if place > 0 { " " } else { "" },
-            usize::from(*tidx),
-        );
+        pen::number(out, if place > 0 { " " } else { "" }, usize::from(*tidx));
     }
     out.push(']');
 }

@@ -1,4 +1,4 @@
 //! Whether a lexer and a grammar agree on the names of tokens.
 #![tactic(auto)]
 
-pub use cfgrammar::lexcheck::{LexReport, check, laws, report};
+pub use cfgyacc::lexcheck::{LexReport, check, laws, report};

@@ -1,12 +1,11 @@
 //! Yacc files, and the grammars that they hold.
 pub mod firsts;
 pub mod follows;
-pub mod grammar;
 pub mod sentences;
 
 pub use cfgsyntax::yacc::{
     YaccFault, YaccGrammarError, YaccGrammarErrorKind, YaccGrammarResult, YaccGrammarWarning,
     YaccGrammarWarningKind, YaccKind, YaccOriginalActionKind, ast, parser,
 };
-pub use grammar::{AssocKind, Precedence, PrecedenceLevel, YaccGrammar};
+pub use cfgyacc::grammar::{self, AssocKind, Precedence, PrecedenceLevel, YaccGrammar};
 pub use sentences::SentenceGenerator;

@@ -6,9 +6,8 @@ use super::firsts::write_bit;
 use cfgrammar::yacc::YaccGrammar;
 use cfgrammar::yacc::follows::YaccFollows;
 use cfgrammar::{RIdx, Storage};
-use rows::indices;
 use rows::page::Page;
-use rows::pen;
+use rows::{indices, pen};
 
 /// Writes each rule's FOLLOW set: the tokens by their indices, and where the two accessors differ.
 pub(crate) fn write_follows<S: Storage>(out: &mut Page, grammar: &YaccGrammar<S>) {

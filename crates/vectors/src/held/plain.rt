@@ -9,9 +9,8 @@ use cfgrammar::yacc::YaccGrammar;
 use cfgrammar::yacc::firsts::YaccFirsts;
 use cfgrammar::yacc::follows::YaccFollows;
 use cfgrammar::yacc::grammar::Productions;
-use rows::indices;
 use rows::page::Page;
-use rows::pen;
+use rows::{indices, pen};
 
 /// Makes the sets and the productions of a grammar, and writes all that it and they hold; then sets a bit twice.
 pub(crate) fn write_without_memory(out: &mut Page, grammar: &YaccGrammar<u32>) {

@@ -1,6 +1,6 @@
 use Rattle.std.proofs.Common.{ap, sym, ◌∙◌}
 use Rattle.std.proofs.lemmas.Result.{on_ok_weaker}
-use Rattle.cfgrammar.proofs.Shows.{rule_named}
+use Rattle.cfgyacc.proofs.Shows.{rule_named}
 use Rattle.cfglint.specs.Shown.{rule_name}
 use Rattle.cfglint.proofs.HeirTexts.{back_shown, front_shown, step_written}
 use Rattle.cfglint.proofs.own_heirs.write_step.Goals as goal

@@ -1,6 +1,6 @@
 use Rattle.std.proofs.lemmas.Result.{err_from_is_err_and}
-use Rattle.cfgrammar.specs.Answer.{WasRead}
-use Rattle.cfgrammar.proofs.OfItself.{is_parsed_of, parsed_of}
+use Rattle.cfgyacc.specs.Answer.{WasRead}
+use Rattle.cfgyacc.proofs.OfItself.{is_parsed_of, parsed_of}
 use Rattle.cfgtool.proofs.engine.report_as.Goals as goal
 
 pub returns-in_err-parsed : goal.returns-in_err-parsed

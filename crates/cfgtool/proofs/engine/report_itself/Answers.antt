@@ -3,8 +3,8 @@ use Rattle.std.proofs.lemmas.Result.{err_from_is_err_and}
 use Rattle.cfgwords.specs.Places.{IsPiece}
 use Rattle.cfgerrors.specs.declared.error.YaccFault.TheVariants as faults
 use Rattle.cfgsyntax.specs.Spans.{EachErrorSpan}
-use Rattle.cfgrammar.specs.Answer.{WasRead}
-use Rattle.cfgrammar.proofs.OfItself.{parsed_itself, refused_itself}
+use Rattle.cfgyacc.specs.Answer.{WasRead}
+use Rattle.cfgyacc.proofs.OfItself.{parsed_itself, refused_itself}
 use Rattle.cfgtool.specs.Lines.{error_lines}
 use Rattle.cfgtool.specs.Report.{greatest}
 use Rattle.cfgtool.proofs.OfText.{refusal}

@@ -5,7 +5,7 @@ use Rattle.cfgast.specs.Syntax.{Syntax, EachSpan}
 use Rattle.cfgtree.specs.View.{syntax}
 use Rattle.cfgsyntax.specs.Spans.{EachErrorSpan}
 use Rattle.cfgnumbers.specs.Numbered.{Numbered}
-use Rattle.cfgrammar.specs.Answer.{WasRead, in_numbers}
+use Rattle.cfgyacc.specs.Answer.{WasRead, in_numbers}
 use Rattle.cfgtool.specs.Lines.{error_lines}
 use Rattle.cfgsink.specs.declared.outcome.Outcome.TheVariants.{Done, Refused}
 use Rattle.cfgtool.specs.Report.{AreAskedLines, IsReport}

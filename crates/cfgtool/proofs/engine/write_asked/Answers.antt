@@ -1,4 +1,4 @@
-use Rattle.cfgrammar.specs.Answer.{Found}
+use Rattle.cfgyacc.specs.Answer.{Found}
 use Rattle.cfgtool.specs.Report.{AreAskedLines}
 use Rattle.cfgtool.proofs.OfText.{made_told}
 use Rattle.cfgtool.proofs.engine.write_asked.Goals as goal

@@ -6,7 +6,7 @@ use Rattle.lemmas.specs.Lists.{places}
 use Rattle.lemmas.proofs.Passing.{places_from-within}
 use Rattle.cfgindex.specs.declared.idxnewtype.TIdx.{TIdx}
 use Rattle.cfgnumbers.proofs.Turns.{All-shown}
-use Rattle.cfgrammar.specs.Names.{is_missing, is_unknown, missing_tokens, unknown_places}
+use Rattle.cfgyacc.specs.Names.{is_missing, is_unknown, missing_tokens, unknown_places}
 use Rattle.cfgtool.specs.LexerLines.{missing_line_of, unknown_line_at}
 use Rattle.cfgtool.proofs.lexer_lines.lexer_lines.Goals as goal
 

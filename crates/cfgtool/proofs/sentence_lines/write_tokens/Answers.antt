@@ -4,7 +4,7 @@ use Rattle.std.proofs.lemmas.List.{get_or_default}
 use Rattle.derivation.specs.Grammar.{Token}
 use Rattle.cfgindex.specs.declared.idxnewtype.TIdx.{TIdx}
 use Rattle.cfgnumbers.specs.Shown.{sym_name}
-use Rattle.cfgrammar.proofs.Shows.{token_named}
+use Rattle.cfgyacc.proofs.Shows.{token_named}
 use Rattle.cfgnumbers.proofs.Turns.{All-shown, more_joined}
 use Rattle.cfgtool.specs.SentenceLines.{token_text}
 use Rattle.cfgtool.proofs.sentence_lines.write_tokens.Goals as goal

@@ -1,0 +1,81 @@
+-- The tables of a valid syntax, and what a constructor answers.
+use Rattle.std.proofs.Common.{◌≡◌, ℕ, List, [], ◌∷◌, ◌++◌, length, map, Option, option_map, Err, String, Global, refl, sym, subst}
+use Rattle.std.specs.List.{zip}
+use Rattle.cfgindex.specs.declared.idxnewtype.PIdx.{PIdx}
+use Rattle.cfgindex.specs.declared.idxnewtype.RIdx.{RIdx}
+use Rattle.cfgast.specs.declared.settings.Settings.{Settings}
+use Rattle.cfgast.specs.Syntax.{Syntax}
+use Rattle.cfgast.specs.View.{settings_view}
+use Rattle.cfgerrors.specs.Errors.{GrammarError}
+use Rattle.cfgtree.specs.Sound.{IsSound}
+use Rattle.cfgkinds.specs.declared.kind.YaccKind.{YaccKind}
+use Rattle.cfgerrors.specs.declared.error.YaccFault.{YaccFault}
+use Rattle.cfgerrors.specs.declared.error.YaccFault.TheVariants as faults
+use Rattle.cfgsyntax.specs.Parsed.{Parsed}
+use Rattle.cfgyacc.specs.Answer.{WasRead, IsAnswer, IsGrammar, IsReadRefused, IsTooSmall, in_numbers}
+use Rattle.cfgnumbers.specs.Fits.{LeavesRoom}
+use Rattle.cfgnumbers.specs.Numbered.{Numbered, NumberedProduction, numbered, numbered_by, implicit_of, added_rules, file_rule, added_productions, file_production, file_token, end_token}
+use Rattle.cfgnumbers.specs.View.{tables, rule_view, token_view}
+use Rattle.cfgnumbers.specs.WellNumbered.{IsWellNumbered}
+use Rattle.cfgnumbers.specs.declared.rows.RuleRow.{RuleRow}
+use Rattle.cfgnumbers.specs.declared.rows.TokenRow.{TokenRow}
+use Rattle.cfgnumbers.proofs.Listed.{listed_once}
+use Rattle.cfgnumbers.proofs.DistinctNames.{distinct_names}
+use Rattle.cfgnumbers.proofs.Places.{implicit_there}
+use Rattle.cfgnumbers.proofs.Room.{fits_from_room, room_from_fits}
+use Rattle.cfgnumbers.proofs.Whole.{whole}
+
+-- what holds of a syntax and of its implicit tokens
+pub of_both : (P : Syntax → Option (List (List ℕ)) → Type 0) (s t : Syntax) (implicit other : Option (List (List ℕ))) → s ≡ t → implicit ≡ other → P t other → P s implicit
+of_both P s t implicit other same same_implicit holds = subst (P s) (sym same_implicit) (subst (λ x. P x other) (sym same) holds)
+
+module _ {S : Type 0} (number : S → ℕ) (kind : YaccKind) (s : Syntax)
+    (rules : List (String Global × RuleRow S)) (productions : List NumberedProduction) (tokens : List (String Global × TokenRow)) (start : PIdx S)
+    (implicit_rule : Option (RIdx S)) (settings : Settings) where
+  -- tables of these rows are the syntax numbered
+  pub built : map (rule_view number) rules ≡ added_rules (implicit_of kind s) (length s.productions) ++ map file_rule s.rules
+      → productions ≡ map (file_production (implicit_of kind s) s) (zip s.production_rules s.productions) ++ added_productions (implicit_of kind s) s
+      → map token_view tokens ≡ map (file_token s) (zip s.tokens s.spans) → number start.0 ≡ length s.productions
+      → option_map (λ rule. number rule.0) implicit_rule ≡ option_map (λ names. 1) (implicit_of kind s) → settings_view settings ≡ s.settings
+      → tables number rules productions tokens start implicit_rule settings ≡ numbered kind s
+  unfolding tables numbered numbered_by
+  built rules_are productions_are tokens_are start_is implicit_rule_is settings_are = λ i. record {
+    rules = rules_are i;
+    tokens = tokens_are i ++ end_token ∷ [];
+    productions = productions_are i;
+    start_production = start_is i;
+    implicit_rule = implicit_rule_is i;
+    settings = settings_are i;
+  }
+
+-- the numbers of a syntax that was read without errors
+pub well_numbered : (max : ℕ) (kind : YaccKind) (s : Syntax) → IsSound s [] → LeavesRoom max (implicit_of kind s) s → IsWellNumbered max (numbered kind s)
+unfolding numbered
+well_numbered max kind s sound room =
+    let implicit = implicit_of kind s in
+    record {
+      whole = whole implicit s sound (implicit_there kind s sound.well_formed);
+      counted = fits_from_room max implicit s sound.well_formed room;
+      names = distinct_names implicit s sound;
+      listed_once = listed_once implicit s sound.well_formed;
+    }
+
+-- the errors of what was read, where it has some
+pub refused : (max : ℕ) (errors : List GrammarError) (g : Numbered) (told : List GrammarError) → (errors ≡ [] → ⊥) → told ≡ errors → IsReadRefused max errors g told
+refused max [] g told some same = absurd (some refl)
+refused max (error ∷ errors) g told some same = same
+
+-- a grammar that is too large
+pub too_large : (max : ℕ) (parsed : Parsed) (fault : YaccFault) → IsSound parsed.syntax parsed.errors → parsed.errors ≡ []
+    → (LeavesRoom max (implicit_of parsed.kind parsed.syntax) parsed.syntax → ⊥) → IsTooSmall fault → IsAnswer max (WasRead parsed) (Err fault)
+unfolding numbered
+too_large max parsed faults.OutOfMemory sound none no_room told = tt
+too_large max parsed (faults.Errors list) sound none no_room told =
+    subst (λ e. IsReadRefused max e (in_numbers parsed) list.items) (sym none)
+    ((λ fits. no_room (room_from_fits max (implicit_of parsed.kind parsed.syntax) parsed.syntax sound.well_formed fits)), told)
+
+-- a grammar
+pub answered : (max : ℕ) (parsed : Parsed) (g : Numbered) → IsSound parsed.syntax parsed.errors → parsed.errors ≡ [] → LeavesRoom max (implicit_of parsed.kind parsed.syntax) parsed.syntax
+    → g ≡ in_numbers parsed → IsGrammar max (WasRead parsed) g
+unfolding numbered
+answered max parsed g sound none room same = (none, fits_from_room max (implicit_of parsed.kind parsed.syntax) parsed.syntax sound.well_formed room, same)

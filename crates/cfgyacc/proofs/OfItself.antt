@@ -1,0 +1,54 @@
+-- What a text is found to be, by what is parsed of it.
+use Rattle.std.proofs.Common.{◌≡◌, List, ℕ, map, Ok, Err, refl, ap, sym}
+use Rattle.cfgkinds.specs.declared.kind.YaccKind.{YaccKind}
+use Rattle.cfgheader.specs.Named.{HasOneNaming, Naming, Names}
+use Rattle.cfgerrors.specs.Errors.{header_error}
+use Rattle.cfgerrors.specs.declared.error.YaccFault.{YaccFault}
+use Rattle.cfgerrors.specs.declared.error.YaccFault.TheVariants as faults
+use Rattle.cfgast.specs.Syntax.{syntax_of}
+use Rattle.cfgsyntax.specs.Faults.{errors_of}
+use Rattle.cfgsyntax.specs.OfItself.{IsParsedAs, AnswersNaming}
+use Rattle.cfgsyntax.specs.Parsed.{Parsed}
+use Rattle.cfgsyntax.specs.Reads.{HasOneReading}
+use Rattle.cfgsyntax.proofs.OneReading.{one_reading}
+use Rattle.cfgyacc.specs.Answer.{Found, Unnamed, WasRead}
+use Rattle.cfgyacc.specs.GrammarOf.{IsFoundNamed, IsFoundItself}
+
+-- what a text's one reading makes
+abbrev pub parsed_of : (kind : YaccKind) (text : List ℕ) → HasOneReading kind text → Parsed
+parsed_of kind text one = record { kind = kind; syntax = syntax_of one.items; errors = errors_of one.items one.stop }
+
+pub is_parsed_of : (kind : YaccKind) (text : List ℕ) (one : HasOneReading kind text) → IsParsedAs kind text (parsed_of kind text one)
+is_parsed_of kind text one = record {
+  one = one;
+  kind_is = refl;
+  syntax = λ items stop reads. sym (ap syntax_of (one.only items stop reads).0);
+  errors = λ items stop reads i. errors_of (sym (one.only items stop reads).0 i) (sym (one.only items stop reads).1 i);
+}
+
+parsed_named : (text : List ℕ) (parsed : Parsed) (naming : Naming) → AnswersNaming text naming (Ok parsed) → IsFoundNamed text naming (WasRead parsed)
+parsed_named text parsed (Ok kind) is = is
+parsed_named text parsed (Err errors) is = absurd is
+
+-- where the text was parsed as the kind that it names
+pub parsed_itself : (text : List ℕ) → HasOneNaming text → (parsed : Parsed) → ((naming : Naming) → Names text naming → AnswersNaming text naming (Ok parsed))
+    → IsFoundItself text (WasRead parsed)
+parsed_itself text one parsed answer = (one, parsed_named text parsed one.naming (answer one.naming one.names))
+
+-- what is found where nothing was parsed: the errors that are told, or whatever it is where memory ended
+abbrev pub IsFaultOf : YaccFault → Found → Type 0
+IsFaultOf faults.OutOfMemory found = Unit {0}
+IsFaultOf (faults.Errors told) found = found ≡ Unnamed told.items
+
+refused_named : (text : List ℕ) (fault : YaccFault) (naming : Naming) → AnswersNaming text naming (Err fault) → (found : Found) × IsFoundNamed text naming found × IsFaultOf fault found
+refused_named text faults.OutOfMemory (Ok kind) is = let one = one_reading kind text in (WasRead (parsed_of kind text one), is_parsed_of kind text one, tt)
+refused_named text faults.OutOfMemory (Err errors) is = (Unnamed (map header_error errors), refl, tt)
+refused_named text (faults.Errors told) (Ok kind) is = absurd is
+refused_named text (faults.Errors told) (Err errors) is = (Unnamed (map header_error errors), refl, sym (ap Unnamed is))
+
+-- where nothing was parsed
+pub refused_itself : (text : List ℕ) → HasOneNaming text → (fault : YaccFault) → ((naming : Naming) → Names text naming → AnswersNaming text naming (Err fault))
+    → (found : Found) × IsFoundItself text found × IsFaultOf fault found
+refused_itself text one fault answer =
+    let it = refused_named text fault one.naming (answer one.naming one.names) in
+    (it.0, (one, it.1), it.2)

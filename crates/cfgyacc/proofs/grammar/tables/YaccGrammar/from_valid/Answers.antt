@@ -1,0 +1,66 @@
+use Rattle.std.proofs.Common.{◌++◌, [], length, map, option_map, sym, subst, ◌∙◌}
+use Rattle.lending.proofs.Given.{given, given_match}
+use Rattle.std.specs.List.{zip}
+use Rattle.cfgast.specs.View.{production_view}
+use Rattle.cfgtree.specs.View.{syntax}
+use Rattle.cfgtree.specs.WellFormed.{IsWellFormed}
+use Rattle.cfgtree.specs.Sound.{IsSound}
+use Rattle.cfgnumbers.specs.Fits.{LeavesRoom}
+use Rattle.cfgnumbers.specs.Numbered.{added_productions, added_rules, file_production, file_rule, file_token}
+use Rattle.cfgnumbers.specs.Inner.Resolved.{AreTokens, IsResolved}
+use Rattle.cfgnumbers.specs.WellNumbered.{IsWellNumbered}
+use Rattle.cfgyacc.proofs.Built.{built, of_both, well_numbered}
+use Rattle.cfgnumbers.proofs.Places.{implicit_there}
+use Rattle.cfgnumbers.proofs.Turns.{as_long}
+use Rattle.cfgnumbers.proofs.Valid.{resolved}
+use Rattle.cfgyacc.proofs.grammar.tables.YaccGrammar.from_valid.Goals as goal
+
+pub rule_rows-requires : goal.rule_rows-requires
+rule_rows-requires g c =
+    let numbering = c.new-numbering.ensures in
+    record {
+      sound = subst (λ s. IsSound s []) (sym numbering.file) c.requires.sound;
+      room = of_both (λ s implicit. LeavesRoom g.S.Storage.MAX implicit s) _ _ _ _ numbering.file numbering.implicit c.requires.room;
+    }
+
+pub production_rows-requires : goal.production_rows-requires
+production_rows-requires g c =
+    let s = syntax c.args.ast.now in
+    let numbering = c.new-numbering.ensures in
+    record {
+      sound = subst (λ s. IsSound s []) (sym numbering.file) c.requires.sound;
+      resolved = subst IsResolved (sym numbering.file) (resolved s c.requires.sound);
+      implicit = of_both AreTokens _ _ _ _ numbering.file numbering.implicit (implicit_there c.args.kind s c.requires.sound.well_formed);
+      room = of_both (λ s implicit. LeavesRoom g.S.Storage.MAX implicit s) _ _ _ _ numbering.file numbering.implicit c.requires.room;
+    }
+
+pub token_rows-requires : goal.token_rows-requires
+token_rows-requires g c = record { well_formed = subst IsWellFormed (sym c.new-numbering.ensures.file) c.requires.sound.well_formed }
+
+pub implicit_rule-requires : goal.implicit_rule-requires
+implicit_rule-requires g c =
+    of_both (λ s implicit. LeavesRoom g.S.Storage.MAX implicit s) _ _ _ _ c.new-numbering.ensures.file c.new-numbering.ensures.implicit c.requires.room
+
+pub returns : goal.returns
+returns g c =
+    let s = syntax c.args.ast.now in
+    let numbering = c.new-numbering.ensures in
+    let got = c.in_ok-rules.ensures in
+    let rules = given _ c.rule_rows.result _ got.0 c.rule_rows.ensures in
+    let prods = given _ c.production_rows.result _ got.1 c.production_rows.ensures in
+    let tokens = given _ c.token_rows.result _ got.2 c.token_rows.ensures in
+    let settings = given_match _ _ c.clone.result _ got.3 c.clone.ensures.cases in
+    built g.S.Storage.number c.args.kind s c.in_ok-rules.rules.entries c.in_ok-rules.prods c.in_ok-rules.tokens.entries
+    (record { 0 = c.to_storage.result }) c.implicit_rule.result c.in_ok-rules.settings
+    (rules ∙ (λ i. added_rules (numbering.implicit i) (length (numbering.file i).productions) ++ map file_rule (numbering.file i).rules))
+    (prods ∙ (λ i.
+    map (file_production (numbering.implicit i) (numbering.file i)) (zip (numbering.file i).production_rules (numbering.file i).productions)
+    ++ added_productions (numbering.implicit i) (numbering.file i)))
+    (tokens ∙ (λ i. map (file_token (numbering.file i)) (zip (numbering.file i).tokens (numbering.file i).spans)))
+    (c.to_storage.ensures ∙ sym (as_long production_view c.prods.result.now s.productions c.prods.ensures))
+    (c.implicit_rule.ensures ∙ (λ i. option_map (λ names. 1) (numbering.implicit i)))
+    (settings ∙ c.settings.ensures)
+
+pub invariant_of-result : goal.invariant_of-result
+invariant_of-result g c =
+    subst (IsWellNumbered g.S.Storage.MAX) (sym (returns g c)) (well_numbered g.S.Storage.MAX c.args.kind (syntax c.args.ast.now) c.requires.sound c.requires.room)

@@ -1,0 +1,32 @@
+use Rattle.std.proofs.Common.{sym, ap, subst, ◌∙◌, position, Some}
+use Rattle.cfgnumbers.specs.Numbered.{Numbered}
+use Rattle.cfgnumbers.specs.Shown.{has_token_name}
+use Rattle.cfgnumbers.specs.View.{tables}
+use Rattle.cfgnumbers.specs.WellNumbered.{HasDistinctNames}
+use Rattle.cfgnumbers.proofs.Lookups.{token_position}
+use Rattle.cfgnumbers.proofs.DistinctNames.{token_found}
+use Rattle.cfgnumbers.proofs.Within.{position_within}
+use Rattle.cfgyacc.proofs.grammar.tables.YaccGrammar.token_idx.Goals as goal
+
+pub returns-in-Some-clause-value : goal.returns-in-Some-clause-value
+unfolding tables
+returns-in-Some-clause-value g c =
+    ap Some c.to_storage.ensures ∙ c.in-Some.ensures.index
+    ∙ token_position c.args.name.now c.self.inside.tokens.entries
+    ∙ ap (λ (g : Numbered). position (has_token_name c.args.name.now) g.tokens) c.self.view_is
+
+pub returns-in-Some-clause-found : goal.returns-in-Some-clause-found
+returns-in-Some-clause-found g c = λ t at. returns-in-Some-clause-value g c ∙ token_found c.args.self.now (subst HasDistinctNames c.self.view_is c.self.invariant.names) t c.args.name.now at
+
+pub returns-in-Some-clause-within : goal.returns-in-Some-clause-within
+returns-in-Some-clause-within g c = position_within _ _ _ (sym (returns-in-Some-clause-value g c))
+
+pub returns-in-None-clause-value : goal.returns-in-None-clause-value
+unfolding tables
+returns-in-None-clause-value g c =
+    c.in-None.ensures.index
+    ∙ token_position c.args.name.now c.self.inside.tokens.entries
+    ∙ ap (λ (g : Numbered). position (has_token_name c.args.name.now) g.tokens) c.self.view_is
+
+pub returns-in-None-clause-found : goal.returns-in-None-clause-found
+returns-in-None-clause-found g c = λ t at. returns-in-None-clause-value g c ∙ token_found c.args.self.now (subst HasDistinctNames c.self.view_is c.self.invariant.names) t c.args.name.now at
