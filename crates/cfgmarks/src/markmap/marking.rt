@@ -135,9 +135,10 @@ impl<K: Ord + Clone, V: Drop> MarkMap<K, V> {
         if self.mark_entry(key, mark) {
             return Ok(());
         }
+        let copy = key.clone()?;
         let mut marked = Marked::new();
         marked.set(mark);
-        self.contents.insert(key.clone()?, marked)?;
+        self.contents.insert(copy, marked)?;
         Ok(())
     }
 }

@@ -19,3 +19,6 @@ pub returns-in-Ok-clause-stored : goal.returns-in-Ok-clause-stored
 returns-in-Ok-clause-stored g c q =
     stored_kept g.K.Ord.cmp g.met.K.Ord.total c.args.self.now.contents.entries _ c.args.key q (c.get_mut.follows.holds c.merge.new.self).1
     (ap is_some (sym c.get_mut.ensures.value ∙ ap option_copied_mut c.in-Some.is))
+
+pub returns-in-None-clause-fault : goal.returns-in-None-clause-fault
+returns-in-None-clause-fault g c = rw (sym c.get_mut.ensures.value ∙ ap option_copied_mut c.in-None.is) c.adopt.ensures.fault
