@@ -29,3 +29,16 @@ loop-number-preserved g c =
       within = All-same (λ h. h < grammar.rules) _ _ longer (All-push (λ h. h < grammar.rules) heirs (number c.unwrap_or.result.0) c.loop-number.invariant.within rule_one);
       each = each_push (Along (IsOnlyHeir number grammar kinds)) 0 heirs _ n (number c.unwrap_or.result.0) c.loop-number.invariant.len longer c.loop-number.invariant.each one;
     }
+
+pub returns : goal.returns
+returns g c = record {
+  all = omega (arith, c.loop-number.invariant.len, c.loop-number-test.false, c.loop-number.auto.number-end, c.to_usize-rules_len.ensures.value, c.rules_len.ensures.value);
+  within = c.loop-number.invariant.within;
+  each = λ r h. c.loop-number.invariant.each r (omega (arith, h, c.loop-number.invariant.len));
+}
+
+pub to_storage-requires : goal.to_storage-requires
+to_storage-requires g c = omega (arith, c.loop-number-test.true, c.to_usize-rules_len.ensures.value, c.to_usize-rules_len.ensures.range)
+
+pub only_heir-requires-clause-rule : goal.only_heir-requires-clause-rule
+only_heir-requires-clause-rule g c = omega (arith, c.loop-number-test.true, c.to_storage.ensures, c.to_usize-rules_len.ensures.value, c.rules_len.ensures.value)

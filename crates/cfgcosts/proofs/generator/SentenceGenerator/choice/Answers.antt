@@ -1,4 +1,5 @@
-use Rattle.std.proofs.Common.{refl, sym, ap, subst, ◌∙◌}
+use Rattle.std.proofs.Common.{arith, refl, sym, ap, subst, ◌∙◌}
+use Rattle.std.proofs.lemmas.Grind.{common_steps}
 use Rattle.derivation.specs.Grammar.{HasProduction}
 use Rattle.cfgleast.specs.Certificate.{rule_choice}
 use Rattle.cfgleast.specs.Generator.{CostTables, IsGenerator, token_cost, where_some}
@@ -29,3 +30,9 @@ returns-in-Err-clause-none g c =
 
 pub returns-in-Err-clause-answer : goal.returns-in-Err-clause-answer
 returns-in-Err-clause-answer g c = ap (λ o. where_some o (rule_choice c.args.self.now.choices (g.S.Storage.number c.args.rule.0))) c.in-Err.ensures.answer
+
+pub index-requires : goal.index-requires
+index-requires g c = grind (arith, common_steps)
+
+pub returns-in-Err-clause-production : goal.returns-in-Err-clause-production
+returns-in-Err-clause-production g c = tt

@@ -1,4 +1,4 @@
-use Rattle.std.proofs.Common.{◌≡◌, ◌<◌, List, ℕ, All, length, arith, sym, subst, ◌∙◌}
+use Rattle.std.proofs.Common.{◌≡◌, ◌<◌, List, ℕ, All, length, arith, refl, sym, subst, ◌∙◌}
 use Rattle.std.specs.Prelude.{slice_index}
 use Rattle.cfggreatest.specs.Words.{AreTold}
 use Rattle.cfgleast.specs.Generator.{IsGeneratorOf, tables_of}
@@ -65,3 +65,21 @@ invariant_of-result g c =
 
 pub returns-clause-costs : goal.returns-clause-costs
 returns-clause-costs g c = λ t within. c.in_ok-costs.ensures.costs t (omega (arith, within, c.to_usize-tokens_len.ensures.value, c.tokens_len.ensures))
+
+pub returns-clause-grammar : goal.returns-clause-grammar
+returns-clause-grammar g c = refl
+
+pub returns-clause-tokens : goal.returns-clause-tokens
+returns-clause-tokens g c = c.in_ok-costs.ensures.len ∙ c.to_usize-tokens_len.ensures.value ∙ c.tokens_len.ensures
+
+pub returns-clause-positive : goal.returns-clause-positive
+returns-clause-positive g c = c.in_ok-costs.ensures.positive
+
+pub token_costs-requires-clause-callable : goal.token_costs-requires-clause-callable
+token_costs-requires-clause-callable g c = λ t within. c.requires.callable t (omega (arith, within, c.to_usize-tokens_len.ensures.value, c.tokens_len.ensures))
+
+pub token_costs-requires-clause-fits : goal.token_costs-requires-clause-fits
+token_costs-requires-clause-fits g c = omega (arith, c.to_usize-tokens_len.ensures.value, c.to_usize-tokens_len.ensures.range)
+
+pub token_costs-requires-clause-positive : goal.token_costs-requires-clause-positive
+token_costs-requires-clause-positive g c = λ t n within. c.requires.positive t n (omega (arith, within, c.to_usize-tokens_len.ensures.value, c.tokens_len.ensures))
