@@ -91,7 +91,7 @@ fn write_setting<T: Place>(out: &mut Page, setting: &Setting<T>) {
         Setting::Unitary(name) => write_namespaced(out, name),
         Setting::Constructor { ctor, arg } => write_constructor(out, ctor, arg),
         Setting::Num(number, place) => {
-            write!(out, "{number}");
+            pen::number(out, "", *number as usize);
             place.write(out);
         }
         Setting::String(text, place) => {

@@ -82,7 +82,7 @@ fn write_error(out: &mut Page, error: &YaccGrammarError) {
 }
 
 /// Writes the kind of an error, its spans, and what they stand for.
-fn write_parts(out: &mut Page, error: &YaccGrammarError) {
+pub(crate) fn write_parts(out: &mut Page, error: &YaccGrammarError) {
     write!(out, "    {:?}", error.kind());
     pen::spans(out, error.spans());
     write!(out, " {:?}", error.spanskind());

@@ -1,6 +1,7 @@
 //! What is answered of a section, once that is read, by calls that take no memory.
 
-use cfgbase::{Location, Span, Spanned};
+use crate::kinds::write_parts;
+use cfgbase::{Location, Span};
 use cfgerrors::{HeaderError, YaccGrammarError};
 use cfgheader::{GrmtoolsSectionParser, Header, HeaderFault};
 use cfgkinds::{HeaderValue, KindFault, Value, YaccKind};
@@ -54,7 +55,8 @@ trait Told: Drop {
 /// An error is written as that of a whole text.
 impl Told for HeaderError<Span> {
     fn tell(self, out: &mut Page) {
-        write_error(out, &YaccGrammarError::from(self));
+        write_parts(out, &YaccGrammarError::from(self));
+        out.push('\n');
     }
 }
 
@@ -63,11 +65,4 @@ fn write_each<T: Told>(out: &mut Page, values: Vec<T>) {
     for value in values {
         value.tell(out);
     }
-}
-
-/// Writes the kind of an error, its spans, and what they stand for.
-fn write_error(out: &mut Page, error: &YaccGrammarError) {
-    write!(out, "    {:?}", error.kind());
-    pen::spans(out, error.spans());
-    writeln!(out, " {:?}", error.spanskind());
 }

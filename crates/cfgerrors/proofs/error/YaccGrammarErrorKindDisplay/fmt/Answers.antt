@@ -1,4 +1,4 @@
-use Rattle.std.proofs.Common.{◌≡◌, ◌∙◌, ℕ, List, Bor, refl, sym, ap}
+use Rattle.std.proofs.Common.{◌≡◌, ◌∙◌, ◌++◌, ℕ, List, Bor, codes, refl, sym, ap}
 use Rattle.std.proofs.Output.{has_written_append, has_written_of_eq, has_written_styled_append, has_written_styled_of_eq}
 use Rattle.cfgerrors.specs.declared.error.YaccGrammarErrorKind.{YaccGrammarErrorKind}
 use Rattle.cfgerrors.specs.Errors.{kind_view}
@@ -21,6 +21,55 @@ returns-in-Header-clause-writes g c = λ plain ok.
     let kind = c.fmt.ensures.writes before.plain ok in
     has_written_of_eq _ _ _ _ _ (sym (ap (λ kind. error_text (kind_view kind)) c.in-Header.is))
     (has_written_append _ _ _ _ _ _ before kind)
+
+named_is : (before behind shown name : List ℕ) (kind one : YaccGrammarErrorKind) → shown ≡ name → kind ≡ one → before ++ (name ++ behind) ≡ error_text (kind_view one)
+    → before ++ (shown ++ behind) ≡ error_text (kind_view kind)
+named_is before behind shown name kind one is found told = ap (λ n. before ++ (n ++ behind)) is ∙ told ∙ sym (ap (λ k. error_text (kind_view k)) found)
+
+pub returns-in-InvalidStartRule : goal.returns-in-InvalidStartRule
+unfolding error_text
+returns-in-InvalidStartRule g c =
+    let text = named_is (codes "Start rule '") (codes "' does not appear in grammar") _ _ _ _ c.deref.ensures c.in-InvalidStartRule.is refl in
+    record {
+      writes = λ plain ok. has_written_of_eq _ _ _ _ _ text (c.write_parts.ensures.plain plain ok);
+      styled = λ flush ok. has_written_styled_of_eq _ _ _ _ _ text (c.write_parts.ensures.styled flush ok);
+    }
+
+pub returns-in-UnknownRuleRef : goal.returns-in-UnknownRuleRef
+unfolding error_text
+returns-in-UnknownRuleRef g c =
+    let text = named_is (codes "Unknown reference to rule '") (codes "'") _ _ _ _ c.deref-in-UnknownRuleRef.ensures c.in-UnknownRuleRef.is refl in
+    record {
+      writes = λ plain ok. has_written_of_eq _ _ _ _ _ text (c.write_parts-in-UnknownRuleRef.ensures.plain plain ok);
+      styled = λ flush ok. has_written_styled_of_eq _ _ _ _ _ text (c.write_parts-in-UnknownRuleRef.ensures.styled flush ok);
+    }
+
+pub returns-in-UnknownToken : goal.returns-in-UnknownToken
+unfolding error_text
+returns-in-UnknownToken g c =
+    let text = named_is (codes "Unknown token '") (codes "'") _ _ _ _ c.deref-in-UnknownToken.ensures c.in-UnknownToken.is refl in
+    record {
+      writes = λ plain ok. has_written_of_eq _ _ _ _ _ text (c.write_parts-in-UnknownToken.ensures.plain plain ok);
+      styled = λ flush ok. has_written_styled_of_eq _ _ _ _ _ text (c.write_parts-in-UnknownToken.ensures.styled flush ok);
+    }
+
+pub returns-in-NoPrecForToken : goal.returns-in-NoPrecForToken
+unfolding error_text
+returns-in-NoPrecForToken g c =
+    let text = named_is (codes "Token '") (codes "' used in %prec has no precedence attached") _ _ _ _ c.deref-in-NoPrecForToken.ensures c.in-NoPrecForToken.is refl in
+    record {
+      writes = λ plain ok. has_written_of_eq _ _ _ _ _ text (c.write_parts-in-NoPrecForToken.ensures.plain plain ok);
+      styled = λ flush ok. has_written_styled_of_eq _ _ _ _ _ text (c.write_parts-in-NoPrecForToken.ensures.styled flush ok);
+    }
+
+pub returns-in-UnknownEPP : goal.returns-in-UnknownEPP
+unfolding error_text
+returns-in-UnknownEPP g c =
+    let text = named_is (codes "Token '") (codes "' in %epp declaration is not referenced in the grammar") _ _ _ _ c.deref-in-UnknownEPP.ensures c.in-UnknownEPP.is refl in
+    record {
+      writes = λ plain ok. has_written_of_eq _ _ _ _ _ text (c.write_parts-in-UnknownEPP.ensures.plain plain ok);
+      styled = λ flush ok. has_written_styled_of_eq _ _ _ _ _ text (c.write_parts-in-UnknownEPP.ensures.styled flush ok);
+    }
 
 text_is : (text shown : Bor (List ℕ)) (kind one : YaccGrammarErrorKind) → text ≡ shown → kind ≡ one → shown.now ≡ error_text (kind_view one) → text.now ≡ error_text (kind_view kind)
 text_is text shown kind one is found told = ap (λ (t : Bor (List ℕ)). t.now) is ∙ told ∙ sym (ap (λ k. error_text (kind_view k)) found)
