@@ -1,4 +1,4 @@
-ghost use Rattle.std.specs.Prelude.{◌≡◌, ◌↔◌, map, option_map, IsTrue, Contains};
+ghost use Rattle.std.specs.Prelude.{◌≡◌, ◌↔◌, Ok, map, option_map, IfOk, IsTrue, Contains};
 ghost use Rattle.std.specs.Map.{lookup};
 ghost use Rattle.std.specs.Str.{bytes_eq};
 ghost use Rattle.std.specs.String.{string_bytes};
@@ -31,6 +31,27 @@ pub fn tree_of(alloc: Global, said: Syntax) -> GrammarAST
         syntax: said,
         added: Crowd::new(alloc),
     }
+}
+
+/// The tree, and what goes with it, where that was made. No public path of `cfgrammar` leads to it.
+///
+/// # Errors
+///
+/// There was no memory for what goes with it. The tree is dropped here, so that no caller has to drop one.
+pub fn tree_with<T: Drop>(
+    tree: GrammarAST,
+    made: Result<T, AllocError>,
+) -> Result<(GrammarAST, T), AllocError>
+    ensures { IfOk result (λ both. (both.0 ≡ tree) × (made ≡ Ok both.1)) }
+{
+    both(tree, made)
+}
+
+// Of any types: a refusal drops the first one.
+fn both<A: Drop, B: Drop>(a: A, b: Result<B, AllocError>) -> Result<(A, B), AllocError>
+    ensures { IfOk result (λ both. (both.0 ≡ a) × (b ≡ Ok both.1)) }
+{
+    Ok((a, b?))
 }
 
 #[tactic(auto, unfolding(crate::specs::View::syntax, cfgast::specs::View::syntax_view))]

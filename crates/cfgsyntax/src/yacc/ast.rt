@@ -27,7 +27,7 @@ pub use cfgast::{Production, Rule, Settings, Symbol};
 use cfgerrors::{YaccGrammarError, YaccGrammarErrorKind, YaccGrammarResult};
 use cfgkinds::YaccKind;
 pub use cfgtree::GrammarAST;
-use cfgtree::clone_with_start;
+use cfgtree::{clone_with_start, tree_with};
 use errors::errors_found;
 use named::named_kind;
 pub use start::{ASTModificationError, StartFault};
@@ -78,7 +78,8 @@ impl ASTWithValidityInfo {
         ensures places { IfOk result (EachParsedSpan (IsPiece text.now) (IsWithin text.now)) }
     {
         let (ast, stop) = read(alloc, kind, text)?;
-        let errors = errors_found(alloc, &ast, stop)?;
+        let errors = errors_found(alloc, &ast, stop);
+        let (ast, errors) = tree_with(ast, errors)?;
         Ok(ASTWithValidityInfo { kind, ast, errors })
     }
 

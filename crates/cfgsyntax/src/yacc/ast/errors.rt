@@ -75,13 +75,16 @@ pub(super) fn section_errors(
 fn stop_errors(alloc: Global, stop: Option<Stopped>) -> Result<Vec<YaccGrammarError>, AllocError>
     ensures { IfOk result (λ errors. errors.items ≡ stop_errors (option_map stop_view stop)) }
 {
-    let mut errors = Vec::new(alloc);
     match stop {
-        None => {}
-        Some(Stopped::Section(found)) => return section_errors(alloc, found),
-        Some(Stopped::File(fault)) => errors.push(error_of(alloc, fault)?)?,
+        None => Ok(Vec::new(alloc)),
+        Some(Stopped::Section(found)) => section_errors(alloc, found),
+        Some(Stopped::File(fault)) => {
+            let error = error_of(alloc, fault)?;
+            let mut errors = Vec::new(alloc);
+            errors.push(error)?;
+            Ok(errors)
+        }
     }
-    Ok(errors)
 }
 
 /// The errors of a file that was read as this syntax, up to what stopped the reading.
