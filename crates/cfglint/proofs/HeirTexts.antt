@@ -1,19 +1,21 @@
 -- What is told of a rule that derives itself.
-use Rattle.std.proofs.Common.{◌≡◌, ℕ, ◌+◌, ◌-◌, ◌<◌, List, [], ◌∷◌, ◌++◌, Some, codes, drop, length, map, take, unwrap_or, arith, sym, ap, subst, ◌∙◌, append_assoc}
+use Rattle.std.proofs.Common.{◌≡◌, ℕ, ◌+◌, ◌-◌, ◌<◌, ◌≤◌, List, [], ◌∷◌, ◌++◌, All, Option, Some, None, option_map, codes, drop, length, map, slice_get, take, unwrap_or, arith, refl, sym, ap, subst, ◌∙◌, append_assoc}
 use Rattle.std.proofs.lemmas.List.{drop-drop, drop-map, length-drop, length-map, take-map, take_all}
+use Rattle.std.proofs.lemmas.Option.{get_or_from_slice_get, same_Some, slice_get-map, slice_get_within}
 use Rattle.std.specs.List.{flat_map}
-use Rattle.derivation.specs.Grammar.{Sym}
+use Rattle.derivation.specs.Grammar.{Rule, Sym, Token}
 use Rattle.cfgbase.specs.declared.span.Span.{Span}
 use Rattle.cfgtree.specs.Check.{nowhere}
 use Rattle.cfgindex.specs.declared.idxnewtype.Symbol.{Symbol}
+use Rattle.cfgindex.specs.declared.idxnewtype.Symbol.TheVariants as symbols
 use Rattle.cfgtables.specs.Openings.{nth_production}
 use Rattle.cfgtables.specs.Symbols.{sym_of}
 use Rattle.cfgnumbers.specs.Numbered.{Numbered, core, production_core}
-use Rattle.cfgnumbers.specs.Shown.{production_part, rule_part}
+use Rattle.cfgnumbers.specs.Shown.{IsSymbolWithin, production_part, rule_part}
 use Rattle.cfgyacc.proofs.Shows.{rule_named}
 use Rattle.loops.specs.declared.rows.Step.{Step}
 use Rattle.cfglint.specs.Shown.{ShownFinding, derives_itself, rule_name, rule_span, step_text, vanishing}
-use Rattle.cfglint.proofs.Read.{symbols_read}
+use Rattle.cfglint.proofs.Read.{production_there, symbols_read}
 use Rattle.cfglint.specs.declared.finding.FindingKind.TheVariants.{DerivesItself}
 
 regroup : (t a b c d e : List ℕ) → (((t ++ a) ++ b) ++ (c ++ d)) ++ e ≡ t ++ (a ++ (b ++ (c ++ (d ++ e))))
@@ -31,6 +33,20 @@ step_written g step front back name before arrow vanished led now stands behind 
     ∙ regroup before (codes " ->") (vanishing g front) (codes " ") name (vanishing g back)
     ∙ (λ i. before ++ (codes " ->" ++ (vanishing g (stands i) ++ (codes " " ++ (sym named i ++ vanishing g (behind i))))))
 
+-- a rule among symbols of the grammar is one of the grammar
+rule_among : (g : Numbered) (all : List (Symbol ℕ)) → All (IsSymbolWithin (λ s. s) g) all
+    → (i r : ℕ) → slice_get (map (sym_of (λ s. s)) all) i ≡ Some (Rule r) → r < length g.rules
+rule_among g all within i r at = go (slice_get all i) refl (sym (slice_get-map (sym_of {S = ℕ} (λ s. s)) all i) ∙ at)
+  where
+    go : (o : Option (Symbol ℕ)) → slice_get all i ≡ o → option_map (sym_of (λ s. s)) o ≡ Some (Rule r) → r < length g.rules
+    go None read is = let no : None ≡ Some (Rule r) = is in cc
+    go (Some (symbols.Rule rule)) read is =
+        let x : Symbol ℕ = symbols.Rule rule in
+        let there : rule.0 < length g.rules = subst (IsSymbolWithin (λ s. s) g) (get_or_from_slice_get all i x x read) (within i x (slice_get_within all i x read)) in
+        let same : rule.0 ≡ r = cc in
+        subst (λ n. n < length g.rules) same there
+    go (Some (symbols.Token token)) read is = let no : Token token.0 ≡ Rule r = same_Some _ _ is in cc
+
 -- the symbols before and behind the place of a step, as they are read
 module _ (g : Numbered) (step : Step) (there : step.production < length (core g).productions) (stored : ℕ) (same : stored ≡ step.production)
     (symbols : List (Symbol ℕ)) (read : production_part (λ production. production.symbols) g stored ≡ Some (map (sym_of (λ s. s)) symbols)) where
@@ -38,7 +54,7 @@ module _ (g : Numbered) (step : Step) (there : step.production < length (core g)
   numbered = map (sym_of {S = ℕ} (λ s. s)) symbols
 
   held : numbered ≡ (nth_production (core g) step.production).symbols
-  held = sym (symbols_read g step.production (subst (λ n. step.production < n) (length-map g.productions production_core) there) numbered
+  held = sym (symbols_read g step.production (production_there g step.production there) numbered
       (subst (λ p. production_part (λ production. production.symbols) g p ≡ Some numbered) same read))
 
   pub front_shown : (front : List (Symbol ℕ)) → front ≡ take step.place symbols → map (sym_of (λ s. s)) front ≡ take step.place (nth_production (core g) step.production).symbols
@@ -51,6 +67,23 @@ module _ (g : Numbered) (step : Step) (there : step.production < length (core g)
       let rest : take (length back - 1) (drop 1 back) ≡ drop 1 back = take_all (length back - 1) (drop 1 back) (omega (arith, length-drop 1 back)) in
       ap (map (sym_of {S = ℕ} (λ s. s))) (rest ∙ ap (drop 1) is ∙ drop-drop 1 step.place symbols)
       ∙ sym (drop-map (sym_of {S = ℕ} (λ s. s)) (step.place + 1) symbols) ∙ ap (drop (step.place + 1)) held
+
+  -- the rule of a step stands at its place
+  module _ (holds : slice_get (nth_production (core g) step.production).symbols step.place ≡ Some (Rule step.rule)) where
+    stands : slice_get numbered step.place ≡ Some (Rule step.rule)
+    stands = subst (λ l. slice_get l step.place ≡ Some (Rule step.rule)) (sym held) holds
+
+    place_before : step.place < length symbols
+    place_before = subst (λ n. step.place < n) (length-map symbols (sym_of {S = ℕ} (λ s. s))) (slice_get_within numbered step.place (Rule step.rule) stands)
+
+    pub place_there : step.place ≤ length symbols
+    place_there = let before = place_before in omega arith
+
+    pub some_behind : (back : List (Symbol ℕ)) → back ≡ drop step.place symbols → 1 ≤ length back
+    some_behind back is = let before = place_before in omega (arith, ap length is, length-drop step.place symbols)
+
+    pub rule_there : All (IsSymbolWithin (λ s. s) g) symbols → step.rule < length g.rules
+    rule_there within = rule_among g symbols within step.place step.rule stands
 
 quote : (name rest : List ℕ) → (codes "Rule '" ++ (name ++ (codes "' derives itself: " ++ name))) ++ rest
     ≡ codes "Rule " ++ ((codes "'" ++ (name ++ codes "'")) ++ (codes " derives itself: " ++ (name ++ rest)))

@@ -1,5 +1,5 @@
 -- What is read of a grammar is what is shown of it, and of a production what derivations go by.
-use Rattle.std.proofs.Common.{◌≡◌, ℕ, ◌<◌, List, Option, Some, None, option_map, length, slice_get, refl, sym, subst, ap, ◌∙◌}
+use Rattle.std.proofs.Common.{◌≡◌, ℕ, ◌<◌, ◌≤◌, List, Option, Some, None, option_map, length, slice_get, refl, sym, subst, ap, ◌∙◌, arith}
 use Rattle.std.proofs.lemmas.List.{get_or-map, length-map}
 use Rattle.std.proofs.lemmas.List.Elements.{Contains-get_or}
 use Rattle.std.proofs.lemmas.Option.{get_or_from_slice_get}
@@ -7,6 +7,7 @@ use Rattle.derivation.specs.Grammar.{HasProduction, Production, Sym}
 use Rattle.cfgtables.specs.Openings.{nth_production}
 use Rattle.cfgnumbers.specs.Numbered.{Numbered, NumberedProduction, NumberedRule, core, production_core}
 use Rattle.cfgnumbers.specs.Shown.{production_part, rule_part}
+use Rattle.cfgnumbers.specs.WellNumbered.{IsWellNumbered}
 
 -- a grammar that is seen as this one, and a number as this one
 module _ (g h : Numbered) (view : h ≡ g) (n k : ℕ) (same : k ≡ n) {A : Type 0} (x : A) where
@@ -15,6 +16,19 @@ module _ (g h : Numbered) (view : h ≡ g) (n k : ℕ) (same : k ≡ n) {A : Typ
 
   pub production_seen : (part : NumberedProduction → A) → production_part part h k ≡ Some x → production_part part g n ≡ Some x
   production_seen part read = let seen : production_part part h k ≡ production_part part g n = λ i. production_part part (view i) (same i) in sym seen ∙ read
+
+at_most : (i n max : ℕ) → i < n → n ≤ max → i ≤ max
+at_most i n max lt le = omega arith
+
+pub production_there : (g : Numbered) (p : ℕ) → p < length (core g).productions → p < length g.productions
+production_there g p there = subst (λ n. p < n) (length-map g.productions production_core) there
+
+-- the numbers of productions and rules fit
+pub production_fits : (max : ℕ) (g : Numbered) (p : ℕ) → IsWellNumbered max g → p < length (core g).productions → p ≤ max
+production_fits max g p well there = at_most p _ max (production_there g p there) well.counted.productions
+
+pub rule_fits : (max : ℕ) (g : Numbered) (r : ℕ) → IsWellNumbered max g → r < length g.rules → r ≤ max
+rule_fits max g r well there = at_most r _ max there well.counted.rules
 
 module _ (g : Numbered) (p : ℕ) (within : p < length g.productions) where
   part_read : {A : Type 0} (part : Production → A) (x : A) → production_part (λ production. part (production_core production)) g p ≡ Some x → part (nth_production (core g) p) ≡ x

@@ -1,9 +1,46 @@
-use Rattle.std.proofs.Common.{ap, sym, ◌∙◌}
+use Rattle.std.proofs.Common.{◌<◌, All, length, ap, sym, subst, ◌∙◌}
+use Rattle.std.proofs.lemmas.List.Elements.{All-drop, All-take}
 use Rattle.std.proofs.lemmas.Result.{on_ok_weaker}
+use Rattle.cfgnumbers.specs.Shown.{IsSymbolWithin}
 use Rattle.cfgyacc.proofs.Shows.{rule_named}
 use Rattle.cfglint.specs.Shown.{rule_name}
-use Rattle.cfglint.proofs.HeirTexts.{back_shown, front_shown, step_written}
+use Rattle.cfglint.proofs.HeirTexts.{back_shown, front_shown, place_there, rule_there, some_behind, step_written}
+use Rattle.cfglint.proofs.Read.{production_fits, production_there, rule_fits}
 use Rattle.cfglint.proofs.own_heirs.write_step.Goals as goal
+
+pub to_storage-requires : goal.to_storage-requires
+to_storage-requires c = production_fits _ c.args.grammar.now c.args.step.production c.invariant_holds.ensures c.requires.1.there
+
+pub prod-symbols-requires : goal.prod-symbols-requires
+prod-symbols-requires c =
+    subst (λ p. p < length c.args.grammar.now.productions) (sym c.to_storage.ensures) (production_there c.args.grammar.now c.args.step.production c.requires.1.there)
+
+pub split_at-requires : goal.split_at-requires
+split_at-requires c = place_there c.args.grammar.now c.args.step c.requires.1.there c.to_storage.result c.to_storage.ensures c.prod-symbols.result.now c.prod-symbols.ensures.value c.requires.1.holds
+
+pub write_vanishing-requires : goal.write_vanishing-requires
+write_vanishing-requires c =
+    let Within = IsSymbolWithin (λ s. s) c.args.grammar.now in
+    subst (All Within) (sym c.split_at.ensures.front) (All-take Within c.args.step.place c.prod-symbols.result.now c.prod-symbols.ensures.within)
+
+pub to_storage-requires-2 : goal.to_storage-requires-2
+to_storage-requires-2 c = rule_fits _ c.args.grammar.now c.args.step.rule c.invariant_holds.ensures
+    (rule_there c.args.grammar.now c.args.step c.requires.1.there c.to_storage.result c.to_storage.ensures c.prod-symbols.result.now c.prod-symbols.ensures.value c.requires.1.holds c.prod-symbols.ensures.within)
+
+pub rule_name_str-requires : goal.rule_name_str-requires
+rule_name_str-requires c = subst (λ r. r < length c.args.grammar.now.rules) (sym c.to_storage-2.ensures)
+    (rule_there c.args.grammar.now c.args.step c.requires.1.there c.to_storage.result c.to_storage.ensures c.prod-symbols.result.now c.prod-symbols.ensures.value c.requires.1.holds c.prod-symbols.ensures.within)
+
+pub slice_bounds-write_vanishing-count : goal.slice_bounds-write_vanishing-count
+slice_bounds-write_vanishing-count c = some_behind c.args.grammar.now c.args.step c.requires.1.there c.to_storage.result c.to_storage.ensures c.prod-symbols.result.now c.prod-symbols.ensures.value c.requires.1.holds c.split_at.result.1.now c.split_at.ensures.back
+
+pub slice_bounds-write_vanishing-start : goal.slice_bounds-write_vanishing-start
+slice_bounds-write_vanishing-start c = some_behind c.args.grammar.now c.args.step c.requires.1.there c.to_storage.result c.to_storage.ensures c.prod-symbols.result.now c.prod-symbols.ensures.value c.requires.1.holds c.split_at.result.1.now c.split_at.ensures.back
+
+pub write_vanishing-requires-2 : goal.write_vanishing-requires-2
+write_vanishing-requires-2 c =
+    let Within = IsSymbolWithin (λ s. s) c.args.grammar.now in
+    All-take Within _ _ (All-drop Within 1 _ (subst (All Within) (sym c.split_at.ensures.back) (All-drop Within c.args.step.place c.prod-symbols.result.now c.prod-symbols.ensures.within)))
 
 pub returns : goal.returns
 returns c =

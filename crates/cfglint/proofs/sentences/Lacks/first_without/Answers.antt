@@ -10,6 +10,14 @@ use Rattle.cfglint.proofs.Lacking.{around, one_more_rule}
 use Rattle.cfglint.proofs.sentences.Lacks.first_without.Goals as goal
 use Rattle.cfglint.proofs.sentences.Lacks.first_without.Goals.{in-Rule+else-lacks, in_default}
 
+pub lacks-requires : goal.lacks-requires
+lacks-requires c =
+    let all = c.args.symbols.now in
+    let n = c.loop-symbol.symbol-index in
+    let x : Symbol ℕ = symbols.Rule c.in-Rule.rule in
+    let is = sym c.in-Rule.is ∙ get_or_default all n _ x c.loop-symbol-test.true in
+    subst (IsSymbolWithin (λ s. s) c.args.self.now) (sym is) (c.requires n x c.loop-symbol-test.true)
+
 pub loop-symbol-preserved : goal.loop-symbol-preserved
 loop-symbol-preserved c =
     let g = c.args.self.now in

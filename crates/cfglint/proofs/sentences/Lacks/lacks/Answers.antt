@@ -1,8 +1,14 @@
-use Rattle.std.proofs.Common.{false, get_or, sym, subst, ap, ◌∙◌, arith}
+use Rattle.std.proofs.Common.{◌<◌, false, get_or, length, sym, subst, ap, ◌∙◌, arith}
 use Rattle.std.proofs.lemmas.List.{get_or_read}
 use Rattle.cfgnumbers.specs.Numbered.{Numbered}
 use Rattle.cfglint.specs.Inner.Lacks.{AreLacks, LacksOrHas}
 use Rattle.cfglint.proofs.sentences.Lacks.lacks.Goals as goal
+
+pub index-requires : goal.index-requires
+index-requires c =
+    let bits = c.self.inside.rules.items in
+    let is : AreLacks c.args.self.now bits = subst (λ (g : Numbered). AreLacks g bits) c.self.view_is c.self.invariant in
+    subst (λ n. c.from.result < n) (sym (c.self.inside.rules.ok.0 ∙ is.long)) (subst (λ n. n < length c.args.self.now.rules) (sym c.from.ensures) c.requires)
 
 -- what is said of a rule stands at its number
 pub returns : goal.returns

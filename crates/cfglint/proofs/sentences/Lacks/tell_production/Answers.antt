@@ -1,6 +1,7 @@
-use Rattle.std.proofs.Common.{◌≡◌, ◌<◌, ◌++◌, ℕ, codes, length, map, string_bytes, refl, sym, ap, ◌∙◌, arith}
+use Rattle.std.proofs.Common.{◌≡◌, ◌<◌, ◌++◌, ℕ, All, codes, length, map, string_bytes, refl, sym, subst, ap, ◌∙◌, arith}
 use Rattle.cfgtables.specs.Symbols.{sym_of}
 use Rattle.cfgnumbers.specs.Numbered.{Numbered, core}
+use Rattle.cfgnumbers.specs.Shown.{IsSymbolWithin}
 use Rattle.cfglint.specs.declared.finding.FindingKind.TheVariants.{UnusableProduction}
 use Rattle.cfglint.proofs.Read.{production_seen, rule_seen}
 use Rattle.cfglint.proofs.Texts.{shown_at, unusable_told}
@@ -13,6 +14,26 @@ inside g h view p start is there before =
     let begins : g.start_production ≡ h.start_production = ap (λ (n : Numbered). n.start_production) (sym view) in
     let long : length g.productions ≡ length h.productions = ap (λ (n : Numbered). length n.productions) (sym view) in
     omega arith
+
+stored : (g h : Numbered) → h ≡ g → (p start : ℕ) → start ≡ h.start_production → start < length h.productions → p < g.start_production
+    → (k : ℕ) → k ≡ p → k < length h.productions
+stored g h view p start is there before k same =
+    subst (λ (g : Numbered). k < length g.productions) (sym view) (subst (λ n. n < length g.productions) (sym same) (inside g h view p start is there before))
+
+pub prod_to_rule-requires : goal.prod_to_rule-requires
+prod_to_rule-requires c = stored c.args.self.now c.self.inside.grammar.now c.self.view_is c.args.number c.start_prod-start.result.0 c.start_prod-start.ensures.value c.start_prod-start.ensures.within c.requires c.to_storage.result c.to_storage.ensures
+
+pub prod-requires : goal.prod-requires
+prod-requires c = stored c.args.self.now c.self.inside.grammar.now c.self.view_is c.args.number c.start_prod-start.result.0 c.start_prod-start.ensures.value c.start_prod-start.ensures.within c.requires c.to_storage.result c.to_storage.ensures
+
+pub first_without-requires : goal.first_without-requires
+first_without-requires c = subst (λ g. All (IsSymbolWithin (λ s. s) g) c.prod.result.now) c.self.view_is c.prod.ensures.within
+
+pub rule_name_str-name-requires : goal.rule_name_str-name-requires
+rule_name_str-name-requires c = subst (λ (g : Numbered). c.in-Some.rule.0 < length g.rules) (sym c.self.view_is) c.in-Some.ensures.within
+
+pub prod_span-span-requires : goal.prod_span-span-requires
+prod_span-span-requires c = stored c.args.self.now c.self.inside.grammar.now c.self.view_is c.args.number c.start_prod-start.result.0 c.start_prod-start.ensures.value c.start_prod-start.ensures.within c.requires c.to_storage.result c.to_storage.ensures
 
 pub returns-in_default : goal.returns-in_default
 returns-in_default c =

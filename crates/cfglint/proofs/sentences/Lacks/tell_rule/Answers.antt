@@ -1,12 +1,30 @@
-use Rattle.std.proofs.Common.{◌≡◌, ◌++◌, codes, string_bytes, sym, subst, ap, ◌∙◌, arith}
+use Rattle.std.proofs.Common.{◌≡◌, ℕ, ◌<◌, ◌++◌, codes, length, string_bytes, refl, sym, subst, ap, ◌∙◌, arith}
 use Rattle.derivation.specs.Grammar.{HasProduction}
 use Rattle.cfgleast.specs.Generator.{HasNone}
-use Rattle.cfgnumbers.specs.Numbered.{core}
+use Rattle.cfgnumbers.specs.Numbered.{Numbered, core}
 use Rattle.cfglint.specs.Findings.{rules_added}
 use Rattle.cfglint.specs.declared.finding.FindingKind.TheVariants.{NoSentence}
-use Rattle.cfglint.proofs.Read.{rule_seen}
+use Rattle.cfglint.proofs.Read.{rule_fits, rule_seen}
 use Rattle.cfglint.proofs.Texts.{no_sentence_told, shown_at}
 use Rattle.cfglint.proofs.sentences.Lacks.tell_rule.Goals as goal
+
+-- a rule of a grammar that is seen as this one
+there : (g h : Numbered) → h ≡ g → (r k : ℕ) → k ≡ r → r < length g.rules → k < length h.rules
+there g h view r k same within = subst (λ (g : Numbered). k < length g.rules) (sym view) (subst (λ n. n < length g.rules) (sym same) within)
+
+pub to_storage-requires : goal.to_storage-requires
+to_storage-requires c =
+    let h = c.self.inside.grammar.now in
+    rule_fits _ h c.args.number c.invariant_holds.ensures (there c.args.self.now h c.self.view_is c.args.number c.args.number refl c.requires)
+
+pub lacks-requires : goal.lacks-requires
+lacks-requires c = subst (λ n. n < length c.args.self.now.rules) (sym c.to_storage.ensures) c.requires
+
+pub rule_name_str-name-requires : goal.rule_name_str-name-requires
+rule_name_str-name-requires c = there c.args.self.now c.self.inside.grammar.now c.self.view_is c.args.number c.to_storage.result c.to_storage.ensures c.requires
+
+pub rule_name_span-span-requires : goal.rule_name_span-span-requires
+rule_name_span-span-requires c = there c.args.self.now c.self.inside.grammar.now c.self.view_is c.args.number c.to_storage.result c.to_storage.ensures c.requires
 
 pub returns : goal.returns
 returns c =
