@@ -26,12 +26,27 @@ impl Certificate {
     ) -> Result<Self, AllocError>
         requires { generator.now.grammar ≡ core grammar.now }
     {
-        let (mut least, mut choices) = (Vec::new(alloc), Vec::new(alloc));
+        let mut certificate = Certificate {
+            least: Vec::new(alloc),
+            choices: Vec::new(alloc),
+        };
+        certificate.add_rules(grammar, generator)?;
+        Ok(certificate)
+    }
+
+    /// Adds what the generator answers of each rule.
+    fn add_rules(
+        &mut self,
+        grammar: &YaccGrammar<u32>,
+        generator: &SentenceGenerator<'_, u32, YaccGrammar<u32>>,
+    ) -> Result<(), AllocError>
+        requires { generator.now.grammar ≡ core grammar.now }
+    {
         for ridx in grammar.iter_rules() {
-            least.push(generator.min_sentence_cost(ridx).ok())?;
-            choices.push(generator.choice(ridx))?;
+            self.least.push(generator.min_sentence_cost(ridx).ok())?;
+            self.choices.push(generator.choice(ridx))?;
         }
-        Ok(Certificate { least, choices })
+        Ok(())
     }
 
     /// The costs that words spell, and behind `by` the choices.
@@ -73,7 +88,10 @@ impl Certificate {
 /// The production and the number that stand on both sides of a colon.
 fn read_choice(word: &str) -> Option<(PIdx<u32>, u32)> {
     let (production, number) = word.split_once(':')?;
-    Some((PIdx(production.parse().ok()?), number.parse().ok()?))
+    match (production.parse(), number.parse()) {
+        (Ok(production), Ok(number)) => Some((PIdx(production), number)),
+        _ => None,
+    }
 }
 
 /// Writes which of the two checkers refuses what the generator answers.

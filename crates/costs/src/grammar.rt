@@ -102,7 +102,7 @@ fn write_tokens(out: &mut Page, grammar: &YaccGrammar<u32>, costs: &[u8]) {
             None => out.push_str(" end"),
         }
         if let Some(cost) = costs.get(usize::from(tidx)) {
-            write!(out, " {cost}");
+            pen::number(out, " ", usize::from(*cost));
         }
     }
     out.push('\n');

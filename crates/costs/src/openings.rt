@@ -8,17 +8,17 @@ use cfgrammar::yacc::YaccGrammar;
 use cfgrammar::yacc::firsts::firsts_over;
 use cfgrammar::yacc::grammar::Productions;
 use cfgrammar::yacc::sentences::{CostError, SentenceError, SentenceGenerator, min_sentence_over};
-use rows::indices;
 use rows::page::Page;
+use rows::{indices, pen};
+use std::alloc::AllocError;
 
 /// Writes how often each production is opened while the FIRST sets are found.
 pub(crate) fn write_openings(out: &mut Page, grammar: &YaccGrammar<u32>) {
     let Ok(mut productions) = grammar.productions(out.alloc) else {
         return out.tear();
     };
-    let is_refused = firsts_over(out.alloc, &mut productions).is_err();
-    if is_refused {
-        return out.tear();
+    if was_refused(firsts_over(out.alloc, &mut productions)) {
+        out.tear();
     }
     out.push_str("    opened for firsts:");
     indices::openings(out, &productions);
@@ -35,28 +35,35 @@ pub(crate) fn write_opened(
     requires { generator.now.grammar ≡ core grammar.now }
 {
     let Some(ridx) = grammar.rule_idx(name) else {
-        return writeln!(out, "    opened {name}: no such rule");
+        pen::words(out, "    opened ", name);
+        return out.push_str(": no such rule\n");
     };
     let Ok(mut productions) = grammar.productions(out.alloc) else {
         return out.tear();
     };
-    let answer = min_sentence_over(out.alloc, &mut productions, generator, ridx);
+    let is_refused = wants_memory(min_sentence_over(out.alloc, &mut productions, generator, ridx));
     let opened = productions.opened_all();
     let most = most_openings(generator.min_sentence_cost(ridx), grammar.rules_len());
-    if is_refused(&answer) && u128::from(opened) <= most {
-        return out.tear();
+    if is_refused && opened <= u128::from(most) {
+        out.tear();
     }
     writeln!(out, "    opened {name}: {opened}");
 }
 
-fn is_refused<T>(answer: &Result<T, SentenceError>) -> bool {
+fn was_refused<T: Drop>(answer: Result<T, AllocError>) -> bool {
+    answer.is_err()
+}
+
+fn wants_memory<T: Drop>(answer: Result<T, SentenceError>) -> bool {
     matches!(answer, Err(SentenceError::OutOfMemory))
 }
 
 /// How many productions may be opened, all together, where memory ends on the way to a sentence of this cost.
-fn most_openings(cost: Result<u16, CostError>, rules: RIdx<u32>) -> u128 {
+fn most_openings(cost: Result<u16, CostError>, rules: RIdx<u32>) -> u64 {
     match cost {
-        Ok(cost) => 1 + u128::from(cost) * u128::from(rules.0),
+        Ok(cost) => u64::from(cost)
+            .saturating_mul(u64::from(rules.0))
+            .saturating_add(1),
         Err(_) => 0,
     }
 }

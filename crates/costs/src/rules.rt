@@ -110,11 +110,12 @@ fn write_sentence(out: &mut Page, sentence: &[TIdx<u32>]) {
         pen::number(out, "", sentence.len());
         return out.push_str(" tokens");
     }
-    out.push('[');
-    for (place, tidx) in sentence.iter().enumerate() {
-        pen::number(out, if place > 0 { " " } else { "" }, usize::from(*tidx));
+    let mut before = "[";
+    for tidx in sentence {
+        pen::number(out, before, usize::from(*tidx));
+        before = " ";
     }
-    out.push(']');
+    out.push_str(if sentence.is_empty() { "[]" } else { "]" });
 }
 
 /// Writes all minimal sentences, or how many there are, or why there are none.

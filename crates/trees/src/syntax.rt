@@ -27,8 +27,8 @@ pub fn write_syntax(out: &mut Page, parsed: &ASTWithValidityInfo) {
 /// errors, and all that its syntax holds.
 pub fn write_without_memory(out: &mut Page, parsed: &ASTWithValidityInfo) {
     pen::without_memory(out);
-    pen::flag(out, "valid: ", parsed.is_valid());
-    write!(out, ", {:?}, errors:", parsed.yacc_kind());
+    let (is_valid, kind) = (parsed.is_valid(), parsed.yacc_kind());
+    write!(out, "valid: {is_valid}, {kind:?}, errors:");
     write_errors(out, parsed.errors());
     out.push('\n');
     write_parts(out, parsed.ast());

@@ -24,8 +24,8 @@ fn write_list(out: &mut Page, warnings: &[YaccGrammarWarning]) {
 }
 
 fn write_warning(out: &mut Page, index: usize, warning: &YaccGrammarWarning) {
-    out.push_str(if index == 0 { " " } else { ", " });
-    write!(out, "{:?}", warning.kind());
+    let before = if index == 0 { " " } else { ", " };
+    write!(out, "{before}{:?}", warning.kind());
     pen::spans(out, warning.spans());
     pen::unless_copied(out, warning, ", and a copy that isn't the same");
 }

@@ -108,18 +108,21 @@ fn write_named(out: &mut Page, start: &Option<(String, Span)>) {
     }
 }
 
-/// The rule that a line tells, by its name and the two ends of its span.
+/// The rule whose name a line tells.
 fn rule_of(alloc: Global, line: &str) -> Result<Rule, AllocError> {
-    let (name, start, end) = words(line);
-    let (start, end) = (number(start), number(end));
     Ok(Rule {
-        name: (
-            String::from_str(alloc, name)?,
-            Span::new(start.min(end), end),
-        ),
+        name: name_of(alloc, line)?,
         pidxs: Vec::new(alloc),
         actiont: None,
     })
+}
+
+/// The name that a line tells, and its place: the name is the first word, and the two ends of the place are the others.
+fn name_of(alloc: Global, line: &str) -> Result<(String, Span), AllocError> {
+    let (name, start, end) = words(line);
+    let (start, end) = (number(start), number(end));
+    let place = Span::new(start.min(end), end);
+    Ok((String::from_str(alloc, name)?, place))
 }
 
 /// Makes a call that writes a tree. Where memory ended, the tree is looked at, and the call is made again.
@@ -160,13 +163,12 @@ fn change(
 pub(crate) fn write_tree(out: &mut Page, ast: &GrammarAST) {
     write_rules(out, ast);
     pen::number(out, "    ", ast.prods().len());
-    write!(out, " productions, programs {:?}, ", ast.programs());
+    write_programs(out, " productions, ", ast.programs(), ", ");
     warnings::write_warnings(out, ast);
 }
 
 fn add_rule(alloc: Global, ast: &mut GrammarAST, line: &str) -> Result<(), AllocError> {
-    let rule = rule_of(alloc, line)?;
-    ast.add_rule(rule.name, rule.actiont)
+    ast.add_rule(name_of(alloc, line)?, None)
 }
 
 fn set_programs(alloc: Global, ast: &mut GrammarAST, text: &str) -> Result<(), AllocError> {
@@ -183,13 +185,22 @@ fn set_programs_twice(out: &mut Page, row: &Row<'_>, ast: &mut GrammarAST) {
     };
     pen::without_memory(out);
     ast.set_programs(first);
-    write_programs(out, ast);
+    write_programs(out, "    ", ast.programs(), "\n");
     ast.add_programs(second);
-    write_programs(out, ast);
+    write_programs(out, "    ", ast.programs(), "\n");
 }
 
-fn write_programs(out: &mut Page, ast: &GrammarAST) {
-    writeln!(out, "    programs {:?}", ast.programs());
+/// Writes the programs, or that there are none, between two texts.
+fn write_programs(out: &mut Page, before: &str, programs: &Option<String>, behind: &str) {
+    out.push_str(before);
+    match programs {
+        Some(programs) => {
+            pen::name(out, "programs Some(", programs.as_str());
+            out.push(')');
+        }
+        None => out.push_str("programs None"),
+    }
+    out.push_str(behind);
 }
 
 /// Adds an empty production to the rule of this name, where it is there.
@@ -209,8 +220,7 @@ fn write_rules(out: &mut Page, ast: &GrammarAST) {
 }
 
 fn write_rule(out: &mut Page, name: &str, rule: &Rule) {
-    out.push_str("    ");
-    out.push_str(name);
+    pen::words(out, "    ", name);
     pen::span(out, rule.name.1);
     writeln!(out, ": {:?}", rule.pidxs);
 }
