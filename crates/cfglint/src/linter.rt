@@ -18,6 +18,7 @@ use cfgheader::{GrmtoolsSectionParser, Header, HeaderFault};
 use cfgkinds::{YaccKind, YaccOriginalActionKind};
 use cfgrender::render_all;
 use cfgshell::KindArg;
+use cfgsyntax::let_go;
 use cfgsyntax::yacc::ast::ASTWithValidityInfo;
 use cfgtree::GrammarAST;
 use cfgyacc::YaccGrammar;
@@ -126,7 +127,9 @@ fn report_made(
 ) -> Result<Report, AllocError>
     ensures { IfOk result (λ told. (told.is_taken ≡ false) × TellsFound name.now text.now told (WasRead parsed)) }
 {
-    report_parsed(alloc, name, text, &parsed)
+    let told = report_parsed(alloc, name, text, &parsed);
+    let_go(parsed);
+    told
 }
 
 /// The report of a text that was read.

@@ -1,7 +1,7 @@
 //! Yacc grammars: read from the text of a Yacc file, validated, and turned into numbered tables. This crate shows all that its users
 //! call, under the paths of the Rust crate; what it shows stands in the crates below.
 //!
-//! The productions of a text's grammar, a line each, as the crate `uses` writes them:
+//! The productions of a text's grammar, a line each, as the GUIDE's caller writes them:
 //!
 //! ```
 //! let kind = YaccKind::Original(YaccOriginalActionKind::GenericParseTree);
@@ -25,4 +25,3 @@ pub use cfgindex::{PIdx, RIdx, SIdx, Storage, Symbol, TIdx, Vob, idxnewtype, sto
 pub use cfglines::{FeedError, NewlineCache, newlinecache};
 pub use cfgmarks::markmap;
 pub use cfgrender::{render, render_all};
-pub use cfgyacc::lexcheck;

@@ -4,7 +4,8 @@ use Rattle.std.specs.List.{filter, flat_map}
 use Rattle.std.specs.Option.{option_map_or}
 use Rattle.std.specs.Str.Lines.{lines}
 use Rattle.cfgnumbers.specs.Numbered.{Numbered, NumberedToken}
-use Rattle.cfgyacc.specs.Names.{missing_tokens, unknown_places}
+use Rattle.lexcheck.specs.Names.{missing_tokens, unknown_places}
+use Rattle.cfgyacc.specs.Names.{token_names}
 use Rattle.cfgtool.specs.TokenSets.{quoted}
 
 -- The names that a text lists: its lines but the empty ones. The lines are what stands between LFs, and each that a LF ends
@@ -28,4 +29,4 @@ missing_line_of g t = option_map_or missing_line (slice_get g.tokens t) []
 
 -- a line for each name that no token has, at each of its places, and then one for each token whose name isn't listed
 abbrev pub lexer_lines : Numbered → List (List ℕ) → List ℕ
-lexer_lines g names = flat_map (unknown_line_at names) (unknown_places g names) ++ flat_map (missing_line_of g) (missing_tokens g names)
+lexer_lines g names = flat_map (unknown_line_at names) (unknown_places (token_names g) names) ++ flat_map (missing_line_of g) (missing_tokens (token_names g) names)

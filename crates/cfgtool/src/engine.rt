@@ -25,6 +25,7 @@ use cfgkinds::YaccKind;
 use cfgshell::words::{Command, KindArg};
 pub use cfgsink::{Outcome, ReportFault};
 use cfgsink::{Sink, write_report};
+use cfgsyntax::let_go;
 use cfgsyntax::yacc::ast::ASTWithValidityInfo;
 use cfgtree::GrammarAST;
 use cfgyacc::YaccGrammar;
@@ -160,7 +161,9 @@ fn report_made(
     ensures { IfOk result (λ told. IsReport (AreAskedLines request.entry text.now) text.now (WasRead parsed)
         told.0 (string_bytes told.1)) }
 {
-    report_parsed(alloc, request, text, &parsed)
+    let told = report_parsed(alloc, request, text, &parsed);
+    let_go(parsed);
+    told
 }
 
 /// The report of a text that was read.

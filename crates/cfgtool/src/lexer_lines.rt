@@ -6,7 +6,7 @@ ghost use Rattle.cfgtool.specs.LexerLines.{lexer_lines, missing_line_of, names_i
 
 use cfgindex::TIdx;
 use cfgyacc::YaccGrammar;
-use cfgyacc::lexcheck::check;
+use lexcheck::check;
 use std::alloc::{AllocError, Global};
 
 /// A line for each name in the list that no token has, and one for each token whose name isn't in the list.

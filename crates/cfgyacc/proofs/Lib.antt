@@ -1,4 +1,3 @@
-pub mod Among
 pub mod Built
 pub mod Counted
 pub mod OfItself

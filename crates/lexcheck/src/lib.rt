@@ -1,4 +1,7 @@
 //! Whether a lexer and a grammar agree on the names of tokens.
 #![tactic(auto)]
 
-pub use cfgyacc::lexcheck::{LexReport, check, laws, report};
+pub mod laws;
+pub mod report;
+
+pub use report::{LexReport, NamedTokens, check};

@@ -10,6 +10,7 @@ mod programs;
 mod reports;
 mod rooms;
 mod runs;
+mod uses;
 
 use rows::files::{Answers, write_files};
 use rows::page::Page;

@@ -3,12 +3,12 @@
 
 ghost use Rattle.std.specs.Prelude.{◌<◌, length};
 
-use cfgrammar::yacc::{Precedence, YaccGrammar};
+use crate::held::tables::write_level;
+use cfgrammar::yacc::YaccGrammar;
 use cfgrammar::{PIdx, RIdx, TIdx};
 use rows::indices;
 use rows::page::Page;
 use rows::pen::{self, Piece};
-use rows::said::write_precedence;
 
 /// Writes a line for each rule, production and token of a grammar, and one for the whole.
 pub(crate) fn write_accessors(out: &mut Page, grammar: &YaccGrammar<u32>) {
@@ -54,10 +54,10 @@ fn write_production(out: &mut Page, grammar: &YaccGrammar<u32>, pidx: PIdx<u32>)
         Piece::TextOr(": action ", grammar.action(pidx), ": action none"),
         Piece::Text(", action_span"),
         Piece::SpanOr(grammar.action_span(pidx), " none"),
-        Piece::Text(", prod_precedence "),
     ];
     pen::pieces(out, &pieces);
-    write_level(out, grammar.prod_precedence(pidx));
+    let level = grammar.prod_precedence(pidx);
+    write_level(out, ", prod_precedence ", level, ", prod_precedence none");
     out.push('\n');
 }
 
@@ -74,10 +74,10 @@ fn write_token(out: &mut Page, grammar: &YaccGrammar<u32>, tidx: TIdx<u32>)
     let pieces = [
         Piece::Number("    token ", usize::from(tidx)),
         Piece::NameOr(": token_epp ", grammar.token_epp(tidx), ": token_epp none"),
-        Piece::Text(", token_precedence "),
     ];
     pen::pieces(out, &pieces);
-    write_level(out, grammar.token_precedence(tidx));
+    let level = grammar.token_precedence(tidx);
+    write_level(out, ", token_precedence ", level, ", token_precedence none");
     pen::flag(out, ", avoid_insert ", grammar.avoid_insert(tidx));
     out.push('\n');
 }
@@ -109,13 +109,5 @@ fn write_param(out: &mut Page, param: &Option<(String, String)>) {
             pen::name(out, " ", param_type.as_str());
         }
         None => out.push_str(" none"),
-    }
-}
-
-/// Writes a precedence that may be there.
-fn write_level(out: &mut Page, answered: Option<Precedence>) {
-    match answered {
-        Some(Precedence { level, kind }) => write_precedence(out, "", level, &kind),
-        None => out.push_str("none"),
     }
 }

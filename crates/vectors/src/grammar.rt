@@ -97,8 +97,12 @@ impl Writer<YaccGrammar<u32>, YaccFault> for Refused<'_> {
 
 /// Writes what is answered of a text that was read.
 fn tell_parsed(out: &mut Page, row: &Row<'_>, text: &str, parsed: &ASTWithValidityInfo) {
-    pen::number(out, "text of ", text.len());
-    writeln!(out, " bytes, {:?}", parsed.yacc_kind());
+    writeln!(
+        out,
+        "text of {} bytes, {:?}",
+        text.len(),
+        parsed.yacc_kind()
+    );
     if row.first("show") == Some("brief") {
         return tell_brief(out, row, text, parsed);
     }

@@ -33,9 +33,9 @@ fn write_unexpected(
 
 /// Whether a production may have been opened so often at the most.
 fn is_expected(grammar: &YaccGrammar<u32>, most: u64) -> bool {
-    let rules = u128::from(grammar.rules_len().0);
-    let tokens = u128::from(grammar.tokens_len().0);
-    0 < most && u128::from(most) <= rules * (tokens + 1) + 1
+    let rules = u64::from(grammar.rules_len().0);
+    let tokens = u64::from(grammar.tokens_len().0);
+    0 < most && most <= rules.saturating_mul(tokens + 1).saturating_add(1)
 }
 
 /// The greatest count of a production's openings, after the FIRST sets were found.

@@ -128,6 +128,11 @@ impl ASTWithValidityInfo {
         self.errors.as_slice()
     }
 
+    /// The tree alone.
+    pub(crate) fn into_ast(self) -> GrammarAST {
+        self.ast
+    }
+
     /// A copy with another start: the name and the span of the handed rule. The kind and the errors stay as they are,
     /// and so does the rest of the syntax.
     ///

@@ -151,7 +151,7 @@ fn write_printed<S: Storage>(out: &mut Page, grammar: &YaccGrammar<S>, pidx: PId
 fn write_action<S: Storage>(out: &mut Page, grammar: &YaccGrammar<S>, pidx: PIdx<S>)
     requires { S.number pidx.0 < length grammar.now.productions }
 {
-    write_level(out, grammar.prod_precedence(pidx));
+    write_level(out, ", precedence ", grammar.prod_precedence(pidx), "");
     let pieces = [
         Piece::TextOr(", action ", grammar.action(pidx), ""),
         Piece::SpanOr(grammar.action_span(pidx), ""),
@@ -179,7 +179,7 @@ fn write_token<S: Storage>(out: &mut Page, grammar: &YaccGrammar<S>, tidx: TIdx<
         Piece::SpanOr(grammar.token_span(tidx), ""),
     ];
     pen::pieces(out, &pieces);
-    write_level(out, grammar.token_precedence(tidx));
+    write_level(out, ", precedence ", grammar.token_precedence(tidx), "");
     write_epp(out, grammar.token_epp(tidx), name);
     pen::text_if(out, grammar.avoid_insert(tidx), ", avoid_insert");
     out.push('\n');
@@ -193,10 +193,16 @@ fn write_epp(out: &mut Page, epp: Option<&str>, name: Option<&str>) {
     pen::name(out, ", epp ", epp.unwrap_or("none"));
 }
 
-/// Writes a precedence, where it is there.
-fn write_level(out: &mut Page, answered: Option<Precedence>) {
-    if let Some(Precedence { level, kind }) = answered {
-        write_precedence(out, ", precedence ", level, &kind);
+/// Writes a precedence behind `before`, or what stands for one that is missing.
+pub(crate) fn write_level(
+    out: &mut Page,
+    before: &str,
+    answered: Option<Precedence>,
+    missing: &str,
+) {
+    match answered {
+        Some(Precedence { level, kind }) => write_precedence(out, before, level, &kind),
+        None => out.push_str(missing),
     }
 }
 

@@ -5,8 +5,10 @@ use Rattle.std.proofs.lemmas.List.Folds.{flat_map-map}
 use Rattle.lemmas.specs.Lists.{places}
 use Rattle.lemmas.proofs.Passing.{places_from-within}
 use Rattle.cfgindex.specs.declared.idxnewtype.TIdx.{TIdx}
+use Rattle.cfgnumbers.specs.Numbered.{NumberedToken}
 use Rattle.cfgnumbers.proofs.Turns.{All-shown}
-use Rattle.cfgyacc.specs.Names.{is_missing, is_unknown, missing_tokens, unknown_places}
+use Rattle.lexcheck.specs.Names.{is_missing, is_unknown, missing_tokens, unknown_places}
+use Rattle.cfgyacc.specs.Names.{token_names}
 use Rattle.cfgtool.specs.LexerLines.{missing_line_of, unknown_line_at}
 use Rattle.cfgtool.proofs.lexer_lines.lexer_lines.Goals as goal
 
@@ -18,26 +20,27 @@ below p xs n found long is = subst (All (λ k. k < n)) (sym is) (λ k d within. 
 
 pub write_unknown-requires : goal.write_unknown-requires
 write_unknown-requires c =
-    let grammar = c.args.grammar.now in
+    let tokens = token_names c.args.grammar.now in
     let names = c.deref-2.result.now in
     subst (All (λ k. k < length names)) (sym c.deref-3.ensures.value)
-    (below (is_unknown grammar) (shown names) (length names) c.in_ok-report.report.unknown.items (length-map names (λ (name : Bor (List ℕ)). name.now))
-    (c.in_ok-report.ensures.unknown ∙ ap (λ names. unknown_places grammar (shown names)) (c.deref.ensures.value ∙ sym c.deref-2.ensures.value)))
+    (below (is_unknown tokens) (shown names) (length names) c.in_ok-report.report.unknown.items (length-map names (λ (name : Bor (List ℕ)). name.now))
+    (c.in_ok-report.ensures.unknown ∙ ap (λ names. unknown_places tokens (shown names)) (c.deref.ensures.value ∙ sym c.deref-2.ensures.value)))
 
 pub write_missing-requires : goal.write_missing-requires
 write_missing-requires c =
     let tokens = c.args.grammar.now.tokens in
     subst (All (λ (t : TIdx ℕ). t.0 < length tokens)) (sym c.deref-4.ensures.value)
     (All-shown (λ t. t < length tokens) (λ (t : TIdx ℕ). t.0) c.in_ok-report.report.missing.items
-    (below (is_missing (shown c.deref.result.now)) tokens (length tokens) _ (λ i. length tokens) c.in_ok-report.ensures.missing))
+    (below (is_missing (shown c.deref.result.now)) (token_names c.args.grammar.now) (length tokens) _ (length-map tokens (λ (token : NumberedToken). token.name)) c.in_ok-report.ensures.missing))
 
 pub returns : goal.returns
 returns c =
     let grammar = c.args.grammar.now in
+    let tokens = token_names grammar in
     let names = ap shown c.deref.ensures.value ∙ c.in_ok-names.ensures in
     let listed = ap shown c.deref-2.ensures.value ∙ c.in_ok-names.ensures in
-    let unknown = c.deref-3.ensures.value ∙ c.in_ok-report.ensures.unknown ∙ ap (unknown_places grammar) names in
-    let missing = c.in_ok-report.ensures.missing ∙ ap (missing_tokens grammar) names in
+    let unknown = c.deref-3.ensures.value ∙ c.in_ok-report.ensures.unknown ∙ ap (unknown_places tokens) names in
+    let missing = c.in_ok-report.ensures.missing ∙ ap (missing_tokens tokens) names in
     let token_lines = ap (flat_map (λ (t : TIdx ℕ). missing_line_of grammar t.0)) c.deref-4.ensures.value
     ∙ sym (flat_map-map (missing_line_of grammar) (λ (t : TIdx ℕ). t.0) c.in_ok-report.report.missing.items) ∙ ap (flat_map (missing_line_of grammar)) missing in
     c.in_ok-write_missing.ensures

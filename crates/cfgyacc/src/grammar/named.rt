@@ -1,0 +1,23 @@
+//! The names of a grammar's tokens, as those that a lexer gives are compared with them.
+
+use super::tables::YaccGrammar;
+use cfgindex::{Storage, TIdx};
+use lexcheck::NamedTokens;
+
+impl<S: Storage> NamedTokens<S> for YaccGrammar<S> {
+    ghost use Rattle.cfgyacc.specs.Names.{token_names};
+
+    ghost names = { token_names };
+
+    fn tokens_len(&self) -> TIdx<S> {
+        self.tokens_len()
+    }
+
+    fn token_name(&self, tidx: TIdx<S>) -> Option<&str> {
+        self.token_name(tidx)
+    }
+
+    fn has_token(&self, name: &str) -> bool {
+        self.token_idx(name).is_some()
+    }
+}

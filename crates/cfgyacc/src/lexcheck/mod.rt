@@ -1,6 +1,0 @@
-//! Whether a lexer and a grammar agree on the names of tokens.
-
-pub mod laws;
-pub mod report;
-
-pub use report::{LexReport, check};

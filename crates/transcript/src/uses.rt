@@ -1,0 +1,10 @@
+//! Callers of the library, as docs/GUIDE.md shows them. None of them has a proof of its own.
+
+mod added;
+pub(crate) mod answers;
+mod errors;
+mod findings;
+mod keys;
+mod productions;
+mod repairs;
+mod tables;
