@@ -27,4 +27,4 @@ pub returns : goal.returns
 returns g c =
     let tokens = g.G.NamedTokens.names c.args.grm.now in
     let past : length tokens ≤ c.loop-place.place = omega (arith, c.loop-place-test.false, c.to_usize-tokens_len.ensures.value, c.tokens_len.ensures) in
-    c.loop-place.invariant ∙ ap (places (is_missing (map (λ name. name.now) c.args.names.now))) (take_all tokens c.loop-place.place past)
+    c.loop-place.invariant ∙ ap (places (is_missing (map (λ name. name.now) c.args.names.now))) (take_all c.loop-place.place tokens past)
