@@ -5,6 +5,7 @@ use cfgindex::{Storage, TIdx};
 use lexcheck::NamedTokens;
 
 impl<S: Storage> NamedTokens<S> for YaccGrammar<S> {
+    ghost use Rattle.std.specs.Prelude.{◌≡◌, ◌<◌, Some, length, option_map, slice_get};
     ghost use Rattle.cfgyacc.specs.Names.{token_names};
 
     ghost names = { token_names };
@@ -13,7 +14,10 @@ impl<S: Storage> NamedTokens<S> for YaccGrammar<S> {
         self.tokens_len()
     }
 
-    fn token_name(&self, tidx: TIdx<S>) -> Option<&str> {
+    fn token_name(&self, tidx: TIdx<S>) -> Option<&str>
+        requires { S.number tidx.0 < length (token_names self.now) }
+        ensures { slice_get (token_names self.now) (S.number tidx.0) ≡ Some (option_map (λ name. name.now) result) }
+    {
         self.token_name(tidx)
     }
 
