@@ -88,8 +88,8 @@ impl<'a, S: Storage, T: Tables<S>> SentenceGenerator<'a, S, T> {
         Ok(sentence)
     }
 
-    /// The first, in the order of a dictionary, of the rule's sentences that no other costs less than. It has at most as
-    /// many tokens as it costs, and none of them is the end token.
+    /// The first, in the order of a dictionary, of the rule's sentences that no other costs less than. It has at most
+    /// as many tokens as it costs, and none of them is the end token.
     ///
     /// # Errors
     ///

@@ -21,8 +21,8 @@ pub fn error_kinds_are_what_they_show()
         → kind_view b ≡ kind_view a }
 {}
 
-/// Kinds of errors in a section are equal exactly where they show the same: the same kind, with the same character and texts where
-/// it holds some. A clone is its source, and takes no memory.
+/// Kinds of errors in a section are equal exactly where they show the same: the same kind, with the same character and
+/// texts where it holds some. A clone is its source, and takes no memory.
 pub fn header_error_kinds_are_what_they_show()
     ensures equal { (a b : HeaderErrorKind) → IsTrue (⟦<HeaderErrorKind as PartialEq>⟧.eq a b)
         ↔ (error_kind_view a ≡ error_kind_view b) }

@@ -1,4 +1,5 @@
-//! What a person wants to know of a grammar file: what is wrong with it or odd about it, where, and why; and the program
+//! What a person wants to know of a grammar file: what is wrong with it or odd about it, where, and why; and the
+//! program
 //! `cfglint`, as a library.
 #![tactic(auto)]
 

@@ -10,9 +10,10 @@ use cfgshell::sink::Sink;
 use cfgshell::source::Source;
 use std::alloc::Global;
 
-/// Runs the program on the words after its name, and answers its status. What it tells of the files that the words name,
-/// and a summary, is written to `out`, and a line for each file without a text, or on what else went wrong, to `err`, as
-/// far as `err` takes it. Nothing is written before all files are read. Words that are wrong leave `source` as it was.
+/// Runs the program on the words after its name, and answers its status. What it tells of the files that the words
+/// name, and a summary, is written to `out`, and a line for each file without a text, or on what else went wrong, to
+/// `err`, as far as `err` takes it. Nothing is written before all files are read. Words that are wrong leave `source`
+/// as it was.
 pub fn lint<S: Source, O: Sink, E: Sink>(
     alloc: Global,
     args: &[&str],

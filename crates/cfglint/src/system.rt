@@ -14,8 +14,8 @@ pub struct Ended {
 }
 
 impl Ended {
-    /// The status: 0 where nothing was found that counts, 1 where something was, 2 where the words were wrong, a file was
-    /// not read or the output was not written, 3 where no memory was left.
+    /// The status: 0 where nothing was found that counts, 1 where something was, 2 where the words were wrong, a file
+    /// was not read or the output was not written, 3 where no memory was left.
     pub fn status(&self) -> u8
         ensures { result ≡ self.now.status }
     {

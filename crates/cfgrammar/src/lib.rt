@@ -1,5 +1,5 @@
-//! Yacc grammars: read from the text of a Yacc file, validated, and turned into numbered tables. This crate shows all that its users
-//! call, under the paths of the Rust crate; what it shows stands in the crates below.
+//! Yacc grammars: read from the text of a Yacc file, validated, and turned into numbered tables. This crate shows all
+//! that its users call, under the paths of the Rust crate; what it shows stands in the crates below.
 //!
 //! The productions of a text's grammar, a line each, as the GUIDE's caller writes them:
 //!

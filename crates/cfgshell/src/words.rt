@@ -60,7 +60,8 @@ pub fn command_of(word: &str) -> Option<Command>
     }
 }
 
-/// Whether a command that takes two files is asked for rightly: it is `lex`, and one of the files alone is standard input.
+/// Whether a command that takes two files is asked for rightly: it is `lex`, and one of the files alone is standard
+/// input.
 pub(crate) fn asks_lexer(command: &str, file: &str, names: &str) -> bool
     ensures { result ≡ asks_lexer command.now file.now names.now }
 {

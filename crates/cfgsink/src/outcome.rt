@@ -60,7 +60,8 @@ impl From<SinkFault> for ReportFault {
 ///
 /// # Errors
 ///
-/// Want of memory, where that kept the report from being made. A fault of `out`, which then has a beginning of the lines.
+/// Want of memory, where that kept the report from being made. A fault of `out`, which then has a beginning of the
+/// lines.
 pub fn write_report<W: Sink>(
     out: &mut W,
     made: Result<(Outcome, String), AllocError>,

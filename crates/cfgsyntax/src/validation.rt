@@ -167,9 +167,9 @@ fn check_printed_forms(ast: &GrammarAST) -> Result<(), Unfit<'_>>
     Ok(())
 }
 
-/// Validates a tree: that its start is a rule; rule by rule and production by production, that the token of a `%prec` is
-/// a token and has a precedence, and that what each symbol names is there; that each key of `%epp` is a token; and that
-/// what each symbol of `%expect-unused` names is there. It takes no memory.
+/// Validates a tree: that its start is a rule; rule by rule and production by production, that the token of a `%prec`
+/// is a token and has a precedence, and that what each symbol names is there; that each key of `%epp` is a token; and
+/// that what each symbol of `%expect-unused` names is there. It takes no memory.
 ///
 /// # Errors
 ///

@@ -40,8 +40,8 @@ pub struct LexReport<S: Storage> {
     pub missing: Vec<TIdx<S>>,
 }
 
-/// Compares the names that a lexer gives with those of a grammar's tokens, byte for byte. It takes time in proportion to
-/// the names and tokens.
+/// Compares the names that a lexer gives with those of a grammar's tokens, byte for byte. It takes time in proportion
+/// to the names and tokens.
 ///
 /// # Errors
 ///

@@ -43,8 +43,8 @@ pub trait Linter {
     // that it names itself.
     ghost tells: { Option KindArg → List ℕ → List ℕ → Told → Type 0 };
 
-    /// Lints a text in a file of this name, as a file of the kind; where there is none, as one of the kind that it names
-    /// itself.
+    /// Lints a text in a file of this name, as a file of the kind; where there is none, as one of the kind that it
+    /// names itself.
     ///
     /// # Errors
     ///

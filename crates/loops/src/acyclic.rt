@@ -65,8 +65,8 @@ impl Search {
         Ok(Search { ends, met })
     }
 
-    /// Goes along the rule's steps as far as they lead to rules that are known to end. If all do, so does the rule. Else
-    /// the next one leads to a rule that is visited first, unless it was met before.
+    /// Goes along the rule's steps as far as they lead to rules that are known to end. If all do, so does the rule.
+    /// Else the next one leads to a rule that is visited first, unless it was met before.
     fn visit(
         &mut self,
         steps: &Steps,
@@ -89,8 +89,8 @@ impl Search {
         self.visit_first(step.rule, Visit { place, ..visit }, visits)
     }
 
-    /// Puts the visit behind the others, and behind it one to the next rule, which so is looked at first; or neither, if
-    /// that rule was met before.
+    /// Puts the visit behind the others, and behind it one to the next rule, which so is looked at first; or neither,
+    /// if that rule was met before.
     fn visit_first(
         &mut self,
         next: usize,

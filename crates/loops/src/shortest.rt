@@ -36,9 +36,9 @@ pub fn shortest_loop(
     layers.loop_of(alloc, rule)
 }
 
-/// For each rule a shortest row of steps from it to itself, or that there is none. Rules from which no row of steps comes
-/// to a loop, and those to which none comes from a loop, take together the time of a few looks at each step; each other
-/// rule takes a search of its own.
+/// For each rule a shortest row of steps from it to itself, or that there is none. Rules from which no row of steps
+/// comes to a loop, and those to which none comes from a loop, take together the time of a few looks at each step; each
+/// other rule takes a search of its own.
 ///
 /// # Errors
 ///

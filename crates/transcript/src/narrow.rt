@@ -38,8 +38,8 @@ impl Narrow {
     }
 
     /// The writer that a row describes: `room NAME N` says how many bytes it takes, `step NAME N` how many of them at a
-    /// time; `full NAME` that it takes none where its room ends, and `interrupts NAME` that it is interrupted there. Else it
-    /// takes all.
+    /// time; `full NAME` that it takes none where its room ends, and `interrupts NAME` that it is interrupted there.
+    /// Else it takes all.
     pub(crate) fn of_row(alloc: Global, row: &Row<'_>, name: &str) -> Self {
         Narrow::new(
             alloc,

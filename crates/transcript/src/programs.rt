@@ -11,8 +11,8 @@ use std::cell::{Cell, RefCell};
 use std::io::ErrorKind;
 use std::rt::Files;
 
-/// Runs the row's program over a runtime that has the row's words, its text as standard input, and the files of the folder,
-/// and writes the status, what was written to the two outputs, and what was read.
+/// Runs the row's program over a runtime that has the row's words, its text as standard input, and the files of the
+/// folder, and writes the status, what was written to the two outputs, and what was read.
 pub(crate) fn tell<R: Files + AllocGlobal>(out: &mut Page, rt: &R, row: &Row<'_>, text: &str) {
     let given = row.first("words").unwrap_or("");
     let Ok(words) = words_of(out.alloc, given) else {

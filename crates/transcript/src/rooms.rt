@@ -11,8 +11,8 @@ pub(crate) trait Run {
     fn ended(&self, writer: &mut Narrow) -> Result<&'static str, AllocError>;
 }
 
-/// Writes how a run ends on writers with room for none of the bytes, for one, and so on up to all of them: how many bytes
-/// each took, and the word. They take one byte at a time, four, or all that they are given.
+/// Writes how a run ends on writers with room for none of the bytes, for one, and so on up to all of them: how many
+/// bytes each took, and the word. They take one byte at a time, four, or all that they are given.
 pub(crate) fn write_rooms<R: Run>(out: &mut Page, run: &R, whole: &[u8]) {
     for step in [1, 4, usize::MAX] {
         write_ended(out, run, (step, End::Fails), whole);

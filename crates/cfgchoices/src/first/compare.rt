@@ -1,4 +1,5 @@
-//! Productions in the order of what the choices make of them. Two are compared side by side, from their first tokens on.
+//! Productions in the order of what the choices make of them. Two are compared side by side, from their first tokens
+//! on.
 
 ghost use Rattle.std.specs.Prelude.{◌≡◌, ℕ, ◌<◌, ◌++◌, ◌∷◌, [], List, IfOk, IfSome, MatchOption, OnOk, length, map};
 ghost use Rattle.std.specs.Prelude.{reverse, true};

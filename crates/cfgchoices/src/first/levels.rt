@@ -86,8 +86,8 @@ fn choices_by_cost<S: Storage, T: Tables<S>>(
     Ok(firsts.choices)
 }
 
-/// For each rule that costs something the production by which its first minimal sentence is made, and a number, which is
-/// greater than those of the rules in the production.
+/// For each rule that costs something the production by which its first minimal sentence is made, and a number, which
+/// is greater than those of the rules in the production.
 ///
 /// # Errors
 ///

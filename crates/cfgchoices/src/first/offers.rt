@@ -24,8 +24,8 @@ pub(crate) struct Firsts<S: Storage> {
     pub(crate) cost: usize,
     /// Those that are alone in their rules.
     pub(crate) ready: Vec<PIdx<S>>,
-    /// Of the others those that made less than what was offered to their rules before, by what they make: the first word of
-    /// a dictionary is last.
+    /// Of the others those that made less than what was offered to their rules before, by what they make: the first
+    /// word of a dictionary is last.
     pub(crate) level: VecDeque<PIdx<S>>,
     /// For each rule the one of these that was offered last.
     pub(crate) foremost: Vec<Option<PIdx<S>>>,

@@ -56,7 +56,8 @@ impl<'a, S: Storage, T: Tables<S>> SentenceGenerator<'a, S, T> {
         Ok(words)
     }
 
-    /// All minimal sentences of the rule, which costs this, where the table has those of the rules that they are made of.
+    /// All minimal sentences of the rule, which costs this, where the table has those of the rules that they are made
+    /// of.
     ///
     /// # Errors
     ///

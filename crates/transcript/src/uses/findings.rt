@@ -6,7 +6,8 @@ use cfgrammar::yacc::YaccGrammar;
 use cfgrammar::yacc::ast::GrammarAST;
 use std::alloc::{AllocError, Global};
 
-/// What is odd about the grammar of a text, which is this tree and these numbers, as people read it; empty where nothing is.
+/// What is odd about the grammar of a text, which is this tree and these numbers, as people read it; empty where
+/// nothing is.
 ///
 /// # Errors
 ///

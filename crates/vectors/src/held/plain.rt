@@ -1,4 +1,5 @@
-//! What is answered of a grammar, of its sets and of its productions, once these are made, by calls that take no memory.
+//! What is answered of a grammar, of its sets and of its productions, once these are made, by calls that take no
+//! memory.
 
 ghost use Rattle.std.specs.Prelude.{◌≡◌, length};
 
