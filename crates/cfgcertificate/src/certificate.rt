@@ -7,10 +7,10 @@ ghost use Rattle.derivation.specs.Grammar.{IsGrammar, HasProduction};
 ghost use Rattle.derivation.specs.Sentence.{Sentence, HasSentenceOf, cost_of};
 ghost use Rattle.cfgtables.specs.Openings.{nth_production};
 ghost use Rattle.cfgtables.specs.Symbols.{sym_of};
-ghost use Rattle.cfgsums.specs.Lists.{IsListed, rule_cost, sum_by_lists};
+ghost use Rattle.derivation.specs.Lists.{IsListed, rule_cost, sum_by_lists};
 ghost use Rattle.cfgleast.specs.Certificate.{IsChosenBelow, IsCovered, IsReached, IsShown, claim_of, choice_of};
 ghost use Rattle.cfgleast.specs.Certificate.{rule_choice};
-ghost use Rattle.cfgsums.specs.Sums.{symbol_cost};
+ghost use Rattle.derivation.specs.Sums.{symbol_cost};
 
 use cfgindex::{PIdx, RIdx, Storage, Symbol, to_storage};
 use cfgleast::walk::TOO_LARGE;

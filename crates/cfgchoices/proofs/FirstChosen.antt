@@ -16,9 +16,9 @@ use Rattle.derivation.specs.Tree.{Yields, empty, opened}
 use Rattle.derivation.proofs.Trees.{trees_from_derivation, derivation_from_trees}
 use Rattle.derivation.proofs.Costs.{least_is_one, minimal_costs_least}
 use Rattle.cfgtables.specs.Openings.{nth_production}
-use Rattle.cfgsums.specs.Sums.{sum_of, symbol_cost}
-use Rattle.cfgsums.specs.Lists.{rule_cost}
-use Rattle.cfgsums.proofs.Sums.{plus_parts, plus_zero}
+use Rattle.derivation.specs.Sums.{sum_of, symbol_cost}
+use Rattle.derivation.specs.Lists.{rule_cost}
+use Rattle.derivation.proofs.Sums.{plus_parts, plus_zero}
 use Rattle.cfgleast.specs.Certificate.{rule_choice}
 use Rattle.cfgchoices.specs.Inner.Choices.{ChoicesGive}
 use Rattle.cfgchoices.specs.Inner.Choices as gives

@@ -6,7 +6,7 @@ use Rattle.derivation.specs.Grammar.{Sym, Rule, Token, Grammar, IsGrammar, IsSym
 use Rattle.derivation.specs.Sentence.{Sentence, cost_of}
 use Rattle.derivation.specs.Tree.{Yields}
 use Rattle.derivation.proofs.Trees.{trees_from_derivation}
-use Rattle.cfgsums.proofs.Made.{cost_of-token}
+use Rattle.derivation.proofs.Made.{cost_of-token}
 use Rattle.lemmas.proofs.Popped.{none_left}
 use Rattle.cfgchoices.proofs.SentenceTokens.{leaves_are}
 

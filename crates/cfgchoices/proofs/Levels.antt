@@ -11,7 +11,7 @@ use Rattle.derivation.proofs.Trees.{trees_join, trees_from_derivation, derivatio
 use Rattle.derivation.proofs.Costs.{least_is_one, minimal_costs_least}
 use Rattle.cfgchoices.specs.Splits.{Split, done, itself, part}
 use Rattle.cfgchoices.specs.Levels.{Along, here, next, CostsAsItsRule, HandsOn, IsHandedDown}
-use Rattle.cfgsums.proofs.Made.{cost_of-token}
+use Rattle.derivation.proofs.Made.{cost_of-token}
 use Rattle.lemmas.proofs.Contained.{contains_first, contains_later, contains_none, contains_cases}
 use Rattle.cfgchoices.proofs.Lengths.{IsPaid, dear_empty, sentence_dear, tokens_dear}
 use Rattle.cfgchoices.proofs.Splits.{Split-map, IsYielded, IsYieldedAnd, trees_from_split, by_rules}

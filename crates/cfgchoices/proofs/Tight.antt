@@ -12,12 +12,12 @@ use Rattle.derivation.specs.Costs.{Least, Minimal}
 use Rattle.derivation.proofs.Costs.{minimal_costs_least, least_is_one}
 use Rattle.cfgtables.specs.Openings.{nth_production}
 use Rattle.cfgtables.proofs.Placed.{at_place}
-use Rattle.cfgsums.specs.declared.errors.CostError.{CostError}
-use Rattle.cfgsums.specs.declared.errors.CostError.TheVariants.{NoSentence, CostTooLarge}
-use Rattle.cfgsums.specs.Sums.{sum_of, symbol_cost}
-use Rattle.cfgsums.specs.Lists.{rule_cost}
-use Rattle.cfgsums.proofs.Sums.{plus_parts, plus_both}
-use Rattle.cfgsums.proofs.Made.{cost_of-token}
+use Rattle.derivation.specs.declared.errors.CostError.{CostError}
+use Rattle.derivation.specs.declared.errors.CostError.TheVariants.{NoSentence, CostTooLarge}
+use Rattle.derivation.specs.Sums.{sum_of, symbol_cost}
+use Rattle.derivation.specs.Lists.{rule_cost}
+use Rattle.derivation.proofs.Sums.{plus_parts, plus_both}
+use Rattle.derivation.proofs.Made.{cost_of-token}
 use Rattle.cfgleast.specs.Generator.{CostTables, IsGenerator, cost_answer, token_cost}
 use Rattle.cfgchoices.specs.Levels.{Along, here, next, CostsAsItsRule, HandsOn, IsOwn}
 use Rattle.cfgchoices.specs.Inner.Kinds.{AreKinds, HasHeir, HasNoHeir, HasRulesAsHeirs, IsHeir, IsKind, IsRowKind, IsTight, IsMinimal, IsOwnBelow}

@@ -2,8 +2,8 @@
 use Rattle.std.proofs.Common.{◌≡◌, ◌↔◌, ℕ, ◌<◌, List, Option, Result, Err, get_or, sym, subst, ◌∙◌}
 use Rattle.std.proofs.lemmas.List.{get_or_default}
 use Rattle.derivation.specs.Grammar.{HasProduction}
-use Rattle.cfgsums.specs.declared.errors.CostError.{CostError}
-use Rattle.cfgsums.specs.declared.errors.CostError.TheVariants.{NoSentence}
+use Rattle.derivation.specs.declared.errors.CostError.{CostError}
+use Rattle.derivation.specs.declared.errors.CostError.TheVariants.{NoSentence}
 use Rattle.cfggreatest.specs.Words.{AreTold, Means}
 use Rattle.cfggreatest.proofs.Telling.{exactly}
 use Rattle.cfgleast.specs.Generator.{CostTables, token_cost}

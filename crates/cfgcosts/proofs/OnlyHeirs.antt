@@ -9,7 +9,7 @@ use Rattle.cfgindex.specs.declared.idxnewtype.RIdx.{RIdx}
 use Rattle.derivation.specs.Grammar.{Grammar, IsGrammar}
 use Rattle.cfgtables.specs.Openings.{nth_production, ArePlacesOf}
 use Rattle.cfgleast.specs.Generator.{CostTables, IsGenerator, cost_answer}
-use Rattle.cfgsums.proofs.Rows.{item_shown}
+use Rattle.derivation.proofs.Rows.{item_shown}
 use Rattle.cfgcosts.specs.Inner.Heirs.{AreHeirs, HasSameSentences, IsOnlyHeir, rules_of}
 use Rattle.cfgchoices.specs.Inner.Kinds.{HasRulesAsHeirs, AreKinds, HasHeir, IsHeir, IsKind, IsTight, IsMinimal, IsOwnBelow}
 use Rattle.cfgchoices.specs.Levels.{Along, here, next}

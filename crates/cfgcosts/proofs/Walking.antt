@@ -14,9 +14,9 @@ use Rattle.derivation.specs.Costs.{Least}
 use Rattle.derivation.proofs.Costs.{least_is_one, minimal_costs_least}
 use Rattle.cfgtables.specs.Openings.{nth_production}
 use Rattle.cfgtables.proofs.Placed.{same_production}
-use Rattle.cfgsums.specs.Lists.{rule_cost}
-use Rattle.cfgsums.proofs.Rows.{item_shown}
-use Rattle.cfgsums.proofs.Sums.{plus_zero}
+use Rattle.derivation.specs.Lists.{rule_cost}
+use Rattle.derivation.proofs.Rows.{item_shown}
+use Rattle.derivation.proofs.Sums.{plus_zero}
 use Rattle.cfgleast.specs.Certificate.{choice_of, rule_choice}
 use Rattle.cfgleast.specs.Generator.{CostTables, cost_answer, token_cost}
 use Rattle.cfgleast.proofs.Generated.{answered_some}

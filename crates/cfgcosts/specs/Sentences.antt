@@ -8,10 +8,10 @@ use Rattle.derivation.specs.Sentence.{cost_of}
 use Rattle.derivation.specs.Costs.{Greatest, Minimal, Unbounded}
 use Rattle.cfgleast.specs.Generator.{HasNone}
 use Rattle.cfgchoices.specs.First.{dictionary}
-use Rattle.cfgsums.specs.declared.errors.CostError.{CostError}
+use Rattle.derivation.specs.declared.errors.CostError.{CostError}
 use Rattle.cfgcosts.specs.declared.errors.SentenceError.{SentenceError}
 use Rattle.cfgcosts.specs.declared.errors.SentenceError.TheVariants.{NoSentence, CostTooLarge, OutOfMemory}
-use Rattle.cfgsums.specs.declared.errors.CostError.TheVariants as costs
+use Rattle.derivation.specs.declared.errors.CostError.TheVariants as costs
 
 -- the refusal of a sentence, where a cost is refused
 abbrev pub sentence_error : CostError → SentenceError

@@ -4,7 +4,7 @@ ghost use Rattle.std.specs.Prelude.{◌≡◌, Some};
 ghost use Rattle.cfgcosts.specs.declared.errors.SentenceError.TheVariants.{OutOfMemory};
 ghost use Rattle.cfgcosts.specs.Sentences.{sentence_error, sentence_error_text};
 
-use cfgsums::CostError;
+use derivation::CostError;
 use std::alloc::AllocError;
 use std::error::Error;
 use std::fmt;

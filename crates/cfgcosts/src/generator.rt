@@ -6,7 +6,7 @@ ghost use Rattle.std.specs.Result.{result_ok};
 ghost use Rattle.cfgindex.specs.declared.idxnewtype.TIdx.{TIdx};
 ghost use Rattle.derivation.specs.Grammar.{HasProduction, IsGrammar};
 ghost use Rattle.derivation.specs.Costs.{Greatest, Least, Unbounded};
-ghost use Rattle.cfgsums.specs.Lists.{rule_cost};
+ghost use Rattle.derivation.specs.Lists.{rule_cost};
 ghost use Rattle.cfgleast.specs.Certificate.{IsCovered, IsReached, choice_of, rule_choice};
 ghost use Rattle.cfgleast.specs.Generator.{HasNone, IsGenerator, IsLeastProduction, IsTooDear};
 ghost use Rattle.cfgleast.specs.Generator.{choice_answer, cost_answer, token_cost};
@@ -18,8 +18,8 @@ use cfggreatest::greatest_costs;
 use cfgindex::{PIdx, RIdx, Storage, TIdx, to_storage};
 use cfgleast::settle::{Settled, settle};
 use cfgleast::walk::TOO_LARGE;
-use cfgsums::CostError;
 use cfgtables::Tables;
+use derivation::CostError;
 use std::alloc::{AllocError, Global};
 use std::marker::Model;
 

@@ -10,7 +10,7 @@ mod opener;
 mod over;
 mod sentence;
 
-pub use cfgsums::CostError;
+pub use derivation::CostError;
 pub use errors::SentenceError;
 pub use generator::SentenceGenerator;
 pub use over::min_sentence_over;

@@ -1,2 +1,3 @@
 pub mod ErrorLemmas
 pub mod HeaderErrorLemmas
+pub mod WarningLemmas

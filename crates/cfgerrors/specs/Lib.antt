@@ -2,3 +2,5 @@ pub mod Errors
 pub mod HeaderErrors
 pub mod HeaderTexts
 pub mod Texts
+pub mod Warnings
+pub mod WarningTexts

@@ -1,5 +1,5 @@
-//! What `==` and `clone` of errors compare and copy. They are derived, so each law names the impl, as
-//! in `⟦<YaccGrammarErrorKind as PartialEq>⟧`, and holds of every value.
+//! What `==` and `clone` of errors, and of kinds of warnings, compare and copy. They are derived, so each law names the
+//! impl, as in `⟦<YaccGrammarErrorKind as PartialEq>⟧`, and holds of every value.
 
 ghost use Rattle.std.specs.Prelude.{◌≡◌, ◌↔◌, IsTrue};
 ghost use Rattle.std.specs.List.{AllZip};
@@ -8,9 +8,11 @@ ghost use Rattle.cfgerrors.specs.HeaderErrors.{error_kind_view};
 ghost use Rattle.cfgerrors.specs.declared.error.YaccGrammarErrorKind.{YaccGrammarErrorKind};
 ghost use Rattle.cfgerrors.specs.declared.header.HeaderError.{HeaderError};
 ghost use Rattle.cfgerrors.specs.declared.header.HeaderErrorKind.{HeaderErrorKind};
+ghost use Rattle.cfgerrors.specs.declared.warning.YaccGrammarWarningKind.{YaccGrammarWarningKind};
 
 use crate::error::YaccGrammarErrorKind;
 use crate::header::{HeaderError, HeaderErrorKind};
+use crate::warning::YaccGrammarWarningKind;
 
 /// Kinds of errors are equal exactly where they show the same: the same kind, with the same name or character where it
 /// holds one. A clone shows what its source does.
@@ -35,4 +37,13 @@ pub fn header_errors_are_cloned<T: Clone>()
     ensures kind { (a b : HeaderError T) → ⟦<HeaderError<T> as Clone>⟧.is_clone a b → b.kind ≡ a.kind }
     ensures locations { (a b : HeaderError T) → ⟦<HeaderError<T> as Clone>⟧.is_clone a b
         → AllZip T.is_clone a.locations.items b.locations.items }
+{}
+
+/// The two kinds of warnings differ, and each is equal to itself. A clone is its source.
+pub fn warning_kinds_are_told_apart()
+    ensures equal { (a b : YaccGrammarWarningKind)
+        → IsTrue (⟦<YaccGrammarWarningKind as PartialEq>⟧.eq a b) ↔ (a ≡ b) }
+    ensures clone { (a b : YaccGrammarWarningKind) → ⟦<YaccGrammarWarningKind as Clone>⟧.is_clone a b
+        → b ≡ a }
+    ensures cloned { (a : YaccGrammarWarningKind) → ⟦<YaccGrammarWarningKind as Clone>⟧.is_infallible a }
 {}

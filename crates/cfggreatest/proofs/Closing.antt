@@ -1,8 +1,8 @@
 -- What the sums of the last group tell.
 use Rattle.std.proofs.Common.{◌≡◌, ℕ, ◌<◌, ◌≤◌, ltb, leb, ◌&&◌, Bool, true, false, cond, List, Option, Some, None, Result, Ok, Err, get_or, length, refl, sym, ap, subst, ◌∙◌, arith}
 use Rattle.derivation.specs.Grammar.{Grammar, HasProduction}
-use Rattle.cfgsums.specs.declared.errors.CostError.{CostError}
-use Rattle.cfgsums.specs.declared.errors.CostError.TheVariants.{CostTooLarge}
+use Rattle.derivation.specs.declared.errors.CostError.{CostError}
+use Rattle.derivation.specs.declared.errors.CostError.TheVariants.{CostTooLarge}
 use Rattle.cfggreatest.specs.Words.{Means}
 use Rattle.cfggreatest.specs.Inner.Groups.{IsLast}
 use Rattle.cfggreatest.specs.Inner.Known.{AreTrue, group_answer, is_dead}

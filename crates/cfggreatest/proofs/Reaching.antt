@@ -7,8 +7,8 @@ use Rattle.derivation.specs.Grammar.{Sym, Rule, Token, Grammar, IsGrammar, IsSym
 use Rattle.derivation.specs.Tree.{Yields, empty, token, opened}
 use Rattle.derivation.proofs.Trees.{derivation_from_trees}
 use Rattle.cfgtables.proofs.Placed.{all_symbols}
-use Rattle.cfgsums.specs.declared.errors.CostError.{CostError}
-use Rattle.cfgsums.specs.declared.errors.CostError.TheVariants.{NoSentence, CostTooLarge}
+use Rattle.derivation.specs.declared.errors.CostError.{CostError}
+use Rattle.derivation.specs.declared.errors.CostError.TheVariants.{NoSentence, CostTooLarge}
 use Rattle.cfggreatest.specs.Words.{Means}
 use Rattle.cfggreatest.specs.Inner.AtLeast.{AtLeast, HasWord, IsDead}
 use Rattle.cfggreatest.specs.Inner.Known.{IsLiveSymbol, is_dead, is_outside, known_cost, known_of, read_known, read_symbol}

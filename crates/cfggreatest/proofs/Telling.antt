@@ -3,8 +3,8 @@ use Rattle.std.proofs.Common.{◌≡◌, ◌↔◌, ℕ, ◌<◌, ◌≤◌, Lis
 use Rattle.derivation.specs.Grammar.{Sym}
 use Rattle.derivation.specs.Costs.{Greatest, Unbounded}
 use Rattle.derivation.proofs.Costs.{greatest_is_bound, greatest_is_one}
-use Rattle.cfgsums.specs.declared.errors.CostError.{CostError}
-use Rattle.cfgsums.specs.declared.errors.CostError.TheVariants.{NoSentence, CostTooLarge}
+use Rattle.derivation.specs.declared.errors.CostError.{CostError}
+use Rattle.derivation.specs.declared.errors.CostError.TheVariants.{NoSentence, CostTooLarge}
 use Rattle.cfggreatest.specs.Words.{Means}
 
 module _ (P : ℕ → List Sym → Type 0) (cost : ℕ → ℕ) (r : ℕ) where

@@ -3,8 +3,8 @@ use Rattle.std.specs.Prelude.{◌≡◌, ℕ, ◌<◌, ◌≤◌, List, Option, 
 use Rattle.derivation.specs.Grammar.{Sym, Grammar, HasProduction}
 use Rattle.derivation.specs.Sentence.{Sentence}
 use Rattle.derivation.specs.Costs.{Greatest, Unbounded}
-use Rattle.cfgsums.specs.declared.errors.CostError.{CostError}
-use Rattle.cfgsums.specs.declared.errors.CostError.TheVariants.{NoSentence, CostTooLarge}
+use Rattle.derivation.specs.declared.errors.CostError.{CostError}
+use Rattle.derivation.specs.declared.errors.CostError.TheVariants.{NoSentence, CostTooLarge}
 
 -- what an answer means for a rule
 abbrev pub Means : (ℕ → List Sym → Type 0) → (ℕ → ℕ) → ℕ → Result (Option ℕ) CostError → Type 0

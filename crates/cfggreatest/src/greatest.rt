@@ -6,8 +6,8 @@ ghost use Rattle.cfggreatest.specs.Words.{AreTold};
 use crate::live::Live;
 use crate::walk::Walk;
 use cfgindex::Storage;
-use cfgsums::CostError;
 use cfgtables::Tables;
+use derivation::CostError;
 use std::alloc::{AllocError, Global};
 
 /// For each rule the greatest cost of its sentences, where a sentence costs what its tokens cost together: `None` where

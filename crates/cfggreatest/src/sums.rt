@@ -6,15 +6,15 @@ ghost use Rattle.std.specs.Prelude.{◌≡◌, ℕ, ◌+◌, ◌<◌, ◌≤◌,
 ghost use Rattle.std.specs.Prelude.{slice_index};
 ghost use Rattle.derivation.specs.Grammar.{HasProduction};
 ghost use Rattle.cfgtables.specs.Symbols.{sym_of};
-ghost use Rattle.cfgsums.specs.Lists.{IsListed};
+ghost use Rattle.derivation.specs.Lists.{IsListed};
 ghost use Rattle.cfggreatest.specs.Inner.Known.{IsLiveSymbol, group_answer, is_dead, known_of, read_answer};
 ghost use Rattle.cfggreatest.specs.Inner.Known.{read_known, read_symbol};
 ghost use Rattle.cfggreatest.specs.Inner.Sums.{AreNoLess, AreReached, AreUnder, IsGroup, IsStopped, IsSum, StopsAt};
 ghost use Rattle.cfggreatest.specs.Inner.Sums.{StopsRow, TakesRow};
 
 use cfgindex::{RIdx, Storage, Symbol, to_storage};
-use cfgsums::CostError;
 use cfgtables::Tables;
+use derivation::CostError;
 
 /// What no answer of a greatest cost is above.
 const TOO_LARGE: u32 = 65536;

@@ -17,8 +17,8 @@ ghost use Rattle.cfggreatest.specs.Inner.Walk.{IsWayOut, Steps, first_known};
 use crate::live::Live;
 use crate::sums::{Known, Stop, are_live, group_sums};
 use cfgindex::{RIdx, Storage, Symbol, to_storage};
-use cfgsums::CostError;
 use cfgtables::Tables;
+use derivation::CostError;
 use std::alloc::{AllocError, Global};
 
 /// A walk through rules.

@@ -1,10 +1,2 @@
-pub mod NamedLemmas
-pub mod NamedPlaces
-pub mod SectionAnswers
-pub mod SectionElements
+pub mod HeaderAnswers
 pub mod SectionHeader
-pub mod SectionKept
-pub mod SectionOne
-pub mod SectionParsed
-pub mod SectionPlaces
-pub mod SectionRepeats

@@ -9,19 +9,19 @@ use Rattle.std.specs.BTreeMap.{insert_entry, is_at}
 use Rattle.std.specs.Str.{bytes_eq}
 use Rattle.std.specs.String.{string_cmp, string_cmp_total}
 use Rattle.std.proofs.lemmas.Map.Text.{is_eq-slice_cmp}
-use Rattle.std.proofs.lemmas.List.Sums.{fold_push}
 use Rattle.lemmas.proofs.Entries.{lookup_inserted, lookup_congr}
 use Rattle.cfgbase.specs.declared.span.Span.{Span}
 use Rattle.cfgmarks.specs.declared.markmap.behavior.MergeBehavior.TheVariants.{MutuallyExclusive}
 use Rattle.cfgmarks.specs.declared.markmap.marked.Marked.{Marked}
 use Rattle.cfgmarks.specs.declared.markmap.MarkMap.{MarkMap}
 use Rattle.cfgmarks.specs.Marks.{Marks, marks, marks_at, unmarked, entry_at, changed, set_value}
-use Rattle.cfgheader.specs.declared.section.entry.Entry.{Entry as CodeEntry}
 use Rattle.cfgkinds.specs.declared.value.HeaderValue.{HeaderValue}
 use Rattle.cfgkinds.specs.Values.{ShownHeaderValue, header_value_view}
-use Rattle.cfgheader.specs.SectionGrammar.{Entry}
-use Rattle.cfgheader.specs.SectionReads.{IsHeaderOf, given, marked_view, bare_value}
-use Rattle.cfgheader.specs.Inner.Steps.{entry_view}
+use Rattle.cfgsection.specs.declared.section.entry.Entry.{Entry as CodeEntry}
+use Rattle.cfgsection.specs.SectionGrammar.{Entry}
+use Rattle.cfgsection.specs.SectionReads.{entry_view, given}
+use Rattle.cfgsection.proofs.Given.{given-push}
+use Rattle.cfgheader.specs.Headers.{IsHeaderOf, marked_view, bare_value}
 
 equal_from : (r : Ordering) → is_eq r ≡ true → r ≡ Equal
 equal_from Less e = cc
@@ -48,11 +48,6 @@ module _ {K X : Type 0} (cmp : K → K → Ordering) (total : IsTotalOrder cmp) 
       go : (b : Bool) → is_at (cmp k) q ≡ b → lookup (is_at (cmp q)) (insert_entry cmp es k w) ≡ cond b (Some w) (lookup (is_at (cmp q)) es)
       go true e = sym (lookup_congr cmp total (insert_entry cmp es k w) k q (equal_from (cmp k q) e)) ∙ lookup_inserted cmp total es k w
       go false e = lookup_inserted_other es k q w e
-
--- what the entries give a key, with one entry more
-given-push : (done : List Entry) (x : Entry) (key : List ℕ) → given (done ++ x ∷ []) key ≡ cond (bytes_eq x.key key) (Some (record { place = x.key_span; value = x.value })) (given done key)
-unfolding given
-given-push done x key = fold_push _ _ done x
 
 -- a value that is set at a key without marks shows as a value alone
 set_shows : (o : Option (Marked (HeaderValue Span))) (g : Option (ShownHeaderValue Span)) → option_map marked_view o ≡ option_map bare_value g

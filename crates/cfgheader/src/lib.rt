@@ -1,7 +1,9 @@
-//! The `%grmtools` section of a file: its reader, and the kind of Yacc that it names.
+//! The header of a `%grmtools` section: what its entries give their keys, as a marked map.
 #![tactic(auto)]
 
-pub mod named;
-pub mod section;
+mod of_entries;
+pub mod parser;
 
-pub use section::{GrmtoolsSectionParser, Header, HeaderFault};
+pub use cfgsection::HeaderFault;
+pub use of_entries::Header;
+pub use parser::GrmtoolsSectionParser;

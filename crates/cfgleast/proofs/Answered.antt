@@ -11,16 +11,16 @@ use Rattle.derivation.proofs.Costs.{least_is_one}
 use Rattle.derivation.proofs.Trees.{trees_from_derivation, derivation_from_trees}
 use Rattle.cfgtables.specs.Openings.{nth_production}
 use Rattle.cfgtables.proofs.Placed.{at_place}
-use Rattle.cfgsums.specs.Sums.{sum_of, symbol_cost}
+use Rattle.derivation.specs.Sums.{sum_of, symbol_cost}
 use Rattle.cfgleast.specs.Inner.Numbers.{IsNumberedBelow}
-use Rattle.cfgsums.specs.Lists.{rule_cost}
+use Rattle.derivation.specs.Lists.{rule_cost}
 use Rattle.cfgleast.specs.Certificate.{IsChosenBelow, rule_choice}
 use Rattle.cfgleast.specs.Inner.Settled.{AreSettled}
-use Rattle.cfgsums.specs.declared.errors.CostError.{CostError}
-use Rattle.cfgsums.specs.declared.errors.CostError.TheVariants.{NoSentence, CostTooLarge}
+use Rattle.derivation.specs.declared.errors.CostError.{CostError}
+use Rattle.derivation.specs.declared.errors.CostError.TheVariants.{NoSentence, CostTooLarge}
 use Rattle.cfgleast.specs.Generator.{IsTooDear, AnswersLeast, IsLeastProduction}
-use Rattle.cfgsums.proofs.Sums.{plus_zero}
-use Rattle.cfgsums.proofs.Made.{made_row, cut_over}
+use Rattle.derivation.proofs.Sums.{plus_zero}
+use Rattle.derivation.proofs.Made.{made_row, cut_over}
 use Rattle.cfgleast.proofs.TreeSums.{Choice, reached}
 use Rattle.cfgleast.proofs.Bounds.{IsAtMostCut, CoversCut, lower_bound_cut}
 use Rattle.cfgleast.proofs.Certified.{number_of, number, numbered_below}

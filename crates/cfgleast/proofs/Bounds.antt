@@ -4,9 +4,9 @@ use Rattle.std.proofs.lemmas.Option.{same_Some}
 use Rattle.derivation.specs.Grammar.{Sym}
 use Rattle.derivation.specs.Sentence.{cost_of}
 use Rattle.derivation.specs.Tree.{Yields}
-use Rattle.cfgsums.specs.Sums.{sum_of, symbol_cost}
-use Rattle.cfgsums.proofs.Sums.{plus_both}
-use Rattle.cfgsums.proofs.Made.{GoesOver}
+use Rattle.derivation.specs.Sums.{sum_of, symbol_cost}
+use Rattle.derivation.proofs.Sums.{plus_both}
+use Rattle.derivation.proofs.Made.{GoesOver}
 use Rattle.cfgleast.proofs.TreeSums.{GoesUp, sums_by_trees}
 
 -- a cost that is there, and at most n

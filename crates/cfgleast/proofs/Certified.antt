@@ -13,12 +13,12 @@ use Rattle.derivation.proofs.Trees.{trees_from_derivation, derivation_from_trees
 use Rattle.derivation.specs.Costs.{Least}
 use Rattle.cfgtables.specs.Openings.{nth_production}
 use Rattle.cfgtables.proofs.Placed.{same_production, at_place}
-use Rattle.cfgsums.specs.Sums.{symbol_cost}
+use Rattle.derivation.specs.Sums.{symbol_cost}
 use Rattle.cfgleast.specs.Inner.Numbers.{IsNumberedBelow}
-use Rattle.cfgsums.specs.Lists.{IsListed, rule_cost}
+use Rattle.derivation.specs.Lists.{IsListed, rule_cost}
 use Rattle.cfgleast.specs.Certificate.{IsCovered, IsCoveredInRange, IsChosenBelow, IsReached, IsShown, claim_of, rule_choice}
-use Rattle.cfgsums.proofs.Listed.{symbols_listed}
-use Rattle.cfgsums.proofs.Sums.{plus_zero}
+use Rattle.derivation.proofs.Listed.{symbols_listed}
+use Rattle.derivation.proofs.Sums.{plus_zero}
 use Rattle.cfgleast.proofs.TreeSums.{Choice, reached}
 use Rattle.cfgleast.proofs.Bounds.{IsAtMost, Covers, lower_bound, exactly_over}
 

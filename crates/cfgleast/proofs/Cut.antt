@@ -1,8 +1,8 @@
 -- Sums that are cut down to 65536 while they are made.
 use Rattle.std.proofs.Common.{◌≡◌, ℕ, ◌+◌, min, List, [], ◌∷◌, Option, Some, None, option_map, arith, refl, sym, ap, ◌∙◌}
 use Rattle.derivation.specs.Grammar.{Sym}
-use Rattle.cfgsums.specs.Sums.{plus, sum_of}
-use Rattle.cfgsums.proofs.Sums.{plus_assoc, zero_plus}
+use Rattle.derivation.specs.Sums.{plus, sum_of}
+use Rattle.derivation.proofs.Sums.{plus_assoc, zero_plus}
 
 -- the sum of the symbols that were taken, cut down; the rest is still to come
 pub record SumSoFar (costs : Sym → Option ℕ) (all rest : List Sym) (sum : ℕ) : Type 0 where

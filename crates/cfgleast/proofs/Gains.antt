@@ -3,8 +3,8 @@ use Rattle.std.proofs.Common.{◌≡◌, ℕ, zero, suc, ◌<◌, ◌≤◌, ◌
 use Rattle.std.proofs.lemmas.Option.{same_Some}
 use Rattle.std.proofs.lemmas.List.Elements.{All-nil, All-cons}
 use Rattle.derivation.specs.Grammar.{Sym, Rule, Token}
-use Rattle.cfgsums.specs.Sums.{sum_of, symbol_cost}
-use Rattle.cfgsums.proofs.Sums.{plus_parts, plus_both}
+use Rattle.derivation.specs.Sums.{sum_of, symbol_cost}
+use Rattle.derivation.proofs.Sums.{plus_parts, plus_both}
 
 -- a symbol of a sum has a cost, which is at most the sum
 pub record IsPart (f : Sym → Option ℕ) (s : Sym) (n : ℕ) : Type 0 where

@@ -10,14 +10,14 @@ use Rattle.std.proofs.lemmas.List.{get_or_default, get_or_past}
 use Rattle.std.proofs.lemmas.List.Elements.{All-from_get_or}
 use Rattle.derivation.specs.Grammar.{Sym, Rule, Token, HasProduction}
 use Rattle.cfgtables.specs.Openings.{nth_production}
-use Rattle.cfgsums.specs.declared.errors.CostError.{CostError}
-use Rattle.cfgsums.specs.declared.errors.CostError.TheVariants.{NoSentence, CostTooLarge}
-use Rattle.cfgsums.specs.Sums.{sum_of, symbol_cost}
-use Rattle.cfgsums.specs.Lists.{rule_cost}
+use Rattle.derivation.specs.declared.errors.CostError.{CostError}
+use Rattle.derivation.specs.declared.errors.CostError.TheVariants.{NoSentence, CostTooLarge}
+use Rattle.derivation.specs.Sums.{sum_of, symbol_cost}
+use Rattle.derivation.specs.Lists.{rule_cost}
 use Rattle.cfgleast.specs.Certificate.{IsCovered, IsReached, IsChosenBelow, IsShown, claim_of, choice_of, rule_choice}
 use Rattle.cfgleast.specs.Generator.{CostTables, IsGenerator, AnswersLeast, HasNone, IsLeastProduction, IsTooDear, up_to_limit, where_some, cost_answer, choice_answer, token_cost}
-use Rattle.cfgsums.proofs.Sums.{plus_parts, plus_both}
-use Rattle.cfgsums.proofs.Rows.{item_shown}
+use Rattle.derivation.proofs.Sums.{plus_parts, plus_both}
+use Rattle.derivation.proofs.Rows.{item_shown}
 use Rattle.cfgleast.proofs.Gains.{HasCost, all_have_costs, sum_kept}
 use Rattle.cfgleast.proofs.Answered.{answers_none, answers_cost, answers_dear, least_production}
 

@@ -10,7 +10,7 @@ use Rattle.lemmas.proofs.Elements.{get_or-set}
 use Rattle.derivation.specs.Grammar.{Sym, Rule, Grammar}
 use Rattle.cfgtables.specs.Openings.{nth_production}
 use Rattle.cfgleast.specs.declared.partial.Partial.{Partial}
-use Rattle.cfgsums.specs.Sums.{sum_of, symbol_cost}
+use Rattle.derivation.specs.Sums.{sum_of, symbol_cost}
 use Rattle.cfgleast.specs.Inner.Open.{IsCutSum, WaitsFor, MovesOn, enters, waits, Phase, queued, held, past, moved, AreOpen, IsAmong, waiting_for}
 use Rattle.cfgleast.proofs.Gains.{Gains, part_at, rule_kept, rule_gained, row_kept, row_gained}
 

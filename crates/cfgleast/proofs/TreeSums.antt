@@ -6,9 +6,9 @@ use Rattle.std.proofs.lemmas.List.Sums.{sum_by-append}
 use Rattle.derivation.specs.Grammar.{Sym, Rule, Token}
 use Rattle.derivation.specs.Sentence.{cost_of}
 use Rattle.derivation.specs.Tree.{Yields, empty, token, opened}
-use Rattle.cfgsums.specs.Sums.{plus, sum_of}
+use Rattle.derivation.specs.Sums.{plus, sum_of}
 use Rattle.cfgleast.specs.Inner.Numbers.{IsNumberedBelow}
-use Rattle.cfgsums.proofs.Made.{GoesOver, Made, cost_of-token, made_row}
+use Rattle.derivation.proofs.Made.{GoesOver, Made, cost_of-token, made_row}
 
 module _ (P : ℕ → List Sym → Type 0) (cost : ℕ → ℕ) (costs : Sym → Option ℕ) where
   -- a relation of costs in the table and costs of words that goes over to sums, and from productions to their rules

@@ -4,10 +4,10 @@ ghost use Rattle.std.specs.Prelude.{◌≡◌, ◌+◌, ◌^◌, ◌<◌, ◌≤
 ghost use Rattle.std.specs.Prelude.{Some, length, map, replicate, slice_index, take};
 ghost use Rattle.derivation.specs.Grammar.{Rule};
 ghost use Rattle.cfgtables.specs.Symbols.{sym_of};
-ghost use Rattle.cfgsums.specs.Lists.{IsListed, rule_cost};
+ghost use Rattle.derivation.specs.Lists.{IsListed, rule_cost};
 ghost use Rattle.cfgleast.specs.Inner.Open.{AreInput, AreWaking, AreAllOpen, IsCutSum, IsPartial, MovesOn, StopsAt};
 ghost use Rattle.cfgleast.specs.Inner.Open.{count_open};
-ghost use Rattle.cfgsums.specs.Sums.{symbol_cost};
+ghost use Rattle.derivation.specs.Sums.{symbol_cost};
 
 use crate::partial::Partial;
 use crate::queue::Queue;

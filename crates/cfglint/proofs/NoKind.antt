@@ -1,17 +1,18 @@
--- Whether a text names no kind, by what the parser of sections answers.
-use Rattle.std.proofs.Common.{◌≡◌, ◌↔◌, ℕ, Bool, false, IsTrue, List, [], ◌∷◌, None, Result, Ok, Err, codes, sym, subst, ap, ap₂, ◌∙◌}
+-- Whether a text names no kind, by what is read of its section.
+use Rattle.std.proofs.Common.{◌≡◌, ◌↔◌, ℕ, Bool, true, false, not, IsTrue, List, [], ◌∷◌, Option, Some, None, Result, Ok, Err, Bor, codes, map, option_map, refl, sym, subst, ap, ap₂, ◌∙◌}
 use Rattle.std.proofs.lemmas.Bool.{false≢true}
-use Rattle.std.specs.Prelude.{Vec}
+use Rattle.std.specs.Prelude.{Vec, is_some}
 use Rattle.std.specs.declared.alloc.Global.{Global}
 use Rattle.cfgbase.specs.declared.span.Span.{Span}
 use Rattle.cfgerrors.specs.HeaderErrors.{ShownError}
 use Rattle.cfgerrors.specs.declared.header.HeaderError.{HeaderError}
-use Rattle.cfgheader.specs.SectionErrors.{section_errors}
-use Rattle.cfgheader.specs.SectionGrammar.{Entry, Fault}
-use Rattle.cfgheader.specs.SectionReads.{AnswersSection, IsHeaderOf, IsSection, errors_view, given, section_answer, section_of, unless_errors}
-use Rattle.cfgheader.specs.declared.section.header_fault.HeaderFault.TheVariants as faults
-use Rattle.cfgheader.proofs.SectionOne.{one_section, section_answered}
-use Rattle.cfgheader.proofs.SectionParsed.{parsed}
+use Rattle.cfgkinds.specs.Values.{ShownHeaderValue}
+use Rattle.cfgsection.specs.SectionErrors.{section_errors}
+use Rattle.cfgsection.specs.SectionGrammar.{Entry, Fault}
+use Rattle.cfgsection.specs.SectionReads.{IsSection, IsSectionRead, entry_view, errors_view, given, given_by, section_answer, section_of, unless_errors}
+use Rattle.cfgsection.specs.declared.section.entry.Entry.{Entry as CodeEntry}
+use Rattle.cfgsection.specs.declared.section.header_fault.HeaderFault.TheVariants as faults
+use Rattle.cfgsection.proofs.SectionOne.{one_section, section_answered}
 use Rattle.cfglint.specs.Told.{NamesNoKind}
 
 -- a section without errors, as its entries and what is left behind it, or its errors
@@ -59,25 +60,29 @@ only_none : (text : List ℕ) (entries : List Entry) (rest : List ℕ) → secti
 only_none text entries rest is it =
     subst (λ xs. given xs (codes "yacckind") ≡ None) (ap entries_in (sym (section_is text it) ∙ is)) it.none
 
-module _ (text source : List ℕ) (required : Bool) (from : source ≡ text) (may_lack : required ≡ false) where
-  answers_here : (answer : _) → AnswersSection required source answer → AnswersSection false text answer
-  answers_here answer answers =
-      subst (λ source. AnswersSection false source answer) from (subst (λ required. AnswersSection required source answer) may_lack answers)
+-- whether something was found
+none_found : (found : Option (Bor CodeEntry)) (value : Option (ShownHeaderValue Span)) (is : Bool) → option_map (λ (e : Bor CodeEntry). given_by (entry_view e.now)) found ≡ value
+    → is_some found ≡ not is → IsTrue is ↔ (value ≡ None)
+none_found None value true e told = (λ yes. sym e, λ none. refl)
+none_found None value false e told = absurd (false≢true told)
+none_found (Some x) value true e told = absurd (false≢true (sym told))
+none_found (Some x) value false e told = (λ yes. absurd (false≢true yes), λ none. let no : Some (given_by (entry_view x.now)) ≡ None = e ∙ none in absurd (cc))
 
-  -- of a section without errors, where it is known whether it gives nothing for the key of the kind
-  pub by_header : (header : _) (end : ℕ) → AnswersSection required source (Ok (header, end))
-      → (is : Bool) → ((entries : List Entry) → IsHeaderOf entries header → IsTrue is ↔ (given entries (codes "yacckind") ≡ None))
-      → IsTrue is ↔ NamesNoKind text
-  by_header header end answers is gives =
-      let (entries, rest, section, holds, _) = parsed false text (Ok (header, end)) (answers_here (Ok (header, end)) answers) in
-      let given_none = gives entries holds in
-      (λ yes. names_none text entries rest section (given_none.0 yes), λ it. given_none.1 (only_none text entries rest section it))
+module _ (text : List ℕ) where
+  -- of a section without errors, where it was looked for an entry that gives the key of the kind something
+  pub by_entries : (entries : Vec CodeEntry Global) (rest : Bor (List ℕ)) (found : Option (Bor CodeEntry)) (is : Bool)
+      → IsSectionRead (section_of false text) (Ok (entries, rest))
+      → option_map (λ (e : Bor CodeEntry). given_by (entry_view e.now)) found ≡ given (map entry_view entries.items) (codes "yacckind")
+      → is_some found ≡ not is → IsTrue is ↔ NamesNoKind text
+  by_entries entries rest found is read gives told =
+      let none = none_found found (given (map entry_view entries.items) (codes "yacckind")) is gives told in (
+        λ yes. names_none text (map entry_view entries.items) rest.now read (none.0 yes),
+        λ it. none.1 (only_none text (map entry_view entries.items) rest.now read it),
+      )
 
   -- of a section with errors
-  pub by_errors : (answer : _) → AnswersSection required source answer
-      → (errors : Vec (HeaderError Span) Global) → answer ≡ Err (faults.Errors errors) → IsTrue false ↔ NamesNoKind text
-  by_errors answer answers errors is =
-      let section = parsed false text (Err (faults.Errors errors)) (subst (AnswersSection false text) is (answers_here answer answers)) in (
-        λ yes. absurd (false≢true yes),
-        λ it. absurd (unlike (errors_view errors.items) (it.entries, it.rest) (sym section ∙ section_is text it)),
-      )
+  pub by_errors : (errors : Vec (HeaderError Span) Global) → IsSectionRead (section_of false text) (Err (faults.Errors errors)) → IsTrue false ↔ NamesNoKind text
+  by_errors errors read = (
+    λ yes. absurd (false≢true yes),
+    λ it. absurd (unlike (errors_view errors.items) (it.entries, it.rest) (sym read ∙ section_is text it)),
+  )

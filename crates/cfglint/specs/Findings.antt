@@ -15,8 +15,8 @@ use Rattle.cfgleast.specs.Generator.{HasNone}
 use Rattle.cfgast.specs.Syntax.{Production, Syntax}
 use Rattle.cfgast.specs.declared.precedence.Precedence.{Precedence}
 use Rattle.cfgtree.specs.Unused.{AreWarnings, TokenName, entry_token, name_of}
-use Rattle.cfgwarnings.specs.Warnings.{GrammarWarning}
-use Rattle.cfgwarnings.specs.declared.warning.YaccGrammarWarningKind.TheVariants.{UnusedToken}
+use Rattle.cfgerrors.specs.Warnings.{GrammarWarning}
+use Rattle.cfgerrors.specs.declared.warning.YaccGrammarWarningKind.TheVariants.{UnusedToken}
 use Rattle.cfgtables.specs.Openings.{nth_production}
 use Rattle.cfgnumbers.specs.Numbered.{Numbered, core}
 use Rattle.cfglint.specs.Shown.{ShownFinding, derives_itself, no_sentence, place_of, repeated, unusable, unused_precedence, warned}

@@ -8,10 +8,10 @@ use Rattle.cfgbase.specs.declared.span.Span.{Span}
 use Rattle.cfgbase.specs.declared.span.SpansKind.{SpansKind}
 use Rattle.cfgbase.specs.declared.span.SpansKind.TheVariants.{DuplicationError, Error}
 use Rattle.cfgtree.specs.Check.{nowhere}
-use Rattle.cfgwarnings.specs.Texts.{warning_text}
-use Rattle.cfgwarnings.specs.Warnings.{GrammarWarning}
-use Rattle.cfgwarnings.specs.declared.warning.YaccGrammarWarningKind.{YaccGrammarWarningKind}
-use Rattle.cfgwarnings.specs.declared.warning.YaccGrammarWarningKind.TheVariants as warnings
+use Rattle.cfgerrors.specs.WarningTexts.{warning_text}
+use Rattle.cfgerrors.specs.Warnings.{GrammarWarning}
+use Rattle.cfgerrors.specs.declared.warning.YaccGrammarWarningKind.{YaccGrammarWarningKind}
+use Rattle.cfgerrors.specs.declared.warning.YaccGrammarWarningKind.TheVariants as warnings
 use Rattle.cfgnumbers.specs.Numbered.{Numbered, core}
 use Rattle.cfgnumbers.specs.Shown.{production_part, rule_part, sym_name}
 use Rattle.cfgtables.specs.Openings.{nth_production}

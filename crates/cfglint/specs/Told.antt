@@ -3,8 +3,8 @@ use Rattle.std.specs.Prelude.{◌≡◌, ℕ, ◌⊎◌, Bool, true, false, List
 use Rattle.std.specs.List.{flat_map}
 use Rattle.cfgkinds.specs.declared.kind.YaccKind.TheVariants.{Original}
 use Rattle.cfgkinds.specs.declared.kind.YaccOriginalActionKind.TheVariants.{NoAction}
-use Rattle.cfgheader.specs.SectionGrammar.{Entry}
-use Rattle.cfgheader.specs.SectionReads.{IsSection, given, section_answer}
+use Rattle.cfgsection.specs.SectionGrammar.{Entry}
+use Rattle.cfgsection.specs.SectionReads.{IsSection, given, section_answer}
 use Rattle.cfgerrors.specs.Errors.{GrammarError}
 use Rattle.cfgerrors.specs.Errors as errors
 use Rattle.cfgerrors.specs.Texts.{error_text}

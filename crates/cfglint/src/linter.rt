@@ -1,8 +1,6 @@
 //! What is told of a text.
 
-ghost use Rattle.std.specs.Prelude.{◌≡◌, ◌↔◌, List, None, false, length, codes, IfOk, IsTrue};
-ghost use Rattle.cfgheader.specs.SectionGrammar.{Entry};
-ghost use Rattle.cfgheader.specs.SectionReads.{IsHeaderOf, given};
+ghost use Rattle.std.specs.Prelude.{◌≡◌, ◌↔◌, List, None, false, length, IfOk, IsTrue};
 ghost use Rattle.cfgyacc.specs.Answer.{Found, WasRead};
 ghost use Rattle.cfgyacc.specs.GrammarOf.{IsFoundAs, IsFoundItself};
 ghost use Rattle.cfgtree.specs.View.{syntax};
@@ -12,11 +10,10 @@ ghost use Rattle.cfglint.specs.Told.{IsFound, NamesNoKind, TellsFound, TellsText
 
 use crate::finding::Finding;
 use crate::found::findings;
-use cfgbase::Span;
 use cfgerrors::{YaccFault, YaccGrammarError};
-use cfgheader::{GrmtoolsSectionParser, Header, HeaderFault};
 use cfgkinds::{YaccKind, YaccOriginalActionKind};
 use cfgrender::render_all;
+use cfgsection::{HeaderFault, entry_of, section_entries};
 use cfgshell::KindArg;
 use cfgsyntax::let_go;
 use cfgsyntax::yacc::ast::ASTWithValidityInfo;
@@ -69,20 +66,11 @@ fn report_unasked(alloc: Global, name: &str, text: &str) -> Result<Report, Alloc
 fn names_no_kind(alloc: Global, text: &str) -> Result<bool, AllocError>
     ensures { IfOk result (λ is. IsTrue is ↔ NamesNoKind text.now) }
 {
-    match GrmtoolsSectionParser::new(text, false).parse(alloc) {
-        Ok((header, _)) => gives_no_kind(alloc, &header),
+    match section_entries(alloc, text, false) {
+        Ok((entries, _)) => Ok(entry_of(entries.as_slice(), "yacckind").is_none()),
         Err(HeaderFault::Errors(_)) => Ok(false),
         Err(HeaderFault::OutOfMemory) => Err(AllocError),
     }
-}
-
-/// Whether a section gives nothing for the key of the kind.
-fn gives_no_kind(alloc: Global, header: &Header<Span>) -> Result<bool, AllocError>
-    ensures { IfOk result (λ is. (entries : List Entry) → IsHeaderOf entries header.now
-        → (IsTrue is ↔ (given entries (codes "yacckind") ≡ None))) }
-{
-    let key = String::from_str(alloc, "yacckind")?;
-    Ok(!header.contains_key(&key))
 }
 
 /// The report of a text as a file of the kind that is asked for; no kind counts as taken.

@@ -4,7 +4,7 @@ ghost use Rattle.std.specs.Prelude.{◌≡◌, ◌++◌, List, length, IfOk, Mat
 ghost use Rattle.cfgast.specs.Syntax.{Syntax};
 ghost use Rattle.cfgtree.specs.Unused.{AreWarnings};
 ghost use Rattle.cfgtree.specs.View.{syntax};
-ghost use Rattle.cfgwarnings.specs.Warnings.{GrammarWarning};
+ghost use Rattle.cfgerrors.specs.Warnings.{GrammarWarning};
 ghost use Rattle.cfglint.specs.Findings.{IsAskedFor, TellsBelow, TellsWarning};
 ghost use Rattle.cfglint.specs.Inner.Asked.{AreAskedBy};
 ghost use Rattle.cfglint.specs.Shown.{kind_of_warning, warned};
@@ -13,8 +13,8 @@ use crate::asked::{Places, has_span, places_asked};
 use crate::finding::{Finding, FindingKind};
 use crate::teller::{Teller, push_told};
 use cfgbase::Spanned;
+use cfgerrors::{YaccGrammarWarning, YaccGrammarWarningKind};
 use cfgtree::GrammarAST;
-use cfgwarnings::{YaccGrammarWarning, YaccGrammarWarningKind};
 use std::alloc::{AllocError, Global};
 
 /// Puts behind the findings the warnings of the tree, but for unused tokens that a `%prec` names.

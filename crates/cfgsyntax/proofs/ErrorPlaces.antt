@@ -25,11 +25,11 @@ use Rattle.cfgtree.proofs.Repeats.{is_same_equivalence}
 use Rattle.cfgast.specs.Syntax.{Symbol, RuleSymbol, TokenSymbol, EachProductionSpan, EachSpan, symbol_word, Production, Rule, Syntax, syntax_of}
 use Rattle.cfgkinds.specs.declared.kind.YaccKind.{YaccKind}
 use Rattle.cfgerrors.specs.HeaderErrors.{ShownError}
-use Rattle.cfgheader.specs.SectionGrammar.{Entry}
-use Rattle.cfgheader.specs.SectionReads.{section_answer}
-use Rattle.cfgheader.specs.SectionPlaces.{IsErrorAt as IsSectionErrorAt}
-use Rattle.cfgheader.proofs.SectionOne.{section_answered}
-use Rattle.cfgheader.proofs.SectionPlaces.{IsSectionAt, section_at}
+use Rattle.cfgsection.specs.SectionGrammar.{Entry}
+use Rattle.cfgsection.specs.SectionReads.{section_answer}
+use Rattle.cfgsection.specs.SectionPlaces.{IsErrorAt as IsSectionErrorAt}
+use Rattle.cfgsection.proofs.SectionOne.{section_answered}
+use Rattle.cfgsection.proofs.SectionPlaces.{IsSectionAt, section_at}
 use Rattle.cfgerrors.specs.Errors.{ErrorKind, GrammarError, header_error, InvalidStartRule, UnknownRuleRef, UnknownToken, NoPrecForToken, UnknownEPP, NoStartRule, error_at}
 use Rattle.cfgtree.specs.Check.{nowhere, first_error, start_error, symbol_error, precedence_error, production_error, printed_error, place_error, rule_error, check_of}
 use Rattle.cfgsyntax.specs.Faults.{kind_of, error_of, duplicate_error, stop_errors, errors_of}

@@ -4,8 +4,8 @@ use Rattle.cfgbase.specs.declared.span.Span.{Span}
 use Rattle.cfgwords.specs.Places.{IsPiece}
 use Rattle.cfgkinds.specs.declared.kind.YaccKind.{YaccKind}
 use Rattle.cfgerrors.specs.HeaderErrors.{ShownError}
-use Rattle.cfgheader.specs.Named.{Naming}
-use Rattle.cfgheader.specs.SectionPlaces.{IsErrorAt}
+use Rattle.cfgsection.specs.Named.{Naming}
+use Rattle.cfgsection.specs.SectionPlaces.{IsErrorAt}
 use Rattle.cfgerrors.specs.Errors.{GrammarError, header_error}
 use Rattle.cfgerrors.specs.declared.error.YaccFault.{YaccFault}
 use Rattle.cfgerrors.specs.declared.error.YaccFault.TheVariants as faults

@@ -12,9 +12,9 @@ use Rattle.cfgtree.specs.View.{syntax}
 use Rattle.cfgtree.specs.declared.ast.GrammarAST.{GrammarAST}
 use Rattle.cfgkinds.specs.declared.kind.YaccKind.{YaccKind}
 use Rattle.cfgerrors.specs.HeaderErrors.{ShownError}
-use Rattle.cfgheader.specs.SectionGrammar.{Entry}
-use Rattle.cfgheader.specs.SectionReads.{section_of}
-use Rattle.cfgheader.proofs.SectionOne.{one_section, section_answered}
+use Rattle.cfgsection.specs.SectionGrammar.{Entry}
+use Rattle.cfgsection.specs.SectionReads.{section_of}
+use Rattle.cfgsection.proofs.SectionOne.{one_section, section_answered}
 use Rattle.cfgreader.specs.Grammar.{file}
 use Rattle.cfgsyntax.specs.declared.read.Stopped.{Stopped}
 use Rattle.cfgsyntax.specs.Inner.Steps.{IsReadBehind, stop_view}

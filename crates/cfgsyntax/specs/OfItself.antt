@@ -3,7 +3,7 @@ use Rattle.std.specs.Prelude.{◌≡◌, ℕ, List, map, Option, Result, Ok, Err
 use Rattle.cfgast.specs.Items.{Item}
 use Rattle.cfgast.specs.Syntax.{syntax_of}
 use Rattle.cfgkinds.specs.declared.kind.YaccKind.{YaccKind}
-use Rattle.cfgheader.specs.Named.{Naming}
+use Rattle.cfgsection.specs.Named.{Naming}
 use Rattle.cfgerrors.specs.Errors.{GrammarError, header_error}
 use Rattle.cfgerrors.specs.declared.error.YaccFault.{YaccFault}
 use Rattle.cfgerrors.specs.declared.error.YaccFault.TheVariants as faults

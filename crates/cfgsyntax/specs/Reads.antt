@@ -8,8 +8,8 @@ use Rattle.cfgwords.specs.declared.fault.Fault.{Fault}
 use Rattle.cfgast.specs.Items.{Item}
 use Rattle.cfgkinds.specs.declared.kind.YaccKind.{YaccKind}
 use Rattle.cfgerrors.specs.HeaderErrors.{ShownError}
-use Rattle.cfgheader.specs.SectionGrammar.{Entry, Fault as SectionFault}
-use Rattle.cfgheader.specs.SectionReads.{IsSection, section_answer}
+use Rattle.cfgsection.specs.SectionGrammar.{Entry, Fault as SectionFault}
+use Rattle.cfgsection.specs.SectionReads.{IsSection, section_answer}
 use Rattle.cfgreader.specs.Grammar.{file}
 
 -- what stops a reading: the errors of the section, or a fault of the file

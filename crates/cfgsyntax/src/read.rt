@@ -11,9 +11,9 @@ use cfgast::Syntax;
 use cfgbase::Span;
 use cfgerrors::HeaderError;
 use cfghash::NameHashes;
-use cfgheader::{GrmtoolsSectionParser, HeaderFault};
 use cfgkinds::YaccKind;
 use cfgreader::read_file;
+use cfgsection::{HeaderFault, section_entries};
 use cfgtree::{GrammarAST, tree_of};
 use cfgwords::fault::Fault;
 use std::alloc::{AllocError, Global};
@@ -28,12 +28,12 @@ pub(crate) enum Stopped {
 }
 
 /// What is left of a text behind its section, which may be missing.
-fn behind_section<'a>(alloc: Global, text: &'a str) -> Result<&'a str, HeaderFault>
+fn behind_section(alloc: Global, text: &str) -> Result<&str, HeaderFault>
     ensures rest { IsBehindSection text.now result }
     ensures shorter { IfOk result (λ rest. length rest.now ≤ length text.now) }
 {
-    let (_, end) = GrmtoolsSectionParser::new(text, false).parse(alloc)?;
-    Ok(text.split_at(end).1)
+    let (_, rest) = section_entries(alloc, text, false)?;
+    Ok(rest)
 }
 
 /// What stopped the reading of a text, by what stopped that of its file.

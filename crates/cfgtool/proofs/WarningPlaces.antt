@@ -6,9 +6,9 @@ use Rattle.lemmas.proofs.Zips.{All-zip}
 use Rattle.cfgbase.specs.declared.span.Span.{Span}
 use Rattle.cfgast.specs.Syntax.{Syntax, EachSpan}
 use Rattle.cfgtree.specs.Unused.{Name, AreWarnings, Warned, none, taken, left, possible_warnings, rule_warning, token_warning}
-use Rattle.cfgwarnings.specs.Warnings.{GrammarWarning, warning_at}
-use Rattle.cfgwarnings.specs.declared.warning.YaccGrammarWarningKind.{YaccGrammarWarningKind}
-use Rattle.cfgwarnings.specs.declared.warning.YaccGrammarWarningKind.TheVariants.{UnusedRule, UnusedToken}
+use Rattle.cfgerrors.specs.Warnings.{GrammarWarning, warning_at}
+use Rattle.cfgerrors.specs.declared.warning.YaccGrammarWarningKind.{YaccGrammarWarningKind}
+use Rattle.cfgerrors.specs.declared.warning.YaccGrammarWarningKind.TheVariants.{UnusedRule, UnusedToken}
 use Rattle.cfgtool.specs.Lines.{EachWarningSpan}
 
 module _ (P Q : Span → Type 0) where

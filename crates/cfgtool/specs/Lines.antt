@@ -9,8 +9,8 @@ use Rattle.cfgast.specs.Syntax.{Syntax}
 use Rattle.cfgtree.specs.Unused.{AreWarnings}
 use Rattle.cfgerrors.specs.Errors.{GrammarError}
 use Rattle.cfgerrors.specs.Texts.{error_text}
-use Rattle.cfgwarnings.specs.Texts.{warning_text}
-use Rattle.cfgwarnings.specs.Warnings.{GrammarWarning}
+use Rattle.cfgerrors.specs.WarningTexts.{warning_text}
+use Rattle.cfgerrors.specs.Warnings.{GrammarWarning}
 use Rattle.cfgnumbers.specs.Numbered.{Numbered, NumberedProduction}
 use Rattle.cfgnumbers.specs.Shown.{production_text}
 

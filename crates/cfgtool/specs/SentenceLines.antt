@@ -5,8 +5,8 @@ use Rattle.std.specs.Fmt.{decimal}
 use Rattle.derivation.specs.Grammar.{Token, HasProduction}
 use Rattle.cfgleast.specs.Generator.{AnswersLeast}
 use Rattle.cfgcosts.specs.Sentences.{AnswersGreatest, ListsMinimal}
-use Rattle.cfgsums.specs.declared.errors.CostError.{CostError}
-use Rattle.cfgsums.specs.declared.errors.CostError.TheVariants.{NoSentence, CostTooLarge}
+use Rattle.derivation.specs.declared.errors.CostError.{CostError}
+use Rattle.derivation.specs.declared.errors.CostError.TheVariants.{NoSentence, CostTooLarge}
 use Rattle.cfgnumbers.specs.Numbered.{Numbered, core}
 use Rattle.cfgnumbers.specs.Shown.{rule_part, sym_text}
 

@@ -9,10 +9,9 @@ ghost use Rattle.cfgtool.specs.Lines.{production_lines, warning_line, warning_li
 ghost use Rattle.cfgtool.specs.TokenSets.{Adds};
 
 use cfgbase::{Span, Spanned};
-use cfgerrors::YaccGrammarError;
+use cfgerrors::{YaccGrammarError, YaccGrammarWarning};
 use cfgindex::PIdx;
 use cfglines::Places;
-use cfgwarnings::YaccGrammarWarning;
 use cfgyacc::YaccGrammar;
 use std::alloc::{AllocError, Global};
 

@@ -6,8 +6,8 @@ use Rattle.std.proofs.lemmas.Option.{slice_get_within, get_or_from_slice_get, sl
 use Rattle.std.proofs.lemmas.Bool.{cases_lt}
 use Rattle.lemmas.proofs.Elements.{element_at}
 use Rattle.cfgbase.specs.declared.span.Span.{Span}
-use Rattle.cfgwarnings.specs.Warnings.{GrammarWarning, warning_at}
-use Rattle.cfgwarnings.specs.declared.warning.YaccGrammarWarningKind.TheVariants.{UnusedToken}
+use Rattle.cfgerrors.specs.Warnings.{GrammarWarning, warning_at}
+use Rattle.cfgerrors.specs.declared.warning.YaccGrammarWarningKind.TheVariants.{UnusedToken}
 use Rattle.cfgast.specs.Syntax.{Syntax, Rule}
 use Rattle.cfgtree.specs.Unused.{Name, RuleName, TokenName, IsUnused, Warned, none, taken, left, possible_warnings, rule_warning, token_warning}
 use Rattle.search.specs.Reached.{IsReachedIn, SearchState}

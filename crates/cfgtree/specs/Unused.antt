@@ -5,8 +5,8 @@ use Rattle.std.specs.Map.{lookup}
 use Rattle.search.specs.Reached.{Reached}
 use Rattle.cfgbase.specs.declared.span.Span.{Span}
 use Rattle.cfgwords.specs.Words.{Word}
-use Rattle.cfgwarnings.specs.Warnings.{GrammarWarning, warning_at}
-use Rattle.cfgwarnings.specs.declared.warning.YaccGrammarWarningKind.TheVariants.{UnusedRule, UnusedToken}
+use Rattle.cfgerrors.specs.Warnings.{GrammarWarning, warning_at}
+use Rattle.cfgerrors.specs.declared.warning.YaccGrammarWarningKind.TheVariants.{UnusedRule, UnusedToken}
 use Rattle.cfgast.specs.Syntax.{Symbol, RuleSymbol, TokenSymbol, Production, Rule, Syntax}
 
 -- the name of a rule, or of a token

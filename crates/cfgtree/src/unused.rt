@@ -4,7 +4,7 @@ ghost use Rattle.std.specs.Prelude.{◌≡◌, ◌<◌, ◌+◌, ◌↔◌, ℕ,
 ghost use Rattle.std.specs.Prelude.{IfOk, IfSome, OnOk};
 ghost use Rattle.std.specs.List.{IsDistinct};
 ghost use Rattle.std.specs.Str.{bytes_eq};
-ghost use Rattle.cfgwarnings.specs.Warnings.{warning_at};
+ghost use Rattle.cfgerrors.specs.Warnings.{warning_at};
 ghost use Rattle.search.specs.Reached.{FoundBy, Reaches};
 ghost use Rattle.cfgtree.specs.Inner.Nodes.{nodes, node_of, HeldAt, IsNodeOf, Knows};
 ghost use Rattle.cfgtree.specs.Unused.{RuleName, TokenName, name_of, entry_token, Expected, IsStart, AreWarnings};
@@ -15,8 +15,8 @@ ghost use Rattle.cfgtree.specs.View.{syntax};
 use crate::ast::GrammarAST;
 use cfgast::Symbol;
 use cfgbase::Span;
+use cfgerrors::{YaccGrammarWarning, YaccGrammarWarningKind, warning_at};
 use cfghash::NameHashes;
-use cfgwarnings::{YaccGrammarWarning, YaccGrammarWarningKind, warning_at};
 use indexmap::IndexMap;
 use search::{Bits, Edges, Search};
 use std::alloc::{AllocError, Global};

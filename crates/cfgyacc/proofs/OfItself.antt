@@ -1,7 +1,7 @@
 -- What a text is found to be, by what is parsed of it.
 use Rattle.std.proofs.Common.{◌≡◌, List, ℕ, map, Ok, Err, refl, ap, sym}
 use Rattle.cfgkinds.specs.declared.kind.YaccKind.{YaccKind}
-use Rattle.cfgheader.specs.Named.{HasOneNaming, Naming, Names}
+use Rattle.cfgsection.specs.Named.{HasOneNaming, Naming, Names}
 use Rattle.cfgerrors.specs.Errors.{header_error}
 use Rattle.cfgerrors.specs.declared.error.YaccFault.{YaccFault}
 use Rattle.cfgerrors.specs.declared.error.YaccFault.TheVariants as faults

@@ -1,7 +1,7 @@
 -- What reading a text as a grammar answers: the headline of the constructors.
 use Rattle.std.specs.Prelude.{◌≡◌, ℕ, List, map, Result, Ok, Err}
 use Rattle.cfgkinds.specs.declared.kind.YaccKind.{YaccKind}
-use Rattle.cfgheader.specs.Named.{HasOneNaming, Naming}
+use Rattle.cfgsection.specs.Named.{HasOneNaming, Naming}
 use Rattle.cfgerrors.specs.Errors.{header_error}
 use Rattle.cfgerrors.specs.declared.error.YaccFault.{YaccFault}
 use Rattle.cfgsyntax.specs.OfItself.{IsParsedAs}

@@ -6,3 +6,7 @@ pub mod Follows
 pub mod Parts
 pub mod Paths
 pub mod Trees
+pub mod Sums
+pub mod Made
+pub mod Rows
+pub mod Listed

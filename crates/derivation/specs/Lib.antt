@@ -10,3 +10,5 @@ pub mod Costs
 pub mod Cycles
 pub mod FirstSets
 pub mod FollowSets
+pub mod Sums
+pub mod Lists

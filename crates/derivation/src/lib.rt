@@ -1,7 +1,10 @@
-//! What a grammar derives: the words of the textbook, and the laws by which an analysis finds what derivations show.
+//! What a grammar derives, and what that costs: the words of the textbook, the laws by which an analysis finds what
+//! derivations show, and sums of costs where some rules have none.
 //!
 //! The definitions stand in `specs`; the laws are the contracts of functions that do nothing.
 #![tactic(auto)]
+
+pub mod errors;
 
 ghost use Rattle.std.specs.Prelude.{◌≡◌, ◌↔◌, ℕ, ◌+◌, ◌<◌, ◌≤◌, Bool, IsTrue, List, []};
 ghost use Rattle.std.specs.Prelude.{◌∷◌, ◌++◌, Contains, map};
@@ -17,6 +20,8 @@ ghost use Rattle.derivation.specs.Sentence.{Sentence, cost_of};
 ghost use Rattle.derivation.specs.Path.{Path, LeadsTo};
 ghost use Rattle.derivation.specs.Costs.{Least, Minimal, Greatest, Unbounded};
 ghost use Rattle.derivation.specs.Cycles.{GrowingCycle, Meets};
+
+pub use errors::CostError;
 
 /// What a concatenation derives is what its parts derive, one after the other.
 pub fn concatenations_derive_in_parts()

@@ -1,8 +1,7 @@
 //! Rows on the texts of errors and warnings.
 
 use cfgbase::{Span, Spanned};
-use cfgerrors::{YaccGrammarError, YaccGrammarErrorKind as Kind};
-use cfgwarnings::YaccGrammarWarningKind;
+use cfgerrors::{YaccGrammarError, YaccGrammarErrorKind as Kind, YaccGrammarWarningKind};
 use rows::page::Page;
 use rows::pen;
 use rows::row::{Row, numbers};

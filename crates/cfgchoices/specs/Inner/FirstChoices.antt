@@ -3,8 +3,8 @@ use Rattle.std.specs.Prelude.{◌≡◌, ℕ, ◌<◌, ◌≤◌, List, [], ◌�
 use Rattle.std.specs.declared.cmp.Ordering.TheVariants.{Greater}
 use Rattle.derivation.specs.Grammar.{Sym, Rule, Token, IsSymbolOf, HasProduction}
 use Rattle.cfgtables.specs.Openings.{nth_production}
-use Rattle.cfgsums.specs.Lists.{rule_cost}
-use Rattle.cfgsums.specs.Sums.{sum_of, symbol_cost}
+use Rattle.derivation.specs.Lists.{rule_cost}
+use Rattle.derivation.specs.Sums.{sum_of, symbol_cost}
 use Rattle.cfgleast.specs.Certificate.{rule_choice}
 use Rattle.cfgchoices.specs.Inner.Choices.{ChoicesGive}
 use Rattle.cfgleast.specs.Generator.{CostTables, IsGenerator, token_cost}

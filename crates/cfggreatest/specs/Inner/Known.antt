@@ -1,8 +1,8 @@
 -- What is known of a rule while groups of rules are searched: nothing yet, its place on the path, or what is told of it.
 use Rattle.std.specs.Prelude.{◌≡◌, ℕ, nat_lt, nat_le, if◌then◌else◌, ◌&&◌, Bool, true, false, List, Option, Some, None, Result, Ok, Err, slice_index_or}
 use Rattle.derivation.specs.Grammar.{Sym, Rule, Token, Grammar, HasProduction}
-use Rattle.cfgsums.specs.declared.errors.CostError.{CostError}
-use Rattle.cfgsums.specs.declared.errors.CostError.TheVariants.{NoSentence, CostTooLarge}
+use Rattle.derivation.specs.declared.errors.CostError.{CostError}
+use Rattle.derivation.specs.declared.errors.CostError.TheVariants.{NoSentence, CostTooLarge}
 use Rattle.cfggreatest.specs.Words.{Means}
 use Rattle.cfggreatest.specs.declared.sums.Known.{Known}
 use Rattle.cfggreatest.specs.declared.sums.Known.TheVariants.{New, Open, Told}

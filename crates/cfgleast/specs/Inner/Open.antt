@@ -6,7 +6,7 @@ use Rattle.std.specs.List.Sorted.{IsPermutation}
 use Rattle.derivation.specs.Grammar.{Sym, Rule, Grammar, IsGrammar}
 use Rattle.cfgtables.specs.Openings.{nth_production}
 use Rattle.cfgleast.specs.declared.partial.Partial.{Partial}
-use Rattle.cfgsums.specs.Sums.{sum_of, symbol_cost}
+use Rattle.derivation.specs.Sums.{sum_of, symbol_cost}
 
 -- the elements of a list of the code
 abbrev pub partials_of : Vec Partial Global → List Partial

@@ -7,11 +7,11 @@ use Rattle.cfgast.specs.Syntax.{syntax_of}
 use Rattle.cfgtree.specs.View.{syntax}
 use Rattle.cfgtree.specs.declared.ast.GrammarAST.{GrammarAST}
 use Rattle.cfgkinds.specs.declared.kind.YaccKind.{YaccKind}
-use Rattle.cfgheader.specs.declared.section.header_fault.HeaderFault.{HeaderFault}
-use Rattle.cfgheader.specs.declared.section.header_fault.HeaderFault.TheVariants as header
-use Rattle.cfgheader.specs.Named.{Naming}
-use Rattle.cfgheader.specs.SectionGrammar.{Entry}
-use Rattle.cfgheader.specs.SectionReads.{section_of, errors_view}
+use Rattle.cfgsection.specs.declared.section.header_fault.HeaderFault.{HeaderFault}
+use Rattle.cfgsection.specs.declared.section.header_fault.HeaderFault.TheVariants as header
+use Rattle.cfgsection.specs.Named.{Naming}
+use Rattle.cfgsection.specs.SectionGrammar.{Entry}
+use Rattle.cfgsection.specs.SectionReads.{section_of, errors_view}
 use Rattle.cfgerrors.specs.Errors.{GrammarError, header_error}
 use Rattle.cfgerrors.specs.declared.error.YaccFault.{YaccFault}
 use Rattle.cfgerrors.specs.declared.error.YaccFault.TheVariants as faults

@@ -12,7 +12,7 @@ ghost use Rattle.cfgast.specs.Items.{Item};
 ghost use Rattle.cfgast.specs.Syntax.{syntax_of};
 ghost use Rattle.cfgast.specs.View.{named_view};
 ghost use Rattle.cfgtree.specs.View.{syntax};
-ghost use Rattle.cfgheader.specs.Named.{HasOneNaming, Names, Naming};
+ghost use Rattle.cfgsection.specs.Named.{HasOneNaming, Names, Naming};
 ghost use Rattle.cfgsyntax.specs.Faults.{errors_of};
 ghost use Rattle.cfgwords.specs.Places.{IsPiece, IsWithin};
 ghost use Rattle.cfgsyntax.specs.OfItself.{AnswersNaming};

@@ -1,8 +1,8 @@
 use Rattle.std.proofs.Common.{map, length, refl, sym, ◌∙◌, true≢false}
 use Rattle.cfgtables.specs.Symbols.{sym_of}
-use Rattle.cfgsums.specs.Lists.{IsListed}
+use Rattle.derivation.specs.Lists.{IsListed}
 use Rattle.cfgleast.specs.Certificate.{IsChosenBelow, choice_of}
-use Rattle.cfgsums.proofs.Rows.{shown_holds, shown_more, shown_all}
+use Rattle.derivation.proofs.Rows.{shown_holds, shown_more, shown_all}
 use Rattle.cfgcertificate.proofs.certificate.are_chosen_below.Goals as goal
 
 pub is_chosen_below-requires : goal.is_chosen_below-requires

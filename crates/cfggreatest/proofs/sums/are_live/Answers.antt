@@ -1,7 +1,7 @@
 use Rattle.std.proofs.Common.{length}
 use Rattle.cfgtables.specs.Symbols.{sym_of}
-use Rattle.cfgsums.specs.Lists.{IsListed}
-use Rattle.cfgsums.proofs.Rows.{shown_all, shown_holds, shown_more}
+use Rattle.derivation.specs.Lists.{IsListed}
+use Rattle.derivation.proofs.Rows.{shown_all, shown_holds, shown_more}
 use Rattle.cfggreatest.specs.Inner.Known.{IsLiveSymbol}
 use Rattle.cfggreatest.proofs.sums.are_live.Goals as goal
 

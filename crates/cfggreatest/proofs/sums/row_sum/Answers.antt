@@ -4,8 +4,8 @@ use Rattle.std.proofs.lemmas.Result.{err_from_is_err_and}
 use Rattle.derivation.specs.Grammar.{Sym}
 use Rattle.cfgtables.specs.Symbols.{sym_of}
 use Rattle.cfgtables.proofs.Slices.{mapped_at, mapped_within}
-use Rattle.cfgsums.specs.Lists.{IsListed}
-use Rattle.cfgsums.proofs.Rows.{shown_holds}
+use Rattle.derivation.specs.Lists.{IsListed}
+use Rattle.derivation.proofs.Rows.{shown_holds}
 use Rattle.cfggreatest.specs.Inner.Sums.{IsSum}
 use Rattle.cfggreatest.proofs.Summing.{next_taken, sum_inside, sum_none, sum_outside, sum_whole}
 use Rattle.cfggreatest.proofs.sums.row_sum.Goals as goal

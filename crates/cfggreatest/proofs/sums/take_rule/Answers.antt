@@ -6,8 +6,8 @@ use Rattle.derivation.specs.Grammar.{HasProduction}
 use Rattle.cfgtables.specs.Symbols.{sym_of}
 use Rattle.cfgtables.specs.Openings.{ArePlacesOf}
 use Rattle.cfgtables.proofs.Slices.{mapped_all, mapped_at, mapped_within}
-use Rattle.cfgsums.specs.Lists.{IsListed}
-use Rattle.cfgsums.proofs.Listed.{symbols_listed}
+use Rattle.derivation.specs.Lists.{IsListed}
+use Rattle.derivation.proofs.Listed.{symbols_listed}
 use Rattle.cfggreatest.specs.Inner.AtLeast.{IsDead}
 use Rattle.cfggreatest.specs.Inner.Sums.{IsUnder}
 use Rattle.cfggreatest.proofs.Placed.{placed, placed_all, placed_more}

@@ -5,9 +5,9 @@ use Rattle.std.specs.List.{slice_index}
 use Rattle.derivation.specs.Grammar.{Sym}
 use Rattle.cfgtables.specs.Symbols.{sym_of}
 use Rattle.cfgtables.specs.Openings.{nth_production}
-use Rattle.cfgsums.specs.Lists.{IsListed, rule_cost}
+use Rattle.derivation.specs.Lists.{IsListed, rule_cost}
 use Rattle.cfgleast.specs.Inner.Open.{IsCutSum, StopsAt, MovesOn, enters, waits}
-use Rattle.cfgsums.proofs.Listed.{symbols_listed}
+use Rattle.derivation.proofs.Listed.{symbols_listed}
 use Rattle.cfgleast.proofs.Walked.{stop_listed, stop_waits}
 use Rattle.cfgleast.proofs.walk.advance.Goals as goal
 

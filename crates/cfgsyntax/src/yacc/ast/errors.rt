@@ -4,7 +4,7 @@ ghost use Rattle.std.specs.Prelude.{◌≡◌, map, option_map, IfOk};
 ghost use Rattle.cfgtree.specs.Duplicates.{duplicates};
 ghost use Rattle.cfgast.specs.View.{occurrence_view};
 ghost use Rattle.cfgtree.specs.View.{syntax};
-ghost use Rattle.cfgheader.specs.SectionReads.{errors_view};
+ghost use Rattle.cfgsection.specs.SectionReads.{errors_view};
 ghost use Rattle.cfgerrors.specs.Errors.{kind_view, header_error};
 ghost use Rattle.cfgsyntax.specs.Faults.{repeated_kind, duplicate_error, stop_errors, all_errors};
 ghost use Rattle.cfgsyntax.specs.Inner.Steps.{stop_view};

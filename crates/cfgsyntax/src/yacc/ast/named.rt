@@ -1,16 +1,16 @@
 //! The kind that a text names.
 
 ghost use Rattle.std.specs.Prelude.{IfErr};
-ghost use Rattle.cfgheader.specs.Named.{HasOneNaming, Names, Naming};
+ghost use Rattle.cfgsection.specs.Named.{HasOneNaming, Names, Naming};
 ghost use Rattle.cfgsyntax.specs.Inner.Steps.{IsKindOf};
 ghost use Rattle.cfgsyntax.specs.Spans.{EachFaultSpan};
 ghost use Rattle.cfgwords.specs.Places.{IsPiece};
 
 use super::errors::section_errors;
 use cfgerrors::{YaccFault, YaccGrammarResult};
-use cfgheader::HeaderFault;
-use cfgheader::named::kind_named;
 use cfgkinds::YaccKind;
+use cfgsection::HeaderFault;
+use cfgsection::named::kind_named;
 use std::alloc::Global;
 
 /// The kind that the section of a text names, or the errors that keep it from naming one.

@@ -1,6 +1,6 @@
 use Rattle.std.proofs.Common.{inl, inr, refl, sym, ap, ◌∙◌}
 use Rattle.std.specs.Result.{result_ok}
-use Rattle.cfgsums.specs.declared.errors.CostError.TheVariants.{NoSentence, CostTooLarge}
+use Rattle.derivation.specs.declared.errors.CostError.TheVariants.{NoSentence, CostTooLarge}
 use Rattle.cfgcosts.proofs.Refused.{known_memory, known_sentence, refused, refused_memory, unanswered}
 use Rattle.cfgcosts.proofs.generator.SentenceGenerator.first_sentence.Goals as goal
 

@@ -1,6 +1,6 @@
 use Rattle.std.proofs.Common.{◌≡◌, ◌<◌, get_or, refl, sym, subst}
 use Rattle.cfgindex.specs.declared.idxnewtype.RIdx.{RIdx}
-use Rattle.cfgsums.proofs.Rows.{item_shown}
+use Rattle.derivation.proofs.Rows.{item_shown}
 use Rattle.cfgleast.specs.Generator.{CostTables}
 use Rattle.cfgcosts.specs.Inner.Heirs.{AreHeirs, HasSameSentences, rules_of}
 use Rattle.cfgchoices.specs.Inner.Kinds.{AreKinds}

@@ -1,5 +1,5 @@
 use Rattle.std.proofs.Common.{Some, None, Ok, Err}
-use Rattle.cfgsums.specs.declared.errors.CostError.TheVariants.{NoSentence, CostTooLarge}
+use Rattle.derivation.specs.declared.errors.CostError.TheVariants.{NoSentence, CostTooLarge}
 use Rattle.cfgcosts.proofs.Greatest.{answer_at}
 use Rattle.cfgcosts.proofs.generator.SentenceGenerator.max_sentence_cost.Goals as goal
 

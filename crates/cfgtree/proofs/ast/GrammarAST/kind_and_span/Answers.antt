@@ -1,8 +1,8 @@
 use Rattle.std.proofs.Common.{◌≡◌, ◌-◌, Some, None, length, option_map, slice_get, refl, sym, ap, subst, ◌∙◌}
 use Rattle.std.proofs.lemmas.List.{length-map}
 use Rattle.std.proofs.lemmas.Option.{slice_get-map, slice_get_read, slice_get_past}
-use Rattle.cfgwarnings.specs.Warnings.{warning_at}
-use Rattle.cfgwarnings.specs.declared.warning.YaccGrammarWarningKind.TheVariants.{UnusedToken}
+use Rattle.cfgerrors.specs.Warnings.{warning_at}
+use Rattle.cfgerrors.specs.declared.warning.YaccGrammarWarningKind.TheVariants.{UnusedToken}
 use Rattle.cfgast.specs.View.{syntax_view, rule_entry}
 use Rattle.cfgtree.specs.View.{syntax}
 use Rattle.cfgtree.proofs.Warning.{rule_there, token_there}

@@ -1,5 +1,5 @@
 use Rattle.std.proofs.Common.{◌+◌, [], List, take, arith, sym, subst}
-use Rattle.cfgwarnings.specs.Warnings.{GrammarWarning}
+use Rattle.cfgerrors.specs.Warnings.{GrammarWarning}
 use Rattle.cfgtree.specs.Unused.{Warned, none, possible_warnings}
 use Rattle.cfgtree.specs.View.{syntax}
 use Rattle.cfgtree.proofs.Warning.{unused, warned_more, warned_known, warned_past, warned_all}

@@ -1,5 +1,5 @@
 use Rattle.std.proofs.Common.{◌≡◌, ◌++◌, map}
-use Rattle.cfgheader.specs.SectionReads.{errors_view}
+use Rattle.cfgsection.specs.SectionReads.{errors_view}
 use Rattle.cfgerrors.specs.Errors.{header_error}
 use Rattle.cfgsyntax.proofs.yacc.ast.errors.section_errors.Given as goal
 

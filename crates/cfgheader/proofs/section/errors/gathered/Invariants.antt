@@ -1,7 +1,0 @@
-use Rattle.std.proofs.Common.{map, take}
-use Rattle.cfgheader.specs.Inner.Steps.{entry_view}
-use Rattle.cfgheader.proofs.SectionRepeats.{InPlaces}
-use Rattle.cfgheader.proofs.section.errors.gathered.Given as goal
-
-abbrev pub invariant-loop-entry : goal.invariant-loop-entry
-invariant-loop-entry l = InPlaces (map entry_view (take l.entry-index l.entries)) l.places l.again.items

@@ -1,0 +1,9 @@
+pub mod Given
+pub mod NamedLemmas
+pub mod NamedPlaces
+pub mod SectionAnswers
+pub mod SectionElements
+pub mod SectionKept
+pub mod SectionOne
+pub mod SectionPlaces
+pub mod SectionRepeats

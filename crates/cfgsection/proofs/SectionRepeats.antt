@@ -1,0 +1,144 @@
+-- One more entry: the places of its key, and the keys that are given more than once.
+use Rattle.std.proofs.Common.{◌≡◌, ℕ, Bool, true, false, cond, List, [], ◌∷◌, ◌++◌, map, filter, length, eqb, refl, sym, ap, subst, ◌∙◌, append-nil, Vec, Global, Bor, Option, Some, None, Result, Ok, Err, unwrap_or, take, get_or, ◌+◌, ◌<◌}
+use Rattle.std.specs.BTreeMap.{BTreeMap, get_by, is_at}
+use Rattle.std.specs.Cmp.Lexicographic.{slice_cmp}
+use Rattle.std.specs.Map.{lookup, update}
+use Rattle.std.specs.Option.{option_map_or}
+use Rattle.std.specs.Ordering.{nat_cmp}
+use Rattle.std.specs.Prelude.{IfOk}
+use Rattle.std.proofs.lemmas.Slice.Eq.{bytes_eq-Decides}
+use Rattle.std.specs.Str.{bytes_eq}
+use Rattle.std.proofs.lemmas.List.{map-append, take_more}
+use Rattle.std.proofs.lemmas.List.Elements.{filter-append}
+use Rattle.lemmas.specs.Lists.{with_fronts}
+use Rattle.lemmas.proofs.Fronts.{with_fronts-push}
+use Rattle.cfgbase.specs.declared.span.Span.{Span}
+use Rattle.cfgsection.specs.SectionGrammar.{Entry}
+use Rattle.cfgsection.specs.SectionErrors.{places_of, is_first_repeat, repeated, duplicate_error, duplicate_errors}
+use Rattle.cfgerrors.specs.declared.header.HeaderError.{HeaderError}
+use Rattle.cfgerrors.specs.declared.header.HeaderErrorKind.TheVariants as kinds
+use Rattle.cfgerrors.specs.HeaderErrors.{DuplicateEntry, error_view}
+use Rattle.cfgsection.specs.SectionReads.{entry_view, errors_view}
+use Rattle.cfgsection.specs.declared.section.entry.Entry.{Entry as CodeEntry}
+use Rattle.cfgsection.specs.Inner.Steps.{spans_at, duplicate_at}
+
+pub places_of-push : (done : List Entry) (x : Entry) (key : List ℕ)
+    → places_of (done ++ x ∷ []) key ≡ cond (bytes_eq x.key key) (places_of done key ++ x.key_span ∷ []) (places_of done key)
+places_of-push done x key =
+    ap (map (λ (e : Entry). e.key_span)) (filter-append is done (x ∷ []))
+    ∙ map-append (λ (e : Entry). e.key_span) (filter is done) (filter is (x ∷ [])) ∙ go (is x)
+  where
+    is : Entry → Bool
+    is e = bytes_eq e.key key
+
+    go : (here : Bool) → places_of done key ++ map (λ (e : Entry). e.key_span) (cond here (x ∷ []) []) ≡ cond here (places_of done key ++ x.key_span ∷ []) (places_of done key)
+    go true = refl
+    go false = append-nil _
+
+pub repeated-push : (done : List Entry) (x : Entry) → repeated (done ++ x ∷ []) ≡ cond (eqb (length (places_of done x.key)) 1) (repeated done ++ x.key ∷ []) (repeated done)
+unfolding repeated
+repeated-push done x =
+    ap (λ t. map key_of (filter is_first_repeat t)) (with_fronts-push done x)
+    ∙ ap (map key_of) (filter-append is_first_repeat (with_fronts done) ((done, x) ∷ []))
+    ∙ map-append key_of (filter is_first_repeat (with_fronts done)) (filter is_first_repeat ((done, x) ∷ []))
+    ∙ go (is_first_repeat (done, x))
+  where
+    key_of : List Entry × Entry → List ℕ
+    key_of x = x.1.key
+
+    go : (again : Bool) → repeated done ++ map key_of (cond again ((done, x) ∷ []) []) ≡ cond again (repeated done ++ x.key ∷ []) (repeated done)
+    go true = refl
+    go false = append-nil _
+
+-- the places and the repeated keys of the entries so far
+pub record InPlaces (done : List Entry) (places : BTreeMap (Bor (List ℕ)) (Vec Span Global)) (again : List (Bor (List ℕ))) : Type 0 where
+  pub spans : (key : List ℕ) → spans_at places key ≡ places_of done key
+  pub keys : map (λ (key : Bor (List ℕ)). key.now) again ≡ repeated done
+
+pub places_start : (places : BTreeMap (Bor (List ℕ)) (Vec Span Global)) (again : List (Bor (List ℕ))) → places.entries ≡ [] → again ≡ [] → InPlaces [] places again
+unfolding repeated
+places_start places again none nobody = record {
+  spans = λ key. ap (λ es. option_map_or (λ (spans : Vec Span Global). spans.items) (lookup (is_at (λ (k : Bor (List ℕ)). slice_cmp nat_cmp key k.now)) es) []) none;
+  keys = ap (map (λ (key : Bor (List ℕ)). key.now)) nobody;
+}
+
+module _ (done : List Entry) (places : BTreeMap (Bor (List ℕ)) (Vec Span Global)) (again : List (Bor (List ℕ))) (so_far : InPlaces done places again)
+    (x : Entry) (key : Bor (List ℕ)) (is : key.now ≡ x.key) (grown : BTreeMap (Bor (List ℕ)) (Vec Span Global))
+    (noted : (other : List ℕ) → spans_at grown other ≡ cond (bytes_eq key.now other) (spans_at places other ++ x.key_span ∷ []) (spans_at places other))
+    (all : List Entry) (all_are : all ≡ done ++ x ∷ []) where
+  places_on : (other : List ℕ) → spans_at grown other ≡ places_of (done ++ x ∷ []) other
+  places_on other = noted other
+      ∙ (λ i. cond (bytes_eq (is i) other) (so_far.spans other i ++ x.key_span ∷ []) (so_far.spans other i))
+      ∙ sym (places_of-push done x other)
+
+  counted : eqb (length (spans_at places key.now)) 1 ≡ eqb (length (places_of done x.key)) 1
+  counted = ap (λ ps. eqb (length ps) 1) (so_far.spans key.now) ∙ ap (λ k. eqb (length (places_of done k)) 1) is
+
+  pub places_again : eqb (length (spans_at places key.now)) 1 ≡ true → (more : List (Bor (List ℕ))) → more ≡ again ++ key ∷ [] → InPlaces all grown more
+  places_again second more e = subst (λ d. InPlaces d grown more) (sym all_are) (record {
+    spans = places_on;
+    keys = ap (map (λ (key : Bor (List ℕ)). key.now)) e ∙ map-append (λ (key : Bor (List ℕ)). key.now) again (key ∷ [])
+        ∙ (λ i. so_far.keys i ++ is i ∷ [])
+        ∙ sym (repeated-push done x ∙ ap (λ b. cond b (repeated done ++ x.key ∷ []) (repeated done)) (sym counted ∙ second));
+  })
+
+  pub places_once : eqb (length (spans_at places key.now)) 1 ≡ false → (more : List (Bor (List ℕ))) → more ≡ again → InPlaces all grown more
+  places_once other more e = subst (λ d. InPlaces d grown more) (sym all_are) (record {
+    spans = places_on;
+    keys = ap (map (λ (key : Bor (List ℕ)). key.now)) e ∙ so_far.keys
+        ∙ sym (repeated-push done x ∙ ap (λ b. cond b (repeated done ++ x.key ∷ []) (repeated done)) (sym counted ∙ other));
+  })
+
+-- the entries up to one more
+pub entries_more : (xs : List CodeEntry) (i : ℕ) (x : CodeEntry) → i < length xs → x ≡ get_or xs i x → map entry_view (take (i + 1) xs) ≡ map entry_view (take i xs) ++ entry_view x ∷ []
+entries_more xs i x within is = ap (map entry_view) (take_more xs i x within ∙ ap (λ y. take i xs ++ y ∷ []) (sym is)) ∙ map-append entry_view (take i xs) (x ∷ [])
+
+abbrev pub found_at : BTreeMap (Bor (List ℕ)) (Vec Span Global) → List ℕ → Option (Vec Span Global)
+found_at places key = get_by (λ k. slice_cmp nat_cmp key k.now) places
+
+-- the places that were taken out of a map, or none
+pub items_or : (o : Option (Vec Span Global)) (none : Vec Span Global) → none.items ≡ [] → (unwrap_or o none).items ≡ option_map_or (λ (spans : Vec Span Global). spans.items) o []
+items_or None none e = e
+items_or (Some spans) none e = refl
+
+-- taking a key's places out and putting them back with one more
+module _ (old mid new : BTreeMap (Bor (List ℕ)) (Vec Span Global)) (key : List ℕ) (span : Span) (spans : Vec Span Global)
+    (taken : (other : List ℕ) → found_at mid other ≡ update bytes_eq (found_at old) key None other)
+    (put : (other : List ℕ) → found_at new other ≡ update bytes_eq (found_at mid) key (Some spans) other)
+    (more : spans.items ≡ spans_at old key ++ span ∷ []) where
+  pub put_back : (other : List ℕ) → spans_at new other ≡ cond (bytes_eq key other) (spans_at old other ++ span ∷ []) (spans_at old other)
+  put_back other =
+      ap (λ o. option_map_or (λ (spans : Vec Span Global). spans.items) o []) (put other ∙ ap (cond (bytes_eq key other) (Some spans)) (taken other))
+      ∙ go (bytes_eq key other) refl
+    where
+      go : (b : Bool) → bytes_eq key other ≡ b → option_map_or (λ (spans : Vec Span Global). spans.items) (cond b (Some spans) (cond b None (found_at old other))) []
+          ≡ cond b (spans_at old other ++ span ∷ []) (spans_at old other)
+      go true e = more ∙ ap (λ k. spans_at old k ++ span ∷ []) ((bytes_eq-Decides key other).0 e)
+      go false e = refl
+
+-- one more error for a repeated key
+pub one_more_error : (places : BTreeMap (Bor (List ℕ)) (Vec Span Global)) (keys : List (Bor (List ℕ))) (key : Bor (List ℕ)) (old : List (HeaderError Span)) (locations : Vec Span Global)
+    (new : List (HeaderError Span)) → errors_view old ≡ map (λ (key : Bor (List ℕ)). duplicate_at places key.now) keys
+    → new ≡ old ++ record { kind = kinds.DuplicateEntry; locations = locations } ∷ [] → locations.items ≡ spans_at places key.now
+    → errors_view new ≡ map (λ (key : Bor (List ℕ)). duplicate_at places key.now) (keys ++ key ∷ [])
+one_more_error places keys key old locations new so_far e at =
+    ap errors_view e ∙ map-append error_view old (record { kind = kinds.DuplicateEntry; locations = locations } ∷ [])
+    ∙ (λ i. so_far i ++ record { kind = DuplicateEntry; locations = at i } ∷ [])
+    ∙ sym (map-append (λ (key : Bor (List ℕ)). duplicate_at places key.now) keys (key ∷ []))
+
+-- the errors for all repeated keys
+module _ (entries : List Entry) (places : BTreeMap (Bor (List ℕ)) (Vec Span Global)) (keys : List (Bor (List ℕ)))
+    (spans : (key : List ℕ) → spans_at places key ≡ places_of entries key) (again : map (λ (key : Bor (List ℕ)). key.now) keys ≡ repeated entries) where
+  all_errors : map (λ (key : Bor (List ℕ)). duplicate_at places key.now) keys ≡ duplicate_errors entries
+  unfolding duplicate_errors
+  all_errors = go keys ∙ ap (map (duplicate_error entries)) again
+    where
+      go : (keys : List (Bor (List ℕ))) → map (λ (key : Bor (List ℕ)). duplicate_at places key.now) keys ≡ map (duplicate_error entries) (map (λ (key : Bor (List ℕ)). key.now) keys)
+      go [] = refl
+      go (key ∷ keys) = λ i. record { kind = DuplicateEntry; locations = spans key.now i } ∷ go keys i
+
+  pub all_errors_of : {E : Type 0} (result : Result (Vec (HeaderError Span) Global) E)
+      → IfOk result (λ errors. errors_view errors.items ≡ map (λ (key : Bor (List ℕ)). duplicate_at places key.now) keys)
+      → IfOk result (λ errors. errors_view errors.items ≡ duplicate_errors entries)
+  all_errors_of (Ok errors) e = e ∙ all_errors
+  all_errors_of (Err e) h = tt

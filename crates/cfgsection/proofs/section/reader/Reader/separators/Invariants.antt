@@ -1,0 +1,11 @@
+use Rattle.std.proofs.Common.{length}
+use Rattle.cfgsection.specs.SectionGrammar.{separator}
+use Rattle.reading.proofs.Steps.{Gathers}
+use Rattle.cfgsection.specs.Inner.Steps.{section_reader}
+use Rattle.cfgsection.proofs.section.reader.Reader.separators.Given as goal
+
+abbrev pub invariant-loop : goal.invariant-loop
+invariant-loop l = Gathers section_reader (λ len. separator) l.fn.self l.self
+
+abbrev pub decreases-loop : goal.decreases-loop
+decreases-loop l = length l.self.rest.now

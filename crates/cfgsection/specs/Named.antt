@@ -1,0 +1,51 @@
+-- The kind of Yacc that the section of a text names, or the errors that keep it from naming one.
+use Rattle.std.specs.Prelude.{◌≡◌, ℕ, true, List, [], ◌∷◌, Option, Some, None, Result, Ok, Err, codes}
+use Rattle.cfgbase.specs.declared.span.Span.{Span}
+use Rattle.cfgkinds.specs.declared.kind.YaccKind.{YaccKind}
+use Rattle.cfgsection.specs.declared.section.header_fault.HeaderFault.{HeaderFault}
+use Rattle.cfgsection.specs.declared.section.header_fault.HeaderFault.TheVariants as faults
+use Rattle.cfgerrors.specs.HeaderErrors.{InvalidEntry, ShownError}
+use Rattle.cfgkinds.specs.Kinds.{kind_of_value}
+use Rattle.cfgsection.specs.SectionGrammar.{Entry, Fault}
+use Rattle.cfgsection.specs.SectionReads.{IsSection, section_answer, given, errors_view}
+use Rattle.cfgkinds.specs.Values.{ShownHeaderValue}
+
+-- a kind, or why none is named
+abbrev pub Naming : Type 0
+Naming = Result YaccKind (List (ShownError Span))
+
+-- no kind is named, because of what stands at these places
+abbrev pub unnamed : List Span → List (ShownError Span)
+unnamed places = record { kind = InvalidEntry (codes "yacckind"); locations = places } ∷ []
+
+abbrev pub kind_or_places : Result YaccKind (List Span) → Naming
+kind_or_places (Ok kind) = Ok kind
+kind_or_places (Err places) = Err (unnamed places)
+
+-- by what is given for the key `yacckind`; where nothing is, the error has the empty span at offset 0
+abbrev pub kind_given : Option (ShownHeaderValue Span) → Naming
+kind_given None = Err (unnamed (record { start = 0; end = 0 } ∷ []))
+kind_given (Some given) = kind_or_places (kind_of_value given.value)
+
+abbrev pub kind_in : Result (List Entry × List ℕ) (List (ShownError Span)) → Naming
+kind_in (Err errors) = Err errors
+kind_in (Ok (entries, rest)) = kind_given (given entries (codes "yacckind"))
+
+-- The text has a section, and that names this; where it has errors, these keep it from naming a kind.
+pub record Names (text : List ℕ) (naming : Naming) : Type 0 where
+  pub entries : List Entry
+  pub end : Result (List ℕ) Fault
+  pub section : IsSection true text entries end
+  pub naming_is : kind_in (section_answer entries end) ≡ naming
+
+-- A text names one kind, or has one list of errors.
+pub record HasOneNaming (text : List ℕ) : Type 0 where
+  pub naming : Naming
+  pub names : Names text naming
+  pub only : (other : Naming) → Names text other → other ≡ naming
+
+-- what a call answers that asks for the kind
+abbrev pub IsNaming : Naming → Result YaccKind HeaderFault → Type 0
+IsNaming naming (Ok kind) = naming ≡ Ok kind
+IsNaming naming (Err (faults.Errors errors)) = naming ≡ Err (errors_view errors.items)
+IsNaming naming (Err faults.OutOfMemory) = Unit {0}

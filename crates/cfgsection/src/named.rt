@@ -1,0 +1,59 @@
+//! The kind of Yacc that a text names.
+
+ghost use Rattle.std.specs.Prelude.{◌≡◌, ◌∷◌, [], option_map, IfOk, IfErr, codes};
+ghost use Rattle.cfgerrors.specs.HeaderErrors.{InvalidEntry, error_view};
+ghost use Rattle.cfgsection.specs.Named.{HasOneNaming, IsNaming, Naming, Names, kind_given};
+ghost use Rattle.cfgsection.specs.SectionPlaces.{IsFaultAt};
+ghost use Rattle.cfgsection.specs.SectionReads.{entry_view, given_by};
+
+use crate::section::{Entry, HeaderFault, entry_of, section_entries};
+use cfgbase::Span;
+use cfgerrors::{HeaderError, HeaderErrorKind};
+use cfgkinds::{KindFault, YaccKind};
+use std::alloc::{AllocError, Global};
+
+/// The error of a section that has no key `yacckind`.
+fn key_missing(alloc: Global) -> Result<HeaderError<Span>, AllocError>
+    ensures { IfOk result (λ error. error_view error
+        ≡ record { kind = InvalidEntry (codes "yacckind"); locations = record { start = 0; end = 0 } ∷ [] }) }
+{
+    let mut locations = Vec::new(alloc);
+    locations.push(Span::new(0, 0))?;
+    Ok(HeaderError {
+        kind: HeaderErrorKind::InvalidEntry("yacckind"),
+        locations,
+    })
+}
+
+/// The kind that is given for the key `yacckind`, if anything is.
+fn kind_given(alloc: Global, given: Option<&Entry>) -> Result<YaccKind, HeaderFault>
+    ensures { IsNaming (kind_given (option_map (λ entry. given_by (entry_view entry.now)) given.entry)) result }
+{
+    let error = match given {
+        None => key_missing(alloc)?,
+        Some(entry) => match YaccKind::try_from_value(alloc, &entry.value) {
+            Ok(kind) => return Ok(kind),
+            Err(KindFault::Error(error)) => error,
+            Err(KindFault::OutOfMemory) => return Err(HeaderFault::OutOfMemory),
+        },
+    };
+    let mut errors = Vec::new(alloc);
+    errors.push(error)?;
+    Err(HeaderFault::Errors(errors))
+}
+
+/// The kind that the section of a text names. A text names one kind, or has one list of errors, each at places of the
+/// text.
+///
+/// # Errors
+///
+/// The errors of the section, which must be there; where there are none, one error where it has no key `yacckind`, or
+/// gives that what is no kind; and want of memory.
+pub fn kind_named(alloc: Global, text: &str) -> Result<YaccKind, HeaderFault>
+    ensures one { HasOneNaming text.now }
+    ensures naming { (naming : Naming) → Names text.now naming → IsNaming naming result }
+    ensures places { IfErr result (IsFaultAt text.now) }
+{
+    let (entries, _) = section_entries(alloc, text, true)?;
+    kind_given(alloc, entry_of(entries.as_slice(), "yacckind"))
+}

@@ -1,0 +1,92 @@
+//! Reading a `%grmtools` section.
+
+mod entries;
+mod entry;
+mod errors;
+mod fault;
+mod header_fault;
+mod laws;
+mod read;
+mod reader;
+mod settings;
+
+ghost use Rattle.std.specs.Prelude.{length, drop, IfOk, IfErr};
+ghost use Rattle.std.specs.Str.{IsCharBoundary, IsUtf8};
+ghost use Rattle.cfgwords.specs.Places.{IsPiece};
+ghost use Rattle.cfgsection.specs.SectionPlaces.{IsFaultAt};
+ghost use Rattle.cfgsection.specs.SectionReads.{AnswersEntry, HasOneSection, IsSectionRead, section_of};
+
+use cfgbase::Span;
+use cfgkinds::Value;
+pub use entry::{Entry, entry_of};
+use errors::{error_of, errors_found};
+use fault::ReadFault;
+pub use header_fault::HeaderFault;
+pub use laws::{
+    entry_is_graph, section_answers_its_reading, section_errors_are_at_places, section_is_graph,
+};
+use read::read;
+use reader::Reader;
+use std::alloc::Global;
+
+/// Reads the section of a text, which must stand there if it is required, and answers its entries, each of another key,
+/// and what is left of the text behind its `}`. Where there is no section and none is required, there are no entries,
+/// and all of the text is left.
+///
+/// The text's section has exactly one reading: the entries that count as read, and what is left behind it or what
+/// stopped the reading. The ends of each span of an error are places of the text.
+///
+/// # Errors
+///
+/// An error for each key that is given more than once, in the order of the first repeats, with all its places, and
+/// then the one that stopped the reading, if there is one; at least one. Or want of memory.
+pub fn section_entries(
+    alloc: Global,
+    text: &str,
+    required: bool,
+) -> Result<(Vec<Entry>, &str), HeaderFault>
+    ensures one { HasOneSection required text.now }
+    ensures utf8 { IsUtf8 text.now }
+    ensures answer { IsSectionRead (section_of required text.now) result }
+    ensures fault_places { IfErr result (IsFaultAt text.now) }
+{
+    let (entries, end) = read(alloc, text, required)?;
+    let errors = errors_found(alloc, entries.as_slice(), &end)?;
+    let Ok(rest) = end else {
+        return Err(HeaderFault::Errors(errors));
+    };
+    if !errors.is_empty() {
+        return Err(HeaderFault::Errors(errors));
+    }
+    Ok((entries, rest))
+}
+
+/// Reads the entry at an offset of a text, in bytes: its key in lower case, the key's place, its value, and the offset
+/// behind the entry and the white space that follows it. That offset is a place of the text, and the key's place is a
+/// piece of it, as is each span of an error.
+///
+/// # Errors
+///
+/// The one error that stopped the reading, or want of memory.
+pub fn entry_at(
+    alloc: Global,
+    text: &str,
+    i: usize,
+) -> Result<(String, Span, Value<Span>, usize), HeaderFault>
+    requires { IsCharBoundary text.now i }
+    ensures answer { AnswersEntry (length text.now) (drop i text.now) result }
+    ensures places { IfOk result (λ x. IsPiece text.now x.1 × IsCharBoundary text.now x.3) }
+    ensures fault_places { IfErr result (IsFaultAt text.now) }
+{
+    let (_, rest) = text.split_at(i);
+    let mut reader = Reader::new(alloc, text.len(), rest);
+    match reader.entry() {
+        Ok(entry) => Ok((entry.key, entry.key_span, entry.value, reader.place())),
+        Err(ReadFault::OutOfMemory) => Err(HeaderFault::OutOfMemory),
+        Err(ReadFault::Fault(fault)) => {
+            let mut errors = Vec::new(alloc);
+            errors.push(error_of(alloc, fault)?)?;
+            Err(HeaderFault::Errors(errors))
+        }
+    }
+}

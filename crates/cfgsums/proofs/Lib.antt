@@ -1,4 +1,0 @@
-pub mod Sums
-pub mod Made
-pub mod Rows
-pub mod Listed
