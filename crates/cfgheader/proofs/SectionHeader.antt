@@ -1,5 +1,5 @@
 -- One more entry in a header.
-use Rattle.std.proofs.Common.{◌≡◌, ℕ, Bool, true, false, cond, Some, None, List, [], ◌∷◌, ◌++◌, option_map, unwrap_or, Option, refl, sym, ap, ◌∙◌, String, string_bytes, Global}
+use Rattle.std.proofs.Common.{◌≡◌, Bool, true, false, cond, Some, None, List, [], ◌∷◌, ◌++◌, option_map, unwrap_or, Option, refl, sym, ap, ◌∙◌, String, string_bytes, Global}
 use Rattle.std.specs.declared.cmp.Ordering.{Ordering}
 use Rattle.std.specs.declared.cmp.Ordering.TheVariants.{Less, Equal, Greater}
 use Rattle.std.specs.Ordering.{is_eq, match_ordering}
