@@ -1,0 +1,87 @@
+//! The reading of a file, its errors and its warnings.
+
+ghost use Rattle.std.specs.Prelude.{};
+
+use cfgrammar::yacc::ast::{ASTModificationError, ASTWithValidityInfo, GrammarAST, Rule, StartFault};
+use cfgrammar::yacc::{YaccFault, YaccGrammarError, YaccGrammarErrorKind, YaccGrammarResult, YaccGrammarWarning};
+use cfgrammar::yacc::{YaccGrammarWarningKind, YaccKind, YaccOriginalActionKind};
+use cfgrammar::{Span, Spanned, SpansKind};
+use std::alloc::{AllocError, Global};
+
+/// The kinds of files.
+pub fn kinds() -> [YaccKind; 5] {
+    [
+        YaccKind::Original(YaccOriginalActionKind::UserAction),
+        YaccKind::Original(YaccOriginalActionKind::GenericParseTree),
+        YaccKind::Original(YaccOriginalActionKind::NoAction),
+        YaccKind::Grmtools,
+        YaccKind::Eco,
+    ]
+}
+
+/// A file that is read.
+pub fn read(alloc: Global, text: &str) -> Result<bool, AllocError> {
+    let kind: YaccKind = YaccKind::Grmtools;
+    let parsed: ASTWithValidityInfo = ASTWithValidityInfo::new(alloc, kind, text)?;
+    let ast: &GrammarAST = parsed.ast();
+    let read_as: YaccKind = parsed.yacc_kind();
+    let errors: &[YaccGrammarError] = parsed.errors();
+    let warnings: Vec<YaccGrammarWarning> = ast.warnings(alloc)?;
+    Ok(parsed.is_valid() && errors.is_empty() && warnings.is_empty() && read_as == kind)
+}
+
+/// A file that names its kind.
+pub fn read_as_named(alloc: Global, text: &str) -> YaccGrammarResult<ASTWithValidityInfo> {
+    ASTWithValidityInfo::from_str(alloc, text)
+}
+
+/// What was read, with another start rule.
+pub fn with_start(parsed: &ASTWithValidityInfo, alloc: Global, rule: Rule) -> Result<ASTWithValidityInfo, StartFault> {
+    match parsed.clone_and_change_start_rule(alloc, rule) {
+        Err(StartFault::Modification(error)) => {
+            let error: ASTModificationError = error;
+            Err(StartFault::Modification(error))
+        }
+        Err(StartFault::OutOfMemory) => Err(StartFault::OutOfMemory),
+        Ok(changed) => Ok(changed),
+    }
+}
+
+/// Copies of what was read.
+pub fn copies(parsed: &ASTWithValidityInfo) -> Result<(ASTWithValidityInfo, GrammarAST), AllocError> {
+    Ok((parsed.clone()?, parsed.ast().clone()?))
+}
+
+/// The first error of a file.
+pub fn first_error(fault: YaccFault) -> Option<(bool, bool, Option<Span>)> {
+    match fault {
+        YaccFault::Errors(errors) => {
+            let errors: Vec<YaccGrammarError> = errors;
+            let error: &YaccGrammarError = errors.first()?;
+            let kind: &YaccGrammarErrorKind = error.kind();
+            let is_duplicate: bool = error.spanskind() == SpansKind::DuplicationError;
+            Some((
+                *kind == YaccGrammarErrorKind::NoStartRule,
+                is_duplicate,
+                error.spans().first().copied(),
+            ))
+        }
+        YaccFault::OutOfMemory => None,
+    }
+}
+
+/// An error of one's own, and its copy.
+pub fn own_error(kind: YaccGrammarErrorKind, spans: Vec<Span>) -> Result<bool, AllocError> {
+    let error: YaccGrammarError = YaccGrammarError::new(kind, spans);
+    let same: YaccGrammarError = error.clone()?;
+    Ok(error == same)
+}
+
+/// Whether a warning is of a rule.
+pub fn is_of_rule(warning: &YaccGrammarWarning) -> bool {
+    let kind: &YaccGrammarWarningKind = warning.kind();
+    match kind {
+        YaccGrammarWarningKind::UnusedRule => warning.spanskind() == SpansKind::Error,
+        YaccGrammarWarningKind::UnusedToken => warning.spans().is_empty(),
+    }
+}

@@ -1,0 +1,75 @@
+//! The `%grmtools` section of a file.
+
+ghost use Rattle.std.specs.Prelude.{};
+
+use cfgrammar::header::{GrmtoolsSectionParser, Header, HeaderError, HeaderErrorKind, HeaderFault, HeaderValue};
+use cfgrammar::header::{KindFault, Namespaced, Setting, Value};
+use cfgrammar::markmap::MarkMap;
+use cfgrammar::yacc::{YaccGrammarError, YaccKind};
+use cfgrammar::{Location, Span, SpansKind};
+use std::alloc::{AllocError, Global};
+
+/// The section of a text, as a map of its keys.
+pub fn section(alloc: Global, text: &str) -> Result<(MarkMap<String, HeaderValue<Span>>, usize), HeaderFault> {
+    let parser: GrmtoolsSectionParser<'_> = GrmtoolsSectionParser::new(text, true);
+    let (header, end): (Header<Span>, usize) = parser.parse(alloc)?;
+    Ok((header, end))
+}
+
+/// The first entry of a section.
+pub fn entry(alloc: Global, text: &str) -> Result<(String, Span, Value<Span>, usize), HeaderFault> {
+    GrmtoolsSectionParser::new(text, false).parse_key_value(alloc, 0)
+}
+
+/// Why a section has no map.
+pub fn first_error(fault: HeaderFault) -> Option<(HeaderErrorKind, Option<Span>, bool)> {
+    match fault {
+        HeaderFault::Errors(errors) => {
+            let errors: Vec<HeaderError<Span>> = errors;
+            let error: &HeaderError<Span> = errors.first()?;
+            let is_duplicate: bool = error.spanskind() == SpansKind::DuplicationError;
+            Some((error.kind, error.locations.first().copied(), is_duplicate))
+        }
+        HeaderFault::OutOfMemory => None,
+    }
+}
+
+/// The parts of a value.
+pub fn number_of<T: Copy>(value: &HeaderValue<T>) -> Option<(u64, T)> {
+    let HeaderValue(_key, value): &HeaderValue<T> = value;
+    match value {
+        Value::Flag(_, place) => Some((0, *place)),
+        Value::Setting(Setting::Num(number, place)) => Some((*number, *place)),
+        Value::Setting(Setting::String(_, place)) => Some((1, *place)),
+        Value::Setting(Setting::Array(_, open, _close)) => Some((2, *open)),
+        Value::Setting(Setting::Unitary(Namespaced { namespace: _, member })) => Some((3, member.1)),
+        Value::Setting(Setting::Constructor { ctor, arg: _ }) => Some((4, ctor.member.1)),
+    }
+}
+
+/// Where a value is, as a location.
+pub fn location_of(alloc: Global, value: &HeaderValue<Span>) -> Result<Location, AllocError> {
+    let located: HeaderValue<Location> = value.to_location(alloc)?;
+    let inner: Value<Location> = value.1.to_location(alloc)?;
+    if let Value::Setting(setting) = &value.1 {
+        let _setting: Setting<Location> = setting.to_location(alloc)?;
+    }
+    if located.1 == inner {
+        return inner.primary_location().clone();
+    }
+    Ok(Location::CommandLine)
+}
+
+/// The kind that a value names, and the value that names it.
+pub fn named_kind(alloc: Global, value: &Value<Span>) -> Result<Value<Location>, KindFault<Span>> {
+    let kind: YaccKind = YaccKind::try_from_value(alloc, value)?;
+    Ok(Value::try_from_kind(alloc, kind)?)
+}
+
+/// The error of a file that an error of its section is.
+pub fn error_of(fault: KindFault<Span>) -> Option<YaccGrammarError> {
+    match fault {
+        KindFault::Error(error) => Some(YaccGrammarError::from(error)),
+        KindFault::OutOfMemory => None,
+    }
+}
