@@ -46,7 +46,7 @@ static void say(const char *text) { syscall(SYS_write, results, text, strlen(tex
 static long now(void)
 {
     struct timespec at;
-    clock_gettime(CLOCK_MONOTONIC, &at);
+    clock_gettime(CLOCK_PROCESS_CPUTIME_ID, &at);
     return at.tv_sec * 1000000L + at.tv_nsec / 1000;
 }
 

@@ -27,7 +27,7 @@ impl Answers for All {
     fn write(&self, out: &mut Page, rt: &HostRuntime, row: &Row<'_>, text: &str) {
         match row.tries {
             "row" => vectors::tell(out, row, text),
-            "cuts" => every::tell(out, rt, text),
+            "cuts" => every::tell(out, rt, row, text),
             "section" => sections::tell(out, row, text),
             "generator" => costs::tell(out, row, text),
             "lines" => lines::tell(out, row, text),

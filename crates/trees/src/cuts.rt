@@ -10,29 +10,89 @@ use indexmap::IndexMap;
 use rows::made::{Writer, write_made};
 use rows::page::Page;
 use rows::pen::{self, Piece};
+use std::cell::Cell;
+
+/// How many texts were grammars, how many were refused with a list of errors, and how many of these lists were empty.
+#[derive(Drop)]
+pub(crate) struct Counts {
+    grammars: Cell<usize>,
+    refused: Cell<usize>,
+    empty: Cell<usize>,
+}
+
+impl Counts {
+    pub(crate) fn new() -> Self {
+        Counts {
+            grammars: Cell::new(0),
+            refused: Cell::new(0),
+            empty: Cell::new(0),
+        }
+    }
+
+    fn add(&self, is_valid: bool, errors: &[YaccGrammarError]) {
+        if is_valid {
+            return add_one(&self.grammars);
+        }
+        add_one(&self.refused);
+        if errors.is_empty() {
+            add_one(&self.empty);
+        }
+    }
+
+    /// Writes all three.
+    pub(crate) fn write(&self, out: &mut Page) {
+        let counts = [
+            Piece::Number("    grammars ", self.grammars.get()),
+            Piece::Number(", lists of errors ", self.refused.get()),
+            Piece::Number(", empty ones ", self.empty.get()),
+            Piece::Text("\n"),
+        ];
+        pen::pieces(out, &counts);
+    }
+}
+
+fn add_one(count: &Cell<usize>) {
+    count.set(count.get().saturating_add(1));
+}
 
 /// Writes a line for each beginning of the text that ends where a character begins or the text ends.
 pub fn write_cuts(out: &mut Page, kind: Option<YaccKind>, text: &str) {
-    for len in 0..=text.len() {
+    write_counted(out, &Counts::new(), kind, text, (0, text.len()));
+}
+
+/// Writes a line for each beginning of the text of so many bytes at least and at most that ends where a character begins or
+/// the text ends, and counts it.
+pub(crate) fn write_counted(
+    out: &mut Page,
+    counts: &Counts,
+    kind: Option<YaccKind>,
+    text: &str,
+    (least, most): (usize, usize),
+) {
+    for len in least..=most {
         if let Some(cut) = text.get(..len) {
-            write_cut(out, kind, cut);
+            write_cut(out, counts, kind, cut);
         }
     }
 }
 
 /// Writes the length of a text, its errors, each as its kind and its spans, and how much was read of it.
-fn write_cut(out: &mut Page, kind: Option<YaccKind>, text: &str) {
+fn write_cut(out: &mut Page, counts: &Counts, kind: Option<YaccKind>, text: &str) {
     pen::number(out, "    ", text.len());
     out.push_str(":");
     let parsed = parse(out.alloc, kind, text);
-    write_made(out, &Cut, parsed);
+    write_made(out, &Cut { counts }, parsed);
 }
 
-/// Writes what was parsed of a cut.
-struct Cut;
+/// Writes what was parsed of a cut, and counts it.
+#[derive(Drop)]
+struct Cut<'a> {
+    counts: &'a Counts,
+}
 
-impl Writer<ASTWithValidityInfo, YaccFault> for Cut {
+impl Writer<ASTWithValidityInfo, YaccFault> for Cut<'_> {
     fn write(&self, out: &mut Page, parsed: &mut ASTWithValidityInfo) {
+        self.counts.add(parsed.is_valid(), parsed.errors());
         write_errors(out, parsed.errors());
         write_read(out, parsed.ast());
     }
@@ -40,6 +100,7 @@ impl Writer<ASTWithValidityInfo, YaccFault> for Cut {
     fn refuse(&self, out: &mut Page, fault: &YaccFault) {
         match fault {
             YaccFault::Errors(errors) => {
+                self.counts.add(false, errors);
                 write_errors(out, errors);
                 out.push_str("; no kind\n");
             }

@@ -1,13 +1,14 @@
 //! Each beginning of each text of a file of rows.
 
-use crate::cuts::write_cuts;
+use crate::cuts::{Counts, write_counted};
 use cfgsyntax::yacc::{YaccKind, YaccOriginalActionKind};
+use rows::digest::write_digest;
 use rows::page::Page;
-use rows::row::{Row, rows};
+use rows::row::{Row, numbers, rows};
 use rows::text::of_row;
 use std::io::ErrorKind;
 
-/// How many bytes the texts have at most that are cut.
+/// How many bytes the texts have at most that are cut, where a row doesn't name one.
 const LONGEST: usize = 4096;
 
 /// As what a text is read: each kind, and the one that it names.
@@ -20,31 +21,47 @@ const KINDS: [Option<YaccKind>; 6] = [
     None,
 ];
 
-/// Writes what is answered of each beginning of each text that the rows in a file spell, as each kind, and as the one
-/// that it names. Texts without a byte and large ones are passed over.
-pub fn tell(out: &mut Page, rt: &HostRuntime, file: &str) {
+/// Writes a digest of what is answered of each beginning of each text that the rows in a file spell, as each kind, and as
+/// the one that it names; and how many beginnings were grammars, and how many were refused. Texts without a byte and
+/// large ones are passed over, unless the row asks for one.
+pub fn tell(out: &mut Page, rt: &HostRuntime, row: &Row<'_>, file: &str) {
+    let mut whole = Page::new(out.alloc);
+    let counts = Counts::new();
     match rows(rt.alloc(), file) {
-        Ok(rows) => tell_rows(out, rt, &rows),
-        Err(_) => out.tear(),
+        Ok(rows) => tell_rows(&mut whole, rt, &counts, row, &rows),
+        Err(_) => whole.tear(),
     }
+    out.follow(&whole);
+    write_digest(out, row, whole.as_str());
+    counts.write(out);
 }
 
-fn tell_rows(out: &mut Page, rt: &HostRuntime, rows: &[Row<'_>]) {
+fn tell_rows(out: &mut Page, rt: &HostRuntime, counts: &Counts, asked: &Row<'_>, rows: &[Row<'_>]) {
     for row in rows {
-        match of_row(rt, row) {
-            Ok(text) => tell_text(out, text.as_str()),
-            Err(fault) if fault.kind() == ErrorKind::OutOfMemory => out.tear(),
-            Err(fault) => writeln!(out, "no text: {fault}"),
+        if asked.first("only").unwrap_or(row.name) == row.name {
+            tell_row(out, rt, counts, asked, row);
         }
     }
 }
 
-/// Writes what is answered of each beginning of a text, unless it is empty or large.
-fn tell_text(out: &mut Page, text: &str) {
-    if text.is_empty() || text.len() > LONGEST {
+fn tell_row(out: &mut Page, rt: &HostRuntime, counts: &Counts, asked: &Row<'_>, row: &Row<'_>) {
+    match of_row(rt, row) {
+        Ok(text) => tell_text(out, counts, asked, text.as_str()),
+        Err(fault) if fault.kind() == ErrorKind::OutOfMemory => out.tear(),
+        Err(fault) => writeln!(out, "no text: {fault}"),
+    }
+}
+
+/// Writes what is answered of each beginning of a text, or of those as long as the row asks for, as each kind.
+fn tell_text(out: &mut Page, counts: &Counts, asked: &Row<'_>, text: &str) {
+    if asked.first("only").is_none() && (text.is_empty() || text.len() > LONGEST) {
         return;
     }
+    let (least, most) = match asked.first("bytes") {
+        Some(bytes) => numbers(bytes),
+        None => (0, text.len()),
+    };
     for kind in &KINDS {
-        write_cuts(out, *kind, text);
+        write_counted(out, counts, *kind, text, (least, most.min(text.len())));
     }
 }
