@@ -2,6 +2,8 @@
 use Rattle.std.specs.Prelude.{◌≡◌, ℕ, Bool, List, [], ◌++◌, Option, codes}
 use Rattle.std.specs.Io.KnownBytes.{Appends, Keeps}
 use Rattle.cfgsink.specs.Sinks.{AppendsBeginning}
+use Rattle.cfgshell.specs.declared.faults.WordsFault.{WordsFault}
+use Rattle.cfgshell.specs.declared.faults.WordsFault.TheVariants as words
 use Rattle.cfgshell.specs.declared.source.Input.{Input}
 use Rattle.cfgshell.specs.declared.words.KindArg.{KindArg}
 use Rattle.lintshell.specs.Files.{AsksFirst, Lints}
@@ -47,6 +49,11 @@ written text = record { output = text; errors = []; status = 0 }
 
 abbrev pub refused : Answer
 refused = record { output = []; errors = usage; status = 2 }
+
+-- how a run ends that has no words, for this reason: words that are no text are wrong usage
+abbrev pub ending_without : WordsFault → Ending
+ending_without words.NotUtf8 = Answered refused
+ending_without words.OutOfMemory = NoMemory
 
 -- `Tells` says what may be told of a text, and `Fetches` what a source may answer for a file, and what becomes of it: a source that
 -- was `before`, and is `after`.

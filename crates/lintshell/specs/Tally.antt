@@ -62,9 +62,9 @@ abbrev pub summary : Tally → List ℕ
 summary t = counted t.texts (codes "file") ++ (codes ": " ++ (counted t.errors (codes "error") ++ (codes ", "
     ++ (counted t.warnings (codes "warning") ++ (taken_text t.taken ++ codes "\n")))))
 
--- whether something was found that counts: an error, or a warning where these are denied
-abbrev pub has_findings : Bool → Tally → Bool
-has_findings denies t = nat_lt 0 t.errors || (denies && nat_lt 0 t.warnings)
+-- whether there are errors, or warnings that are denied
+abbrev pub fails : Bool → Tally → Bool
+fails denies t = nat_lt 0 t.errors || (denies && nat_lt 0 t.warnings)
 
 abbrev pub status_of : Bool → Tally → ℕ
-status_of denies t = if t.is_short then 2 else if has_findings denies t then 1 else 0
+status_of denies t = if t.is_short then 2 else if fails denies t then 1 else 0

@@ -64,4 +64,4 @@ abbrev pub version : List ℕ
 version = codes "cfglint 0.15.0\n"
 
 abbrev pub help : List ℕ
-help = codes "cfglint tells what is wrong with Yacc grammar files, and what is odd about them.\n\nusage: cfglint [--kind KIND] [--deny-warnings] FILE..\n\n  --kind KIND      original-noaction, original-useraction, original-genericparsetree, grmtools, eco or section\n                   (the kind that the file's section names). Without it the section names the kind; a file that\n                   names none is read as original-noaction.\n  --deny-warnings  Warnings end with status 1 too.\n  --help           Writes this.\n  --version        Writes the version.\n  FILE             A path, or - for standard input.\n\nstatus: 0 without findings, or with warnings that aren't denied; 1 with findings; 2 where the words are wrong, a\nfile can't be read or the output can't be written; 3 where there is no memory left\n"
+help = codes "cfglint tells what is wrong with Yacc grammar files, and what is odd about them.\n\nusage: cfglint [--kind KIND] [--deny-warnings] FILE..\n\n  --kind KIND      original-noaction, original-useraction, original-genericparsetree, grmtools, eco or section\n                   (the kind that the file's section names). Without it the section names the kind; a file that\n                   names none is read as original-noaction.\n  --deny-warnings  Warnings end with status 1 too.\n  --help           Writes this.\n  --version        Writes the version.\n  FILE             A path, or - for standard input.\n\nstatus: 0 without errors or denied warnings; 1 with either; 2 where the arguments are wrong, a file can't be\nread or the output can't be written; 3 where there is no memory left\n"

@@ -1,13 +1,15 @@
 //! The program over a runtime.
 
-ghost use Rattle.std.specs.Prelude.{◌≤◌, IfOk};
+ghost use Rattle.std.specs.Prelude.{◌≡◌, ◌-◌, ◌^◌, ◌<◌, ◌≤◌, IfOk};
+ghost use Rattle.cfgsink.specs.Sinks.{AppendsOrFaults};
+ghost use Rattle.lintshell.specs.Run.{ending_errors, ending_status, ending_without};
 
 use crate::linter::Linter;
 use crate::program::lint;
 use crate::words::USAGE;
 use cfgshell::faults::WordsFault;
 use cfgshell::runtime::{ErrorStream, SystemFiles, words};
-use cfgshell::sink::{Counted, write_whole};
+use cfgshell::sink::{Counted, Sink, write_whole};
 use std::io;
 use std::rt::{Env, Files};
 
@@ -22,7 +24,7 @@ pub fn run_over<R: Env + Files + Input + Print + Eprint + AllocGlobal, L: Linter
 {
     match run_on_words(rt, linter) {
         Ok(status) => status,
-        Err(fault) => refuse_words(rt, fault),
+        Err(fault) => refuse_words(fault, &mut Counted::new(ErrorStream { rt })),
     }
 }
 
@@ -49,15 +51,22 @@ fn run_on_words<R: Env + Files + Input + Print + Eprint + AllocGlobal, L: Linter
     ))
 }
 
-/// Ends a run that has no words, and answers its status. A line on why is written to standard error, as far as it is
-/// taken.
-fn refuse_words<R: Eprint>(rt: &R, fault: WordsFault) -> u8
-    ensures { result ≤ 3 }
+/// Ends a run that has no words, and answers its status. A line on why is written to `err`, as far as `err` takes it.
+fn refuse_words<E: Sink>(fault: WordsFault, err: &mut E) -> u8
+    requires { E.faults_counted err.old < 2 ^ 64 - 1 }
+    ensures small { result ≤ 3 }
+    ensures status { result ≡ ending_status (ending_without fault) }
+    ensures line { AppendsOrFaults (E.written err.old) (E.written err.new)
+        (E.faults_counted err.old) (E.faults_counted err.new) (ending_errors (ending_without fault)) }
 {
-    let (line, status) = match fault {
-        WordsFault::NotUtf8 => (USAGE, 2),
-        WordsFault::OutOfMemory => ("cfglint: out of memory\n", 3),
-    };
-    let _ = write_whole(&mut Counted::new(ErrorStream { rt }), line.as_bytes());
-    status
+    match fault {
+        WordsFault::NotUtf8 => {
+            let _ = write_whole(err, USAGE.as_bytes());
+            2
+        }
+        WordsFault::OutOfMemory => {
+            let _ = write_whole(err, b"cfglint: out of memory\n");
+            3
+        }
+    }
 }

@@ -1,7 +1,7 @@
 //! What is told of files, one after the other.
 
 ghost use Rattle.std.specs.Prelude.{◌≡◌, ◌-◌, ◌^◌, ◌<◌, ℕ, List, OnOk};
-ghost use Rattle.lintshell.specs.Tally.{Linted, NoText, Unread, has_findings, no_files, status_of, with_file};
+ghost use Rattle.lintshell.specs.Tally.{Linted, NoText, Unread, fails, no_files, status_of, with_file};
 
 use crate::linter::Report;
 use std::alloc::{AllocError, Global};
@@ -91,13 +91,13 @@ impl Tally {
         if self.is_short {
             2
         } else {
-            u8::from(self.has_findings(denies))
+            u8::from(self.fails(denies))
         }
     }
 
-    /// Whether something was found that counts.
-    fn has_findings(&self, denies: bool) -> bool
-        ensures { result ≡ has_findings denies self.now }
+    /// Whether there are errors, or warnings that are denied.
+    fn fails(&self, denies: bool) -> bool
+        ensures { result ≡ fails denies self.now }
     {
         self.errors > 0 || (denies && self.warnings > 0)
     }

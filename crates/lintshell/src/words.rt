@@ -28,8 +28,8 @@ usage: cfglint [--kind KIND] [--deny-warnings] FILE..
   --version        Writes the version.
   FILE             A path, or - for standard input.
 
-status: 0 without findings, or with warnings that aren't denied; 1 with findings; 2 where the words are wrong, a
-file can't be read or the output can't be written; 3 where there is no memory left
+status: 0 without errors or denied warnings; 1 with either; 2 where the arguments are wrong, a file can't be
+read or the output can't be written; 3 where there is no memory left
 ";
 
 /// What the words ask for.
