@@ -1,6 +1,7 @@
 pub mod Errors
 pub mod HeaderErrors
 pub mod HeaderTexts
+pub mod Refusal
 pub mod Texts
 pub mod Warnings
 pub mod WarningTexts

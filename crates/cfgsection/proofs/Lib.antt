@@ -1,6 +1,7 @@
 pub mod Given
 pub mod NamedLemmas
 pub mod NamedPlaces
+pub mod Refusals
 pub mod SectionAnswers
 pub mod SectionElements
 pub mod SectionKept

@@ -2,6 +2,7 @@
 pub mod Inner
 pub mod Kinds
 pub mod Named
+pub mod Refusal
 pub mod SectionErrors
 pub mod SectionGrammar
 pub mod SectionPlaces

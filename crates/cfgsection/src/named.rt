@@ -3,6 +3,7 @@
 ghost use Rattle.std.specs.Prelude.{◌≡◌, ◌∷◌, [], option_map, IfOk, IfErr, codes};
 ghost use Rattle.cfgerrors.specs.HeaderErrors.{InvalidEntry, error_view};
 ghost use Rattle.cfgsection.specs.Named.{HasOneNaming, IsNaming, Naming, Names, kind_given};
+ghost use Rattle.cfgsection.specs.Refusal.{ListsErrors};
 ghost use Rattle.cfgsection.specs.SectionPlaces.{IsFaultAt};
 ghost use Rattle.cfgsection.specs.SectionReads.{entry_view, given_by};
 
@@ -53,6 +54,7 @@ pub fn kind_named(alloc: Global, text: &str) -> Result<YaccKind, HeaderFault>
     ensures one { HasOneNaming text.now }
     ensures naming { (naming : Naming) → Names text.now naming → IsNaming naming result }
     ensures places { IfErr result (IsFaultAt text.now) }
+    ensures listed { IfErr result ListsErrors }
 {
     let (entries, _) = section_entries(alloc, text, true)?;
     kind_given(alloc, entry_of(entries.as_slice(), "yacckind"))

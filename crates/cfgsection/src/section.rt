@@ -13,6 +13,7 @@ mod settings;
 ghost use Rattle.std.specs.Prelude.{length, drop, IfOk, IfErr};
 ghost use Rattle.std.specs.Str.{IsCharBoundary, IsUtf8};
 ghost use Rattle.cfgwords.specs.Places.{IsPiece};
+ghost use Rattle.cfgsection.specs.Refusal.{ListsErrors};
 ghost use Rattle.cfgsection.specs.SectionPlaces.{IsFaultAt};
 ghost use Rattle.cfgsection.specs.SectionReads.{AnswersEntry, HasOneSection, IsSectionRead, section_of};
 
@@ -49,6 +50,7 @@ pub fn section_entries(
     ensures utf8 { IsUtf8 text.now }
     ensures answer { IsSectionRead (section_of required text.now) result }
     ensures fault_places { IfErr result (IsFaultAt text.now) }
+    ensures listed { IfErr result ListsErrors }
 {
     let (entries, end) = read(alloc, text, required)?;
     let errors = errors_found(alloc, entries.as_slice(), &end)?;
@@ -77,6 +79,7 @@ pub fn entry_at(
     ensures answer { AnswersEntry (length text.now) (drop i text.now) result }
     ensures places { IfOk result (λ x. IsPiece text.now x.1 × IsCharBoundary text.now x.3) }
     ensures fault_places { IfErr result (IsFaultAt text.now) }
+    ensures listed { IfErr result ListsErrors }
 {
     let (_, rest) = text.split_at(i);
     let mut reader = Reader::new(alloc, text.len(), rest);

@@ -10,14 +10,19 @@ ghost use Rattle.cfgwords.specs.Actions.{IsAction, action_of};
 ghost use Rattle.cfgwords.specs.SectionWords.{IsName as IsSectionName, name_of as section_name_of, IsText, text_of};
 ghost use Rattle.cfgwords.specs.Words.{IsName, name_of, IsIdentifier, identifier_of, IsQuoted, quoted_of, TokenText};
 ghost use Rattle.cfgwords.specs.Words.{IsToken, token_of, IsInteger, integer_of, LineRest, line_rest};
+ghost use Rattle.cfgwords.specs.declared.blank.Front.{Front};
 ghost use Rattle.cfgwords.specs.declared.bytes.ByteClass.{ByteClass};
 ghost use Rattle.cfgwords.specs.declared.fault.Fault.{Fault};
 ghost use Rattle.cfgwords.specs.declared.fault.FaultKind.{FaultKind};
 ghost use Rattle.cfgwords.specs.declared.passed.Passed.{Passed};
+ghost use Rattle.cfgwords.specs.declared.words.Token.{Token};
+ghost use Rattle.cfgwords.specs.declared.words.Word.{Word};
 
+use crate::blank::Front;
 use crate::bytes::ByteClass;
 use crate::fault::{Fault, FaultKind};
 use crate::passed::Passed;
+use crate::words::{Token, Word};
 
 /// What stands at the front of a text is one thing, the one that `Front::of` tells.
 #[tactic(auto, using(crate::proofs::Blanks::front_graph))]
@@ -138,4 +143,22 @@ pub fn faults_are_told_apart()
     ensures equal { (a b : Fault) → IsTrue (⟦<Fault as PartialEq>⟧.eq a b) ↔ (a ≡ b) }
     ensures clone { (a b : Fault) → ⟦<Fault as Clone>⟧.is_clone a b → b ≡ a }
     ensures cloned { (a : Fault) → ⟦<Fault as Clone>⟧.is_infallible a }
+{}
+
+/// A clone of a name in a text is its source, and takes no memory.
+pub fn words_are_cloned<'a>()
+    ensures clone { (a b : Word) → ⟦<Word<'a> as Clone>⟧.is_clone a b → b ≡ a }
+    ensures cloned { (a : Word) → ⟦<Word<'a> as Clone>⟧.is_infallible a }
+{}
+
+/// A clone of a token in a text is its source, and takes no memory.
+pub fn tokens_are_cloned<'a>()
+    ensures clone { (a b : Token) → ⟦<Token<'a> as Clone>⟧.is_clone a b → b ≡ a }
+    ensures cloned { (a : Token) → ⟦<Token<'a> as Clone>⟧.is_infallible a }
+{}
+
+/// A clone of what stands at the front of a blank is its source, and takes no memory.
+pub fn fronts_are_cloned<'a>()
+    ensures clone { (a b : Front) → ⟦<Front<'a> as Clone>⟧.is_clone a b → b ≡ a }
+    ensures cloned { (a : Front) → ⟦<Front<'a> as Clone>⟧.is_infallible a }
 {}

@@ -1,7 +1,7 @@
 //! Who owns a value of any type, so that no other function drops one of a large type.
 #![tactic(auto)]
 
-ghost use Rattle.std.specs.Prelude.{◌≡◌, Err, IfErr, IfOk, Ok, OnOk};
+ghost use Rattle.std.specs.Prelude.{◌≡◌, ◌⊎◌, Err, IfErr, IfOk, IsErr, IsOk, Ok, OnErr, OnOk};
 ghost use Rattle.std.specs.Fn.{FnOnceReturnsAt, FnOnceTakesAt};
 
 use std::alloc::AllocError;
@@ -26,13 +26,17 @@ pub trait Refill: Drop {
     // Holds of a value, and of one that was made its copy.
     ghost is_copy: { Self → Self → Type 0 };
 
+    // Holds of a value whose copies take no memory.
+    ghost is_infallible: { Self → Type 0 } = { λ _. ⊥ };
+
     /// Makes this a copy.
     ///
     /// # Errors
     ///
     /// Want of memory.
     fn refill(&mut self, from: &Self) -> Result<(), AllocError>
-        ensures { OnOk result (is_copy from.now self.new) };
+        ensures copied { OnOk result (is_copy from.now self.new) }
+        ensures succeeds { is_infallible from.now → IsOk result };
 }
 
 /// A copy, made in place of this value.
@@ -41,7 +45,8 @@ pub trait Refill: Drop {
 ///
 /// Want of memory.
 pub fn refilled<T: Refill>(mut copy: T, from: &T) -> Result<T, AllocError>
-    ensures { IfOk result (T.is_copy from.now) }
+    ensures copied { IfOk result (T.is_copy from.now) }
+    ensures succeeds { T.is_infallible from.now → IsOk result }
 {
     copy.refill(from)?;
     Ok(copy)
@@ -59,7 +64,8 @@ pub fn all<A: Drop, B: Drop, C: Drop, D: Drop>(
     c: Result<C, AllocError>,
     d: Result<D, AllocError>,
 ) -> Result<(A, B, C, D), AllocError>
-    ensures { IfOk result (λ all. (a ≡ Ok all.0) × (b ≡ Ok all.1) × (c ≡ Ok all.2) × (d ≡ Ok all.3)) }
+    ensures made { IfOk result (λ all. (a ≡ Ok all.0) × (b ≡ Ok all.1) × (c ≡ Ok all.2) × (d ≡ Ok all.3)) }
+    ensures refused { OnErr result (IsErr a ⊎ (IsErr b ⊎ (IsErr c ⊎ IsErr d))) }
 {
     Ok((a?, b?, c?, d?))
 }

@@ -1,7 +1,7 @@
 //! The marks of a search.
 
 ghost use Rattle.std.specs.Prelude.{◌≡◌, ◌<◌, Bool, List, Some, false, length, not, slice_get, slice_index_or};
-ghost use Rattle.std.specs.Prelude.{IfOk, OnOk, slice_set, true};
+ghost use Rattle.std.specs.Prelude.{IfOk, IsOk, OnOk, slice_set, true};
 ghost use Rattle.search.specs.Inner.Marks.{bits_at};
 
 use cfgindex::Vob;
@@ -38,7 +38,13 @@ impl Marks for Bits {
         self.get(number).unwrap_or(false)
     }
 
-    fn mark(&mut self, number: usize) -> Result<bool, AllocError> {
+    /// Takes no memory.
+    fn mark(&mut self, number: usize) -> Result<bool, AllocError>
+        requires { number < length self.old }
+        ensures bits { OnOk result (self.new ≡ slice_set self.old number true) }
+        ensures changed { IfOk result (λ fresh. slice_get self.old number ≡ Some (not fresh)) }
+        ensures succeeds { IsOk result }
+    {
         Ok(self.set(number, true))
     }
 }

@@ -3,6 +3,7 @@ use Rattle.std.proofs.lemmas.Result.{err_from_is_err_and}
 use Rattle.cfgsection.specs.SectionReads.{entry_view, given}
 use Rattle.cfgsection.proofs.NamedLemmas.{one_naming, refused, answered}
 use Rattle.cfgsection.proofs.NamedPlaces.{fault_at}
+use Rattle.cfgsection.proofs.Refusals.{naming_lists}
 use Rattle.cfgsection.proofs.named.kind_named.Goals as goal
 
 pub returns-in_err-entries-clause-one : goal.returns-in_err-entries-clause-one
@@ -26,3 +27,9 @@ returns-in_err-entries-clause-places c = fault_at c.args.text.now c.utf8.text _ 
 
 pub returns-clause-places : goal.returns-clause-places
 returns-clause-places c = fault_at c.args.text.now c.utf8.text _ (returns-clause-naming c)
+
+pub returns-in_err-entries-clause-listed : goal.returns-in_err-entries-clause-listed
+returns-in_err-entries-clause-listed c = naming_lists c.args.text.now _ (one_naming c.args.text.now) (returns-in_err-entries-clause-naming c)
+
+pub returns-clause-listed : goal.returns-clause-listed
+returns-clause-listed c = naming_lists c.args.text.now _ (one_naming c.args.text.now) (returns-clause-naming c)

@@ -4,6 +4,7 @@ use Rattle.cfgsection.specs.SectionErrors.{section_errors}
 use Rattle.cfgsection.specs.SectionReads.{entry_view}
 use Rattle.cfgsection.specs.Inner.Steps.{end_view}
 use Rattle.cfgsection.specs.declared.section.header_fault.HeaderFault.TheVariants as faults
+use Rattle.cfgsection.proofs.Refusals.{read_lists}
 use Rattle.cfgsection.proofs.SectionAnswers.{read_fault}
 use Rattle.cfgsection.proofs.SectionOne.{read_whole, read_stopped, read_repeated}
 use Rattle.cfgsection.proofs.section.section_entries.Goals as goal
@@ -34,3 +35,11 @@ returns-in_default-clause-fault_places c =
 pub returns-then-not-is_empty-clause-fault_places : goal.returns-then-not-is_empty-clause-fault_places
 returns-then-not-is_empty-clause-fault_places c =
     read_fault c.args.text.now c.in_ok-entries.ensures.utf8 c.args.required (Err (faults.Errors c.in_ok-errors.errors)) (returns-then-not-is_empty-clause-answer c)
+
+pub returns-in_default-clause-listed : goal.returns-in_default-clause-listed
+returns-in_default-clause-listed c =
+    read_lists c.args.required c.args.text.now (Err (faults.Errors c.in_ok-errors.errors)) (returns-in_default-clause-answer c)
+
+pub returns-then-not-is_empty-clause-listed : goal.returns-then-not-is_empty-clause-listed
+returns-then-not-is_empty-clause-listed c =
+    read_lists c.args.required c.args.text.now (Err (faults.Errors c.in_ok-errors.errors)) (returns-then-not-is_empty-clause-answer c)
