@@ -1,10 +1,10 @@
-//! What a row asks for besides: lists for the checkers, and counted openings.
+//! What a row asks for besides: lists for the checkers, counted openings, and printed refusals.
 
 ghost use Rattle.std.specs.Prelude.{◌≡◌};
 ghost use Rattle.cfgnumbers.specs.Numbered.{core};
 
 use super::certificate::Certificate;
-use super::openings;
+use super::{openings, rules};
 use cfgrammar::yacc::YaccGrammar;
 use cfgrammar::yacc::sentences::SentenceGenerator;
 use rows::page::Page;
@@ -25,6 +25,7 @@ pub(crate) fn write_asked(
             "least" | "choices" => write_checked(out, grammar, costs, *word, *rest),
             "openings" => openings::write_openings(out, grammar),
             "opened" => openings::write_opened(out, grammar, generator, *rest),
+            "refused" => rules::write_refused(out, grammar, generator, *rest),
             _ => {}
         }
     }

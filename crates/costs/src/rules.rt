@@ -95,6 +95,35 @@ fn write_cost(out: &mut Page, before: &str, cost: Result<Option<u16>, CostError>
     }
 }
 
+/// Writes what is printed of why costs of the rule of this name are refused.
+pub(crate) fn write_refused(
+    out: &mut Page,
+    grammar: &YaccGrammar<u32>,
+    generator: &SentenceGenerator<'_, u32, YaccGrammar<u32>>,
+    name: &str,
+)
+    requires { generator.now.grammar ≡ core grammar.now }
+{
+    pen::words(out, "    refused ", name);
+    let Some(ridx) = grammar.rule_idx(name) else {
+        return out.push_str(": no such rule\n");
+    };
+    write_reason(
+        out,
+        "; least: ",
+        generator.min_sentence_cost(ridx).map(Some),
+    );
+    write_reason(out, "; greatest: ", generator.max_sentence_cost(ridx));
+    out.push('\n');
+}
+
+/// Writes what is printed of why a cost is refused.
+fn write_reason(out: &mut Page, before: &str, cost: Result<Option<u16>, CostError>) {
+    if let Err(reason) = cost {
+        write!(out, "{before}{reason}");
+    }
+}
+
 /// Writes why there is no sentence.
 pub(crate) fn write_refusal(out: &mut Page, error: SentenceError) {
     out.push_str(match error {

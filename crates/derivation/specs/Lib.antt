@@ -12,3 +12,4 @@ pub mod FirstSets
 pub mod FollowSets
 pub mod Sums
 pub mod Lists
+pub mod Errors

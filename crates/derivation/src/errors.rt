@@ -1,7 +1,11 @@
 //! Why a rule has no cost that can be answered.
 
-ghost use Rattle.std.specs.Prelude.{◌≡◌, ◌↔◌, IsTrue};
+ghost use Rattle.std.specs.Prelude.{◌≡◌, ◌↔◌, IsTrue, Some};
 ghost use Rattle.derivation.specs.declared.errors.CostError.{CostError};
+ghost use Rattle.derivation.specs.Errors.{cost_error_text};
+
+use std::error::Error;
+use std::fmt;
 
 /// Why a rule has no cost that can be answered.
 #[derive(Clone, Copy, Debug, PartialEq, Eq)]
@@ -11,6 +15,21 @@ pub enum CostError {
     /// The cost is more than 65535.
     CostTooLarge,
 }
+
+impl fmt::Display for CostError {
+    ghost output = { λ error. Some (cost_error_text error) };
+
+    ghost styled_output = { λ error _. Some (cost_error_text error) };
+
+    fn fmt<W: fmt::Write>(&self, f: &mut fmt::Formatter<W>) -> fmt::Result {
+        f.write_str(match self {
+            CostError::NoSentence => "the rule has no sentence",
+            CostError::CostTooLarge => "the cost is more than 65535",
+        })
+    }
+}
+
+impl Error for CostError {}
 
 /// Why there is no cost is equal to itself alone. A clone is its source, and takes no memory.
 pub fn cost_errors_are_told_apart()

@@ -1,6 +1,6 @@
 //! All minimal sentences of a rule, made of those of the rules that it needs.
 
-ghost use Rattle.std.specs.Prelude.{◌≡◌, ◌↔◌, ℕ, ◌<◌, List, All, Contains, Err, IfOk, Some, length, map};
+ghost use Rattle.std.specs.Prelude.{◌≡◌, ◌↔◌, ℕ, ◌<◌, [], ◌++◌, List, All, Contains, Err, IfOk, Some, length, map};
 ghost use Rattle.std.specs.List.Sorted.{IsStrictlySortedBy};
 ghost use Rattle.derivation.specs.Grammar.{HasProduction};
 ghost use Rattle.derivation.specs.Costs.{Minimal};
@@ -107,7 +107,8 @@ impl<'a, S: Storage, T: Tables<S>> SentenceGenerator<'a, S, T> {
     }
 
     /// All sentences of the rule that no other of its sentences costs less than, each once, in the order of a
-    /// dictionary: by the indices of their tokens. Only rules that they are made of are gone into.
+    /// dictionary: by the indices of their tokens. None of them is a prefix of another. Only rules that they are made
+    /// of are gone into.
     ///
     /// # Errors
     ///
@@ -124,11 +125,15 @@ impl<'a, S: Storage, T: Tables<S>> SentenceGenerator<'a, S, T> {
             ↔ Minimal (HasProduction self.now.grammar) (token_cost self.now) (S.number rule.0) w) }
         ensures order { IfOk result (λ sentences.
             IsStrictlySortedBy dictionary (map (numbers_of S.number) sentences.items)) }
+        ensures prefix_free { IfOk result (λ sentences. (w rest : List ℕ)
+            → Contains (map (numbers_of S.number) sentences.items) w
+            → Contains (map (numbers_of S.number) sentences.items) (w ++ rest) → rest ≡ []) }
         ensures none { (result ≡ Err SentenceError.NoSentence)
             ↔ HasNone (HasProduction self.now.grammar) (S.number rule.0) }
         ensures dear { (result ≡ Err SentenceError.CostTooLarge)
             ↔ IsTooDear (HasProduction self.now.grammar) (token_cost self.now) (S.number rule.0) }
     {
+        self.invariant_holds();
         self.min_sentence_cost(rule)?;
         let sentences = self.all_sentences(alloc, self.last_heir(rule))?;
         Ok(sentences)

@@ -1,6 +1,11 @@
-use Rattle.std.proofs.Common.{refl, sym, ap, ◌∙◌}
+use Rattle.std.proofs.Common.{◌++◌, ℕ, List, Contains, map, refl, sym, ap, ◌∙◌}
 use Rattle.std.specs.Result.{result_ok}
+use Rattle.derivation.specs.Grammar.{HasProduction}
 use Rattle.derivation.specs.declared.errors.CostError.TheVariants.{NoSentence, CostTooLarge}
+use Rattle.cfgleast.specs.Generator.{token_cost}
+use Rattle.cfgchoices.proofs.Firsts.{begins_none}
+use Rattle.cfgchoices.proofs.Lengths.{productions_paid}
+use Rattle.cfgcosts.specs.Sentences.{numbers_of}
 use Rattle.cfgcosts.proofs.Refused.{known_memory, known_sentence, refused}
 use Rattle.cfgcosts.proofs.generator.SentenceGenerator.min_sentences.Goals as goal
 
@@ -18,6 +23,12 @@ returns g c = record {
       let same = c.last_heir.ensures.same w in
       (λ h. same.0 (all.0 h), λ m. all.1 (same.1 m));
   order = c.in_ok-sentences.ensures.order;
+  prefix_free = λ w rest h k.
+      let x = c.args.self.now in
+      let (n, is) = c.invariant_holds.ensures.generator in
+      let paid = productions_paid x.grammar x.costs c.invariant_holds.ensures.grammar is.tokens is.positive in
+      let minimal = λ (v : List ℕ) (k : Contains (map (numbers_of g.S.Storage.number) c.in_ok-sentences.sentences.items) v). (c.last_heir.ensures.same v).0 ((c.in_ok-sentences.ensures.all v).0 k) in
+      begins_none (HasProduction x.grammar) (token_cost x) paid (g.S.Storage.number c.args.rule.0) w rest (minimal w h) (minimal (w ++ rest) k);
   none = known_sentence c.in_ok-sentences.sentences c.in_ok-min_sentence_cost.field-0 NoSentence refl c.in_ok-min_sentence_cost.ensures.none;
   dear = known_sentence c.in_ok-sentences.sentences c.in_ok-min_sentence_cost.field-0 CostTooLarge refl c.in_ok-min_sentence_cost.ensures.dear;
 }
