@@ -5,7 +5,6 @@ pub mod Keeps
 pub mod Law
 pub mod Names
 pub mod Once
-pub mod Refilled
 pub mod Steps
 pub mod Views
 pub mod Written

@@ -8,8 +8,6 @@ ghost use Rattle.cfgast.specs.Syntax.{syntax_of, symbol_of, production_of, head_
 ghost use Rattle.cfgast.specs.Occurrences.{of_grammar, of_token};
 ghost use Rattle.cfgast.specs.Building.{add, adds, with_first, with_rule, new_rule, is_declared};
 
-use crate::anew::{hash_map_anew, hash_set_anew};
-use crate::crowds::{Crowds, New};
 use crate::item::{Body, RuleHead};
 use crate::occurrence::{Occurrence, Unique, UniqueKind};
 use crate::precedence::{AssocKind, Precedence};
@@ -19,12 +17,8 @@ use crate::symbol::Symbol;
 use crate::syntax::Syntax;
 use crate::tables::{begin_marked, put_entry, put_marked};
 use cfgbase::Span;
-use cfghash::NameHashes;
 use cfgwords::words::{Token, Word};
 use std::alloc::{AllocError, Global};
-
-/// The first key is drawn from the first one of so many parts of a text.
-const PART: usize = 16;
 
 /// Builds what a grammar file says from the items that a reader finds in it, in their order.
 ///
@@ -32,34 +26,27 @@ const PART: usize = 16;
 /// added a part of its item, and its contract says nothing of what the builder holds then. So the reader drops it, and
 /// answers want of memory alone.
 #[derive(Drop)]
-pub struct AstBuilder<'text> {
-    text: &'text str,
-    crowds: Option<Crowds>,
-    has_key: bool,
+pub struct AstBuilder {
     syntax: Syntax,
 }
 
 #[tactic(auto, unfolding(crate::specs::View::syntax_built, crate::specs::View::syntax_view, crate::specs::Building::add))]
-impl<'text> AstBuilder<'text> {
+impl AstBuilder {
     ghost use Rattle.cfgast.specs.View.{syntax_view, syntax_built, production_view, rule_view, symbol_view, word_view};
     ghost use Rattle.cfgast.specs.View.{token_view, head_view, body_view};
 
-    /// A builder that no item was added to. Names are hashed plainly, or where they crowd under a key of this text.
-    pub fn new(alloc: Global, text: &'text str) -> Self
+    /// A builder that no item was added to.
+    pub fn new(alloc: Global) -> Self
         ensures { syntax_built result ≡ syntax_of [] }
     {
-        let hashes = NameHashes::plain();
         AstBuilder {
-            text,
-            crowds: Some(Crowds::new(alloc, hashes)),
-            has_key: false,
-            syntax: Syntax::none(alloc, hashes),
+            syntax: Syntax::none(alloc),
         }
     }
 
     /// What the items that were added say.
     pub fn finish(self) -> Syntax
-        ensures { syntax_view result ≡ syntax_built self.entry }
+        ensures { syntax_view result ≡ syntax_built self }
     {
         self.syntax
     }
@@ -87,13 +74,13 @@ impl<'text> AstBuilder<'text> {
     {
         let level = self.syntax.tables.levels.len() as u64;
         let precedence = Precedence { level, kind };
-        let is_new = put_entry(
+        put_entry(
             alloc,
             &mut self.syntax.tables.precs,
             word.name,
             (precedence, word.span),
         )?;
-        self.note_token(alloc, UniqueKind::Precedence, word, is_new)
+        self.note_token(alloc, UniqueKind::Precedence, word)
     }
 
     /// Adds the end of a `%left`, `%right` or `%nonassoc` list.
@@ -108,8 +95,7 @@ impl<'text> AstBuilder<'text> {
     pub fn begin_avoid_insert(&mut self, alloc: Global)
         ensures { syntax_built self.new ≡ add (syntax_built self.old) AvoidInsertBegun }
     {
-        let hashes = *self.syntax.tokens.hasher();
-        begin_marked(alloc, hashes, &mut self.syntax.tables.avoid_insert);
+        begin_marked(alloc, &mut self.syntax.tables.avoid_insert);
     }
 
     /// Adds a token of an `%avoid_insert` list. The first one of its name counts.
@@ -118,17 +104,15 @@ impl<'text> AstBuilder<'text> {
             ≡ add (syntax_built self.old) (AvoidInsertDeclared (word_view word.entry))) }
     {
         self.put_token(alloc, word)?;
-        let hashes = *self.syntax.tokens.hasher();
-        let is_new = put_marked(alloc, hashes, &mut self.syntax.tables.avoid_insert, word)?;
-        self.note_token(alloc, UniqueKind::AvoidInsert, word, is_new)
+        put_marked(alloc, &mut self.syntax.tables.avoid_insert, word)?;
+        self.note_token(alloc, UniqueKind::AvoidInsert, word)
     }
 
     /// Adds the beginning of an `%implicit_tokens` list.
     pub fn begin_implicit_tokens(&mut self, alloc: Global)
         ensures { syntax_built self.new ≡ add (syntax_built self.old) ImplicitTokensBegun }
     {
-        let hashes = *self.syntax.tokens.hasher();
-        begin_marked(alloc, hashes, &mut self.syntax.tables.implicit_tokens);
+        begin_marked(alloc, &mut self.syntax.tables.implicit_tokens);
     }
 
     /// Adds a token of an `%implicit_tokens` list. The first one of its name counts.
@@ -141,9 +125,8 @@ impl<'text> AstBuilder<'text> {
             ≡ add (syntax_built self.old) (ImplicitTokenDeclared (word_view word.entry))) }
     {
         self.put_token(alloc, word)?;
-        let hashes = *self.syntax.tokens.hasher();
-        let is_new = put_marked(alloc, hashes, &mut self.syntax.tables.implicit_tokens, word)?;
-        self.note_token(alloc, UniqueKind::ImplicitToken, word, is_new)
+        put_marked(alloc, &mut self.syntax.tables.implicit_tokens, word)?;
+        self.note_token(alloc, UniqueKind::ImplicitToken, word)
     }
 
     /// Adds the printed form of a token, with its place; the token's span has its quotes too. The first form counts.
@@ -157,13 +140,13 @@ impl<'text> AstBuilder<'text> {
         ensures { OnOk result (syntax_built self.new
             ≡ add (syntax_built self.old) (PrintedFormDeclared (word_view token.entry) (string_bytes form, span))) }
     {
-        let is_new = put_entry(
+        put_entry(
             alloc,
             &mut self.syntax.tables.epp,
             token.name,
             (token.span, (form, span)),
         )?;
-        self.note_token(alloc, UniqueKind::PrintedForm, token, is_new)
+        self.note_token(alloc, UniqueKind::PrintedForm, token)
     }
 
     /// Adds a quoted token of a rule's body.
@@ -334,24 +317,17 @@ impl<'text> AstBuilder<'text> {
         Ok(())
     }
 
-    // Notes where the file declares what it may declare only once of a token, and whether it is new there.
+    // Notes where the file declares what it may declare only once of a token.
     fn note_token(
         &mut self,
         alloc: Global,
         kind: UniqueKind,
         token: Word<'_>,
-        is_new: bool,
     ) -> Result<(), AllocError>
         ensures { OnOk result (syntax_built self.new ≡ record (syntax_built self.old) {
           occurrences = (syntax_built self.old).occurrences ++ of_token kind (word_view token.entry) ∷ [];
         }) }
     {
-        let new = if is_new {
-            New::Declared(kind, Some(token.name))
-        } else {
-            New::Known
-        };
-        self.take_in(alloc, new)?;
         let name = String::from_str(alloc, token.name)?;
         let what = Unique {
             kind,
@@ -388,7 +364,6 @@ impl<'text> AstBuilder<'text> {
         self.syntax.spans.push(word.span)?;
         let name = String::from_str(alloc, word.name)?;
         let (index, _) = self.syntax.tokens.insert_full(name)?;
-        self.take_in(alloc, New::Token(word.name))?;
         Ok(index)
     }
 
@@ -408,50 +383,7 @@ impl<'text> AstBuilder<'text> {
         let key = String::from_str(alloc, name)?;
         let rule = self.new_rule(alloc, head)?;
         let (index, _) = self.syntax.rules.insert_full(key, rule)?;
-        self.take_in(alloc, New::Rule(name))?;
         Ok(index)
-    }
-
-    // Takes in what is new. Where names crowd, they are hashed anew.
-    fn take_in(&mut self, alloc: Global, new: New<'_>) -> Result<(), AllocError>
-        ensures { OnOk result (syntax_built self.new ≡ syntax_built self.old) }
-    {
-        let crowded = match &mut self.crowds {
-            Some(crowds) => crowds.takes(new)?,
-            None => false,
-        };
-        if crowded {
-            self.hash_anew(alloc)
-        } else {
-            Ok(())
-        }
-    }
-
-    // Hashes all names under another key, from now on.
-    fn hash_anew(&mut self, alloc: Global) -> Result<(), AllocError>
-        ensures { OnOk result (syntax_built self.new ≡ syntax_built self.old) }
-    {
-        let hashes = self.draw_key(alloc)?;
-        hash_map_anew(alloc, hashes, &mut self.syntax.rules)?;
-        hash_set_anew(alloc, hashes, &mut self.syntax.tokens)?;
-        self.syntax.tables.hash_anew(alloc, hashes)
-    }
-
-    // The key of the text's first part, which is soon drawn. Where names crowd under it too, that of the whole text.
-    fn draw_key(&mut self, alloc: Global) -> Result<NameHashes, AllocError>
-        ensures { OnOk result (syntax_built self.new ≡ syntax_built self.old) }
-    {
-        self.crowds = None;
-        let text = self.text.as_bytes();
-        if !self.has_key {
-            self.has_key = true;
-            let hashes = NameHashes::of_text(&text[..text.len() / PART]);
-            self.crowds = Crowds::of(alloc, hashes, &self.syntax)?;
-            if self.crowds.is_some() {
-                return Ok(hashes);
-            }
-        }
-        Ok(NameHashes::of_text(text))
     }
 
     // A rule with no production yet. Where its head says no type, it has the one of all rules.

@@ -1,8 +1,6 @@
 #![tactic(auto)]
 
-pub mod anew;
 pub mod builder;
-mod crowds;
 pub mod item;
 pub mod laws;
 pub mod occurrence;

@@ -3,7 +3,6 @@ ghost use Rattle.cfgast.specs.Building.{listed};
 ghost use Rattle.cfgast.specs.View.{rule_entry};
 
 use cfgbase::Span;
-use cfghash::NameHashes;
 use indexmap::IndexMap;
 use std::alloc::AllocError;
 
@@ -34,7 +33,7 @@ impl Clone for Rule {
 
 /// Lists the production of this index with the rule of this name.
 pub fn list_production(
-    rules: &mut IndexMap<String, Rule, NameHashes>,
+    rules: &mut IndexMap<String, Rule>,
     name: &str,
     index: usize,
 ) -> Result<(), AllocError>

@@ -9,7 +9,6 @@ use crate::settings::Settings;
 use crate::symbol::Symbol;
 use crate::tables::Tables;
 use cfgbase::Span;
-use cfghash::NameHashes;
 use indexmap::{IndexMap, IndexSet};
 use std::alloc::Global;
 
@@ -19,7 +18,7 @@ pub struct Syntax {
     /// The start rule's name, and the place where it is given.
     pub start: Option<(String, Span)>,
     /// The rules, by their names, in the order in which they come first.
-    pub rules: IndexMap<String, Rule, NameHashes>,
+    pub rules: IndexMap<String, Rule>,
     /// The productions of all rules, in their order in the file.
     pub prods: Vec<Production>,
     /// The rule of each production, by its index in the order of `rules`.
@@ -27,7 +26,7 @@ pub struct Syntax {
     /// The indices of the tokens that a `%token` declares.
     pub token_directives: IndexSet<usize>,
     /// The tokens' names, in the order in which they come first.
-    pub tokens: IndexSet<String, NameHashes>,
+    pub tokens: IndexSet<String>,
     /// The place of each token's name, where it comes first.
     pub spans: Vec<Span>,
     /// What the file says of single tokens.
@@ -46,18 +45,18 @@ impl Syntax {
 
     /// Nothing.
     #[tactic(auto, unfolding(crate::specs::Syntax::syntax_of, crate::specs::View::syntax_view))]
-    pub fn none(alloc: Global, hashes: NameHashes) -> Self
+    pub fn none(alloc: Global) -> Self
         ensures { syntax_view result ≡ syntax_of [] }
     {
         Syntax {
             start: None,
-            rules: IndexMap::with_hasher(alloc, hashes),
+            rules: IndexMap::new(alloc),
             prods: Vec::new(alloc),
             prods_rules: Vec::new(alloc),
             token_directives: IndexSet::new(alloc),
-            tokens: IndexSet::with_hasher(alloc, hashes),
+            tokens: IndexSet::new(alloc),
             spans: Vec::new(alloc),
-            tables: Tables::none(alloc, hashes),
+            tables: Tables::none(alloc),
             settings: Settings::none(),
             expect_unused: Vec::new(alloc),
             occurrences: Vec::new(alloc),

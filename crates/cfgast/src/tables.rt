@@ -4,10 +4,8 @@ ghost use Rattle.std.specs.Prelude.{◌≡◌, [], map, option_map, string_bytes
 ghost use Rattle.cfgast.specs.Building.{with_entry, with_marked};
 ghost use Rattle.cfgast.specs.View.{span_entry, word_view};
 
-use crate::anew::{hash_map_anew, hash_marked_anew};
 use crate::precedence::{AssocKind, Precedence};
 use cfgbase::Span;
-use cfghash::NameHashes;
 use cfgwords::words::Word;
 use indexmap::IndexMap;
 use lending::{Refill, refilled};
@@ -17,13 +15,13 @@ use std::alloc::{AllocError, Global};
 #[derive(Debug, Drop)]
 pub struct Tables {
     /// The tokens of `%left`, `%right` and `%nonassoc` lists, with their precedences (POSIX yacc) and places.
-    pub precs: IndexMap<String, (Precedence, Span), NameHashes>,
+    pub precs: IndexMap<String, (Precedence, Span)>,
     /// The keys of `%epp`, with their places, and their printed forms with theirs.
-    pub epp: IndexMap<String, (Span, (String, Span)), NameHashes>,
+    pub epp: IndexMap<String, (Span, (String, Span))>,
     /// The tokens of `%avoid_insert` lists, with their places, where there is such a list.
-    pub avoid_insert: Option<IndexMap<String, Span, NameHashes>>,
+    pub avoid_insert: Option<IndexMap<String, Span>>,
     /// The tokens of `%implicit_tokens` lists, with their places, where there is such a list.
-    pub implicit_tokens: Option<IndexMap<String, Span, NameHashes>>,
+    pub implicit_tokens: Option<IndexMap<String, Span>>,
     /// The declarations of precedence that ended, in order.
     pub levels: Vec<AssocKind>,
 }
@@ -34,26 +32,16 @@ impl Tables {
 
     /// Nothing of any token.
     #[tactic(auto, unfolding(crate::specs::Syntax::tables_of))]
-    pub fn none(alloc: Global, hashes: NameHashes) -> Self
+    pub fn none(alloc: Global) -> Self
         ensures { tables_view result ≡ tables_of [] }
     {
         Tables {
-            precs: IndexMap::with_hasher(alloc, hashes),
-            epp: IndexMap::with_hasher(alloc, hashes),
+            precs: IndexMap::new(alloc),
+            epp: IndexMap::new(alloc),
             avoid_insert: None,
             implicit_tokens: None,
             levels: Vec::new(alloc),
         }
-    }
-
-    // Has all tables hash their keys so.
-    pub(crate) fn hash_anew(&mut self, alloc: Global, hashes: NameHashes) -> Result<(), AllocError>
-        ensures { OnOk result (tables_view self.new ≡ tables_view self.old) }
-    {
-        hash_map_anew(alloc, hashes, &mut self.precs)?;
-        hash_map_anew(alloc, hashes, &mut self.epp)?;
-        hash_marked_anew(alloc, hashes, &mut self.avoid_insert)?;
-        hash_marked_anew(alloc, hashes, &mut self.implicit_tokens)
     }
 }
 
@@ -63,8 +51,7 @@ impl Clone for Tables {
     ghost is_clone = { λ tables copy. tables_view copy ≡ tables_view tables };
 
     fn clone(&self) -> Result<Tables, AllocError> {
-        let none = Tables::none(*self.levels.allocator(), *self.precs.hasher());
-        refilled(none, self)
+        refilled(Tables::none(*self.levels.allocator()), self)
     }
 }
 
@@ -83,51 +70,45 @@ impl Refill for Tables {
     }
 }
 
-// The value, under the name where none has it yet: whether that is so.
+// The value, under the name where none has it yet.
 pub(crate) fn put_entry<V: Drop>(
     alloc: Global,
-    entries: &mut IndexMap<String, V, NameHashes>,
+    entries: &mut IndexMap<String, V>,
     name: &str,
     value: V,
-) -> Result<bool, AllocError>
+) -> Result<(), AllocError>
     ensures { OnOk result (map (λ entry. (string_bytes entry.0, entry.1)) entries.new.entries
         ≡ with_entry (Some (name.now, value)) (map (λ entry. (string_bytes entry.0, entry.1)) entries.old.entries)) }
 {
-    if entries.contains_key(name) {
-        return Ok(false);
+    if !entries.contains_key(name) {
+        entries.insert(String::from_str(alloc, name)?, value)?;
     }
-    entries.insert(String::from_str(alloc, name)?, value)?;
-    Ok(true)
+    Ok(())
 }
 
 // The table of marked tokens, from the beginning of a list on.
-pub(crate) fn begin_marked(
-    alloc: Global,
-    hashes: NameHashes,
-    table: &mut Option<IndexMap<String, Span, NameHashes>>,
-)
+pub(crate) fn begin_marked(alloc: Global, table: &mut Option<IndexMap<String, Span>>)
     ensures { option_map (λ table. map span_entry table.entries) table.new
         ≡ with_marked (Some None) (option_map (λ table. map span_entry table.entries) table.old) }
 {
     if table.is_none() {
-        *table = Some(IndexMap::with_hasher(alloc, hashes));
+        *table = Some(IndexMap::new(alloc));
     }
 }
 
-// The table of marked tokens, with a token of a list: whether it is new there.
+// The table of marked tokens, with a token of a list.
 pub(crate) fn put_marked(
     alloc: Global,
-    hashes: NameHashes,
-    table: &mut Option<IndexMap<String, Span, NameHashes>>,
+    table: &mut Option<IndexMap<String, Span>>,
     word: Word<'_>,
-) -> Result<bool, AllocError>
+) -> Result<(), AllocError>
     ensures { OnOk result (option_map (λ table. map span_entry table.entries) table.new
         ≡ with_marked (Some (Some (word_view word.entry)))
         (option_map (λ table. map span_entry table.entries) table.old)) }
 {
-    begin_marked(alloc, hashes, table);
+    begin_marked(alloc, table);
     match table {
         Some(entries) => put_entry(alloc, entries, word.name, word.span),
-        None => Ok(false),
+        None => Ok(()),
     }
 }

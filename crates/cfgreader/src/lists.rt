@@ -34,7 +34,7 @@ pub(crate) enum Marking {
 
 impl Marking {
     /// Notes that such a list begins.
-    fn begin(self, tree: &mut AstBuilder<'_>, alloc: Global)
+    fn begin(self, tree: &mut AstBuilder, alloc: Global)
         ensures { syntax_built tree.new ≡ add (syntax_built tree.old) (begun self) }
     {
         match self {
@@ -59,12 +59,7 @@ impl LineList {
     /// # Errors
     ///
     /// `AllocError` where there is no memory for it.
-    fn note(
-        self,
-        tree: &mut AstBuilder<'_>,
-        alloc: Global,
-        word: Word<'_>,
-    ) -> Result<(), AllocError>
+    fn note(self, tree: &mut AstBuilder, alloc: Global, word: Word<'_>) -> Result<(), AllocError>
         ensures { OnOk result (syntax_built tree.new
             ≡ add (syntax_built tree.old) (said self (word_view word.entry))) }
     {

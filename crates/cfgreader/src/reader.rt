@@ -43,7 +43,7 @@ pub(crate) struct Reader<'a> {
     pub(crate) alloc: Global,
     pub(crate) len: usize,
     pub(crate) rest: &'a str,
-    pub(crate) tree: AstBuilder<'a>,
+    pub(crate) tree: AstBuilder,
     ghost within: { length rest.now ≤ len },
 }
 
@@ -62,7 +62,7 @@ impl<'a> Reader<'a> {
             alloc,
             len,
             rest,
-            tree: AstBuilder::new(alloc, rest),
+            tree: AstBuilder::new(alloc),
         }
     }
 

@@ -9,28 +9,22 @@ ghost use Rattle.cfgtree.specs.View.{syntax};
 
 use cfgast::{Occurrence, Precedence, Production, Rule, Settings, Symbol, Syntax};
 use cfgbase::Span;
-use cfghash::{Crowd, NameHashes};
 use indexmap::{IndexMap, IndexSet};
 use lending::{Refill, refilled};
-use std::alloc::{AllocError, Global};
+use std::alloc::AllocError;
 
 /// What a grammar file says: its rules, productions and tokens, by their names.
 #[derive(Debug, Drop)]
 pub struct GrammarAST {
     pub(crate) syntax: Syntax,
-    /// Of the rules that were added to the tree, how full their table is.
-    pub(crate) added: Crowd,
 }
 
 /// The tree that holds this. No public path of `cfgrammar` leads to it.
 #[tactic(auto, unfolding(crate::specs::View::syntax))]
-pub fn tree_of(alloc: Global, said: Syntax) -> GrammarAST
+pub fn tree_of(said: Syntax) -> GrammarAST
     ensures { syntax result ≡ syntax_view said }
 {
-    GrammarAST {
-        syntax: said,
-        added: Crowd::new(alloc),
-    }
+    GrammarAST { syntax: said }
 }
 
 /// The tree, and what goes with it, where that was made. No public path of `cfgrammar` leads to it.
@@ -68,7 +62,7 @@ impl GrammarAST {
     }
 
     /// The rules, by their names, in the order in which they come first.
-    pub fn rules(&self) -> &IndexMap<String, Rule, NameHashes>
+    pub fn rules(&self) -> &IndexMap<String, Rule>
         ensures { map rule_entry result.now.entries ≡ (syntax self.now).rules }
     {
         &self.syntax.rules
@@ -96,7 +90,7 @@ impl GrammarAST {
     }
 
     /// The tokens' names, in the order in which they come first.
-    pub fn tokens(&self) -> &IndexSet<String, NameHashes>
+    pub fn tokens(&self) -> &IndexSet<String>
         ensures { map string_bytes result.now.keys ≡ (syntax self.now).tokens }
     {
         &self.syntax.tokens
@@ -110,14 +104,14 @@ impl GrammarAST {
     }
 
     /// The precedences of tokens (POSIX yacc), each with the place where the token is given one first.
-    pub fn precs(&self) -> &IndexMap<String, (Precedence, Span), NameHashes>
+    pub fn precs(&self) -> &IndexMap<String, (Precedence, Span)>
         ensures { map precedence_entry result.now.entries ≡ (syntax self.now).tables.precedences }
     {
         &self.syntax.tables.precs
     }
 
     /// The tokens of the `%avoid_insert` lists, each with its first place there, where there is such a list.
-    pub fn avoid_insert(&self) -> &Option<IndexMap<String, Span, NameHashes>>
+    pub fn avoid_insert(&self) -> &Option<IndexMap<String, Span>>
         ensures { option_map (λ table. map span_entry table.entries) result.now
             ≡ (syntax self.now).tables.avoid_insert }
     {
@@ -125,7 +119,7 @@ impl GrammarAST {
     }
 
     /// The tokens of the `%implicit_tokens` lists, each with its first place there, where there is such a list.
-    pub fn implicit_tokens(&self) -> &Option<IndexMap<String, Span, NameHashes>>
+    pub fn implicit_tokens(&self) -> &Option<IndexMap<String, Span>>
         ensures { option_map (λ table. map span_entry table.entries) result.now
             ≡ (syntax self.now).tables.implicit_tokens }
     {
@@ -133,7 +127,7 @@ impl GrammarAST {
     }
 
     /// The printed forms of tokens: the place of the token behind its first `%epp`, and the form with its own place.
-    pub fn epp(&self) -> &IndexMap<String, (Span, (String, Span)), NameHashes>
+    pub fn epp(&self) -> &IndexMap<String, (Span, (String, Span))>
         ensures { map printed_entry result.now.entries ≡ (syntax self.now).tables.printed_forms }
     {
         &self.syntax.tables.epp
@@ -218,10 +212,7 @@ impl Clone for GrammarAST {
 
     fn clone(&self) -> Result<GrammarAST, AllocError> {
         let alloc = *self.syntax.prods.allocator();
-        refilled(
-            tree_of(alloc, Syntax::none(alloc, NameHashes::plain())),
-            self,
-        )
+        refilled(tree_of(Syntax::none(alloc)), self)
     }
 }
 

@@ -8,7 +8,6 @@ ghost use Rattle.cfgtree.specs.View.{duplicate_view};
 
 use cfgast::{Occurrence, Unique};
 use cfgbase::Span;
-use cfghash::NameHashes;
 use indexmap::{IndexMap, IndexSet};
 use std::alloc::{AllocError, Global};
 
@@ -16,13 +15,12 @@ use std::alloc::{AllocError, Global};
 #[tactic(auto, unfolding(crate::specs::Duplicates::duplicates))]
 pub fn duplicates(
     alloc: Global,
-    hashes: NameHashes,
     occurrences: &[Occurrence],
-) -> Result<IndexMap<&Unique, Vec<Span>, NameHashes>, AllocError>
+) -> Result<IndexMap<&Unique, Vec<Span>>, AllocError>
     ensures { IfOk result (λ found. map duplicate_view found.entries
         ≡ duplicates (map occurrence_view occurrences.now)) }
 {
-    let mut found = repeated(alloc, hashes, occurrences)?;
+    let mut found = repeated(alloc, occurrences)?;
     if found.is_empty() {
         return Ok(found);
     }
@@ -37,15 +35,14 @@ pub fn duplicates(
 // What the occurrences declare more than once, in the order of the first repeats, without its places.
 fn repeated(
     alloc: Global,
-    hashes: NameHashes,
     occurrences: &[Occurrence],
-) -> Result<IndexMap<&Unique, Vec<Span>, NameHashes>, AllocError>
+) -> Result<IndexMap<&Unique, Vec<Span>>, AllocError>
     ensures { IfOk result (λ found. map duplicate_view found.entries
         ≡ map (λ what. record { what = what; spans = [] })
         (each_once is_same (repeats (map occurrence_view occurrences.now)))) }
 {
-    let mut declared = IndexSet::with_capacity_and_hasher(alloc, occurrences.len(), hashes)?;
-    let mut again = IndexMap::with_hasher(alloc, hashes);
+    let mut declared = IndexSet::with_capacity(alloc, occurrences.len())?;
+    let mut again = IndexMap::new(alloc);
     for occurrence in occurrences {
         if !declared.insert(&occurrence.what)? {
             again.insert(&occurrence.what, Vec::new(alloc))?;

@@ -16,7 +16,6 @@ use crate::ast::GrammarAST;
 use cfgast::Symbol;
 use cfgbase::Span;
 use cfgerrors::{YaccGrammarWarning, YaccGrammarWarningKind, warning_at};
-use cfghash::NameHashes;
 use indexmap::IndexMap;
 use search::{Bits, Edges, Search};
 use std::alloc::{AllocError, Global};
@@ -96,7 +95,7 @@ impl GrammarAST {
     fn reach_tokens(
         &self,
         search: &mut Search,
-        table: &IndexMap<String, Span, NameHashes>,
+        table: &IndexMap<String, Span>,
     ) -> Result<(), AllocError>
         requires { length search.old.reached ≡ length (nodes (syntax self.now)) }
         ensures { OnOk result (Reaches (FoundBy (IsNodeOf (syntax self.now))

@@ -15,14 +15,10 @@ ghost use Rattle.cfgtree.specs.Writing.{rule_added, production_added, programs_s
 ghost use Rattle.cfgtree.specs.Writing.{ProductionsKeepTrees};
 
 use crate::ast::GrammarAST;
-use cfgast::anew::hash_map_anew;
 use cfgast::rule::list_production;
 use cfgast::{Production, Rule, Symbol};
 use cfgbase::Span;
-use cfghash::{Crowd, NameHashes};
-use indexmap::IndexMap;
-use std::alloc::{AllocError, Global};
-use std::hash::BuildHasher;
+use std::alloc::AllocError;
 
 #[tactic(auto, unfolding(crate::specs::View::syntax, cfgast::specs::View::syntax_view))]
 impl GrammarAST {
@@ -47,8 +43,7 @@ impl GrammarAST {
         ensures unchanged { OnErr result (syntax self.new ≡ syntax self.old) }
         ensures memory { OnErr result (has_rule (string_bytes name.0) (syntax self.old).rules ≡ false) }
     {
-        let alloc = *name.0.allocator();
-        let pidxs = Vec::new(alloc);
+        let pidxs = Vec::new(*name.0.allocator());
         let rule = Rule {
             name,
             pidxs,
@@ -59,7 +54,6 @@ impl GrammarAST {
             return Ok(());
         }
         let key = rule.name.0.clone()?;
-        take_in(alloc, &mut self.added, &mut self.syntax.rules, &key)?;
         self.syntax.rules.insert(key, rule)?;
         Ok(())
     }
@@ -130,43 +124,6 @@ impl GrammarAST {
     {
         self.set_programs(programs);
     }
-}
-
-// Takes in the name of a rule that comes next. Where the names of rules crowd, they are hashed anew, under a key of all
-// of them.
-fn take_in(
-    alloc: Global,
-    added: &mut Crowd,
-    rules: &mut IndexMap<String, Rule, NameHashes>,
-    name: &String,
-) -> Result<(), AllocError>
-    ensures { rules.new.entries ≡ rules.old.entries }
-{
-    if added.takes(rules.hasher().hash_one(name))? {
-        let hashes = NameHashes::of_text(told(alloc, rules)?.as_slice());
-        hash_map_anew(alloc, hashes, rules)?;
-        *added = count(alloc, rules)?;
-    }
-    Ok(())
-}
-
-// The names of rules as one list of bytes: each behind its length, so that other names give another list.
-fn told(alloc: Global, rules: &IndexMap<String, Rule, NameHashes>) -> Result<Vec<u8>, AllocError> {
-    let mut told = Vec::new(alloc);
-    for name in rules.keys() {
-        told.extend_from_slice(&name.len().to_le_bytes())?;
-        told.extend_from_slice(name.as_bytes())?;
-    }
-    Ok(told)
-}
-
-// How full the table of these rules is.
-fn count(alloc: Global, rules: &IndexMap<String, Rule, NameHashes>) -> Result<Crowd, AllocError> {
-    let mut crowd = Crowd::new(alloc);
-    for name in rules.keys() {
-        crowd.takes(rules.hasher().hash_one(name))?;
-    }
-    Ok(crowd)
 }
 
 /// A copy of the tree with another start. No public path of `cfgrammar` leads to it.

@@ -4,7 +4,7 @@ use Rattle.cfgtree.proofs.duplicates.repeated.Goals as goal
 use Rattle.cfgtree.proofs.duplicates.repeated.Goals.{then-not-branch+in_ok-insert-2+in-Some-1, then-not-branch+in_ok-insert-2+in-None-1, else-not-branch}
 
 pub loop-occurrence-init : goal.loop-occurrence-init
-loop-occurrence-init c = repeats_start _ _ c.in_ok-declared.ensures.empty c.with_hasher-again.ensures.empty
+loop-occurrence-init c = repeats_start _ _ c.in_ok-declared.ensures.empty c.new-again.ensures.empty
 
 pub loop-occurrence-preserved : goal.loop-occurrence-preserved
 loop-occurrence-preserved c =

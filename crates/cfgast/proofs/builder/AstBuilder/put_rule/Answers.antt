@@ -2,13 +2,12 @@ use Rattle.std.proofs.Common.{◌≡◌, refl, [], ◌∷◌, ◌++◌, map, sym
 use Rattle.std.specs.List.{position_or_len}
 use Rattle.std.specs.Map.{keys_of}
 use Rattle.lemmas.proofs.Places.{place_found}
-use Rattle.cfgast.specs.Syntax.{Syntax, index_of, typed}
+use Rattle.cfgast.specs.Syntax.{index_of, typed}
 use Rattle.cfgast.specs.Building.{new_rule}
 use Rattle.cfgast.specs.View.{syntax_view, syntax_built, rule_entry, rule_view, head_view}
 use Rattle.cfgast.proofs.Steps.{rule-known, rule-new}
 use Rattle.cfgast.proofs.Views.{is_key, has_entry-entries, entries-new, rule_index, rule_index-new}
 use Rattle.cfgast.proofs.builder.AstBuilder.put_rule.Goals as goal
-use Rattle.cfgast.proofs.builder.AstBuilder.put_rule.Goals.{In_ok-take_in}
 
 pub returns-in-Some-clause-added : goal.returns-in-Some-clause-added
 unfolding syntax_built syntax_view
@@ -25,7 +24,7 @@ returns-in-Some-clause-index c =
     place_found (is_key name) (keys_of rules) c.in-Some.index c.in-Some.ensures.index ∙ sym (rule_index name rules)
 
 -- the rules, with the new one at the end
-grown : (c : In_ok-take_in) → map rule_entry c.insert_full.new.self.entries
+grown : (c : goal.Joined-branch-4) → map rule_entry c.insert_full.new.self.entries
     ≡ map rule_entry c.args.self.now.syntax.rules.entries ++ new_rule (typed (syntax_built c.args.self.now).settings.action_type (head_view c.args.head)) ∷ []
 unfolding syntax_built syntax_view
 grown c =
@@ -39,7 +38,7 @@ pub returns-clause-added : goal.returns-clause-added
 unfolding syntax_built syntax_view
 returns-clause-added c =
     let built = syntax_built c.args.self.now in
-    c.in_ok-take_in.ensures ∙ rule-new built (typed built.settings.action_type (head_view c.args.head)) _
+    rule-new built (typed built.settings.action_type (head_view c.args.head)) _
     (has_entry-entries rule_view c.args.head.name.name.now c.args.self.now.syntax.rules.entries ∙ sym c.in_default.ensures.found) (grown c)
 
 pub returns-clause-index : goal.returns-clause-index
@@ -51,4 +50,3 @@ returns-clause-index c =
     c.in_ok-index.ensures.index ∙ ap (λ n. position_or_len (is_key n) (keys_of old.entries)) c.in_ok-key.ensures.ok
     ∙ sym (rule_index name old.entries) ∙ sym (rule_index-new name (map rule_entry old.entries) (new_rule (typed built.settings.action_type (head_view c.args.head))) refl)
     ∙ sym (ap (λ rules. index_of name (map (λ rule. rule.0) rules)) (grown c))
-    ∙ sym (ap (λ (now : Syntax). index_of name (map (λ rule. rule.0) now.rules)) c.in_ok-take_in.ensures)

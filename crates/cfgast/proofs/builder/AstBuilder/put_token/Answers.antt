@@ -1,7 +1,7 @@
 use Rattle.std.proofs.Common.{◌≡◌, false, [], ◌∷◌, ◌++◌, map, string_bytes, sym, ap, ◌∙◌}
 use Rattle.lemmas.specs.Lists.{pushed_unless}
 use Rattle.lemmas.proofs.Places.{place_found}
-use Rattle.cfgast.specs.Syntax.{Syntax, index_of}
+use Rattle.cfgast.specs.Syntax.{index_of}
 use Rattle.cfgast.specs.Building.{has_name}
 use Rattle.cfgast.specs.View.{syntax_view, syntax_built, word_view}
 use Rattle.cfgast.proofs.Steps.{quoted-known, quoted-new}
@@ -30,7 +30,7 @@ returns-clause-added c =
     let grown : map string_bytes c.insert_full.new.self.keys ≡ map string_bytes keys ++ name ∷ [] =
     ap (map string_bytes) c.in_ok-index.ensures.keys ∙ keys-insert_key name keys c.in_ok-name.name c.in_ok-name.ensures.ok
     ∙ ap (λ b. pushed_unless b (map string_bytes keys) name) new in
-    c.in_ok-take_in.ensures ∙ quoted-new (syntax_built c.args.self.now) (word_view c.args.word) _ _ new grown c.in_ok-push.ensures.items
+    quoted-new (syntax_built c.args.self.now) (word_view c.args.word) _ _ new grown c.in_ok-push.ensures.items
 
 pub returns-clause-index : goal.returns-clause-index
 unfolding syntax_built syntax_view
@@ -38,4 +38,3 @@ returns-clause-index c =
     let name = c.args.word.name.now in
     c.in_ok-index.ensures.index ∙ sym (index_of-insert_key name c.args.self.now.syntax.tokens.keys c.in_ok-name.name c.in_ok-name.ensures.ok)
     ∙ sym (ap (λ keys. index_of name (map string_bytes keys)) c.in_ok-index.ensures.keys)
-    ∙ sym (ap (λ (built : Syntax). index_of name built.tokens) c.in_ok-take_in.ensures)

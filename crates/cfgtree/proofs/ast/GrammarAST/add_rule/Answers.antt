@@ -33,11 +33,6 @@ pub returns-in_err-key-clause-memory : goal.returns-in_err-key-clause-memory
 unfolding syntax syntax_view
 returns-in_err-key-clause-memory c = on_err c.from_residual.result (absent _ _ c.args.self.now.syntax.rules.entries c.as_str.ensures.value (sym c.in_default.ensures.value))
 
-pub returns-in_err-take_in-clause-memory : goal.returns-in_err-take_in-clause-memory
-unfolding syntax syntax_view
-returns-in_err-take_in-clause-memory c =
-    on_err c.from_residual-in_err-take_in.result (absent _ _ c.args.self.now.syntax.rules.entries c.as_str.ensures.value (sym c.in_default.ensures.value))
-
 pub returns-in_err-insert-clause-memory : goal.returns-in_err-insert-clause-memory
 unfolding syntax syntax_view
 returns-in_err-insert-clause-memory c =
@@ -53,7 +48,6 @@ returns-clause-added c =
     let new_name = absent name _ old.entries c.as_str.ensures.value (sym c.in_default.ensures.value) in
     added-new (syntax c.args.self.now) head _ new_name
     (ap (map rule_entry) c.in_ok-insert.ensures.entries
-    ∙ ap (λ es. map rule_entry (insert_entry string_eq es c.in_ok-key.key new)) c.take_in.ensures
     ∙ ap (λ m. map rule_entry (insert_entry string_eq m.entries c.in_ok-key.key new)) c.get_mut.follows.holds-at-none ∙ entries-new rule_view name old c.in_ok-key.key new c.in_ok-key.ensures.cases new_name
     ∙ ap (λ places. map rule_entry old.entries ++ (name, record (new_rule head).1 { productions = places }) ∷ []) c.new-pidxs.ensures.items)
 
