@@ -15,7 +15,7 @@ use Rattle.cfgtables.proofs.Placed.{owner}
 use Rattle.cfggreatest.specs.Inner.AtLeast.{HasWord}
 
 -- what the first n numbers lack of the limit, together
-abbrev missing : ℕ → (ℕ → ℕ) → ℕ → ℕ
+abbrev pub missing : ℕ → (ℕ → ℕ) → ℕ → ℕ
 missing limit f zero = 0
 missing limit f (suc n) = missing limit f n + (limit - f n)
 
@@ -24,7 +24,7 @@ module _ (limit : ℕ) (f h : ℕ → ℕ) (le : (q : ℕ) → f q ≤ h q) wher
   missing_le zero = omega arith
   missing_le (suc n) = let rest = missing_le n in omega (arith, rest, le n)
 
-  missing_less : (r : ℕ) → f r < h r → f r < limit → (n : ℕ) → r < n → missing limit h n < missing limit f n
+  pub missing_less : (r : ℕ) → f r < h r → f r < limit → (n : ℕ) → r < n → missing limit h n < missing limit f n
   missing_less r more small zero lt = absurd (omega (arith, lt))
   missing_less r more small (suc n) lt = elim (cases_eq n r) [
     | inl e ↦ let rest = missing_le n in omega (arith, rest, more, small, ap f e, ap h e)

@@ -1,9 +1,10 @@
 //! Laws of greatest costs, which hold of every grammar.
 
-ghost use Rattle.std.specs.Prelude.{ℕ, ◌≤◌, Bool, List, IsTrue};
+ghost use Rattle.std.specs.Prelude.{◌↔◌, ℕ, ◌≤◌, Bool, List, IsTrue};
 ghost use Rattle.derivation.specs.Grammar.{Grammar, IsGrammar, HasProduction};
 ghost use Rattle.derivation.specs.Sentence.{Sentence, cost_of};
 ghost use Rattle.derivation.specs.Costs.{Greatest, Unbounded};
+ghost use Rattle.derivation.specs.Cycles.{MeetsGrowingCycle};
 ghost use Rattle.cfggreatest.specs.Growth.{GrowsFromSet};
 
 /// Rules with sentences, each of which grows from one of them, have sentences that cost more than any number.
@@ -18,4 +19,10 @@ pub fn bounded_rules_have_a_greatest_cost()
     ensures { (g : Grammar) (cost : ℕ → ℕ) (r n : ℕ) (w : List ℕ) → IsGrammar g
         → ((v : List ℕ) → Sentence (HasProduction g) r v → cost_of cost v ≤ n)
         → Sentence (HasProduction g) r w → (c : ℕ) × Greatest (HasProduction g) cost r c }
+{}
+
+/// A rule's sentences cost more than any number exactly if the rule meets a growing cycle.
+pub fn unbounded_rules_meet_growing_cycles()
+    ensures { (g : Grammar) (cost : ℕ → ℕ) (r : ℕ) → IsGrammar g
+        → Unbounded (HasProduction g) cost r ↔ MeetsGrowingCycle (HasProduction g) cost r }
 {}

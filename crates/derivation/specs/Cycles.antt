@@ -22,3 +22,7 @@ pub record Meets (P : ℕ → List Sym → Type 0) (r x : ℕ) : Type 0 where
   pub word : List ℕ
   pub leads : Derives P (Rule r ∷ []) (before ++ (Rule x ∷ after))
   pub gives : Derives P (before ++ (Rule x ∷ after)) (map Token word)
+
+-- r meets a rule with a growing cycle
+abbrev pub MeetsGrowingCycle : (ℕ → List Sym → Type 0) → (ℕ → ℕ) → ℕ → Type 0
+MeetsGrowingCycle P cost r = (x : ℕ) × GrowingCycle P cost x × Meets P r x
