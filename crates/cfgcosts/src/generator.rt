@@ -6,6 +6,7 @@ ghost use Rattle.std.specs.Result.{result_ok};
 ghost use Rattle.cfgindex.specs.declared.idxnewtype.TIdx.{TIdx};
 ghost use Rattle.derivation.specs.Grammar.{HasProduction, IsGrammar};
 ghost use Rattle.derivation.specs.Costs.{Greatest, Least, Unbounded};
+ghost use Rattle.derivation.specs.Cycles.{MeetsGrowingCycle};
 ghost use Rattle.derivation.specs.Lists.{rule_cost};
 ghost use Rattle.cfgleast.specs.Certificate.{IsCovered, IsReached, choice_of, rule_choice};
 ghost use Rattle.cfgleast.specs.Generator.{HasNone, IsGenerator, IsLeastProduction, IsTooDear};
@@ -162,7 +163,8 @@ impl<'a, S: Storage, T: Tables<S>> SentenceGenerator<'a, S, T> {
         }
     }
 
-    /// The greatest cost of the rule's sentences; `None` where some sentence costs more than any number.
+    /// The greatest cost of the rule's sentences; `None` where some sentence costs more than any number, which is where
+    /// the rule meets a growing cycle: a rule that derives itself beside tokens that cost something.
     ///
     /// # Errors
     ///
@@ -174,6 +176,8 @@ impl<'a, S: Storage, T: Tables<S>> SentenceGenerator<'a, S, T> {
             ↔ HasNone (HasProduction self.now.grammar) (S.number rule.0) }
         ensures unbounded { (result ≡ Ok None)
             ↔ Unbounded (HasProduction self.now.grammar) (token_cost self.now) (S.number rule.0) }
+        ensures cycle { (result ≡ Ok None)
+            ↔ MeetsGrowingCycle (HasProduction self.now.grammar) (token_cost self.now) (S.number rule.0) }
         ensures greatest { (c : ℕ) → (result ≡ Ok (Some c))
             ↔ (Greatest (HasProduction self.now.grammar) (token_cost self.now) (S.number rule.0) c × (c ≤ 65535)) }
         ensures too_large { (result ≡ Err CostError.CostTooLarge)

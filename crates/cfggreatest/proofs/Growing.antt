@@ -1,7 +1,7 @@
 -- A rule whose sentences cost more than any number meets a growing cycle. A walk goes down a parse tree. It marks a rule
 -- where symbols beside the way down from it cost something. A marked rule that comes again has a growing cycle; as long
 -- as none does, the rules that are not marked bound what the tree costs.
-use Rattle.std.proofs.Common.{◌≡◌, ◌↔◌, ℕ, zero, suc, ◌+◌, ◌<◌, ◌≤◌, ◌⊎◌, inl, inr, Bool, true, false, cond, eqb, eqb-true, eq-eqb, List, [], ◌∷◌, ◌++◌, sum_by, append-nil, append_assoc, refl, sym, ap, subst, ◌∙◌, arith}
+use Rattle.std.proofs.Common.{◌≡◌, ◌↔◌, ℕ, zero, suc, ◌+◌, ◌<◌, ◌≤◌, ◌⊎◌, inl, inr, Bool, true, false, cond, eqb, eqb-true, eq-eqb, List, [], ◌∷◌, ◌++◌, Option, None, Result, Ok, Err, get_or, length, sum_by, append-nil, append_assoc, refl, sym, ap, subst, ◌∙◌, arith}
 use Rattle.std.proofs.lemmas.Bool.{cases_Bool, cases_eq}
 use Rattle.std.proofs.lemmas.List.Sums.{get_or-le-sum_by, sum_by-append, sum_by-cons}
 use Rattle.derivation.specs.Grammar.{Sym, Rule, Token, Grammar, Production, IsGrammar, HasProduction}
@@ -10,12 +10,16 @@ use Rattle.derivation.specs.Sentence.{cost_of}
 use Rattle.derivation.specs.Costs.{Unbounded}
 use Rattle.derivation.specs.Cycles.{MeetsGrowingCycle}
 use Rattle.derivation.specs.Tree.{Yields, empty, token, opened}
+use Rattle.derivation.specs.declared.errors.CostError.{CostError}
+use Rattle.derivation.specs.declared.errors.CostError.TheVariants.{NoSentence}
 use Rattle.derivation.proofs.Concatenation.{derives_trans, derives_left, derives_right, derives_production, step_production}
 use Rattle.derivation.proofs.Cycles.{cycle_unbounds}
 use Rattle.derivation.proofs.Trees.{trees_from_derivation, trees_join, derivation_from_trees}
 use Rattle.cfgtables.proofs.Placed.{owner}
+use Rattle.cfggreatest.specs.Words.{AreTold, Means}
 use Rattle.cfggreatest.specs.Inner.AtLeast.{weigh}
 use Rattle.cfggreatest.proofs.Bounded.{missing, missing_less}
+use Rattle.cfggreatest.proofs.Telling.{exactly}
 
 module _ (P : ℕ → List Sym → Type 0) (cost : ℕ → ℕ) where
   -- l derives a list with a in it, beside symbols that yield words which together cost n or more
@@ -255,3 +259,15 @@ module _ (g : Grammar) (cost : ℕ → ℕ) (is : IsGrammar g) (root : ℕ) wher
   -- so they do exactly if it meets one
   pub unbounded_if_meets : Unbounded (HasProduction g) cost root ↔ Found
   unbounded_if_meets = (unbounded_meets, λ h. cycle_unbounds (HasProduction g) cost root h.0 h.2 h.1)
+
+-- so answers that are true are `None` exactly where a growing cycle is met
+pub are_told : (g : Grammar) (cost : ℕ → ℕ) → IsGrammar g → (answers : List (Result (Option ℕ) CostError)) → length answers ≡ g.rules
+    → ((r : ℕ) → r < g.rules → Means (HasProduction g) cost r (get_or answers r (Err NoSentence))) → AreTold g cost answers
+are_told g cost is answers rules means = record {
+  rules = rules;
+  means = means;
+  cycles = λ r lt.
+      let told = exactly (HasProduction g) cost r (get_or answers r (Err NoSentence)) (Ok None) (means r lt) in
+      let meets = unbounded_if_meets g cost is r in
+      (λ e. meets.0 (told.0 e), λ h. told.1 (meets.1 h));
+}

@@ -1,8 +1,9 @@
 -- What is told of a rule's greatest cost.
-use Rattle.std.specs.Prelude.{◌≡◌, ℕ, ◌<◌, ◌≤◌, List, Option, Some, None, Result, Ok, Err, length, slice_index_or}
+use Rattle.std.specs.Prelude.{◌≡◌, ◌↔◌, ℕ, ◌<◌, ◌≤◌, List, Option, Some, None, Result, Ok, Err, length, slice_index_or}
 use Rattle.derivation.specs.Grammar.{Sym, Grammar, HasProduction}
 use Rattle.derivation.specs.Sentence.{Sentence}
 use Rattle.derivation.specs.Costs.{Greatest, Unbounded}
+use Rattle.derivation.specs.Cycles.{MeetsGrowingCycle}
 use Rattle.derivation.specs.declared.errors.CostError.{CostError}
 use Rattle.derivation.specs.declared.errors.CostError.TheVariants.{NoSentence, CostTooLarge}
 
@@ -13,7 +14,9 @@ Means P cost r (Ok None) = Unbounded P cost r
 Means P cost r (Ok (Some c)) = Greatest P cost r c × (c ≤ 65535)
 Means P cost r (Err CostTooLarge) = (n : ℕ) × Greatest P cost r n × (65535 < n)
 
--- what is answered of each rule of a grammar is so
+-- what is answered of each rule of a grammar is so, and `None` is answered exactly where a growing cycle is met
 pub record AreTold (g : Grammar) (cost : ℕ → ℕ) (answers : List (Result (Option ℕ) CostError)) : Type 0 where
   pub rules : length answers ≡ g.rules
   pub means : (r : ℕ) → r < g.rules → Means (HasProduction g) cost r (slice_index_or answers r (Err NoSentence))
+  pub cycles : (r : ℕ) → r < g.rules
+      → (slice_index_or answers r (Err NoSentence) ≡ Ok None) ↔ MeetsGrowingCycle (HasProduction g) cost r

@@ -14,8 +14,8 @@ use std::alloc::{AllocError, Global};
 /// some sentence costs more than any number, and a refusal where the rule has no sentence, or the greatest cost is past
 /// 65535.
 ///
-/// A rule that derives itself may have a greatest cost all the same: its costs are unbounded only where what stands
-/// beside it costs something.
+/// A rule that derives itself may have a greatest cost all the same: its costs are unbounded exactly where it meets a
+/// growing cycle, a rule that derives itself beside tokens that cost something.
 ///
 /// # Errors
 ///

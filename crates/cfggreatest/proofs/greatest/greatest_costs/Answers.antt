@@ -1,5 +1,6 @@
-use Rattle.std.proofs.Common.{◌∙◌, length, ap, arith}
+use Rattle.std.proofs.Common.{◌∙◌, length, ap, arith, rules}
 use Rattle.std.specs.List.{slice_index}
+use Rattle.cfggreatest.proofs.Growing.{are_told}
 use Rattle.cfggreatest.proofs.greatest.greatest_costs.Goals as goal
 
 pub loop-rule-init : goal.loop-rule-init
@@ -11,3 +12,6 @@ loop-rule-init g c =
       rules = ap length c.new-answers.ensures.items;
       means = λ r lt. absurd (omega (arith, lt));
     }
+
+pub returns : goal.returns
+returns g c = are_told _ _ c.loop-rule.invariant.walk.grammar _ (search rules) (search rules)

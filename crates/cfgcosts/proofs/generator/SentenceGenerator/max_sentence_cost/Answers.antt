@@ -7,4 +7,4 @@ pub returns : goal.returns
 returns g c =
     let at = answer_at _ c.args.self.now c.self.view_is c.self.inside.greatest.items c.self.invariant.1 (g.S.Storage.number c.args.rule.0)
     c.from.result c.from.ensures c.requires _ c.index.ensures in
-    record { none = at (Err NoSentence); unbounded = at (Ok None); greatest = λ n. at (Ok (Some n)); too_large = at (Err CostTooLarge) }
+    record { none = at.0 (Err NoSentence); unbounded = at.0 (Ok None); cycle = at.1; greatest = λ n. at.0 (Ok (Some n)); too_large = at.0 (Err CostTooLarge) }
