@@ -24,7 +24,7 @@ def findings_of(tree, grammar, is_told):
 
 
 def unused(tree):
-    """The warnings, but for the tokens that a `%prec` names."""
+    """The warnings, but for the tokens that a production's `%prec` names."""
     asked = {tree.tokens[p.precedence] for p in tree.productions if p.precedence in tree.tokens}
     return [Finding(kind, [span], WARNINGS[kind]) for kind, span in warnings_of(tree)
             if kind == 'UnusedRule' or span not in asked]
@@ -74,9 +74,9 @@ def repeats(grammar):
 
 
 def idle(tree):
-    """Precedences of names that no production has as a token, that no `%prec` names, and that are no implicit tokens."""
+    """Precedences of names that no production has as a token, that no production's `%prec` names, and that are no implicit tokens."""
     known = {n for p in tree.productions for is_token, n, _ in p.symbols if is_token}
     known |= {p.precedence for p in tree.productions} | set(tree.implicit_tokens or {})
-    text = "Unused precedence: no production has '%s', and no '%%prec' names it"
+    text = "Unused precedence: token '%s' is not a symbol of any production, and none takes its precedence from it"
     return [Finding('UnusedPrecedence', [span], text % n)
             for n, (_, _, span) in tree.precedences.items() if n not in known]

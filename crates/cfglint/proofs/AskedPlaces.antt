@@ -1,4 +1,4 @@
--- The places of tokens that a `%prec` names are added one after another.
+-- The places of tokens that a production's `%prec` names are added one after another.
 use Rattle.std.proofs.Common.{◌≡◌, ℕ, ◌+◌, ◌<◌, ◌≤◌, ◌⊎◌, inl, inr, Bool, true, false, cond, arith, List, [], Contains, Some, None, map, length, get_or, slice_get, take, position, MatchBool, IsTrue, refl, sym, ap, subst, ◌∙◌}
 use Rattle.std.specs.BTreeMap.{is_at}
 use Rattle.std.specs.BTreeSet.{BTreeSet, contains}

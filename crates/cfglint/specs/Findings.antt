@@ -85,7 +85,8 @@ module _ (g : Numbered) where
   TellsRepeated p None = (earlier : ℕ) → IsTwin p earlier → ⊥
 
 module _ (s : Syntax) where
-  -- a token of this name takes part: a production holds it, a `%prec` names it, or it is an implicit token
+  -- A token of this name takes part: a production holds it, the `%prec` of one names it, or it is an implicit token. Of several
+  -- `%prec`s in a production the last is its own.
   pub data TakesPart (name : List ℕ) : Type 0 where
     held : {production : Production} → Contains s.productions production → Contains (map name_of production.symbols) (TokenName name) → TakesPart name
     asked : {production : Production} → Contains s.productions production → production.precedence ≡ Some name → TakesPart name
@@ -101,7 +102,7 @@ module _ (s : Syntax) where
   TellsPrecedence n (Some finding) = (name : List ℕ) × (span : Span) × IsIdle n name span × (finding ≡ unused_precedence name span)
   TellsPrecedence n None = (name : List ℕ) (span : Span) → IsIdle n name span → ⊥
 
-  -- a token stands first at this place, and a `%prec` names it: it is there for its precedence
+  -- a token stands first at this place, and a production's `%prec` names it: it is there for its precedence
   pub record IsPrecToken (span : Span) : Type 0 where
     pub place : ℕ
     pub name : List ℕ
@@ -111,14 +112,14 @@ module _ (s : Syntax) where
     pub listed : Contains s.productions production
     pub asked : production.precedence ≡ Some name
 
-  -- an unused token that a `%prec` names
+  -- an unused token that a production's `%prec` names
   pub record IsAskedFor (warning : GrammarWarning) : Type 0 where
     pub kind : warning.kind ≡ UnusedToken
     pub span : Span
     pub first : slice_get warning.spans 0 ≡ Some span
     pub token : IsPrecToken span
 
-  -- of the warnings of the tree, which are these, all but those of tokens that a `%prec` names
+  -- of the warnings of the tree, which are these, all but those of tokens that a production's `%prec` names
   abbrev pub TellsWarning : List GrammarWarning → ℕ → Option ShownFinding → Type 0
   TellsWarning warnings n (Some finding) = (warning : GrammarWarning) × (slice_get warnings n ≡ Some warning) × (IsAskedFor warning → ⊥) × (finding ≡ warned warning)
   TellsWarning warnings n None = (warning : GrammarWarning) → slice_get warnings n ≡ Some warning → IsAskedFor warning

@@ -97,10 +97,10 @@ module _ (g : Numbered) where
     text = codes "Repeated production: each sentence by it has two trees";
   }
 
--- that nothing goes by the precedence of the token of this name, which is given here
+-- that the precedence of the token of this name, which is given here, is unused
 abbrev pub unused_precedence : List ℕ → Span → ShownFinding
 unused_precedence name span = record {
   kind = UnusedPrecedence;
   spans = span ∷ [];
-  text = codes "Unused precedence: no production has " ++ (quoted name ++ codes ", and no '%prec' names it");
+  text = codes "Unused precedence: token " ++ (quoted name ++ codes " is not a symbol of any production, and none takes its precedence from it");
 }

@@ -1,4 +1,4 @@
-//! The places of tokens that a `%prec` names.
+//! The places of tokens that a production's `%prec` names.
 
 ghost use Rattle.std.specs.Prelude.{◌≡◌, IfOk, OnOk};
 ghost use Rattle.cfgtree.specs.View.{syntax};
@@ -12,7 +12,7 @@ use std::collections::BTreeSet;
 /// The places of tokens, by their starts and ends.
 pub(crate) type Places = BTreeSet<(usize, usize)>;
 
-/// The first places of the tokens that a `%prec` names.
+/// The first places of the tokens that a production's `%prec` names.
 pub(crate) fn places_asked(alloc: Global, ast: &GrammarAST) -> Result<Places, AllocError>
     ensures { IfOk result (AreAskedBy (syntax ast.now) (syntax ast.now).productions) }
 {

@@ -13,7 +13,7 @@ use std::marker::Model;
 pub enum FindingKind {
     /// No row of productions reaches this rule from the start rule.
     UnusedRule,
-    /// No row of productions reaches this token from the start rule, and no `%prec` names it.
+    /// No row of productions reaches this token from the start rule, and no production's `%prec` names it.
     UnusedToken,
     /// The rule derives no list of tokens.
     NoSentence,
@@ -23,7 +23,7 @@ pub enum FindingKind {
     DerivesItself,
     /// The rule has an earlier production with the same symbols, so each sentence by one of the two has two trees.
     RepeatedProduction,
-    /// The token is given a precedence, and no production has it and no `%prec` names it.
+    /// The token is given a precedence, but is no symbol of a production, and none takes its precedence from it.
     UnusedPrecedence,
 }
 

@@ -67,12 +67,12 @@ impl Teller for Idle<'_> {
     }
 }
 
-/// That nothing goes by the precedence of the token of this name, which is given here.
+/// That the precedence of the token of this name, which is given here, is unused.
 fn unused_precedence(alloc: Global, name: &str, span: Span) -> Result<Finding, AllocError>
     ensures { IfOk result (λ x. x ≡ unused_precedence name.now span) }
 {
     let text = format!(in alloc;
-        "Unused precedence: no production has '{name}', and no '%prec' names it"
+        "Unused precedence: token '{name}' is not a symbol of any production, and none takes its precedence from it"
     )?;
     Finding::at(alloc, FindingKind::UnusedPrecedence, span, text)
 }

@@ -17,7 +17,7 @@ use cfgerrors::{YaccGrammarWarning, YaccGrammarWarningKind};
 use cfgtree::GrammarAST;
 use std::alloc::{AllocError, Global};
 
-/// Puts behind the findings the warnings of the tree, but for unused tokens that a `%prec` names.
+/// Puts behind the findings the warnings of the tree, but for unused tokens that a production's `%prec` names.
 ///
 /// # Errors
 ///
@@ -35,7 +35,7 @@ pub(crate) fn push_warnings(
     push_unasked(alloc, all, ast, &warnings)
 }
 
-/// Puts behind the findings those of the warnings that aren't of tokens that a `%prec` names.
+/// Puts behind the findings those of the warnings that aren't of tokens that a production's `%prec` names.
 fn push_unasked(
     alloc: Global,
     all: &mut Vec<Finding>,
@@ -50,11 +50,11 @@ fn push_unasked(
     push_told(alloc, all, &unasked, warnings.len())
 }
 
-/// Tells of warnings that aren't of tokens that a `%prec` names.
+/// Tells of warnings that aren't of tokens that a production's `%prec` names.
 #[derive(Drop)]
 struct Unasked<'a> {
     warnings: &'a [YaccGrammarWarning],
-    /// The places of the tokens that a `%prec` names.
+    /// The places of the tokens that a production's `%prec` names.
     asked: Places,
 }
 
@@ -78,7 +78,7 @@ impl Teller for Unasked<'_> {
     }
 }
 
-/// Whether the warning is of a token at one of these places, those of the tokens that a `%prec` names.
+/// Whether the warning is of a token at one of these places, those of the tokens that a production's `%prec` names.
 fn is_asked_for(asked: &Places, warning: &YaccGrammarWarning) -> bool
     ensures { (s : Syntax) → AreAskedBy s s.productions asked.now
         → MatchBool result (IsAskedFor s warning.now) (IsAskedFor s warning.now → ⊥) }

@@ -1,4 +1,4 @@
--- The places of tokens that a `%prec` names, as a set.
+-- The places of tokens that a production's `%prec` names, as a set.
 use Rattle.std.specs.Prelude.{◌≡◌, ℕ, ◌⊎◌, false, List, Contains, Some, MatchBool, IsTrue, slice_get, Bool}
 use Rattle.std.specs.BTreeSet.{BTreeSet, contains}
 use Rattle.std.specs.Ordering.{nat_cmp, ordering_then}

@@ -6,5 +6,5 @@ use Rattle.cfglint.proofs.precedences.unused_precedence.Goals as goal
 pub returns : goal.returns
 returns c = subst (λ (text : List ℕ). IfOk c.at.result (λ (x : ShownFinding). x ≡ record { kind = UnusedPrecedence; spans = c.args.span ∷ []; text = text }))
     (c.in_ok-text.ensures.ok
-    ∙ ap (λ rest. codes "Unused precedence: no production has '" ++ rest) (sym (append_assoc c.args.name.now (codes "'") (codes ", and no '%prec' names it"))))
+    ∙ ap (λ rest. codes "Unused precedence: token '" ++ rest) (sym (append_assoc c.args.name.now (codes "'") (codes " is not a symbol of any production, and none takes its precedence from it"))))
     c.at.ensures
