@@ -6,7 +6,6 @@ ghost use Rattle.std.specs.Str.{bytes_eq};
 ghost use Rattle.cfgnumbers.specs.View.{names};
 
 use crate::rows::TokenRow;
-use cfghash::NameHashes;
 use cfgindex::{Storage, TIdx, to_storage};
 use indexmap::IndexMap;
 use std::alloc::{AllocError, Global};
@@ -19,22 +18,22 @@ use std::collections::HashMap;
 /// Want of memory.
 pub fn tokens_by_name<S: Storage>(
     alloc: Global,
-    rows: &IndexMap<String, TokenRow, NameHashes>,
-) -> Result<HashMap<&str, TIdx<S>, NameHashes>, AllocError>
+    rows: &IndexMap<String, TokenRow>,
+) -> Result<HashMap<&str, TIdx<S>>, AllocError>
     requires { length rows.now.entries ≤ S.MAX }
     ensures { IfOk result (λ map. (name : List ℕ)
         → option_map (λ x. S.number x.0) (get_by (λ key. bytes_eq name key.now) map)
         ≡ position (bytes_eq name) (names rows.now.entries)) }
 {
-    let mut map = HashMap::with_capacity_and_hasher(alloc, rows.len(), *rows.hasher())?;
+    let mut map = HashMap::with_capacity(alloc, rows.len())?;
     put_names(&mut map, rows)?;
     Ok(map)
 }
 
 /// Puts the tokens of these rows into a map that is empty, under their names.
 fn put_names<'rows, S: Storage>(
-    map: &mut HashMap<&'rows str, TIdx<S>, NameHashes>,
-    rows: &'rows IndexMap<String, TokenRow, NameHashes>,
+    map: &mut HashMap<&'rows str, TIdx<S>>,
+    rows: &'rows IndexMap<String, TokenRow>,
 ) -> Result<(), AllocError>
     requires empty { (name : List ℕ) → get_by (λ key. bytes_eq name key.now) map.old ≡ None }
     requires room { length rows.now.entries ≤ S.MAX }

@@ -10,7 +10,6 @@ ghost use Rattle.cfgsyntax.specs.Inner.Steps.{IsBehindSection, IsReadBehind, sto
 use cfgast::Syntax;
 use cfgbase::Span;
 use cfgerrors::HeaderError;
-use cfghash::NameHashes;
 use cfgkinds::YaccKind;
 use cfgreader::read_file;
 use cfgsection::{HeaderFault, section_entries};
@@ -55,7 +54,7 @@ fn read_behind(
     ensures { IfOk result (IsReadBehind kind len rest.now) }
 {
     let (syntax, fault) = read_file(alloc, kind, len, rest)?;
-    Ok((tree_of(alloc, syntax), stop_in_file(fault)))
+    Ok((tree_of(syntax), stop_in_file(fault)))
 }
 
 /// Reads a text as a grammar file of the kind, behind its section: what was read, and what stopped the reading, if
@@ -72,8 +71,8 @@ pub(crate) fn read(
     match behind_section(alloc, text) {
         Ok(rest) => read_behind(alloc, kind, text.len(), rest),
         Err(HeaderFault::Errors(errors)) => {
-            let nothing = Syntax::none(alloc, NameHashes::plain());
-            Ok((tree_of(alloc, nothing), Some(Stopped::Section(errors))))
+            let nothing = Syntax::none(alloc);
+            Ok((tree_of(nothing), Some(Stopped::Section(errors))))
         }
         Err(HeaderFault::OutOfMemory) => Err(AllocError),
     }

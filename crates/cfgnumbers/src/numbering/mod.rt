@@ -14,7 +14,6 @@ ghost use Rattle.cfgnumbers.specs.Numbered.{implicit_of, rules_before};
 ghost use Rattle.cfgnumbers.specs.View.{file_of, implicit_in};
 
 use cfgbase::Span;
-use cfghash::NameHashes;
 use cfgindex::{RIdx, Storage, to_storage};
 use cfgkinds::YaccKind;
 use cfgtree::GrammarAST;
@@ -24,7 +23,7 @@ use indexmap::IndexMap;
 #[derive(Clone, Copy)]
 pub struct Numbering<'a> {
     ast: &'a GrammarAST,
-    implicit: Option<&'a IndexMap<String, Span, NameHashes>>,
+    implicit: Option<&'a IndexMap<String, Span>>,
 }
 
 impl<'a> Numbering<'a> {

@@ -20,7 +20,6 @@ use crate::production_rows::ProductionRows;
 use crate::rows::ProductionRow;
 use cfgast::Production;
 use cfgbase::Span;
-use cfghash::NameHashes;
 use cfgindex::{RIdx, Storage, Symbol, to_storage};
 use indexmap::IndexMap;
 use std::alloc::{AllocError, Global};
@@ -121,7 +120,7 @@ impl Numbering<'_> {
         &self,
         alloc: Global,
         rows: &mut ProductionRows<S>,
-        tokens: &IndexMap<String, Span, NameHashes>,
+        tokens: &IndexMap<String, Span>,
     ) -> Result<(), AllocError>
         requires own { implicit_in self.now ≡ Some (names tokens.now.entries) }
         requires resolved { IsResolved (file_of self.now) }
@@ -144,7 +143,7 @@ impl Numbering<'_> {
         &self,
         alloc: Global,
         rows: &mut ProductionRows<S>,
-        tokens: &IndexMap<String, Span, NameHashes>,
+        tokens: &IndexMap<String, Span>,
     ) -> Result<(), AllocError>
         requires implicit { All (λ name. has_name name (file_of self.now).tokens ≡ true) (names tokens.now.entries) }
         requires rule { 1 ≤ S.MAX }

@@ -14,7 +14,6 @@ use super::Numbering;
 use crate::rows::RuleRow;
 use cfgast::Rule;
 use cfgbase::Span;
-use cfghash::NameHashes;
 use cfgindex::{PIdx, Storage, to_storage};
 use indexmap::IndexMap;
 use std::alloc::{AllocError, Global};
@@ -35,14 +34,14 @@ impl Numbering<'_> {
     pub fn rule_rows<S: Storage>(
         &self,
         alloc: Global,
-    ) -> Result<IndexMap<String, RuleRow<S>, NameHashes>, AllocError>
+    ) -> Result<IndexMap<String, RuleRow<S>>, AllocError>
         requires sound { IsSound (file_of self.now) [] }
         requires room { LeavesRoom S.MAX (implicit_in self.now) (file_of self.now) }
         ensures { IfOk result (λ rows. map (rule_view S.number) rows.entries
             ≡ added_rules (implicit_in self.now) (length (file_of self.now).productions)
             ++ map file_rule (file_of self.now).rules) }
     {
-        let mut rows = IndexMap::with_hasher(alloc, *self.ast.rules().hasher());
+        let mut rows = IndexMap::new(alloc);
         self.put_added_rules(alloc, &mut rows)?;
         self.put_rules(alloc, &mut rows)?;
         Ok(rows)
@@ -52,7 +51,7 @@ impl Numbering<'_> {
     fn put_added_rules<S: Storage>(
         &self,
         alloc: Global,
-        rows: &mut IndexMap<String, RuleRow<S>, NameHashes>,
+        rows: &mut IndexMap<String, RuleRow<S>>,
     ) -> Result<(), AllocError>
         requires empty { rows.old.entries ≡ [] }
         requires room { LeavesRoom S.MAX (implicit_in self.now) (file_of self.now) }
@@ -73,7 +72,7 @@ impl Numbering<'_> {
     fn put_rules<S: Storage>(
         &self,
         alloc: Global,
-        rows: &mut IndexMap<String, RuleRow<S>, NameHashes>,
+        rows: &mut IndexMap<String, RuleRow<S>>,
     ) -> Result<(), AllocError>
         requires sound { IsSound (file_of self.now) [] }
         requires room { LeavesRoom S.MAX (implicit_in self.now) (file_of self.now) }
@@ -93,7 +92,7 @@ impl Numbering<'_> {
 /// Puts a rule that the file doesn't have behind the rows. It has so many productions, from the first on.
 fn put_added_rule<S: Storage>(
     alloc: Global,
-    rows: &mut IndexMap<String, RuleRow<S>, NameHashes>,
+    rows: &mut IndexMap<String, RuleRow<S>>,
     name: &str,
     first: usize,
     count: usize,
@@ -133,7 +132,7 @@ fn places_in_order<S: Storage>(
 /// Puts a rule of the file behind the rows.
 fn put_rule<S: Storage>(
     alloc: Global,
-    rows: &mut IndexMap<String, RuleRow<S>, NameHashes>,
+    rows: &mut IndexMap<String, RuleRow<S>>,
     name: &str,
     rule: &Rule,
 ) -> Result<(), AllocError>

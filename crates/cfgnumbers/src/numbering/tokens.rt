@@ -11,7 +11,6 @@ use super::Numbering;
 use super::marks::{avoids_insert, precedence_of_token, printed_form};
 use crate::rows::TokenRow;
 use cfgbase::Span;
-use cfghash::NameHashes;
 use indexmap::IndexMap;
 use std::alloc::{AllocError, Global};
 
@@ -21,15 +20,12 @@ impl Numbering<'_> {
     /// # Errors
     ///
     /// Want of memory.
-    pub fn token_rows(
-        &self,
-        alloc: Global,
-    ) -> Result<IndexMap<String, TokenRow, NameHashes>, AllocError>
+    pub fn token_rows(&self, alloc: Global) -> Result<IndexMap<String, TokenRow>, AllocError>
         requires well_formed { IsWellFormed (file_of self.now) }
         ensures { IfOk result (λ rows. map token_view rows.entries
             ≡ map (file_token (file_of self.now)) (zip (file_of self.now).tokens (file_of self.now).spans)) }
     {
-        let mut rows = IndexMap::with_hasher(alloc, *self.ast.rules().hasher());
+        let mut rows = IndexMap::new(alloc);
         for (name, span) in self.ast.tokens().iter().zip(self.ast.spans()) {
             self.put_token(alloc, &mut rows, name.as_str(), *span)?;
         }
@@ -40,7 +36,7 @@ impl Numbering<'_> {
     fn put_token(
         &self,
         alloc: Global,
-        rows: &mut IndexMap<String, TokenRow, NameHashes>,
+        rows: &mut IndexMap<String, TokenRow>,
         name: &str,
         span: Span,
     ) -> Result<(), AllocError>

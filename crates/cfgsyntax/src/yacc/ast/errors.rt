@@ -20,7 +20,6 @@ use cfgerrors::YaccGrammarErrorKind::{
     DuplicatePrecedence, DuplicateStartDeclaration,
 };
 use cfgerrors::{HeaderError, YaccGrammarError, YaccGrammarErrorKind};
-use cfghash::NameHashes;
 use cfgtree::GrammarAST;
 use cfgtree::duplicates::duplicates;
 use std::alloc::{AllocError, Global};
@@ -44,14 +43,13 @@ fn repeated_kind(kind: UniqueKind) -> YaccGrammarErrorKind
 /// The errors for what is declared more than once.
 fn duplicate_errors(
     alloc: Global,
-    hashes: NameHashes,
     occurrences: &[Occurrence],
 ) -> Result<Vec<YaccGrammarError>, AllocError>
     ensures { IfOk result (λ errors. errors.items
         ≡ map duplicate_error (duplicates (map occurrence_view occurrences.now))) }
 {
     let mut errors = Vec::new(alloc);
-    for (what, places) in duplicates(alloc, hashes, occurrences)? {
+    for (what, places) in duplicates(alloc, occurrences)? {
         errors.push(YaccGrammarError::new(repeated_kind(what.kind), places))?;
     }
     Ok(errors)
@@ -95,7 +93,7 @@ pub(super) fn errors_found(
 ) -> Result<Vec<YaccGrammarError>, AllocError>
     ensures { IfOk result (λ errors. errors.items ≡ all_errors (syntax ast.now) (option_map stop_view stop)) }
 {
-    let mut errors = duplicate_errors(alloc, *ast.rules().hasher(), ast.occurrences())?;
+    let mut errors = duplicate_errors(alloc, ast.occurrences())?;
     errors.append(&mut stop_errors(alloc, stop)?)?;
     if let Err(unfit) = check(ast) {
         errors.push(unfit.error(alloc)?)?;
