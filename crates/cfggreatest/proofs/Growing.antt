@@ -120,10 +120,11 @@ bit_most true = omega arith
 bit_most false = omega arith
 
 module _ (g : Grammar) (cost : ℕ → ℕ) (is : IsGrammar g) (root : ℕ) where
-  -- what bounds the cost of a list, where rules cost no more than k, and of a rule, where n - 1 are not marked
+  -- what a list costs at most, if rules cost no more than k
   abbrev weight : ℕ → List Sym → ℕ
   weight k a = sum_by (weigh cost (λ r. k)) a
 
+  -- what a rule costs at most, if fewer than n rules are not marked and no cycle is found
   abbrev most : ℕ → ℕ
   most zero = 0
   most (suc n) = sum_by (λ (p : Production). weight (most n) p.symbols) g.productions
@@ -248,7 +249,7 @@ module _ (g : Grammar) (cost : ℕ → ℕ) (is : IsGrammar g) (root : ℕ) wher
     | inr le ↦ inr (omega (arith, le, ap (cost_of cost) (e ∙ append-nil u)))
   ]
 
-  pub unbounded_meets : Unbounded (HasProduction g) cost root → Found
+  unbounded_meets : Unbounded (HasProduction g) cost root → Found
   unbounded_meets more =
       let h = more (most (suc (unmarked (λ r. false)))) in
       elim (finds_or_bounds (trees_from_derivation (HasProduction g) (Rule root ∷ []) h.0 h.1)) [
@@ -256,7 +257,7 @@ module _ (g : Grammar) (cost : ℕ → ℕ) (is : IsGrammar g) (root : ℕ) wher
         | inr le ↦ let past = h.2 in absurd (omega (arith, le, past))
       ]
 
-  -- so they do exactly if it meets one
+  -- so sentences cost more than any number exactly if the rule meets a growing cycle
   pub unbounded_if_meets : Unbounded (HasProduction g) cost root ↔ Found
   unbounded_if_meets = (unbounded_meets, λ h. cycle_unbounds (HasProduction g) cost root h.0 h.2 h.1)
 
