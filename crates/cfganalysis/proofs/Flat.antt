@@ -1,6 +1,6 @@
 -- Tables of bits in one list of words: a write to the words of a row leaves the other rows.
 use Rattle.std.proofs.Common.{◌≡◌, ◌≢◌, ℕ, ◌+◌, ◌-◌, ◌*◌, ◌/◌, ◌%◌, ◌^◌, ◌<◌, ◌≤◌, ◌==◌, ◌||◌, ◌⊎◌, bit_or, inl, inr, Bool, true, false, not, All, List, Vec, [], length, get_or, slice_set, replicate, MatchBool, IsTrue, arith, refl, sym, ap, ◌∙◌, subst, ext_get_or, get_or-set_same, get_or-set_other, length-set}
-use Rattle.std.specs.List.{between, range_with_len}
+use Rattle.std.specs.List.{between}
 use Rattle.std.specs.Vec.{with_items}
 use Rattle.std.specs.Int.{bit_at}
 use Rattle.std.proofs.lemmas.Bool.{cases_eq, cases_lt}
@@ -10,10 +10,10 @@ use Rattle.std.proofs.lemmas.List.{get_or_default, get_or_past, with_items_is, l
 use Rattle.std.proofs.lemmas.List.Edits.{length-between, get_or-between}
 use Rattle.std.proofs.lemmas.List.FromFn.{length-map-range_with_len, get_or-map-range_with_len}
 use Rattle.lemmas.proofs.Elements.{get_or-replicate_default}
-use Rattle.cfgindex.specs.Words.{AreWords, AreJoined, bits_of, word_bit}
+use Rattle.cfgindex.specs.Words.{AreWords, bits_of}
 use Rattle.cfgindex.proofs.Words.{length-bits_of, get_or-bits_of, same_length, word_within, word_bit_read, words_set, bits_set, words_joined, bits_joined, joined_changed}
 use Rattle.cfgindex.proofs.Joining.{Joining, joining_none, joining_more, joining_all, joining_grew}
-use Rattle.cfganalysis.specs.Table.{Table, HasBit, Joins, bit, no_bits, row_of, with_bit}
+use Rattle.cfganalysis.specs.Table.{Table, Joins, bit, no_bits, row_of, with_bit}
 use Rattle.cfganalysis.specs.Inner.Flat.{AreRows, JoinsWords, table_of, words_of}
 use Rattle.cfganalysis.specs.Inner.Joined.{GrewTo, joined}
 use Rattle.cfganalysis.proofs.Joins.{joins_list}

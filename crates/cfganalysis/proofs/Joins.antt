@@ -1,6 +1,6 @@
 -- Tables of bits: how wide they are, how many bits are on, and what joining adds.
-use Rattle.std.proofs.Common.{◌≡◌, ◌↔◌, ℕ, zero, suc, ◌+◌, ◌-◌, ◌<◌, ◌≤◌, ◌⊎◌, inl, inr, Bool, true, false, List, [], ◌∷◌, ◌++◌, All, sum_by, length, get_or, slice_set, MatchBool, IsTrue, arith, refl, sym, ap, ◌∙◌, subst, true≢false, length-set, length-append}
-use Rattle.std.proofs.lemmas.List.{get_or_default, set-get_or, get_or_append_left, get_or-append_right, set-append_left, set-append_right, length-replicate}
+use Rattle.std.proofs.Common.{◌≡◌, ◌↔◌, ℕ, zero, suc, ◌-◌, ◌<◌, ◌≤◌, ◌⊎◌, inl, inr, Bool, true, false, List, [], ◌∷◌, sum_by, length, get_or, slice_set, MatchBool, IsTrue, arith, refl, sym, ap, ◌∙◌, subst, true≢false, length-set}
+use Rattle.std.proofs.lemmas.List.{set-get_or, length-replicate}
 use Rattle.std.proofs.lemmas.List.Sums.{sum_by-cons, sum_by-set}
 use Rattle.std.proofs.lemmas.List.Elements.{All-get_or, All-replicate, All-set}
 use Rattle.lemmas.proofs.Adding.{adds_as, set_adds}

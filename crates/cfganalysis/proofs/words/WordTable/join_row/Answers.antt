@@ -1,4 +1,4 @@
-use Rattle.std.proofs.Common.{◌<◌, ◌+◌, ◌*◌, ◌≤◌, length, refl, sym, ap, ◌∙◌, subst, arith}
+use Rattle.std.proofs.Common.{◌+◌, ◌*◌, ◌≤◌, length, refl, sym, ap, ◌∙◌, subst, arith}
 use Rattle.cfganalysis.specs.Table.{row_of}
 use Rattle.cfganalysis.specs.Inner.Flat.{JoinsWords, words_of}
 use Rattle.cfganalysis.proofs.Flat.{row_below, row_is, row_fits_in, rows_apart, now_rows, now_joins}

@@ -1,4 +1,4 @@
-use Rattle.std.proofs.Common.{◌*◌, ap, ◌∙◌, arith}
+use Rattle.std.proofs.Common.{ap, ◌∙◌, arith}
 use Rattle.cfganalysis.specs.Inner.Flat.{table_of}
 use Rattle.cfganalysis.proofs.Flat.{table_none}
 use Rattle.cfganalysis.proofs.words.WordTable.new.Goals as goal

@@ -1,4 +1,4 @@
-use Rattle.std.proofs.Common.{◌+◌, ◌*◌, ◌≤◌, sym, ap, subst, arith, length}
+use Rattle.std.proofs.Common.{◌+◌, ◌*◌, ◌≤◌, sym, subst, arith, length}
 use Rattle.cfganalysis.proofs.Flat.{row_fits_in, row_words_are, row_bits_are}
 use Rattle.cfganalysis.proofs.words.WordTable.row.Goals as goal
 
