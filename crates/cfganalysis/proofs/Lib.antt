@@ -3,6 +3,7 @@ pub mod Noting
 pub mod Visiting
 pub mod FirstVisits
 pub mod Joins
+pub mod Flat
 pub mod FollowVisits
 pub mod Gathering
 pub mod Fitting

@@ -1,5 +1,6 @@
 -- Words of clauses inside the crate, of its loops and helpers. No call that users make rests on them.
 pub mod Joined
+pub mod Flat
 pub mod Waiting
 pub mod Work
 pub mod Growth

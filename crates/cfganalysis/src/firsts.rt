@@ -1,6 +1,6 @@
 //! FIRST: the tokens that rules begin with, and the rules that are empty (Aho, Lam, Sethi and Ullman, 4.4.2).
 
-ghost use Rattle.std.specs.Prelude.{◌≡◌, ◌<◌, ◌↔◌, ℕ, [], ◌∷◌, All, Contains, false};
+ghost use Rattle.std.specs.Prelude.{◌≡◌, ◌<◌, ◌^◌, ◌↔◌, ℕ, [], ◌∷◌, All, Contains, false};
 ghost use Rattle.std.specs.Prelude.{true, length, map, IfOk, IsTrue, MatchBool};
 ghost use Rattle.derivation.specs.Grammar.{Grammar, IsGrammar, IsSymbolOf, Rule};
 ghost use Rattle.cfganalysis.specs.Firsts.{AreFirsts, FitsGrammar, IsAmongFirsts, IsEpsilon, epsilon_bit, with_first};
@@ -18,6 +18,7 @@ use crate::bits::BitTable;
 use crate::growth::Analysis;
 use crate::visits::visit_all;
 use crate::waiting::Waiting;
+use crate::words::WordTable;
 use crate::work::Users;
 use cfgindex::{RIdx, Storage, Symbol, TIdx, Vob};
 use cfgtables::{CountedTables, Productions, Tables};
@@ -51,17 +52,6 @@ impl<S: Storage> YaccFirsts<S> {
     {
         let mut productions = CountedTables::new(alloc, tables)?;
         firsts_over(alloc, &mut productions)
-    }
-
-    /// Sets in which nothing is.
-    fn empty(alloc: Global, rules: usize, tokens: usize) -> Result<Self, AllocError>
-        ensures { IfOk result (λ x. x ≡ no_firsts rules tokens) }
-    {
-        Ok(YaccFirsts {
-            firsts: BitTable::new(alloc, rules, tokens)?,
-            epsilons: Vob::from_elem(alloc, false, rules)?,
-            storage: PhantomData,
-        })
     }
 
     /// The tokens that the rule begins with, a bit for each.
@@ -112,6 +102,94 @@ impl<S: Storage> YaccFirsts<S> {
             Symbol::Token(_) => false,
         }
     }
+}
+
+/// Notes a production with the symbol, if that is a rule.
+fn note_symbol<S: Storage>(
+    production: usize,
+    symbol: Symbol<S>,
+    users: &mut Users,
+) -> Result<(), AllocError>
+    requires { (g : Grammar) × (length users.old ≡ g.rules) × IsSymbolOf g (sym_of S.number symbol) }
+    ensures { IfOk result (λ _. Notes production (λ r. Rule r ≡ sym_of S.number symbol) users.old users.new) }
+{
+    match symbol {
+        Symbol::Rule(rule) => users.note(usize::from(rule), production),
+        Symbol::Token(_) => Ok(()),
+    }
+}
+
+/// Notes a production with the rules among its symbols.
+///
+/// # Errors
+///
+/// Want of memory.
+pub fn note_rules<S: Storage>(
+    production: usize,
+    symbols: &[Symbol<S>],
+    users: &mut Users,
+) -> Result<(), AllocError>
+    requires { (g : Grammar) × (length users.old ≡ g.rules)
+        × All (IsSymbolOf g) (map (sym_of S.number) symbols.now) }
+    ensures { IfOk result (λ _. Notes production
+        (λ r. Contains (map (sym_of S.number) symbols.now) (Rule r)) users.old users.new) }
+{
+    for held in symbols {
+        note_symbol(production, *held, users)?;
+    }
+    Ok(())
+}
+
+/// FIRST sets that grow.
+#[derive(Drop)]
+struct GrowingFirsts<S: Storage> {
+    firsts: WordTable,
+    epsilons: Vob,
+    storage: PhantomData<S>,
+}
+
+impl<S: Storage> Model for GrowingFirsts<S> {
+    ghost use Rattle.cfganalysis.specs.Firsts.{FirstSets};
+
+    ghost Value = { FirstSets };
+
+    ghost view = { λ x. record { firsts = x.firsts; epsilons = x.epsilons } };
+}
+
+impl<S: Storage> GrowingFirsts<S> {
+    /// Sets in which nothing is.
+    fn new(alloc: Global, rules: usize, tokens: usize) -> Result<Self, AllocError>
+        requires rules { rules < 2 ^ 32 }
+        requires tokens { tokens < 2 ^ 32 }
+        ensures { IfOk result (λ x. x ≡ no_firsts rules tokens) }
+    {
+        Ok(GrowingFirsts {
+            firsts: WordTable::new(alloc, rules, tokens)?,
+            epsilons: Vob::from_elem(alloc, false, rules)?,
+            storage: PhantomData,
+        })
+    }
+
+    /// The sets, each in a list of bits of its own.
+    fn into_sets(self, alloc: Global) -> Result<YaccFirsts<S>, AllocError>
+        ensures { IfOk result (λ x. x ≡ self) }
+    {
+        Ok(YaccFirsts {
+            firsts: BitTable::from_words(alloc, &self.firsts)?,
+            epsilons: self.epsilons,
+            storage: PhantomData,
+        })
+    }
+
+    /// Whether the symbol is an empty rule.
+    fn is_empty_symbol(&self, symbol: Symbol<S>) -> bool
+        ensures { result ≡ is_empty_symbol self.now (sym_of S.number symbol) }
+    {
+        match symbol {
+            Symbol::Rule(rule) => self.epsilons.get(usize::from(rule)).unwrap_or(false),
+            Symbol::Token(_) => false,
+        }
+    }
 
     /// Puts what begins the symbol into the rule's set, and tells whether that changed anything.
     fn put_first(&mut self, rule: RIdx<S>, symbol: Symbol<S>) -> bool
@@ -156,43 +234,7 @@ impl<S: Storage> YaccFirsts<S> {
     }
 }
 
-/// Notes a production with the symbol, if that is a rule.
-fn note_symbol<S: Storage>(
-    production: usize,
-    symbol: Symbol<S>,
-    users: &mut Users,
-) -> Result<(), AllocError>
-    requires { (g : Grammar) × (length users.old ≡ g.rules) × IsSymbolOf g (sym_of S.number symbol) }
-    ensures { IfOk result (λ _. Notes production (λ r. Rule r ≡ sym_of S.number symbol) users.old users.new) }
-{
-    match symbol {
-        Symbol::Rule(rule) => users.note(usize::from(rule), production),
-        Symbol::Token(_) => Ok(()),
-    }
-}
-
-/// Notes a production with the rules among its symbols.
-///
-/// # Errors
-///
-/// Want of memory.
-pub fn note_rules<S: Storage>(
-    production: usize,
-    symbols: &[Symbol<S>],
-    users: &mut Users,
-) -> Result<(), AllocError>
-    requires { (g : Grammar) × (length users.old ≡ g.rules)
-        × All (IsSymbolOf g) (map (sym_of S.number) symbols.now) }
-    ensures { IfOk result (λ _. Notes production
-        (λ r. Contains (map (sym_of S.number) symbols.now) (Rule r)) users.old users.new) }
-{
-    for held in symbols {
-        note_symbol(production, *held, users)?;
-    }
-    Ok(())
-}
-
-impl<S: Storage> Analysis<S> for YaccFirsts<S> {
+impl<S: Storage> Analysis<S> for GrowingFirsts<S> {
     ghost holds = { SayFirsts };
 
     ghost covers = { HaveFirstsOf };
@@ -230,6 +272,30 @@ impl<S: Storage> Analysis<S> for YaccFirsts<S> {
     }
 }
 
+/// FIRST sets to which no production adds.
+///
+/// # Errors
+///
+/// Want of memory.
+fn grow_all<S: Storage, P: Productions<S>>(
+    alloc: Global,
+    productions: &mut P,
+) -> Result<GrowingFirsts<S>, AllocError>
+    requires fresh { (q : ℕ) → q < length (P.content productions.old).productions
+        → P.opened productions.old q ≡ 0 }
+    requires all_fresh { P.opened_all productions.old ≡ 0 }
+    ensures firsts { IfOk result (AreFirsts (P.content productions.old)) }
+    ensures content { P.content productions.new ≡ P.content productions.old }
+    ensures few { AreOpenedAtMost (most_openings (P.content productions.old)) (P.content productions.old)
+        (P.opened productions.new) (P.opened_all productions.new) }
+{
+    let rules = productions.rules_len().0.to_usize();
+    let tokens = productions.tokens_len().0.to_usize();
+    let mut firsts = GrowingFirsts::new(alloc, rules, tokens)?;
+    visit_all(alloc, productions, &mut firsts)?;
+    Ok(firsts)
+}
+
 /// The FIRST sets of the productions.
 ///
 /// # Errors
@@ -247,9 +313,6 @@ pub fn firsts_over<S: Storage, P: Productions<S>>(
     ensures few { AreOpenedAtMost (most_openings (P.content productions.old)) (P.content productions.old)
         (P.opened productions.new) (P.opened_all productions.new) }
 {
-    let rules = productions.rules_len().0.to_usize();
-    let tokens = productions.tokens_len().0.to_usize();
-    let mut firsts = YaccFirsts::empty(alloc, rules, tokens)?;
-    visit_all(alloc, productions, &mut firsts)?;
-    Ok(firsts)
+    let firsts = grow_all(alloc, productions)?;
+    firsts.into_sets(alloc)
 }

@@ -1,6 +1,6 @@
 //! FOLLOW: the tokens that stand right after rules (Aho, Lam, Sethi and Ullman, 4.4.2).
 
-ghost use Rattle.std.specs.Prelude.{◌≡◌, ◌-◌, ◌<◌, ◌≤◌, ◌↔◌, ℕ, [], ◌∷◌, Contains, length, IfOk, IsTrue};
+ghost use Rattle.std.specs.Prelude.{◌≡◌, ◌-◌, ◌^◌, ◌<◌, ◌≤◌, ◌↔◌, ℕ, [], ◌∷◌, Contains, length, IfOk, IsTrue};
 ghost use Rattle.derivation.specs.Grammar.{Grammar, IsGrammar, IsSymbolOf, Rule};
 ghost use Rattle.cfganalysis.specs.Firsts.{AreFirsts};
 ghost use Rattle.cfganalysis.specs.Follows.{AreFollows};
@@ -20,6 +20,7 @@ use crate::firsts::YaccFirsts;
 use crate::growth::Analysis;
 use crate::visits::visit_all;
 use crate::waiting::Waiting;
+use crate::words::WordTable;
 use crate::work::Users;
 use cfgindex::{RIdx, Storage, Symbol, TIdx, Vob};
 use cfgtables::{CountedTables, Productions, Tables};
@@ -87,7 +88,7 @@ enum Front<S: Storage> {
 #[derive(Drop)]
 struct GrowingFollows<'a, S: Storage> {
     firsts: &'a YaccFirsts<S>,
-    follows: BitTable,
+    follows: WordTable,
 }
 
 impl<'a, S: Storage> Model for GrowingFollows<'a, S> {
@@ -197,7 +198,7 @@ impl<'a, S: Storage> GrowingFollows<'a, S> {
         match front {
             Front::End => {
                 gathered.set_all(false);
-                gathered.or(self.follows.row(usize::from(rule)));
+                gathered.or_words(self.follows.row(usize::from(rule)));
             }
             Front::Symbol(symbol) => {
                 gathered.set_all(false);
@@ -283,14 +284,14 @@ impl<'a, S: Storage> FollowAnalysis<'a, S> {
         rules: usize,
         tokens: usize,
     ) -> Result<Self, AllocError>
-        requires rules { 1 ≤ rules }
-        requires tokens { 1 ≤ tokens }
+        requires rules { (1 ≤ rules) × (rules < 2 ^ 32) }
+        requires tokens { (1 ≤ tokens) × (tokens < 2 ^ 32) }
         ensures { IfOk result (λ x. x ≡ record {
           firsts = firsts.now;
           follows = with_bit (no_bits rules tokens) 0 (tokens - 1);
         }) }
     {
-        let mut follows = BitTable::new(alloc, rules, tokens)?;
+        let mut follows = WordTable::new(alloc, rules, tokens)?;
         let _ = follows.set(0, tokens - 1);
         Ok(FollowAnalysis {
             sets: GrowingFollows { firsts, follows },
@@ -335,6 +336,32 @@ impl<'a, S: Storage> Analysis<S> for FollowAnalysis<'a, S> {
     }
 }
 
+/// FOLLOW sets to which no production adds.
+///
+/// # Errors
+///
+/// Want of memory.
+fn grow_all<S: Storage, P: Productions<S>>(
+    alloc: Global,
+    productions: &mut P,
+    firsts: &YaccFirsts<S>,
+) -> Result<WordTable, AllocError>
+    requires firsts { AreFirsts (P.content productions.old) firsts.now }
+    requires fresh { (q : ℕ) → q < length (P.content productions.old).productions
+        → P.opened productions.old q ≡ 0 }
+    requires all_fresh { P.opened_all productions.old ≡ 0 }
+    ensures follows { IfOk result (AreFollows (P.content productions.old)) }
+    ensures content { P.content productions.new ≡ P.content productions.old }
+    ensures few { AreOpenedAtMost (most_openings (P.content productions.old)) (P.content productions.old)
+        (P.opened productions.new) (P.opened_all productions.new) }
+{
+    let rules = productions.rules_len().0.to_usize();
+    let tokens = productions.tokens_len().0.to_usize();
+    let mut analysis = FollowAnalysis::new(alloc, firsts, rules, tokens)?;
+    visit_all(alloc, productions, &mut analysis)?;
+    Ok(analysis.sets.follows)
+}
+
 /// The FOLLOW sets of the productions, by their FIRST sets.
 ///
 /// # Errors
@@ -354,12 +381,9 @@ pub fn follows_over<S: Storage, P: Productions<S>>(
     ensures few { AreOpenedAtMost (most_openings (P.content productions.old)) (P.content productions.old)
         (P.opened productions.new) (P.opened_all productions.new) }
 {
-    let rules = productions.rules_len().0.to_usize();
-    let tokens = productions.tokens_len().0.to_usize();
-    let mut analysis = FollowAnalysis::new(alloc, firsts, rules, tokens)?;
-    visit_all(alloc, productions, &mut analysis)?;
+    let follows = grow_all(alloc, productions, firsts)?;
     Ok(YaccFollows {
-        follows: analysis.sets.follows,
+        follows: BitTable::from_words(alloc, &follows)?,
         storage: PhantomData,
     })
 }

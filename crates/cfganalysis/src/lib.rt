@@ -9,6 +9,7 @@ pub mod growth;
 pub mod paths;
 pub mod visits;
 pub mod waiting;
+mod words;
 pub mod work;
 
 pub use bits::BitTable;

@@ -8,7 +8,7 @@ ghost use Rattle.std.specs.Cmp.{bool_eq_equiv, partial_equiv_from_equiv};
 ghost use Rattle.std.specs.Cmp.Lexicographic.{lists_equiv, lists_per, pointwise};
 ghost use Rattle.std.specs.Int.{bit_at};
 ghost use Rattle.std.specs.List.{zip};
-ghost use Rattle.cfgindex.specs.Words.{AreJoined};
+ghost use Rattle.cfgindex.specs.Words.{AreJoined, AreWords, bits_of};
 
 use std::alloc::{AllocError, Global};
 use std::marker::Model;
@@ -50,6 +50,29 @@ impl Vob {
         let mut words = vec![in alloc; word; (len - 1) / 64 + 1]?;
         words[(len - 1) / 64] = word >> (63 - (len - 1) % 64);
         Ok(Vob { len, words })
+    }
+
+    /// The first `len` bits of the words. Bits past them are off, and no word is spare.
+    ///
+    /// # Errors
+    ///
+    /// Want of memory.
+    pub fn from_words(alloc: Global, words: &[u64], len: usize) -> Result<Self, AllocError>
+        requires { AreWords len words.now }
+        ensures { IfOk result (λ bits. bits ≡ bits_of words.now len) }
+    {
+        Ok(Vob {
+            len,
+            words: words.to_vec(alloc)?,
+        })
+    }
+
+    /// The words in which the bits stand, 64 in each, the lowest first. Bits of the last word past the length are off.
+    pub fn words(&self) -> &[u64]
+        ensures words { AreWords (length self.now) result.now }
+        ensures bits { bits_of result.now (length self.now) ≡ self.now }
+    {
+        self.words.as_slice()
     }
 
     /// How many bits there are.
@@ -100,7 +123,16 @@ impl Vob {
         ensures bits { self.new ≡ map (λ pair. pair.0 || pair.1) (zip self.old other.now) }
         ensures changed { MatchBool result (self.new ≢ self.old) (self.new ≡ self.old) }
     {
-        or_words(self.words.as_mut_slice(), other.words.as_slice())
+        self.or_words(other.words())
+    }
+
+    /// Turns on each bit that the words have on, and tells whether that changed any.
+    pub fn or_words(&mut self, words: &[u64]) -> bool
+        requires { AreWords (length self.old) words.now }
+        ensures bits { self.new ≡ map (λ pair. pair.0 || pair.1) (zip self.old (bits_of words.now (length self.old))) }
+        ensures changed { MatchBool result (self.new ≢ self.old) (self.new ≡ self.old) }
+    {
+        or_words(self.words.as_mut_slice(), words)
     }
 }
 
@@ -138,7 +170,7 @@ fn fill(words: &mut [u64], word: u64)
 }
 
 /// Whether a word's bit is on.
-fn has_bit(word: u64, i: usize) -> bool
+pub fn has_bit(word: u64, i: usize) -> bool
     requires { i < 64 }
     ensures { result ≡ (bit_at word i == 1) }
 {
@@ -146,7 +178,7 @@ fn has_bit(word: u64, i: usize) -> bool
 }
 
 /// The word with a bit on or off.
-fn with_bit(word: u64, i: usize, bit: bool) -> u64
+pub fn with_bit(word: u64, i: usize, bit: bool) -> u64
     requires { i < 64 }
     ensures here { bit_at result i ≡ (if bit then 1 else 0) }
     ensures others { (k : ℕ) → k < 64 → k ≢ i → bit_at result k ≡ bit_at word k }
@@ -157,7 +189,7 @@ fn with_bit(word: u64, i: usize, bit: bool) -> u64
 
 /// Turns on in each word the bits that the word at its place among the others has on, and tells whether that changed
 /// any.
-fn or_words(words: &mut [u64], others: &[u64]) -> bool
+pub fn or_words(words: &mut [u64], others: &[u64]) -> bool
     requires { length words.old ≡ length others.now }
     ensures joined { AreJoined words.old others.now words.new }
     ensures changed { MatchBool result (words.new ≢ words.old) (words.new ≡ words.old) }

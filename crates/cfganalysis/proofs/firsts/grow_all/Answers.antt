@@ -2,7 +2,7 @@ use Rattle.std.proofs.Common.{sym, subst, ◌∙◌}
 use Rattle.cfganalysis.specs.Inner.GrowingFirsts.{SayFirsts}
 use Rattle.cfganalysis.proofs.Fitting.{openings_fit, still_few}
 use Rattle.cfganalysis.proofs.FirstVisits.{are_firsts, say_none}
-use Rattle.cfganalysis.proofs.firsts.firsts_over.Goals as goal
+use Rattle.cfganalysis.proofs.firsts.grow_all.Goals as goal
 
 pub visit_all-requires-clause-small : goal.visit_all-requires-clause-small
 visit_all-requires-clause-small g c =

@@ -1,7 +1,7 @@
 use Rattle.std.proofs.Common.{◌<◌, length, subst, sym}
 use Rattle.cfgtables.proofs.Placed.{owner}
 use Rattle.cfganalysis.proofs.FirstVisits.{gains_put, gains_none}
-use Rattle.cfganalysis.proofs.firsts.YaccFirstsAnalysis.visit.Goals as goal
+use Rattle.cfganalysis.proofs.firsts.GrowingFirstsAnalysis.visit.Goals as goal
 
 pub returns-then-take_in-clause-takes : goal.returns-then-take_in-clause-takes
 returns-then-take_in-clause-takes g c =

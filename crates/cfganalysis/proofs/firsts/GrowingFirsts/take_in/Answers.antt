@@ -5,7 +5,7 @@ use Rattle.cfgtables.specs.Symbols.{sym_of}
 use Rattle.cfgtables.proofs.Placed.{owner, all_symbols}
 use Rattle.cfgtables.proofs.Slices.{mapped_within, mapped_at, mapped_all}
 use Rattle.cfganalysis.proofs.FirstVisits.{visits_one, visits_end, visits_all}
-use Rattle.cfganalysis.proofs.firsts.YaccFirsts.take_in.Goals as goal
+use Rattle.cfganalysis.proofs.firsts.GrowingFirsts.take_in.Goals as goal
 
 pub put_first-changed-requires : goal.put_first-changed-requires
 put_first-changed-requires g c = (

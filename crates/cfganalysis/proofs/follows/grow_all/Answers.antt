@@ -3,7 +3,7 @@ use Rattle.cfganalysis.specs.Follows.{AreFollows}
 use Rattle.cfganalysis.specs.Inner.GrowingFollows.{SayFollows}
 use Rattle.cfganalysis.proofs.Fitting.{openings_fit, still_few}
 use Rattle.cfganalysis.proofs.FollowVisits.{are_follows, say_start}
-use Rattle.cfganalysis.proofs.follows.follows_over.Goals as goal
+use Rattle.cfganalysis.proofs.follows.grow_all.Goals as goal
 
 pub visit_all-requires : goal.visit_all-requires
 visit_all-requires g c =
