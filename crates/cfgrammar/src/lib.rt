@@ -20,7 +20,6 @@ pub mod header;
 pub mod yacc;
 
 pub use cfgbase::{Location, Span, Spanned, SpansKind, span};
-pub use cfghash::NameHashes;
 pub use cfgindex::{PIdx, RIdx, SIdx, Storage, Symbol, TIdx, Vob, idxnewtype, storage};
 pub use cfglines::{FeedError, NewlineCache, newlinecache};
 pub use cfgmarks::markmap;

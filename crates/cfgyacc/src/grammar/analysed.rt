@@ -9,9 +9,9 @@ ghost use Rattle.cfgleast.specs.Generator.{token_cost};
 ghost use Rattle.cfgindex.specs.declared.idxnewtype.TIdx.{TIdx};
 ghost use Rattle.cfgnumbers.specs.Numbered.{core};
 
+use super::SentenceGenerator;
 use super::tables::YaccGrammar;
 use cfganalysis::{CountedTables, Tables, YaccFirsts, YaccFollows, has_path};
-use cfgcosts::SentenceGenerator;
 use cfgindex::{PIdx, RIdx, Storage, Symbol, TIdx};
 use std::alloc::{AllocError, Global};
 
@@ -108,7 +108,7 @@ impl<S: Storage> YaccGrammar<S> {
         &self,
         alloc: Global,
         cost: F,
-    ) -> Result<SentenceGenerator<'_, S, YaccGrammar<S>>, AllocError>
+    ) -> Result<SentenceGenerator<'_, S>, AllocError>
         requires callable { (t : TIdx S) → S.number t.0 < length self.now.tokens → F.pre cost t }
         requires positive { (t : TIdx S) (c : ℕ) → S.number t.0 < length self.now.tokens
             → F.post cost t c → 0 < c }

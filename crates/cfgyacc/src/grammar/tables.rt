@@ -26,7 +26,6 @@ use super::fault::storage_too_small;
 use super::iter::{PIdxIter, RIdxIter, TIdxIter};
 use cfgast::{Precedence, Settings};
 use cfgbase::Span;
-use cfghash::NameHashes;
 use cfgindex::{PIdx, RIdx, SIdx, Storage, Symbol, TIdx, to_storage};
 use cfgnumbers::{Numbering, ProductionRows, RuleRow, TokenRow, tokens_by_name};
 use cfgsyntax::yacc::YaccKind;
@@ -48,9 +47,9 @@ use std::marker::Model;
 /// file starts from.
 #[derive(Drop)]
 pub struct YaccGrammar<S: Storage> {
-    rules: IndexMap<String, RuleRow<S>, NameHashes>,
+    rules: IndexMap<String, RuleRow<S>>,
     prods: ProductionRows<S>,
-    tokens: IndexMap<String, TokenRow, NameHashes>,
+    tokens: IndexMap<String, TokenRow>,
     start_prod: PIdx<S>,
     implicit_rule: Option<RIdx<S>>,
     settings: Settings,
@@ -481,10 +480,7 @@ impl<S: Storage> YaccGrammar<S> {
     /// # Errors
     ///
     /// Want of memory.
-    pub fn tokens_map(
-        &self,
-        alloc: Global,
-    ) -> Result<HashMap<&str, TIdx<S>, NameHashes>, AllocError>
+    pub fn tokens_map(&self, alloc: Global) -> Result<HashMap<&str, TIdx<S>>, AllocError>
         ensures { IfOk result (λ map. (name : List ℕ)
             → option_map (λ x. S.number x.0) (get_by (λ key. bytes_eq name key.now) map)
             ≡ position (has_token_name name) self.now.tokens) }
