@@ -1,5 +1,5 @@
 -- What the types of a syntax show, as plain data.
-use Rattle.std.specs.Prelude.{ℕ, List, String, map, option_map}
+use Rattle.std.specs.Prelude.{◌≡◌, ℕ, List, String, None, map, option_map}
 use Rattle.std.specs.String.{string_bytes}
 use Rattle.std.specs.declared.alloc.Global.{Global}
 use Rattle.cfgbase.specs.declared.span.Span.{Span}
@@ -67,6 +67,11 @@ settings_view settings = record {
   parse_generics = option_map string_bytes settings.parse_generics;
   programs = option_map string_bytes settings.programs;
 }
+
+-- no setting is a text
+abbrev pub HasNoText : Settings → Type 0
+HasNoText settings =
+    (settings.action_type ≡ None) × (settings.parse_param ≡ None) × (settings.parse_generics ≡ None) × (settings.programs ≡ None)
 
 -- what is said of a token, under its name
 abbrev pub precedence_entry : String Global × (Precedence × Span) → List ℕ × (Precedence × Span)

@@ -10,7 +10,10 @@ ghost use Rattle.cfgast.specs.declared.precedence.AssocKind.{AssocKind};
 ghost use Rattle.cfgast.specs.declared.precedence.Precedence.{Precedence};
 ghost use Rattle.cfgast.specs.declared.occurrence.Unique.{Unique};
 ghost use Rattle.cfgast.specs.declared.occurrence.UniqueKind.{UniqueKind};
+ghost use Rattle.cfgast.specs.declared.item.RuleHead.{RuleHead};
+ghost use Rattle.cfgast.specs.declared.item.Body.{Body};
 
+use crate::item::{Body, RuleHead};
 use crate::occurrence::{Unique, UniqueKind};
 use crate::precedence::{AssocKind, Precedence};
 use crate::production::Production;
@@ -53,10 +56,24 @@ pub fn unique_are_what_they_show()
         → ⟦<Unique as Hash>⟧.hash_input a ≡ ⟦<Unique as Hash>⟧.hash_input b }
 {}
 
-/// Kinds of what a file may declare only once are equal exactly where they are the same. A clone is its source, and
-/// takes no memory.
+/// Kinds of what a file may declare only once are equal exactly where they are the same, and a hash is fed the same
+/// exactly then. A clone is its source, and takes no memory.
 pub fn unique_kinds_are_told_apart()
     ensures equal { (a b : UniqueKind) → IsTrue (⟦<UniqueKind as PartialEq>⟧.eq a b) ↔ (a ≡ b) }
     ensures clone { (a b : UniqueKind) → ⟦<UniqueKind as Clone>⟧.is_clone a b → b ≡ a }
     ensures cloned { (a : UniqueKind) → ⟦<UniqueKind as Clone>⟧.is_infallible a }
+    ensures hash { (a b : UniqueKind) → (⟦<UniqueKind as Hash>⟧.hash_input a ≡ ⟦<UniqueKind as Hash>⟧.hash_input b)
+        ↔ (a ≡ b) }
+{}
+
+/// A clone of what stands before a rule's colon is its source, and takes no memory.
+pub fn rule_heads_are_cloned<'a>()
+    ensures clone { (a b : RuleHead) → ⟦<RuleHead<'a> as Clone>⟧.is_clone a b → b ≡ a }
+    ensures cloned { (a : RuleHead) → ⟦<RuleHead<'a> as Clone>⟧.is_infallible a }
+{}
+
+/// A clone of a production as it is read is its source, and takes no memory.
+pub fn bodies_are_cloned<'t, 'a>()
+    ensures clone { (a b : Body) → ⟦<Body<'t, 'a> as Clone>⟧.is_clone a b → b ≡ a }
+    ensures cloned { (a : Body) → ⟦<Body<'t, 'a> as Clone>⟧.is_infallible a }
 {}

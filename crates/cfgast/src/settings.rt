@@ -42,9 +42,11 @@ impl Settings {
 }
 
 impl Clone for Settings {
-    ghost use Rattle.cfgast.specs.View.{settings_view};
+    ghost use Rattle.cfgast.specs.View.{HasNoText, settings_view};
 
     ghost is_clone = { λ settings copy. settings_view copy ≡ settings_view settings };
+
+    ghost is_infallible = { HasNoText };
 
     fn clone(&self) -> Result<Settings, AllocError> {
         refilled(Settings::none(), self)
@@ -52,9 +54,11 @@ impl Clone for Settings {
 }
 
 impl Refill for Settings {
-    ghost use Rattle.cfgast.specs.View.{settings_view};
+    ghost use Rattle.cfgast.specs.View.{HasNoText, settings_view};
 
     ghost is_copy = { λ settings copy. settings_view copy ≡ settings_view settings };
+
+    ghost is_infallible = { HasNoText };
 
     fn refill(&mut self, from: &Settings) -> Result<(), AllocError> {
         self.action_type.clone_from(&from.action_type)?;

@@ -5,8 +5,8 @@ use Rattle.cfgast.specs.View.{precedence_entry, printed_entry}
 use Rattle.cfgast.proofs.Views.{marked-copies}
 use Rattle.cfgast.proofs.tables.TablesRefill.refill.Goals as goal
 
-pub returns : goal.returns
-returns c = λ i. record {
+pub returns-clause-copied : goal.returns-clause-copied
+returns-clause-copied c = λ i. record {
   precedences = map-copies _ precedence_entry (λ x y h. search rules) _ _ c.in_ok-clone_from.ensures.ok i;
   printed_forms = map-copies _ printed_entry (λ x y h. search rules) _ _ c.in_ok-clone_from-2.ensures.ok i;
   avoid_insert = marked-copies _ (λ x y h. search rules) _ _ c.in_ok-clone_from-3.ensures.ok i;
