@@ -3,7 +3,6 @@
 use crate::errors::write_kind;
 use crate::read::parse;
 use cfgbase::{Span, Spanned};
-use cfghash::NameHashes;
 use cfgsyntax::yacc::ast::{ASTWithValidityInfo, GrammarAST};
 use cfgsyntax::yacc::{YaccFault, YaccGrammarError, YaccKind};
 use indexmap::IndexMap;
@@ -153,7 +152,7 @@ fn write_count(out: &mut Page, count: usize, word: &str) {
 }
 
 /// Writes how many tokens a list has, where there is one.
-fn write_table(out: &mut Page, table: &Option<IndexMap<String, Span, NameHashes>>, word: &str) {
+fn write_table(out: &mut Page, table: &Option<IndexMap<String, Span>>, word: &str) {
     if let Some(table) = table {
         write_length(out, table.len(), word);
     }

@@ -3,7 +3,6 @@
 use crate::cuts::write_errors;
 use cfgast::Precedence;
 use cfgbase::Span;
-use cfghash::NameHashes;
 use cfgsyntax::yacc::ast::{ASTWithValidityInfo, GrammarAST, Production, Rule, Symbol};
 use indexmap::IndexMap;
 use rows::made::{Writer, write_made};
@@ -140,7 +139,7 @@ fn write_printed_forms(out: &mut Page, ast: &GrammarAST) {
 }
 
 /// Writes a list of tokens as a line, where there is such a list.
-fn write_table(out: &mut Page, word: &str, table: &Option<IndexMap<String, Span, NameHashes>>) {
+fn write_table(out: &mut Page, word: &str, table: &Option<IndexMap<String, Span>>) {
     let Some(table) = table else {
         return;
     };
