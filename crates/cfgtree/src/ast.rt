@@ -1,4 +1,4 @@
-ghost use Rattle.std.specs.Prelude.{◌≡◌, ◌↔◌, Ok, map, option_map, IfOk, IsTrue, Contains};
+ghost use Rattle.std.specs.Prelude.{◌≡◌, ◌↔◌, Ok, map, option_map, IfOk, IsErr, IsTrue, OnErr, Contains};
 ghost use Rattle.std.specs.Map.{lookup};
 ghost use Rattle.std.specs.Str.{bytes_eq};
 ghost use Rattle.std.specs.String.{string_bytes};
@@ -42,7 +42,8 @@ pub fn tree_with<T: Drop>(
     tree: GrammarAST,
     made: Result<T, AllocError>,
 ) -> Result<(GrammarAST, T), AllocError>
-    ensures { IfOk result (λ both. (both.0 ≡ tree) × (made ≡ Ok both.1)) }
+    ensures made { IfOk result (λ both. (both.0 ≡ tree) × (made ≡ Ok both.1)) }
+    ensures refused { OnErr result (IsErr made) }
 {
     both(tree, made)
 }
@@ -53,7 +54,8 @@ pub fn let_go(_tree: GrammarAST) {}
 
 // Of any types: a refusal drops the first one.
 fn both<A: Drop, B: Drop>(a: A, b: Result<B, AllocError>) -> Result<(A, B), AllocError>
-    ensures { IfOk result (λ both. (both.0 ≡ a) × (b ≡ Ok both.1)) }
+    ensures made { IfOk result (λ both. (both.0 ≡ a) × (b ≡ Ok both.1)) }
+    ensures refused { OnErr result (IsErr b) }
 {
     Ok((a, b?))
 }

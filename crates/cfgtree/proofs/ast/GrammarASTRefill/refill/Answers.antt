@@ -5,9 +5,9 @@ use Rattle.cfgast.specs.View.{syntax_view, named_view, rule_entry, production_vi
 use Rattle.cfgtree.specs.View.{syntax}
 use Rattle.cfgtree.proofs.ast.GrammarASTRefill.refill.Goals as goal
 
-pub returns : goal.returns
+pub returns-clause-copied : goal.returns-clause-copied
 unfolding syntax syntax_view
-returns c =
+returns-clause-copied c =
     let start : option_map named_view c.clone_from.new.self ≡ option_map named_view c.args.from.now.syntax.start =
     option_map-copies _ named_view (λ x y h. search rules) _ _ c.in_ok-clone_from.ensures.ok in
     λ i. record {
