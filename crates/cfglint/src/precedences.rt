@@ -13,7 +13,6 @@ use crate::finding::{Finding, FindingKind};
 use crate::teller::{Teller, push_told};
 use cfgast::{Production, Symbol};
 use cfgbase::Span;
-use cfghash::NameHashes;
 use cfgindex::Vob;
 use cfgtree::GrammarAST;
 use indexmap::IndexMap;
@@ -132,7 +131,7 @@ fn mark_symbol(ast: &GrammarAST, taking: &mut Vob, symbol: &Symbol)
 }
 
 /// Marks the tokens of a table.
-fn mark_table(ast: &GrammarAST, taking: &mut Vob, table: &IndexMap<String, Span, NameHashes>)
+fn mark_table(ast: &GrammarAST, taking: &mut Vob, table: &IndexMap<String, Span>)
     requires { length taking.old ≡ length (syntax ast.now).tables.precedences }
     ensures { Marks (syntax ast.now) (map entry_name (map span_entry table.now.entries)) taking.old taking.new }
 {

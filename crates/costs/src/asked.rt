@@ -15,7 +15,7 @@ pub(crate) fn write_asked(
     out: &mut Page,
     row: &Row<'_>,
     grammar: &YaccGrammar<u32>,
-    generator: &SentenceGenerator<'_, u32, YaccGrammar<u32>>,
+    generator: &SentenceGenerator<'_, u32>,
 )
     requires { generator.now.grammar ≡ core grammar.now }
 {

@@ -22,7 +22,7 @@ impl Certificate {
     pub(crate) fn of_generator(
         alloc: Global,
         grammar: &YaccGrammar<u32>,
-        generator: &SentenceGenerator<'_, u32, YaccGrammar<u32>>,
+        generator: &SentenceGenerator<'_, u32>,
     ) -> Result<Self, AllocError>
         requires { generator.now.grammar ≡ core grammar.now }
     {
@@ -38,7 +38,7 @@ impl Certificate {
     fn add_rules(
         &mut self,
         grammar: &YaccGrammar<u32>,
-        generator: &SentenceGenerator<'_, u32, YaccGrammar<u32>>,
+        generator: &SentenceGenerator<'_, u32>,
     ) -> Result<(), AllocError>
         requires { generator.now.grammar ≡ core grammar.now }
     {
@@ -98,7 +98,7 @@ fn read_choice(word: &str) -> Option<(PIdx<u32>, u32)> {
 pub(crate) fn write_failures(
     out: &mut Page,
     grammar: &YaccGrammar<u32>,
-    generator: &SentenceGenerator<'_, u32, YaccGrammar<u32>>,
+    generator: &SentenceGenerator<'_, u32>,
 )
     requires { generator.now.grammar ≡ core grammar.now }
 {

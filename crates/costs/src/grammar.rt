@@ -74,7 +74,7 @@ fn tell_costs(
     out: &mut Page,
     row: &Row<'_>,
     grammar: &YaccGrammar<u32>,
-    generator: &SentenceGenerator<'_, u32, YaccGrammar<u32>>,
+    generator: &SentenceGenerator<'_, u32>,
     is_asked: bool,
 )
     requires { generator.now.grammar ≡ core grammar.now }

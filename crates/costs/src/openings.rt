@@ -29,7 +29,7 @@ pub(crate) fn write_openings(out: &mut Page, grammar: &YaccGrammar<u32>) {
 pub(crate) fn write_opened(
     out: &mut Page,
     grammar: &YaccGrammar<u32>,
-    generator: &SentenceGenerator<'_, u32, YaccGrammar<u32>>,
+    generator: &SentenceGenerator<'_, u32>,
     name: &str,
 )
     requires { generator.now.grammar ≡ core grammar.now }

@@ -15,7 +15,7 @@ use rows::pen::{self, Piece};
 pub(crate) fn write_without_memory(
     out: &mut Page,
     grammar: &YaccGrammar<u32>,
-    generator: &SentenceGenerator<'_, u32, YaccGrammar<u32>>,
+    generator: &SentenceGenerator<'_, u32>,
 )
     requires { generator.now.grammar ≡ core grammar.now }
 {
@@ -37,11 +37,7 @@ pub(crate) fn write_without_memory(
 
 /// Writes a rule's costs and its choice; where there is no least cost, also why the three calls that answer sentences
 /// refuse.
-fn write_rule(
-    out: &mut Page,
-    generator: &SentenceGenerator<'_, u32, YaccGrammar<u32>>,
-    ridx: RIdx<u32>,
-)
+fn write_rule(out: &mut Page, generator: &SentenceGenerator<'_, u32>, ridx: RIdx<u32>)
     requires { ridx.0 < generator.now.grammar.rules }
 {
     pen::number(out, "    costs of ", usize::from(ridx));
@@ -53,11 +49,7 @@ fn write_rule(
 }
 
 /// Writes why there is no minimal sentence.
-fn write_refusals(
-    out: &mut Page,
-    generator: &SentenceGenerator<'_, u32, YaccGrammar<u32>>,
-    ridx: RIdx<u32>,
-)
+fn write_refusals(out: &mut Page, generator: &SentenceGenerator<'_, u32>, ridx: RIdx<u32>)
     requires { ridx.0 < generator.now.grammar.rules }
 {
     out.push_str("; sentence ");

@@ -18,7 +18,7 @@ pub(crate) fn write_rules(
     out: &mut Page,
     row: &Row<'_>,
     grammar: &YaccGrammar<u32>,
-    generator: &SentenceGenerator<'_, u32, YaccGrammar<u32>>,
+    generator: &SentenceGenerator<'_, u32>,
 )
     requires { generator.now.grammar ≡ core grammar.now }
 {
@@ -42,12 +42,7 @@ fn is_asked(row: &Row<'_>, name: &str) -> bool {
 }
 
 /// Writes a rule's costs, its choice, and a minimal sentence.
-fn write_rule(
-    out: &mut Page,
-    name: &str,
-    generator: &SentenceGenerator<'_, u32, YaccGrammar<u32>>,
-    ridx: RIdx<u32>,
-)
+fn write_rule(out: &mut Page, name: &str, generator: &SentenceGenerator<'_, u32>, ridx: RIdx<u32>)
     requires { ridx.0 < generator.now.grammar.rules }
 {
     let pieces = [
@@ -65,11 +60,7 @@ fn write_rule(
 }
 
 /// Writes a rule's costs, and its choice: a production, and its number.
-pub(crate) fn write_costs(
-    out: &mut Page,
-    generator: &SentenceGenerator<'_, u32, YaccGrammar<u32>>,
-    ridx: RIdx<u32>,
-)
+pub(crate) fn write_costs(out: &mut Page, generator: &SentenceGenerator<'_, u32>, ridx: RIdx<u32>)
     requires { ridx.0 < generator.now.grammar.rules }
 {
     write_cost(out, ": least ", generator.min_sentence_cost(ridx).map(Some));

@@ -1,7 +1,7 @@
 //! Where names that a lexer gives and a grammar's tokens differ.
 
+use cfgrammar::TIdx;
 use cfgrammar::yacc::YaccGrammar;
-use cfgrammar::{NameHashes, TIdx};
 use lexcheck::{LexReport, check};
 use rows::page::Page;
 use rows::pen;
@@ -46,7 +46,7 @@ fn write_map(out: &mut Page, grammar: &YaccGrammar<u32>) {
 }
 
 /// Whether a map has just the tokens that have a name, each under its name.
-fn is_mapped(grammar: &YaccGrammar<u32>, tokens: &HashMap<&str, TIdx<u32>, NameHashes>) -> bool {
+fn is_mapped(grammar: &YaccGrammar<u32>, tokens: &HashMap<&str, TIdx<u32>>) -> bool {
     let mut named = 0usize;
     for tidx in grammar.iter_tidxs() {
         if let Some(name) = grammar.token_name(tidx) {
