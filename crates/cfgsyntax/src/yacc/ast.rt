@@ -11,6 +11,7 @@ ghost use Rattle.cfgast.specs.Building.{has_rule};
 ghost use Rattle.cfgast.specs.Items.{Item};
 ghost use Rattle.cfgast.specs.Syntax.{syntax_of};
 ghost use Rattle.cfgast.specs.View.{named_view};
+ghost use Rattle.cfgerrors.specs.Refusal.{ListsErrors};
 ghost use Rattle.cfgtree.specs.View.{syntax};
 ghost use Rattle.cfgsection.specs.Named.{HasOneNaming, Names, Naming};
 ghost use Rattle.cfgsyntax.specs.Faults.{errors_of};
@@ -94,6 +95,7 @@ impl ASTWithValidityInfo {
         ensures answer { (naming : Naming) → Names text.now naming → AnswersNaming text.now naming result }
         ensures places { IfOk result (EachParsedSpan (IsPiece text.now) (IsWithin text.now)) }
         ensures fault_places { IfErr result (EachFaultSpan (IsPiece text.now)) }
+        ensures listed { IfErr result ListsErrors }
     {
         let kind = named_kind(alloc, text)?;
         Ok(ASTWithValidityInfo::new(alloc, kind, text)?)

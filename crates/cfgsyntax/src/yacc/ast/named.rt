@@ -1,6 +1,7 @@
 //! The kind that a text names.
 
 ghost use Rattle.std.specs.Prelude.{IfErr};
+ghost use Rattle.cfgerrors.specs.Refusal.{ListsErrors};
 ghost use Rattle.cfgsection.specs.Named.{HasOneNaming, Names, Naming};
 ghost use Rattle.cfgsyntax.specs.Inner.Steps.{IsKindOf};
 ghost use Rattle.cfgsyntax.specs.Spans.{EachFaultSpan};
@@ -18,6 +19,7 @@ pub(super) fn named_kind(alloc: Global, text: &str) -> YaccGrammarResult<YaccKin
     ensures one { HasOneNaming text.now }
     ensures answer { (naming : Naming) → Names text.now naming → IsKindOf naming result }
     ensures places { IfErr result (EachFaultSpan (IsPiece text.now)) }
+    ensures listed { IfErr result ListsErrors }
 {
     match kind_named(alloc, text) {
         Ok(kind) => Ok(kind),

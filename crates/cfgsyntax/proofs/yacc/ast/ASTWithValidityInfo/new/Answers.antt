@@ -15,12 +15,12 @@ use Rattle.cfgsyntax.proofs.yacc.ast.ASTWithValidityInfo.new.Goals as goal
 
 -- the tree is the one that was read
 same_syntax : (c : goal.In_ok-ast-2) → syntax c.in_ok-ast-2.ast ≡ syntax c.in_ok-ast.ast
-same_syntax c = ap syntax c.in_ok-ast-2.ensures.0
+same_syntax c = ap syntax c.in_ok-ast-2.ensures.made.0
 
 -- the errors are those that were found
 found : (c : goal.In_ok-ast-2) → c.in_ok-ast-2.errors.items ≡ all_errors (syntax c.in_ok-ast.ast) (option_map stop_view c.in_ok-ast.stop)
 found c = subst (λ made. IfOk made (λ errors. errors.items ≡ all_errors (syntax c.in_ok-ast.ast) (option_map stop_view c.in_ok-ast.stop)))
-    c.in_ok-ast-2.ensures.1 c.errors_found-errors.ensures
+    c.in_ok-ast-2.ensures.made.1 c.errors_found-errors.ensures
 
 pub returns-clause-syntax : goal.returns-clause-syntax
 returns-clause-syntax c = λ items stop reads. same_syntax c ∙ (c.in_ok-ast.ensures.read items stop reads).0

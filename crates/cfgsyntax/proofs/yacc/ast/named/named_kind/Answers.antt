@@ -1,4 +1,4 @@
-use Rattle.cfgsyntax.proofs.OfItselfLemmas.{refused_by, refused_at}
+use Rattle.cfgsyntax.proofs.OfItselfLemmas.{refused_by, refused_at, refused_listed}
 use Rattle.cfgsyntax.proofs.yacc.ast.named.named_kind.Goals as goal
 
 pub returns-in_ok-section_errors-in-Err-Errors-clause-answer : goal.returns-in_ok-section_errors-in-Err-Errors-clause-answer
@@ -8,3 +8,7 @@ returns-in_ok-section_errors-in-Err-Errors-clause-answer c = λ naming names.
 pub returns-in_ok-section_errors-in-Err-Errors-clause-places : goal.returns-in_ok-section_errors-in-Err-Errors-clause-places
 returns-in_ok-section_errors-in-Err-Errors-clause-places c =
     refused_at c.args.text.now _ _ c.in_ok-section_errors-in-Err-Errors.ensures (rw c.in-Err-Errors.field-0-is at c.in-Err-Errors.ensures.places)
+
+pub returns-in_ok-section_errors-in-Err-Errors-clause-listed : goal.returns-in_ok-section_errors-in-Err-Errors-clause-listed
+returns-in_ok-section_errors-in-Err-Errors-clause-listed c =
+    refused_listed _ _ c.in_ok-section_errors-in-Err-Errors.ensures (rw c.in-Err-Errors.field-0-is at c.in-Err-Errors.ensures.listed)
