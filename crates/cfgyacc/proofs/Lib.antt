@@ -2,6 +2,7 @@ pub mod Built
 pub mod Counted
 pub mod OfItself
 pub mod OfParsed
+pub mod Refusals
 pub mod Shows
 pub mod Spans
 pub mod Tokens

@@ -8,6 +8,7 @@ ghost use Rattle.std.specs.Str.{IsUtf8, bytes_eq};
 ghost use Rattle.std.specs.String.{string_bytes};
 ghost use Rattle.cfgwords.specs.Places.{IsPiece, IsWithin};
 ghost use Rattle.cfgast.specs.View.{pair_view};
+ghost use Rattle.cfgerrors.specs.Refusal.{ListsErrors};
 ghost use Rattle.cfgtree.specs.View.{syntax};
 ghost use Rattle.cfgtree.specs.Sound.{IsSound};
 ghost use Rattle.cfgsyntax.specs.Spans.{EachParsedSpan};
@@ -79,6 +80,7 @@ impl YaccGrammar<u32> {
     pub fn new(alloc: Global, kind: YaccKind, text: &str) -> YaccGrammarResult<Self>
         ensures answer { IsGrammarOf kind text.now 4294967295 result }
         ensures places { EachAnswerSpan (IsPiece text.now) (IsWithin text.now) result }
+        ensures listed { IfErr result ListsErrors }
     {
         YaccGrammar::new_with_storaget(alloc, kind, text)
     }
@@ -101,6 +103,7 @@ impl<S: Storage> YaccGrammar<S> {
     pub fn new_with_storaget(alloc: Global, kind: YaccKind, text: &str) -> YaccGrammarResult<Self>
         ensures answer { IsGrammarOf kind text.now S.MAX result }
         ensures places { EachAnswerSpan (IsPiece text.now) (IsWithin text.now) result }
+        ensures listed { IfErr result ListsErrors }
     {
         let parsed = ASTWithValidityInfo::new(alloc, kind, text);
         YaccGrammar::of_parsed(alloc, parsed.map_err(YaccFault::from))
@@ -116,6 +119,7 @@ impl<S: Storage> YaccGrammar<S> {
     pub fn from_str(alloc: Global, text: &str) -> YaccGrammarResult<Self>
         ensures answer { IsGrammarOfItself text.now S.MAX result }
         ensures places { EachAnswerSpan (IsPiece text.now) (IsWithin text.now) result }
+        ensures listed { IfErr result ListsErrors }
     {
         YaccGrammar::of_parsed(alloc, ASTWithValidityInfo::from_str(alloc, text))
     }
@@ -151,6 +155,7 @@ impl<S: Storage> YaccGrammar<S> {
         ensures answer { IsAnswer S.MAX (WasRead parsed.now) result }
         ensures places { (text : List ℕ) → IsUtf8 text → EachParsedSpan (IsPiece text) (IsWithin text) parsed.now
             → EachAnswerSpan (IsPiece text) (IsWithin text) result }
+        ensures listed { IfErr result ListsErrors }
     {
         if !parsed.is_valid() {
             return Err(YaccFault::Errors(parsed.errors().to_vec(alloc)?));

@@ -1,4 +1,5 @@
 use Rattle.cfgyacc.proofs.OfParsed.{answer_spans, of_itself}
+use Rattle.cfgyacc.proofs.Refusals.{itself_lists}
 use Rattle.cfgyacc.proofs.grammar.tables.YaccGrammar.from_str.Goals as goal
 
 pub returns-clause-answer : goal.returns-clause-answer
@@ -10,3 +11,6 @@ pub returns-clause-places : goal.returns-clause-places
 returns-clause-places g c =
     answer_spans c.args.text.now c.utf8.text c.from_str.result c.of_parsed.result c.from_str.ensures.places c.from_str.ensures.fault_places
     c.of_parsed.ensures.places c.of_parsed.ensures.refused
+
+pub returns-clause-listed : goal.returns-clause-listed
+returns-clause-listed g c = itself_lists c.args.text.now g.S.Storage.MAX c.of_parsed.result (returns-clause-answer g c)

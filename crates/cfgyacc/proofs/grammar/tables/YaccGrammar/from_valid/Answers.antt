@@ -45,7 +45,7 @@ pub returns : goal.returns
 returns g c =
     let s = syntax c.args.ast.now in
     let numbering = c.new-numbering.ensures in
-    let got = c.in_ok-rules.ensures in
+    let got = c.in_ok-rules.ensures.made in
     let rules = given _ c.rule_rows.result _ got.0 c.rule_rows.ensures in
     let prods = given _ c.production_rows.result _ got.1 c.production_rows.ensures in
     let tokens = given _ c.token_rows.result _ got.2 c.token_rows.ensures in

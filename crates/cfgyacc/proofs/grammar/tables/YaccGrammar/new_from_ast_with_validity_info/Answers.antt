@@ -1,4 +1,4 @@
-use Rattle.std.proofs.Common.{List, Option, ℕ, sym, subst, ◌∙◌, true≢false}
+use Rattle.std.proofs.Common.{List, Option, ℕ, rules, sym, subst, ◌∙◌, true≢false}
 use Rattle.cfgwords.specs.Places.{IsPiece, IsWithin}
 use Rattle.cfgast.specs.Syntax.{Syntax}
 use Rattle.cfgtree.specs.View.{syntax}
@@ -6,6 +6,7 @@ use Rattle.cfgnumbers.specs.Fits.{LeavesRoom}
 use Rattle.cfgnumbers.specs.Numbered.{implicit_of, numbered}
 use Rattle.cfgyacc.specs.Spans.{EachGrammarSpan}
 use Rattle.cfgyacc.proofs.Built.{too_large, answered, of_both}
+use Rattle.cfgyacc.proofs.Refusals.{errors_list, too_small_lists}
 use Rattle.cfgyacc.proofs.Spans.{grammar_spans, nowhere_placed, too_small_spans}
 use Rattle.cfgyacc.proofs.grammar.tables.YaccGrammar.new_from_ast_with_validity_info.Goals as goal
 
@@ -22,6 +23,13 @@ returns-then-not-fits-clause-answer g c =
 pub returns-then-not-fits-clause-places : goal.returns-then-not-fits-clause-places
 returns-then-not-fits-clause-places g c = λ text utf8 each.
     too_small_spans (IsPiece text) (IsWithin text) (nowhere_placed text utf8) c.in_ok-storage_too_small.field-0 c.in_ok-storage_too_small.ensures
+
+pub returns-then-not-fits-clause-listed : goal.returns-then-not-fits-clause-listed
+returns-then-not-fits-clause-listed g c = too_small_lists c.in_ok-storage_too_small.field-0 c.in_ok-storage_too_small.ensures
+
+pub returns-then-not-is_valid-clause-listed : goal.returns-then-not-is_valid-clause-listed
+returns-then-not-is_valid-clause-listed g c =
+    errors_list _ c.args.parsed.now.errors (search rules) (λ none. true≢false (sym (c.is_valid.ensures.1 none) ∙ c.if-not-is_valid.true))
 
 pub from_valid-requires-clause-room : goal.from_valid-requires-clause-room
 from_valid-requires-clause-room g c =

@@ -5,6 +5,7 @@ use Rattle.cfgerrors.specs.declared.error.YaccFault.TheVariants as faults
 use Rattle.cfgsyntax.specs.OfItself.{IsParsedAs}
 use Rattle.cfgsyntax.specs.Spans.{EachFaultSpan, EachParsedSpan}
 use Rattle.cfgyacc.proofs.OfParsed.{answer_spans, carried, carried_fault, of_kind, parsed_as}
+use Rattle.cfgyacc.proofs.Refusals.{grammar_lists}
 use Rattle.cfgyacc.proofs.grammar.tables.YaccGrammar.new_with_storaget.Goals as goal
 
 pub returns-clause-answer : goal.returns-clause-answer
@@ -28,3 +29,6 @@ returns-clause-places g c =
     (IfErr-weaker c.map_err.result (λ fault. fault ≡ faults.OutOfMemory) (EachFaultSpan (IsPiece text)) (λ fault none. subst (EachFaultSpan (IsPiece text)) (sym none) tt)
     (carried_fault _ (λ fault. fault ≡ faults.OutOfMemory) made c.map_err.result cases (λ error fault is. search rules)))
     c.of_parsed.ensures.places c.of_parsed.ensures.refused
+
+pub returns-clause-listed : goal.returns-clause-listed
+returns-clause-listed g c = grammar_lists c.args.kind c.args.text.now g.S.Storage.MAX c.of_parsed.result (returns-clause-answer g c)
