@@ -3,6 +3,7 @@
 ghost use Rattle.std.specs.Prelude.{◌≡◌, length, drop, IfOk, IfErr};
 ghost use Rattle.std.specs.Str.{IsCharBoundary};
 ghost use Rattle.cfgwords.specs.Places.{IsPiece};
+ghost use Rattle.cfgsection.specs.Refusal.{ListsErrors};
 ghost use Rattle.cfgsection.specs.SectionPlaces.{IsFaultAt};
 ghost use Rattle.cfgsection.specs.SectionReads.{AnswersEntry, HasOneSection};
 ghost use Rattle.cfgheader.specs.Headers.{AnswersSection};
@@ -44,6 +45,7 @@ impl<'a> GrmtoolsSectionParser<'a> {
         ensures answer { AnswersSection self.now.required self.now.src.now result }
         ensures end { IfOk result (λ x. IsCharBoundary self.now.src.now x.1) }
         ensures fault_places { IfErr result (IsFaultAt self.now.src.now) }
+        ensures listed { IfErr result ListsErrors }
     {
         let (entries, rest) = section_entries(alloc, self.src, self.required)?;
         let header = header_of(alloc, entries)?;
@@ -66,6 +68,7 @@ impl<'a> GrmtoolsSectionParser<'a> {
         ensures answer { AnswersEntry (length self.now.src.now) (drop i self.now.src.now) result }
         ensures places { IfOk result (λ x. IsPiece self.now.src.now x.1 × IsCharBoundary self.now.src.now x.3) }
         ensures fault_places { IfErr result (IsFaultAt self.now.src.now) }
+        ensures listed { IfErr result ListsErrors }
     {
         entry_at(alloc, self.src, i)
     }

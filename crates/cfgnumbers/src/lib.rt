@@ -2,6 +2,7 @@
 //! them.
 #![tactic(auto)]
 
+pub mod laws;
 mod lists;
 mod names;
 pub mod numbering;
