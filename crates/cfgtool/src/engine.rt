@@ -1,6 +1,7 @@
 //! The report of a text.
 
-ghost use Rattle.std.specs.Prelude.{◌≡◌, ◌+◌, ◌-◌, ◌^◌, ◌<◌, Some, Ok, IfOk, IsErrOf, string_bytes};
+ghost use Rattle.std.specs.Prelude.{◌≡◌, ◌+◌, ◌-◌, ◌^◌, ◌<◌, Some, Ok, IfOk, IsErr, IsErrOf, OnErr};
+ghost use Rattle.std.specs.Prelude.{string_bytes};
 ghost use Rattle.cfgwords.specs.Places.{IsPiece, IsWithin};
 ghost use Rattle.cfgast.specs.Syntax.{EachSpan};
 ghost use Rattle.cfgtree.specs.View.{syntax};
@@ -194,7 +195,8 @@ fn ended(
     outcome: Outcome,
     lines: Result<String, AllocError>,
 ) -> Result<(Outcome, String), AllocError>
-    ensures { IfOk result (λ told. (told.0 ≡ outcome) × (lines ≡ Ok told.1)) }
+    ensures told { IfOk result (λ told. (told.0 ≡ outcome) × (lines ≡ Ok told.1)) }
+    ensures refused { OnErr result (IsErr lines) }
 {
     Ok((outcome, lines?))
 }

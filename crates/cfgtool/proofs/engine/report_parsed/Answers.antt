@@ -28,7 +28,7 @@ returns-in-Ok c =
     let g = in_numbers c.args.parsed.now in
     let Asked = AreAskedLines c.args.request c.args.text.now in
     let Report = IsReport Asked c.args.text.now (WasRead c.args.parsed.now) in
-    ended_told Report Done c.request_lines-lines.result c.ended.result c.ended.ensures
+    ended_told Report Done c.request_lines-lines.result c.ended.result c.ended.ensures.told
     (IfOk-weaker c.request_lines-lines.result (λ lines. Asked (syntax c.ast.result.now) c.in-Ok.grammar (string_bytes lines)) (λ lines. Report Done (string_bytes lines)) (λ lines told. (
       answer.0,
       answer.1,
@@ -42,6 +42,6 @@ returns-in-Err-Errors c =
     let errors = rw c.in-Err-Errors.errors-is at c.deref.ensures.value in
     let text = c.args.text.now in
     let Report = IsReport (AreAskedLines c.args.request text) text (WasRead c.args.parsed.now) in
-    ended_told Report Refused c.error_lines.result c.ended-in-Err-Errors.result c.ended-in-Err-Errors.ensures
+    ended_told Report Refused c.error_lines.result c.ended-in-Err-Errors.result c.ended-in-Err-Errors.ensures.told
     (IfOk-weaker c.error_lines.result (λ lines. string_bytes lines ≡ error_lines text c.deref.result.now) (λ lines. Report Refused (string_bytes lines))
     (λ lines lined. (c.in-Err-Errors.errors.items, refused, lined ∙ ap (error_lines text) errors)) c.error_lines.ensures)
