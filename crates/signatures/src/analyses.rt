@@ -1,6 +1,8 @@
 //! FIRST and FOLLOW.
 
-ghost use Rattle.std.specs.Prelude.{};
+ghost use Rattle.std.specs.Prelude.{◌<◌, length};
+ghost use Rattle.cfgnumbers.specs.Numbered.{core};
+ghost use Rattle.cfganalysis.specs.Firsts.{AreFirsts};
 
 use cfgrammar::yacc::YaccGrammar;
 use cfgrammar::yacc::firsts::{YaccFirsts, firsts_over};
@@ -9,44 +11,64 @@ use cfgrammar::yacc::grammar::Productions;
 use cfgrammar::{PIdx, RIdx, Storage, Symbol, TIdx, Vob};
 use std::alloc::{AllocError, Global};
 
-/// The sets of a grammar.
-pub fn sets<S: Storage>(
-    alloc: Global,
-    grammar: &YaccGrammar<S>,
-) -> Result<(YaccFirsts<S>, YaccFollows<S>), AllocError> {
-    let firsts: YaccFirsts<S> = grammar.firsts(alloc)?;
-    let follows: YaccFollows<S> = grammar.follows(alloc)?;
-    Ok((firsts, follows))
+/// The FIRST sets of a grammar.
+pub fn firsts<S: Storage>(alloc: Global, grammar: &YaccGrammar<S>) -> Result<YaccFirsts<S>, AllocError> {
+    grammar.firsts(alloc)
 }
 
-/// The sets of a grammar, by their own names.
-pub fn sets_by_type<S: Storage>(
-    alloc: Global,
-    grammar: &YaccGrammar<S>,
-) -> Result<(YaccFirsts<S>, YaccFollows<S>), AllocError> {
-    Ok((YaccFirsts::new(alloc, grammar)?, YaccFollows::new(alloc, grammar)?))
+/// The FOLLOW sets of a grammar.
+pub fn follows<S: Storage>(alloc: Global, grammar: &YaccGrammar<S>) -> Result<YaccFollows<S>, AllocError> {
+    grammar.follows(alloc)
 }
 
-/// The sets of a grammar, by productions that are opened and counted.
-pub fn counted<S: Storage>(alloc: Global, grammar: &YaccGrammar<S>) -> Result<u128, AllocError> {
+/// The FIRST sets, by their own name.
+pub fn new_firsts<S: Storage>(alloc: Global, grammar: &YaccGrammar<S>) -> Result<YaccFirsts<S>, AllocError> {
+    YaccFirsts::new(alloc, grammar)
+}
+
+/// The FOLLOW sets, by their own name.
+pub fn new_follows<S: Storage>(alloc: Global, grammar: &YaccGrammar<S>) -> Result<YaccFollows<S>, AllocError> {
+    YaccFollows::new(alloc, grammar)
+}
+
+/// The FIRST sets, by productions that are opened and counted.
+pub fn counted_firsts<S: Storage>(alloc: Global, grammar: &YaccGrammar<S>) -> Result<YaccFirsts<S>, AllocError> {
     let mut productions = grammar.productions(alloc)?;
-    let firsts: YaccFirsts<S> = firsts_over(alloc, &mut productions)?;
-    let mut again = grammar.productions(alloc)?;
-    let _follows: YaccFollows<S> = follows_over(alloc, &mut again, &firsts)?;
-    Ok(productions.opened_all())
+    firsts_over(alloc, &mut productions)
 }
 
-/// What is read of the sets, and a bit that is set.
-pub fn bits<S: Storage>(alloc: Global, grammar: &YaccGrammar<S>) -> Result<(bool, usize), AllocError> {
-    let mut firsts: YaccFirsts<S> = grammar.firsts(alloc)?;
-    let follows: YaccFollows<S> = grammar.follows(alloc)?;
-    let rule: RIdx<S> = grammar.start_rule_idx();
-    let token: TIdx<S> = grammar.eof_token_idx();
+/// The FOLLOW sets, by productions that are opened and counted.
+pub fn counted_follows<S: Storage>(
+    alloc: Global,
+    grammar: &YaccGrammar<S>,
+    firsts: &YaccFirsts<S>,
+) -> Result<YaccFollows<S>, AllocError>
+    requires { AreFirsts (core grammar.now) firsts.now }
+{
+    let mut productions = grammar.productions(alloc)?;
+    follows_over(alloc, &mut productions, firsts)
+}
+
+/// What is read of FIRST sets, and a bit that is set.
+pub fn first_bits<S: Storage>(firsts: &mut YaccFirsts<S>, rule: RIdx<S>, token: TIdx<S>) -> (bool, usize)
+    requires rule { S.number rule.0 < length firsts.old.firsts.rows }
+    requires token { S.number token.0 < firsts.old.firsts.columns }
+{
+    let len = {
+        let first: &Vob = firsts.firsts(rule);
+        first.len()
+    };
+    let is_set: bool = firsts.is_set(rule, token) && firsts.is_epsilon_set(rule);
     let was_set: bool = firsts.set(rule, token);
-    let first: &Vob = firsts.firsts(rule);
+    (was_set && is_set, len)
+}
+
+/// What is read of FOLLOW sets.
+pub fn follow_bits<S: Storage>(follows: &YaccFollows<S>, rule: RIdx<S>, token: TIdx<S>) -> (bool, usize)
+    requires { S.number rule.0 < length follows.now.rows }
+{
     let follow: &Vob = follows.follows(rule);
-    let is_set: bool = firsts.is_set(rule, token) && follows.is_set(rule, token) && firsts.is_epsilon_set(rule);
-    Ok((was_set && is_set, first.len().min(follow.len())))
+    (follows.is_set(rule, token), follow.len())
 }
 
 /// The productions of any grammar.

@@ -1,7 +1,5 @@
 //! The reading of a file, its errors and its warnings.
 
-ghost use Rattle.std.specs.Prelude.{};
-
 use cfgrammar::yacc::ast::{ASTModificationError, ASTWithValidityInfo, GrammarAST, Rule, StartFault};
 use cfgrammar::yacc::{YaccFault, YaccGrammarError, YaccGrammarErrorKind, YaccGrammarResult, YaccGrammarWarning};
 use cfgrammar::yacc::{YaccGrammarWarningKind, YaccKind, YaccOriginalActionKind};
@@ -20,14 +18,21 @@ pub fn kinds() -> [YaccKind; 5] {
 }
 
 /// A file that is read.
-pub fn read(alloc: Global, text: &str) -> Result<bool, AllocError> {
-    let kind: YaccKind = YaccKind::Grmtools;
-    let parsed: ASTWithValidityInfo = ASTWithValidityInfo::new(alloc, kind, text)?;
+pub fn read(alloc: Global, kind: YaccKind, text: &str) -> Result<ASTWithValidityInfo, AllocError> {
+    ASTWithValidityInfo::new(alloc, kind, text)
+}
+
+/// What was found of a file.
+pub fn found(parsed: &ASTWithValidityInfo) -> (YaccKind, bool) {
     let ast: &GrammarAST = parsed.ast();
     let read_as: YaccKind = parsed.yacc_kind();
     let errors: &[YaccGrammarError] = parsed.errors();
-    let warnings: Vec<YaccGrammarWarning> = ast.warnings(alloc)?;
-    Ok(parsed.is_valid() && errors.is_empty() && warnings.is_empty() && read_as == kind)
+    (read_as, parsed.is_valid() && errors.is_empty() && ast.prods().is_empty())
+}
+
+/// The warnings of a file.
+pub fn warnings(alloc: Global, ast: &GrammarAST) -> Result<Vec<YaccGrammarWarning>, AllocError> {
+    ast.warnings(alloc)
 }
 
 /// A file that names its kind.
@@ -37,26 +42,32 @@ pub fn read_as_named(alloc: Global, text: &str) -> YaccGrammarResult<ASTWithVali
 
 /// What was read, with another start rule.
 pub fn with_start(parsed: &ASTWithValidityInfo, alloc: Global, rule: Rule) -> Result<ASTWithValidityInfo, StartFault> {
-    match parsed.clone_and_change_start_rule(alloc, rule) {
-        Err(StartFault::Modification(error)) => {
-            let error: ASTModificationError = error;
-            Err(StartFault::Modification(error))
-        }
-        Err(StartFault::OutOfMemory) => Err(StartFault::OutOfMemory),
-        Ok(changed) => Ok(changed),
+    parsed.clone_and_change_start_rule(alloc, rule)
+}
+
+/// Why it hasn't another start rule.
+pub fn start_error(fault: &StartFault) -> Option<&ASTModificationError> {
+    match fault {
+        StartFault::Modification(error) => Some(error),
+        StartFault::OutOfMemory => None,
     }
 }
 
-/// Copies of what was read.
-pub fn copies(parsed: &ASTWithValidityInfo) -> Result<(ASTWithValidityInfo, GrammarAST), AllocError> {
-    Ok((parsed.clone()?, parsed.ast().clone()?))
+/// A copy of what was read.
+pub fn copy(parsed: &ASTWithValidityInfo) -> Result<ASTWithValidityInfo, AllocError> {
+    parsed.clone()
+}
+
+/// A copy of its tree.
+pub fn tree_copy(ast: &GrammarAST) -> Result<GrammarAST, AllocError> {
+    ast.clone()
 }
 
 /// The first error of a file.
-pub fn first_error(fault: YaccFault) -> Option<(bool, bool, Option<Span>)> {
+pub fn first_error(fault: &YaccFault) -> Option<(bool, bool, Option<Span>)> {
     match fault {
         YaccFault::Errors(errors) => {
-            let errors: Vec<YaccGrammarError> = errors;
+            let errors: &Vec<YaccGrammarError> = errors;
             let error: &YaccGrammarError = errors.first()?;
             let kind: &YaccGrammarErrorKind = error.kind();
             let is_duplicate: bool = error.spanskind() == SpansKind::DuplicationError;

@@ -1,7 +1,5 @@
 //! The marked map.
 
-ghost use Rattle.std.specs.Prelude.{};
-
 use cfgrammar::markmap::{Entry, Keys, MarkMap, MarkMapIterRef, MergeBehavior, MergeError, MergeFault};
 use cfgrammar::markmap::{OccupiedEntry, VacantEntry};
 use std::alloc::{AllocError, Global};
@@ -16,22 +14,31 @@ pub fn asked(map: &mut MarkMap<u32, String>, key: u32) -> bool {
     found && flags.0 && flags.1 && flags.2 && removed.is_some()
 }
 
+/// A map without keys.
+pub fn empty(alloc: Global) -> MarkMap<u32, String> {
+    MarkMap::new(alloc)
+}
+
 /// The calls of a map that may take memory.
-pub fn marked(alloc: Global, key: u32, value: String) -> Result<Option<String>, AllocError> {
-    let mut map: MarkMap<u32, String> = MarkMap::new(alloc);
+pub fn marked(map: &mut MarkMap<u32, String>, key: u32) -> Result<(), AllocError> {
     map.mark_used(&key)?;
     map.mark_required(&key)?;
-    map.set_merge_behavior(&key, MergeBehavior::MutuallyExclusive)?;
-    let unused: Vec<u32> = map.unused(alloc)?;
-    let missing: bool = {
-        let missing: Vec<&u32> = map.missing(alloc)?;
-        missing.is_empty() && unused.is_empty()
-    };
-    let inserted: Result<Option<String>, (u32, String)> = map.insert(key, value);
-    match inserted {
-        Ok(old) if missing => Ok(old),
-        Ok(_) | Err(_) => Ok(None),
-    }
+    map.set_merge_behavior(&key, MergeBehavior::MutuallyExclusive)
+}
+
+/// The keys that hold a value and weren't used.
+pub fn unused(alloc: Global, map: &MarkMap<u32, String>) -> Result<Vec<u32>, AllocError> {
+    map.unused(alloc)
+}
+
+/// The keys that are required and hold no value.
+pub fn missing(alloc: Global, map: &MarkMap<u32, String>) -> Result<Vec<&u32>, AllocError> {
+    map.missing(alloc)
+}
+
+/// A value put under a key.
+pub fn inserted(map: &mut MarkMap<u32, String>, key: u32, value: String) -> Result<Option<String>, (u32, String)> {
+    map.insert(key, value)
 }
 
 /// The entries of a map.
@@ -90,13 +97,17 @@ pub fn merged(
     mine: &mut MarkMap<u32, String>,
     theirs: MarkMap<u32, String>,
 ) -> Result<(), MergeFault<u32, String, AllocError>> {
-    match mine.merge_from(theirs, |value: String| Ok(value)) {
-        Err(MergeFault::Conflict(MergeError::Exclusivity(key, value))) => {
-            let value: Box<String> = value;
-            Err(MergeFault::Conflict(MergeError::Exclusivity(key, value)))
+    mine.merge_from(theirs, |value: String| Ok(value))
+}
+
+/// Where merging stopped.
+pub fn stopped(fault: &MergeFault<u32, String, AllocError>) -> Option<(u32, bool)> {
+    match fault {
+        MergeFault::Conflict(MergeError::Exclusivity(key, value)) => {
+            let value: &Box<String> = value;
+            Some((*key, value.is_empty()))
         }
-        Err(MergeFault::Convert(key, error)) => Err(MergeFault::Convert(key, error)),
-        Err(MergeFault::OutOfMemory) => Err(MergeFault::OutOfMemory),
-        Ok(()) => Ok(()),
+        MergeFault::Convert(key, _) => Some((*key, true)),
+        MergeFault::OutOfMemory => None,
     }
 }

@@ -1,7 +1,5 @@
 //! The `%grmtools` section of a file.
 
-ghost use Rattle.std.specs.Prelude.{};
-
 use cfgrammar::header::{GrmtoolsSectionParser, Header, HeaderError, HeaderErrorKind, HeaderFault, HeaderValue};
 use cfgrammar::header::{KindFault, Namespaced, Setting, Value};
 use cfgrammar::markmap::MarkMap;
@@ -10,10 +8,15 @@ use cfgrammar::{Location, Span, SpansKind};
 use std::alloc::{AllocError, Global};
 
 /// The section of a text, as a map of its keys.
-pub fn section(alloc: Global, text: &str) -> Result<(MarkMap<String, HeaderValue<Span>>, usize), HeaderFault> {
+pub fn section(alloc: Global, text: &str) -> Result<(Header<Span>, usize), HeaderFault> {
     let parser: GrmtoolsSectionParser<'_> = GrmtoolsSectionParser::new(text, true);
-    let (header, end): (Header<Span>, usize) = parser.parse(alloc)?;
-    Ok((header, end))
+    parser.parse(alloc)
+}
+
+/// What a header is.
+pub fn keys_of(header: &Header<Span>) -> bool {
+    let map: &MarkMap<String, HeaderValue<Span>> = header;
+    map.keys().next().is_some()
 }
 
 /// The first entry of a section.
@@ -22,10 +25,10 @@ pub fn entry(alloc: Global, text: &str) -> Result<(String, Span, Value<Span>, us
 }
 
 /// Why a section has no map.
-pub fn first_error(fault: HeaderFault) -> Option<(HeaderErrorKind, Option<Span>, bool)> {
+pub fn first_error(fault: &HeaderFault) -> Option<(HeaderErrorKind, Option<Span>, bool)> {
     match fault {
         HeaderFault::Errors(errors) => {
-            let errors: Vec<HeaderError<Span>> = errors;
+            let errors: &Vec<HeaderError<Span>> = errors;
             let error: &HeaderError<Span> = errors.first()?;
             let is_duplicate: bool = error.spanskind() == SpansKind::DuplicationError;
             Some((error.kind, error.locations.first().copied(), is_duplicate))
@@ -48,16 +51,24 @@ pub fn number_of<T: Copy>(value: &HeaderValue<T>) -> Option<(u64, T)> {
 }
 
 /// Where a value is, as a location.
-pub fn location_of(alloc: Global, value: &HeaderValue<Span>) -> Result<Location, AllocError> {
-    let located: HeaderValue<Location> = value.to_location(alloc)?;
-    let inner: Value<Location> = value.1.to_location(alloc)?;
-    if let Value::Setting(setting) = &value.1 {
-        let _setting: Setting<Location> = setting.to_location(alloc)?;
-    }
-    if located.1 == inner {
-        return inner.primary_location().clone();
-    }
-    Ok(Location::CommandLine)
+pub fn header_value_of(alloc: Global, value: &HeaderValue<Span>) -> Result<HeaderValue<Location>, AllocError> {
+    value.to_location(alloc)
+}
+
+/// The same of a value.
+pub fn value_of(alloc: Global, value: &Value<Span>) -> Result<Value<Location>, AllocError> {
+    value.to_location(alloc)
+}
+
+/// The same of a setting.
+pub fn setting_of(alloc: Global, setting: &Setting<Span>) -> Result<Setting<Location>, AllocError> {
+    setting.to_location(alloc)
+}
+
+/// The place that speaks for a value, and whether two values are the same.
+pub fn place_of<'a>(value: &'a Value<Location>, other: &Value<Location>) -> (&'a Location, bool) {
+    let place: &Location = value.primary_location();
+    (place, value == other)
 }
 
 /// The kind that a value names, and the value that names it.

@@ -1,7 +1,5 @@
 //! The numbered tables of a grammar.
 
-ghost use Rattle.std.specs.Prelude.{};
-
 use cfgrammar::yacc::ast::ASTWithValidityInfo;
 use cfgrammar::yacc::grammar::{self, PIdxIter, RIdxIter, TIdxIter};
 use cfgrammar::yacc::{Precedence, YaccGrammar, YaccGrammarResult, YaccKind};

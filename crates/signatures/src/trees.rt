@@ -1,7 +1,5 @@
 //! The syntax tree.
 
-ghost use Rattle.std.specs.Prelude.{};
-
 use cfgrammar::Span;
 use cfgrammar::yacc::ast::{GrammarAST, Production, Rule, Symbol};
 use cfgrammar::yacc::{AssocKind, Precedence, PrecedenceLevel};
