@@ -12,27 +12,42 @@ use cfgrammar::{PIdx, RIdx, Storage, Symbol, TIdx, Vob};
 use std::alloc::{AllocError, Global};
 
 /// The FIRST sets of a grammar.
-pub fn firsts<S: Storage>(alloc: Global, grammar: &YaccGrammar<S>) -> Result<YaccFirsts<S>, AllocError> {
+pub fn firsts<S: Storage>(
+    alloc: Global,
+    grammar: &YaccGrammar<S>,
+) -> Result<YaccFirsts<S>, AllocError> {
     grammar.firsts(alloc)
 }
 
 /// The FOLLOW sets of a grammar.
-pub fn follows<S: Storage>(alloc: Global, grammar: &YaccGrammar<S>) -> Result<YaccFollows<S>, AllocError> {
+pub fn follows<S: Storage>(
+    alloc: Global,
+    grammar: &YaccGrammar<S>,
+) -> Result<YaccFollows<S>, AllocError> {
     grammar.follows(alloc)
 }
 
 /// The FIRST sets, by their own name.
-pub fn new_firsts<S: Storage>(alloc: Global, grammar: &YaccGrammar<S>) -> Result<YaccFirsts<S>, AllocError> {
+pub fn new_firsts<S: Storage>(
+    alloc: Global,
+    grammar: &YaccGrammar<S>,
+) -> Result<YaccFirsts<S>, AllocError> {
     YaccFirsts::new(alloc, grammar)
 }
 
 /// The FOLLOW sets, by their own name.
-pub fn new_follows<S: Storage>(alloc: Global, grammar: &YaccGrammar<S>) -> Result<YaccFollows<S>, AllocError> {
+pub fn new_follows<S: Storage>(
+    alloc: Global,
+    grammar: &YaccGrammar<S>,
+) -> Result<YaccFollows<S>, AllocError> {
     YaccFollows::new(alloc, grammar)
 }
 
 /// The FIRST sets, by productions that are opened and counted.
-pub fn counted_firsts<S: Storage>(alloc: Global, grammar: &YaccGrammar<S>) -> Result<YaccFirsts<S>, AllocError> {
+pub fn counted_firsts<S: Storage>(
+    alloc: Global,
+    grammar: &YaccGrammar<S>,
+) -> Result<YaccFirsts<S>, AllocError> {
     let mut productions = grammar.productions(alloc)?;
     firsts_over(alloc, &mut productions)
 }
@@ -50,7 +65,11 @@ pub fn counted_follows<S: Storage>(
 }
 
 /// What is read of FIRST sets, and a bit that is set.
-pub fn first_bits<S: Storage>(firsts: &mut YaccFirsts<S>, rule: RIdx<S>, token: TIdx<S>) -> (bool, usize)
+pub fn first_bits<S: Storage>(
+    firsts: &mut YaccFirsts<S>,
+    rule: RIdx<S>,
+    token: TIdx<S>,
+) -> (bool, usize)
     requires rule { S.number rule.0 < length firsts.old.firsts.rows }
     requires token { S.number token.0 < firsts.old.firsts.columns }
 {
@@ -64,7 +83,11 @@ pub fn first_bits<S: Storage>(firsts: &mut YaccFirsts<S>, rule: RIdx<S>, token: 
 }
 
 /// What is read of FOLLOW sets.
-pub fn follow_bits<S: Storage>(follows: &YaccFollows<S>, rule: RIdx<S>, token: TIdx<S>) -> (bool, usize)
+pub fn follow_bits<S: Storage>(
+    follows: &YaccFollows<S>,
+    rule: RIdx<S>,
+    token: TIdx<S>,
+) -> (bool, usize)
     requires { S.number rule.0 < length follows.now.rows }
 {
     let follow: &Vob = follows.follows(rule);
@@ -72,13 +95,23 @@ pub fn follow_bits<S: Storage>(follows: &YaccFollows<S>, rule: RIdx<S>, token: T
 }
 
 /// The productions of any grammar.
-pub fn lengths<S: Storage, P: Productions<S>>(productions: &P) -> (RIdx<S>, TIdx<S>, PIdx<S>, u128) {
+pub fn lengths<S: Storage, P: Productions<S>>(
+    productions: &P,
+) -> (RIdx<S>, TIdx<S>, PIdx<S>, u128) {
     let opened_all: u128 = productions.opened_all();
-    (productions.rules_len(), productions.tokens_len(), productions.prods_len(), opened_all)
+    (
+        productions.rules_len(),
+        productions.tokens_len(),
+        productions.prods_len(),
+        opened_all,
+    )
 }
 
 /// A production that is opened.
-pub fn opened<S: Storage>(alloc: Global, grammar: &YaccGrammar<S>) -> Result<(RIdx<S>, u64, usize), AllocError> {
+pub fn opened<S: Storage>(
+    alloc: Global,
+    grammar: &YaccGrammar<S>,
+) -> Result<(RIdx<S>, u64, usize), AllocError> {
     let mut productions = grammar.productions(alloc)?;
     let first: PIdx<S> = grammar.start_prod();
     let rule: RIdx<S> = productions.rule_of(first);

@@ -1,8 +1,12 @@
 //! The reading of a file, its errors and its warnings.
 
-use cfgrammar::yacc::ast::{ASTModificationError, ASTWithValidityInfo, GrammarAST, Rule, StartFault};
-use cfgrammar::yacc::{YaccFault, YaccGrammarError, YaccGrammarErrorKind, YaccGrammarResult, YaccGrammarWarning};
-use cfgrammar::yacc::{YaccGrammarWarningKind, YaccKind, YaccOriginalActionKind};
+use cfgrammar::yacc::ast::{
+    ASTModificationError, ASTWithValidityInfo, GrammarAST, Rule, StartFault,
+};
+use cfgrammar::yacc::{
+    YaccFault, YaccGrammarError, YaccGrammarErrorKind, YaccGrammarResult, YaccGrammarWarning,
+    YaccGrammarWarningKind, YaccKind, YaccOriginalActionKind,
+};
 use cfgrammar::{Span, Spanned, SpansKind};
 use std::alloc::{AllocError, Global};
 
@@ -27,7 +31,10 @@ pub fn found(parsed: &ASTWithValidityInfo) -> (YaccKind, bool) {
     let ast: &GrammarAST = parsed.ast();
     let read_as: YaccKind = parsed.yacc_kind();
     let errors: &[YaccGrammarError] = parsed.errors();
-    (read_as, parsed.is_valid() && errors.is_empty() && ast.prods().is_empty())
+    (
+        read_as,
+        parsed.is_valid() && errors.is_empty() && ast.prods().is_empty(),
+    )
 }
 
 /// The warnings of a file.
@@ -41,7 +48,11 @@ pub fn read_as_named(alloc: Global, text: &str) -> YaccGrammarResult<ASTWithVali
 }
 
 /// What was read, with another start rule.
-pub fn with_start(parsed: &ASTWithValidityInfo, alloc: Global, rule: Rule) -> Result<ASTWithValidityInfo, StartFault> {
+pub fn with_start(
+    parsed: &ASTWithValidityInfo,
+    alloc: Global,
+    rule: Rule,
+) -> Result<ASTWithValidityInfo, StartFault> {
     parsed.clone_and_change_start_rule(alloc, rule)
 }
 

@@ -1,13 +1,19 @@
 //! The marked map.
 
-use cfgrammar::markmap::{Entry, Keys, MarkMap, MarkMapIterRef, MergeBehavior, MergeError, MergeFault};
-use cfgrammar::markmap::{OccupiedEntry, VacantEntry};
+use cfgrammar::markmap::{
+    Entry, Keys, MarkMap, MarkMapIterRef, MergeBehavior, MergeError, MergeFault, OccupiedEntry,
+    VacantEntry,
+};
 use std::alloc::{AllocError, Global};
 
 /// The calls of a map that take no memory.
 pub fn asked(map: &mut MarkMap<u32, String>, key: u32) -> bool {
     map.set_default_merge_behavior(MergeBehavior::Ours);
-    let flags: (bool, bool, bool) = (map.is_required(&key), map.is_used(&key), map.contains_key(&key));
+    let flags: (bool, bool, bool) = (
+        map.is_required(&key),
+        map.is_used(&key),
+        map.contains_key(&key),
+    );
     let value: Option<&String> = map.get(&key);
     let found: bool = value.is_some();
     let removed: Option<String> = map.remove(&key);
@@ -37,12 +43,20 @@ pub fn missing(alloc: Global, map: &MarkMap<u32, String>) -> Result<Vec<&u32>, A
 }
 
 /// A value put under a key.
-pub fn inserted(map: &mut MarkMap<u32, String>, key: u32, value: String) -> Result<Option<String>, (u32, String)> {
+pub fn inserted(
+    map: &mut MarkMap<u32, String>,
+    key: u32,
+    value: String,
+) -> Result<Option<String>, (u32, String)> {
     map.insert(key, value)
 }
 
 /// The entries of a map.
-pub fn entered(map: &mut MarkMap<u32, String>, key: u32, value: String) -> Result<u16, (u32, String)> {
+pub fn entered(
+    map: &mut MarkMap<u32, String>,
+    key: u32,
+    value: String,
+) -> Result<u16, (u32, String)> {
     match map.entry(key) {
         Entry::Occupied(entry) => {
             let mut entry: OccupiedEntry<'_, u32, String> = entry;

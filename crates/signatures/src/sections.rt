@@ -1,7 +1,11 @@
 //! The `%grmtools` section of a file.
 
-use cfgrammar::header::{GrmtoolsSectionParser, Header, HeaderError, HeaderErrorKind, HeaderFault, HeaderValue};
-use cfgrammar::header::{KindFault, Namespaced, Setting, Value};
+ghost use Rattle.std.specs.Str.{IsCharBoundary};
+
+use cfgrammar::header::{
+    GrmtoolsSectionParser, Header, HeaderError, HeaderErrorKind, HeaderFault, HeaderValue,
+    KindFault, Namespaced, Setting, Value,
+};
 use cfgrammar::markmap::MarkMap;
 use cfgrammar::yacc::{YaccGrammarError, YaccKind};
 use cfgrammar::{Location, Span, SpansKind};
@@ -19,9 +23,15 @@ pub fn keys_of(header: &Header<Span>) -> bool {
     map.keys().next().is_some()
 }
 
-/// The first entry of a section.
-pub fn entry(alloc: Global, text: &str) -> Result<(String, Span, Value<Span>, usize), HeaderFault> {
-    GrmtoolsSectionParser::new(text, false).parse_key_value(alloc, 0)
+/// The entry of a section at an offset.
+pub fn entry(
+    alloc: Global,
+    text: &str,
+    offset: usize,
+) -> Result<(String, Span, Value<Span>, usize), HeaderFault>
+    requires { IsCharBoundary text.now offset }
+{
+    GrmtoolsSectionParser::new(text, false).parse_key_value(alloc, offset)
 }
 
 /// Why a section has no map.
@@ -45,13 +55,23 @@ pub fn number_of<T: Copy>(value: &HeaderValue<T>) -> Option<(u64, T)> {
         Value::Setting(Setting::Num(number, place)) => Some((*number, *place)),
         Value::Setting(Setting::String(_, place)) => Some((1, *place)),
         Value::Setting(Setting::Array(_, open, _close)) => Some((2, *open)),
-        Value::Setting(Setting::Unitary(Namespaced { namespace: _, member })) => Some((3, member.1)),
+        Value::Setting(
+            Setting::Unitary(
+                Namespaced {
+                    namespace: _,
+                    member,
+                },
+            ),
+        ) => Some((3, member.1)),
         Value::Setting(Setting::Constructor { ctor, arg: _ }) => Some((4, ctor.member.1)),
     }
 }
 
 /// Where a value is, as a location.
-pub fn header_value_of(alloc: Global, value: &HeaderValue<Span>) -> Result<HeaderValue<Location>, AllocError> {
+pub fn header_value_of(
+    alloc: Global,
+    value: &HeaderValue<Span>,
+) -> Result<HeaderValue<Location>, AllocError> {
     value.to_location(alloc)
 }
 

@@ -3,7 +3,9 @@
 ghost use Rattle.std.specs.Prelude.{◌≡◌, ◌<◌, length};
 ghost use Rattle.cfgnumbers.specs.Numbered.{core};
 
-use cfgrammar::yacc::sentences::{self, CostError, SentenceError, check_least, check_reached, min_sentence_over};
+use cfgrammar::yacc::sentences::{
+    self, CostError, SentenceError, check_least, check_reached, min_sentence_over,
+};
 use cfgrammar::yacc::{SentenceGenerator, YaccGrammar, grammar};
 use cfgrammar::{PIdx, RIdx, Storage, TIdx};
 use std::alloc::{AllocError, Global};

@@ -2,10 +2,10 @@
 
 ghost use Rattle.std.specs.Prelude.{◌<◌, ◌≤◌, ◌≡◌, length};
 
-use cfgrammar::newlinecache;
-use cfgrammar::span;
-use cfgrammar::{FeedError, Location, NewlineCache, PIdx, RIdx, SIdx, Span, Spanned, SpansKind, Storage, Symbol};
-use cfgrammar::{TIdx, Vob};
+use cfgrammar::{
+    FeedError, Location, NewlineCache, PIdx, RIdx, SIdx, Span, Spanned, SpansKind, Storage, Symbol,
+    TIdx, Vob, newlinecache, span,
+};
 use std::alloc::{AllocError, Global};
 use std::hash::{Hash, Hasher};
 
@@ -32,11 +32,19 @@ pub fn place(alloc: Global, name: &str) -> Result<bool, AllocError> {
 }
 
 /// What has spans.
-pub fn first_span<E: Spanned>(alloc: Global, error: &E) -> Result<(String, Option<Span>, bool), AllocError> {
+pub fn first_span<E: Spanned>(
+    alloc: Global,
+    error: &E,
+) -> Result<(String, Option<Span>, bool), AllocError> {
     let spans: &[Span] = error.spans();
     let kind: SpansKind = error.spanskind();
-    let is_duplicate: bool = matches!(kind, SpansKind::DuplicationError) || kind != SpansKind::Error;
-    Ok((format!(in alloc; "{error}")?, spans.first().copied(), is_duplicate))
+    let is_duplicate: bool = matches!(kind, SpansKind::DuplicationError)
+        || kind != SpansKind::Error;
+    Ok((
+        format!(in alloc; "{error}")?,
+        spans.first().copied(),
+        is_duplicate,
+    ))
 }
 
 /// Indices, and what is stored in them.
@@ -52,8 +60,14 @@ pub fn indices<S: Storage>(
         symbol.as_storaget(),
         token.as_storaget(),
     );
-    let by_number: bool = rule <= RIdx(stored.0) && production == PIdx(stored.1) && symbol == SIdx(stored.2);
-    (usize::from(rule), u32::from(token), by_number && token == TIdx(stored.3))
+    let by_number: bool = rule <= RIdx(stored.0)
+        && production == PIdx(stored.1)
+        && symbol == SIdx(stored.2);
+    (
+        usize::from(rule),
+        u32::from(token),
+        by_number && token == TIdx(stored.3),
+    )
 }
 
 /// All conversions of indices.
@@ -110,11 +124,18 @@ pub fn bits(alloc: Global, len: usize) -> Result<(usize, bool), AllocError>
     let changed: bool = bits.set(0, true);
     let first: Option<bool> = bits.get(0);
     let more: bool = bits.or(&others);
-    Ok((bits.len(), changed && first == Some(true) && more && bits == others))
+    Ok((
+        bits.len(),
+        changed && first == Some(true) && more && bits == others,
+    ))
 }
 
 /// The lines of a text.
-pub fn lines(alloc: Global, text: &str, span: Span) -> Result<(Option<usize>, (usize, usize)), FeedError> {
+pub fn lines(
+    alloc: Global,
+    text: &str,
+    span: Span,
+) -> Result<(Option<usize>, (usize, usize)), FeedError> {
     let mut cache: NewlineCache = NewlineCache::new(alloc);
     cache.feed(text)?;
     let line: Option<usize> = cache.byte_to_line_num(span.start());

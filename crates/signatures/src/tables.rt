@@ -13,7 +13,11 @@ pub fn made(alloc: Global, kind: YaccKind, text: &str) -> YaccGrammarResult<Yacc
 }
 
 /// The grammar of a text, over an index type.
-pub fn made_over<S: Storage>(alloc: Global, kind: YaccKind, text: &str) -> YaccGrammarResult<YaccGrammar<S>> {
+pub fn made_over<S: Storage>(
+    alloc: Global,
+    kind: YaccKind,
+    text: &str,
+) -> YaccGrammarResult<YaccGrammar<S>> {
     YaccGrammar::<S>::new_with_storaget(alloc, kind, text)
 }
 
@@ -38,7 +42,9 @@ pub fn sizes<S: Storage>(grammar: &YaccGrammar<S>) -> (PIdx<S>, RIdx<S>, TIdx<S>
     let start_prod: PIdx<S> = grammar.start_prod();
     let start_rule_idx: RIdx<S> = grammar.start_rule_idx();
     let eof_token_idx: TIdx<S> = grammar.eof_token_idx();
-    let are_below: bool = start_prod < prods_len && start_rule_idx < rules_len && eof_token_idx < tokens_len;
+    let are_below: bool = start_prod < prods_len
+        && start_rule_idx < rules_len
+        && eof_token_idx < tokens_len;
     (prods_len, rules_len, tokens_len, are_below)
 }
 
@@ -49,7 +55,11 @@ pub fn settings<S: Storage>(grammar: &YaccGrammar<S>) -> Option<usize> {
     let programs: &Option<String> = grammar.programs();
     let expect: Option<usize> = grammar.expect();
     let expectrr: Option<usize> = grammar.expectrr();
-    if parse_param.is_some() && parse_generics.is_some() && programs.is_some() { expect } else { expectrr }
+    if parse_param.is_some() && parse_generics.is_some() && programs.is_some() {
+        expect
+    } else {
+        expectrr
+    }
 }
 
 /// What there is of each production.
@@ -63,7 +73,11 @@ pub fn productions<S: Storage>(grammar: &YaccGrammar<S>) -> bool {
         let span: Span = grammar.prod_span(pidx);
         let action: &Option<String> = grammar.action(pidx);
         let action_span: Option<Span> = grammar.action_span(pidx);
-        if symbols.is_empty() && precedence.is_none() && action.is_some() && action_span == Some(span) {
+        if symbols.is_empty()
+            && precedence.is_none()
+            && action.is_some()
+            && action_span == Some(span)
+        {
             return len == SIdx(rule.0);
         }
     }
@@ -115,8 +129,15 @@ pub fn named_tokens(alloc: Global, grammar: &YaccGrammar<u32>) -> Result<usize, 
 }
 
 /// A production's text, and whether one rule leads to another.
-pub fn shown<S: Storage>(alloc: Global, grammar: &YaccGrammar<S>) -> Result<(String, bool), AllocError> {
+pub fn shown<S: Storage>(
+    alloc: Global,
+    grammar: &YaccGrammar<S>,
+) -> Result<(String, bool), AllocError> {
     let text: String = grammar.pp_prod(alloc, grammar.start_prod())?;
-    let has_path: bool = grammar.has_path(alloc, grammar.start_rule_idx(), grammar.start_rule_idx())?;
+    let has_path: bool = grammar.has_path(
+        alloc,
+        grammar.start_rule_idx(),
+        grammar.start_rule_idx(),
+    )?;
     Ok((text, has_path))
 }

@@ -31,7 +31,11 @@ pub fn declared(ast: &GrammarAST, name: &str) -> Option<PrecedenceLevel> {
     let kind: AssocKind = precedence.kind;
     let level: PrecedenceLevel = precedence.level;
     let is_plain: bool = avoid_insert.is_none() && implicit_tokens.is_none() && epp.is_empty();
-    if is_plain && kind == AssocKind::Left { Some(level) } else { None }
+    if is_plain && kind == AssocKind::Left {
+        Some(level)
+    } else {
+        None
+    }
 }
 
 /// What the file says of the grammar as a whole.
@@ -41,7 +45,11 @@ pub fn settings(ast: &GrammarAST) -> bool {
     let parse_param: &Option<(String, String)> = ast.parse_param();
     let parse_generics: &Option<String> = ast.parse_generics();
     let programs: &Option<String> = ast.programs();
-    expect.is_some() && expectrr.is_some() && parse_param.is_some() && parse_generics.is_some() && programs.is_some()
+    expect.is_some()
+        && expectrr.is_some()
+        && parse_param.is_some()
+        && parse_generics.is_some()
+        && programs.is_some()
 }
 
 /// A rule of a tree, by its name.
@@ -63,13 +71,20 @@ pub fn held(rule: &Rule, production: &Production) -> Option<(String, String)> {
         return None;
     }
     match (actiont, precedence, action) {
-        (Some(actiont), Some(precedence), Some(_)) => Some((actiont.clone().ok()?, precedence.clone().ok()?)),
+        (Some(actiont), Some(precedence), Some(_)) => Some((
+            actiont.clone().ok()?,
+            precedence.clone().ok()?,
+        )),
         _ => None,
     }
 }
 
 /// Copies of parts of a tree.
-pub fn copied(alloc: Global, rule: &Rule, production: &Production) -> Result<(bool, Option<String>), AllocError> {
+pub fn copied(
+    alloc: Global,
+    rule: &Rule,
+    production: &Production,
+) -> Result<(bool, Option<String>), AllocError> {
     let same: bool = rule.clone()? == *rule && production.clone()? == *production;
     match production.symbols.first() {
         Some(symbol) => match symbol.clone()? {
@@ -90,7 +105,13 @@ pub fn written(
 ) -> Result<(), AllocError> {
     let rule: String = name.0.clone()?;
     ast.add_rule(name, actiont)?;
-    ast.add_prod(rule, symbols, None::<String>, None::<(String, Span)>, Span::new(0, 0))?;
+    ast.add_prod(
+        rule,
+        symbols,
+        None::<String>,
+        None::<(String, Span)>,
+        Span::new(0, 0),
+    )?;
     ast.set_programs(programs.0);
     ast.add_programs(programs.1);
     Ok(())
