@@ -1,7 +1,5 @@
 //! The `%grmtools` section of a file.
 
-ghost use Rattle.std.specs.Str.{IsCharBoundary};
-
 use cfgrammar::header::{
     GrmtoolsSectionParser, Header, HeaderError, HeaderErrorKind, HeaderFault, HeaderValue,
     KindFault, Namespaced, Setting, Value,
@@ -23,15 +21,17 @@ pub fn keys_of(header: &Header<Span>) -> bool {
     map.keys().next().is_some()
 }
 
-/// The entry of a section at an offset.
+/// The entry of a section at an offset, where a character begins there.
 pub fn entry(
     alloc: Global,
     text: &str,
     offset: usize,
-) -> Result<(String, Span, Value<Span>, usize), HeaderFault>
-    requires { IsCharBoundary text.now offset }
-{
-    GrmtoolsSectionParser::new(text, false).parse_key_value(alloc, offset)
+) -> Option<Result<(String, Span, Value<Span>, usize), HeaderFault>> {
+    if text.is_char_boundary(offset) {
+        Some(GrmtoolsSectionParser::new(text, false).parse_key_value(alloc, offset))
+    } else {
+        None
+    }
 }
 
 /// Why a section has no map.
