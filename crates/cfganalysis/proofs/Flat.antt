@@ -10,7 +10,7 @@ use Rattle.std.proofs.lemmas.List.{get_or_default, get_or_past, with_items_is, l
 use Rattle.std.proofs.lemmas.List.Edits.{length-between, get_or-between}
 use Rattle.std.proofs.lemmas.List.FromFn.{length-map-range_with_len, get_or-map-range_with_len}
 use Rattle.lemmas.proofs.Elements.{get_or-replicate_default}
-use Rattle.cfgindex.specs.Words.{AreWords, bits_of}
+use Rattle.cfgindex.specs.BitWords.{AreWords, bits_of}
 use Rattle.cfgindex.proofs.Words.{length-bits_of, get_or-bits_of, same_length, word_within, word_bit_read, words_set, bits_set, words_joined, bits_joined, joined_changed}
 use Rattle.cfgindex.proofs.Joining.{Joining, joining_none, joining_more, joining_all, joining_grew}
 use Rattle.cfganalysis.specs.Table.{Table, Joins, bit, no_bits, row_of, with_bit}

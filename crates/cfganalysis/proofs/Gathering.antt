@@ -11,7 +11,7 @@ use Rattle.derivation.proofs.Firsts.{vanishes_parts, vanishes_both, begins_parts
 use Rattle.cfgindex.specs.declared.idxnewtype.Symbol.{Symbol}
 use Rattle.cfganalysis.specs.declared.follows.Front.{Front}
 use Rattle.cfganalysis.specs.declared.follows.Front.TheVariants as fronts
-use Rattle.cfgtables.specs.Symbols.{sym_of}
+use Rattle.cfgtables.specs.NumberedSymbols.{sym_of}
 use Rattle.cfganalysis.specs.Table.{HasBit, row_of}
 use Rattle.cfganalysis.specs.Inner.Joined.{joined}
 use Rattle.cfganalysis.specs.Firsts.{IsAmongFirsts, IsEpsilon}

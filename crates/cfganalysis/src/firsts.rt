@@ -8,7 +8,7 @@ ghost use Rattle.cfganalysis.specs.Inner.GrowingFirsts.{BeginsBy, HasNoMoreFirst
 ghost use Rattle.cfganalysis.specs.Inner.GrowingFirsts.{count_firsts, is_empty_symbol, no_firsts, with_epsilon};
 ghost use Rattle.cfgtables.specs.Openings.{AreOpenedAtMost, most_openings};
 ghost use Rattle.cfganalysis.specs.Inner.Growth.{CanNote, CanTakeIn, TakesIn, shown};
-ghost use Rattle.cfgtables.specs.Symbols.{sym_of};
+ghost use Rattle.cfgtables.specs.NumberedSymbols.{sym_of};
 ghost use Rattle.cfganalysis.specs.Table.{Joins, row_of};
 ghost use Rattle.cfganalysis.specs.Inner.Bounds.{firsts_bounded};
 ghost use Rattle.cfganalysis.specs.Inner.Waiting.{Waits};

@@ -9,7 +9,7 @@ ghost use Rattle.cfganalysis.specs.Inner.GrowingFollows.{HaveFollowsOf, IsFrontO
 ghost use Rattle.cfganalysis.specs.Inner.GrowingFollows.{PutsBehind, SayFollows, StepsBack, count_follows};
 ghost use Rattle.cfgtables.specs.Openings.{AreOpenedAtMost, most_openings};
 ghost use Rattle.cfganalysis.specs.Inner.Growth.{CanNote, CanTakeIn, TakesIn, shown};
-ghost use Rattle.cfgtables.specs.Symbols.{sym_of};
+ghost use Rattle.cfgtables.specs.NumberedSymbols.{sym_of};
 ghost use Rattle.cfganalysis.specs.Table.{HasBit, no_bits, row_of, with_bit};
 ghost use Rattle.cfganalysis.specs.Inner.Bounds.{follows_bounded};
 ghost use Rattle.cfganalysis.specs.Inner.Waiting.{NoneWaits, Waits};

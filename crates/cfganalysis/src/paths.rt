@@ -5,7 +5,7 @@ ghost use Rattle.derivation.specs.Grammar.{Grammar, HasProduction, IsSymbolOf, R
 ghost use Rattle.derivation.specs.Path.{Holds, Path};
 ghost use Rattle.search.specs.Reached.{FoundBy, Reaches};
 ghost use Rattle.cfganalysis.specs.Paths.{HeldIn};
-ghost use Rattle.cfgtables.specs.Symbols.{sym_of};
+ghost use Rattle.cfgtables.specs.NumberedSymbols.{sym_of};
 
 use cfgindex::{PIdx, RIdx, Storage, Symbol, to_storage};
 use cfgtables::Tables;

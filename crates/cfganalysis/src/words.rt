@@ -3,7 +3,7 @@
 ghost use Rattle.std.specs.Prelude.{◌≡◌, ◌⊎◌, ◌+◌, ◌<◌, ◌≤◌, ◌^◌, All, false, true, length, slice_index_or};
 ghost use Rattle.std.specs.Prelude.{IfOk, IsTrue, MatchBool};
 ghost use Rattle.std.specs.List.{between};
-ghost use Rattle.cfgindex.specs.Words.{AreWords, bits_of};
+ghost use Rattle.cfgindex.specs.BitWords.{AreWords, bits_of};
 ghost use Rattle.cfganalysis.specs.Table.{HasBit, Joins, bit, no_bits, row_of, with_bit};
 ghost use Rattle.cfganalysis.specs.Inner.Flat.{JoinsWords};
 

@@ -13,7 +13,7 @@ use Rattle.lemmas.proofs.Pushed.{filter_map-pushed, slice_get-push, map-pushed, 
 use Rattle.lemmas.proofs.Passing.{places-none, places-push}
 use Rattle.lemmas.proofs.Fronts.{with_fronts-push}
 use Rattle.lemmas.proofs.Tests.{list_any-map, list_any-filter_map, list_any_weaker}
-use Rattle.cfgwords.specs.Words.{Word}
+use Rattle.cfgwords.specs.FileWords.{Word}
 use Rattle.cfgast.specs.Items.{Item, RuleHead, TokenDeclared, Alternative}
 use Rattle.cfgast.specs.Syntax.{Rule, Production, word_name, head_name, entry_name, is_named, firsts, index_of, indices_of, token_named, token_declared, typed_rule, alternative, alternatives, token_words, declared_words, rule_heads, word_entry, marked, rule_of, last_of}
 use Rattle.cfgast.specs.Building.{has_name, new_rule, listed, with_first, with_name, with_span, with_directive, with_rule, with_listed, with_entry, with_marked}

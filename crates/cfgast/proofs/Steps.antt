@@ -2,7 +2,7 @@
 use Rattle.std.proofs.Common.{◌≡◌, ℕ, true, false, nat_eq, List, [], ◌∷◌, ◌++◌, Some, sym, ap, ◌∙◌}
 use Rattle.lemmas.specs.Lists.{pushed_unless}
 use Rattle.cfgbase.specs.declared.span.Span.{Span}
-use Rattle.cfgwords.specs.Words.{Word}
+use Rattle.cfgwords.specs.FileWords.{Word}
 use Rattle.cfgast.specs.Items.{RuleHead, TokenDeclared, TokenQuoted}
 use Rattle.cfgast.specs.Syntax.{Syntax, Rule, head_name, index_of}
 use Rattle.cfgast.specs.Building.{has_name, has_rule, new_rule, with_rule, add}

@@ -19,7 +19,7 @@ use Rattle.indexmap.proofs.CallerLemmas.{insert_entry-new}
 use Rattle.cfgbase.specs.declared.span.Span.{Span}
 use Rattle.cfgast.specs.Syntax.{index_of, entry_name, Rule}
 use Rattle.cfgast.specs.Building.{has_name, has_entry, with_entry}
-use Rattle.cfgast.specs.View.{text_view, rule_entry, rule_view, span_entry}
+use Rattle.cfgast.specs.SyntaxView.{text_view, rule_entry, rule_view, span_entry}
 use Rattle.cfgast.specs.declared.rule.Rule as source
 use Rattle.cfgast.proofs.Names.{entries-put}
 use Rattle.cfgast.proofs.Written as one

@@ -5,7 +5,7 @@ use Rattle.std.specs.Option.{option_map_or, option_or}
 use Rattle.std.specs.Str.{bytes_eq}
 use Rattle.lemmas.specs.Lists.{pushed, pushed_unless}
 use Rattle.cfgbase.specs.declared.span.Span.{Span}
-use Rattle.cfgwords.specs.Words.{Word}
+use Rattle.cfgwords.specs.FileWords.{Word}
 use Rattle.cfgast.specs.Items.{Item, RuleHead}
 use Rattle.cfgast.specs.Occurrences.{declared_once}
 use Rattle.cfgast.specs.Syntax.{Syntax, Settings, Tables, Rule, Production, word_name, head_name, index_of, token_named, token_declared, start_named, action_type_declared, printed_form_declared, expected, expected_reduce_reduce, expected_unused, parse_param_declared, generics_declared, avoid_insert_said, implicit_tokens_said, precedence_declared, level_ended, programs_given, rule_named, typed, word_entry, finished}

@@ -1,7 +1,7 @@
 -- The parts of a grammar file that count as read, each as it stands in the text.
 use Rattle.std.specs.Prelude.{ℕ, List, Option}
 use Rattle.cfgbase.specs.declared.span.Span.{Span}
-use Rattle.cfgwords.specs.Words.{Word, Token}
+use Rattle.cfgwords.specs.FileWords.{Word, Token}
 use Rattle.cfgast.specs.declared.precedence.AssocKind.{AssocKind}
 
 -- what stands before a rule's colon: its name, and the type of what its actions answer, if it says one

@@ -3,7 +3,7 @@ use Rattle.std.specs.Prelude.{ℕ, List, Option, Some, None}
 use Rattle.cfgbase.specs.declared.span.Span.{Span}
 use Rattle.cfgast.specs.declared.occurrence.UniqueKind.{UniqueKind}
 use Rattle.cfgast.specs.declared.occurrence.UniqueKind.TheVariants.{Start, ActionType, Expect, ExpectReduceReduce, PrintedForm, Precedence, AvoidInsert, ImplicitToken}
-use Rattle.cfgwords.specs.Words.{Word}
+use Rattle.cfgwords.specs.FileWords.{Word}
 use Rattle.cfgast.specs.Items.{Item, StartDeclared, ActionTypeDeclared, PrintedFormDeclared, ExpectDeclared, ExpectReduceReduceDeclared, AvoidInsertDeclared, ImplicitTokenDeclared, PrecedenceDeclared}
 
 -- what may be declared only once: something of the grammar as a whole, or of the token of this name

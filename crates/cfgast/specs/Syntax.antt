@@ -5,7 +5,7 @@ use Rattle.std.specs.Option.{option_or}
 use Rattle.std.specs.Str.{bytes_eq}
 use Rattle.lemmas.specs.Lists.{with_fronts, places}
 use Rattle.cfgbase.specs.declared.span.Span.{Span}
-use Rattle.cfgwords.specs.Words.{Word, Token, word_of}
+use Rattle.cfgwords.specs.FileWords.{Word, Token, word_of}
 pub use Rattle.cfgast.specs.Items.{Symbol, RuleSymbol, TokenSymbol}
 use Rattle.cfgast.specs.Items.{Item, RuleHead, Body, TokenDeclared, StartDeclared, ActionTypeDeclared, PrintedFormDeclared, ExpectDeclared, ExpectReduceReduceDeclared, ExpectedUnused, ParseParamDeclared, GenericsDeclared, AvoidInsertBegun, AvoidInsertDeclared, ImplicitTokensBegun, ImplicitTokenDeclared, PrecedenceDeclared, LevelEnded, RuleBegun, RuleNamed, TokenQuoted, PrecedenceUsed, Alternative, ProgramsGiven}
 use Rattle.cfgast.specs.declared.precedence.AssocKind.{AssocKind}

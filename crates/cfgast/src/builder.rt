@@ -30,10 +30,10 @@ pub struct AstBuilder {
     syntax: Syntax,
 }
 
-#[tactic(auto, unfolding(crate::specs::View::syntax_built, crate::specs::View::syntax_view, crate::specs::Building::add))]
+#[tactic(auto, unfolding(crate::specs::SyntaxView::syntax_built, crate::specs::SyntaxView::syntax_view, crate::specs::Building::add))]
 impl AstBuilder {
-    ghost use Rattle.cfgast.specs.View.{syntax_view, syntax_built, production_view, rule_view, symbol_view, word_view};
-    ghost use Rattle.cfgast.specs.View.{token_view, head_view, body_view};
+    ghost use Rattle.cfgast.specs.SyntaxView.{syntax_view, syntax_built, production_view, rule_view, symbol_view, word_view};
+    ghost use Rattle.cfgast.specs.SyntaxView.{token_view, head_view, body_view};
 
     /// A builder that no item was added to.
     pub fn new(alloc: Global) -> Self

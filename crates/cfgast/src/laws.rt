@@ -2,7 +2,7 @@
 //! impl, as in `⟦<Symbol as PartialEq>⟧`, and holds of every value.
 
 ghost use Rattle.std.specs.Prelude.{◌≡◌, ◌↔◌, IsTrue};
-ghost use Rattle.cfgast.specs.View.{symbol_view, production_view, rule_view, unique_view};
+ghost use Rattle.cfgast.specs.SyntaxView.{symbol_view, production_view, rule_view, unique_view};
 ghost use Rattle.cfgast.specs.declared.symbol.Symbol.{Symbol};
 ghost use Rattle.cfgast.specs.declared.production.Production.{Production};
 ghost use Rattle.cfgast.specs.declared.rule.Rule.{Rule};

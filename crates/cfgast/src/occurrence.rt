@@ -42,7 +42,7 @@ pub struct Occurrence {
 }
 
 impl Clone for Unique {
-    ghost use Rattle.cfgast.specs.View.{unique_view};
+    ghost use Rattle.cfgast.specs.SyntaxView.{unique_view};
 
     ghost is_clone = { λ unique copy. unique_view copy ≡ unique_view unique };
 
@@ -55,7 +55,7 @@ impl Clone for Unique {
 }
 
 impl Clone for Occurrence {
-    ghost use Rattle.cfgast.specs.View.{occurrence_view};
+    ghost use Rattle.cfgast.specs.SyntaxView.{occurrence_view};
 
     ghost is_clone = { λ occurrence copy. occurrence_view copy ≡ occurrence_view occurrence };
 

@@ -18,7 +18,7 @@ pub struct Production {
 }
 
 impl Clone for Production {
-    ghost use Rattle.cfgast.specs.View.{production_view};
+    ghost use Rattle.cfgast.specs.SyntaxView.{production_view};
 
     ghost is_clone = { λ production copy. production_view copy ≡ production_view production };
 

@@ -1,6 +1,6 @@
 ghost use Rattle.std.specs.Prelude.{◌≡◌, map, OnErr, OnOk};
 ghost use Rattle.cfgast.specs.Building.{listed};
-ghost use Rattle.cfgast.specs.View.{rule_entry};
+ghost use Rattle.cfgast.specs.SyntaxView.{rule_entry};
 
 use cfgbase::Span;
 use indexmap::IndexMap;
@@ -18,7 +18,7 @@ pub struct Rule {
 }
 
 impl Clone for Rule {
-    ghost use Rattle.cfgast.specs.View.{rule_view};
+    ghost use Rattle.cfgast.specs.SyntaxView.{rule_view};
 
     ghost is_clone = { λ rule copy. rule_view copy ≡ rule_view rule };
 

@@ -23,7 +23,7 @@ pub struct Settings {
 
 impl Settings {
     ghost use Rattle.cfgast.specs.Syntax.{settings_of};
-    ghost use Rattle.cfgast.specs.View.{settings_view};
+    ghost use Rattle.cfgast.specs.SyntaxView.{settings_view};
 
     /// None of them.
     #[tactic(auto, unfolding(crate::specs::Syntax::settings_of))]
@@ -42,7 +42,7 @@ impl Settings {
 }
 
 impl Clone for Settings {
-    ghost use Rattle.cfgast.specs.View.{HasNoText, settings_view};
+    ghost use Rattle.cfgast.specs.SyntaxView.{HasNoText, settings_view};
 
     ghost is_clone = { λ settings copy. settings_view copy ≡ settings_view settings };
 
@@ -54,7 +54,7 @@ impl Clone for Settings {
 }
 
 impl Refill for Settings {
-    ghost use Rattle.cfgast.specs.View.{HasNoText, settings_view};
+    ghost use Rattle.cfgast.specs.SyntaxView.{HasNoText, settings_view};
 
     ghost is_copy = { λ settings copy. settings_view copy ≡ settings_view settings };
 

@@ -14,7 +14,7 @@ pub enum Symbol {
 }
 
 impl Clone for Symbol {
-    ghost use Rattle.cfgast.specs.View.{symbol_view};
+    ghost use Rattle.cfgast.specs.SyntaxView.{symbol_view};
 
     ghost is_clone = { λ symbol copy. symbol_view copy ≡ symbol_view symbol };
 
@@ -29,7 +29,7 @@ impl Clone for Symbol {
 impl fmt::Display for Symbol {
     ghost use Rattle.std.specs.Prelude.{Some};
     ghost use Rattle.cfgast.specs.Syntax.{symbol_word};
-    ghost use Rattle.cfgast.specs.View.{symbol_view};
+    ghost use Rattle.cfgast.specs.SyntaxView.{symbol_view};
 
     ghost output = { λ symbol. Some (symbol_word (symbol_view symbol)).name };
 

@@ -41,10 +41,10 @@ pub struct Syntax {
 
 impl Syntax {
     ghost use Rattle.cfgast.specs.Syntax.{syntax_of};
-    ghost use Rattle.cfgast.specs.View.{syntax_view};
+    ghost use Rattle.cfgast.specs.SyntaxView.{syntax_view};
 
     /// Nothing.
-    #[tactic(auto, unfolding(crate::specs::Syntax::syntax_of, crate::specs::View::syntax_view))]
+    #[tactic(auto, unfolding(crate::specs::Syntax::syntax_of, crate::specs::SyntaxView::syntax_view))]
     pub fn none(alloc: Global) -> Self
         ensures { syntax_view result ≡ syntax_of [] }
     {

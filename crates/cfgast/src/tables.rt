@@ -2,7 +2,7 @@
 
 ghost use Rattle.std.specs.Prelude.{◌≡◌, [], map, option_map, string_bytes, None, Some, OnOk};
 ghost use Rattle.cfgast.specs.Building.{with_entry, with_marked};
-ghost use Rattle.cfgast.specs.View.{span_entry, word_view};
+ghost use Rattle.cfgast.specs.SyntaxView.{span_entry, word_view};
 
 use crate::precedence::{AssocKind, Precedence};
 use cfgbase::Span;
@@ -28,7 +28,7 @@ pub struct Tables {
 
 impl Tables {
     ghost use Rattle.cfgast.specs.Syntax.{tables_of};
-    ghost use Rattle.cfgast.specs.View.{tables_view};
+    ghost use Rattle.cfgast.specs.SyntaxView.{tables_view};
 
     /// Nothing of any token.
     #[tactic(auto, unfolding(crate::specs::Syntax::tables_of))]
@@ -46,7 +46,7 @@ impl Tables {
 }
 
 impl Clone for Tables {
-    ghost use Rattle.cfgast.specs.View.{tables_view};
+    ghost use Rattle.cfgast.specs.SyntaxView.{tables_view};
 
     ghost is_clone = { λ tables copy. tables_view copy ≡ tables_view tables };
 
@@ -56,7 +56,7 @@ impl Clone for Tables {
 }
 
 impl Refill for Tables {
-    ghost use Rattle.cfgast.specs.View.{tables_view};
+    ghost use Rattle.cfgast.specs.SyntaxView.{tables_view};
 
     ghost is_copy = { λ tables copy. tables_view copy ≡ tables_view tables };
 

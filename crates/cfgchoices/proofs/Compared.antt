@@ -7,7 +7,7 @@ use Rattle.std.specs.declared.cmp.Ordering.{Ordering}
 use Rattle.std.specs.declared.cmp.Ordering.TheVariants.{Less, Equal, Greater}
 use Rattle.derivation.specs.Grammar.{Sym}
 use Rattle.cfgleast.specs.Generator.{CostTables}
-use Rattle.cfgchoices.specs.First.{dictionary}
+use Rattle.cfgchoices.specs.FirstSentence.{dictionary}
 use Rattle.cfgchoices.specs.Inner.Choices.{ChoicesGive}
 use Rattle.cfgchoices.specs.Inner.Offers.{FirstTokensAre}
 use Rattle.cfgchoices.proofs.Pending.{token_front}

@@ -17,14 +17,14 @@ use Rattle.derivation.proofs.Trees.{trees_from_derivation, derivation_from_trees
 use Rattle.derivation.proofs.Costs.{least_is_one, minimal_costs_least}
 use Rattle.cfgtables.specs.Openings.{nth_production}
 use Rattle.derivation.specs.Sums.{sum_of, symbol_cost}
-use Rattle.derivation.specs.Lists.{rule_cost}
+use Rattle.derivation.specs.CostLists.{rule_cost}
 use Rattle.derivation.proofs.Sums.{plus_parts, plus_zero}
 use Rattle.cfgleast.specs.Certificate.{rule_choice}
 use Rattle.cfgchoices.specs.Inner.Choices.{ChoicesGive}
 use Rattle.cfgchoices.specs.Inner.Choices as gives
 use Rattle.cfgchoices.specs.Inner.FirstChoices.{AreFirst, IsNotAbove, Opens, Walks}
 use Rattle.cfgleast.specs.Generator.{CostTables, cost_answer, choice_answer, token_cost, where_some}
-use Rattle.cfgchoices.specs.First.{FirstMinimal, dictionary}
+use Rattle.cfgchoices.specs.FirstSentence.{FirstMinimal, dictionary}
 use Rattle.cfgchoices.specs.Splits.{Split, done, itself, part}
 use Rattle.cfgchoices.proofs.Choices.{choices_row}
 use Rattle.cfgchoices.proofs.Firsts.{by_order, row_before, begins_none}

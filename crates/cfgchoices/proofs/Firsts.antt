@@ -9,7 +9,7 @@ use Rattle.std.proofs.lemmas.List.Sums.{sum_by-append}
 use Rattle.derivation.specs.Grammar.{Sym}
 use Rattle.derivation.specs.Costs.{Minimal}
 use Rattle.cfgchoices.specs.Splits.{Split, done, itself, part}
-use Rattle.cfgchoices.specs.First.{FirstMinimal, dictionary}
+use Rattle.cfgchoices.specs.FirstSentence.{FirstMinimal, dictionary}
 use Rattle.cfgchoices.proofs.Lengths.{IsPaid, dear_back, dear_empty, sentence_dear}
 use Rattle.std.proofs.lemmas.Map.Lookups.{exact_bytes}
 

@@ -13,7 +13,7 @@ use Rattle.cfgchoices.specs.Inner.Choices.{ChoicesGive}
 use Rattle.cfgchoices.specs.Inner.Choices as gives
 use Rattle.cfgleast.specs.Generator.{CostTables, cost_answer, token_cost}
 use Rattle.cfgchoices.specs.Inner.Kinds.{IsHeir, IsTight}
-use Rattle.cfgchoices.specs.First.{dictionary}
+use Rattle.cfgchoices.specs.FirstSentence.{dictionary}
 use Rattle.cfgchoices.specs.Inner.Offers.{Choices, Choosing, Handles, HasChoice, IsDone, IsFloor, IsHandled, IsKnown, IsNext, IsOffered, IsReady, Known, Level, NotAfter, Offering, Offers, StandsFor, Waits, by, is_alone, owner, row}
 use Rattle.cfgchoices.proofs.Choices.{choices_once}
 use Rattle.cfgchoices.proofs.ChoosingFirsts.{answer_chosen, choosing_more, chosen_now, gives_ready, heir_gives, heir_ready, later, paid_chosen, ready_kept}

@@ -3,7 +3,7 @@ use Rattle.std.proofs.Common.{◌≡◌, ℕ, ◌+◌, ◌<◌, ◌≤◌, get_o
 use Rattle.std.proofs.lemmas.Option.{same_Some}
 use Rattle.cfgindex.specs.declared.idxnewtype.PIdx.{PIdx}
 use Rattle.cfgindex.specs.declared.idxnewtype.Symbol.{Symbol}
-use Rattle.cfgtables.specs.Symbols.{sym_of}
+use Rattle.cfgtables.specs.NumberedSymbols.{sym_of}
 use Rattle.lemmas.proofs.Elements.{within_from_get_or}
 use Rattle.cfgchoices.proofs.Tight.{answered_within}
 use Rattle.std.proofs.lemmas.List.{get_or-map, map-append, reverse-append, reverse-reverse}

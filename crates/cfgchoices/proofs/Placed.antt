@@ -13,7 +13,7 @@ use Rattle.std.proofs.lemmas.List.Edits.{length-insert}
 use Rattle.std.proofs.lemmas.List.Elements.{Contains-append_left, Contains-append_right, Contains-append_cases, Contains-get_or, Contains-push, Contains-push_cases}
 use Rattle.cfgchoices.specs.Inner.Choices.{ChoicesGive}
 use Rattle.cfgleast.specs.Generator.{CostTables}
-use Rattle.cfgchoices.specs.First.{dictionary}
+use Rattle.cfgchoices.specs.FirstSentence.{dictionary}
 use Rattle.cfgchoices.specs.Inner.Kinds.{places_of}
 use Rattle.cfgchoices.specs.Inner.Offers.{Adds, Handles, HasChoice, IsHandled, IsOffered, Known, Level, NotAfter, Offering, Offers, StandsFor, Waits, by, is_alone, owner, place_of, row}
 use Rattle.lemmas.proofs.Contained.{contains_cases, contains_first, contains_later}

@@ -15,7 +15,7 @@ use Rattle.cfgtables.proofs.Placed.{at_place}
 use Rattle.derivation.specs.declared.errors.CostError.{CostError}
 use Rattle.derivation.specs.declared.errors.CostError.TheVariants.{NoSentence, CostTooLarge}
 use Rattle.derivation.specs.Sums.{sum_of, symbol_cost}
-use Rattle.derivation.specs.Lists.{rule_cost}
+use Rattle.derivation.specs.CostLists.{rule_cost}
 use Rattle.derivation.proofs.Sums.{plus_parts, plus_both}
 use Rattle.derivation.proofs.Made.{cost_of-token}
 use Rattle.cfgleast.specs.Generator.{CostTables, IsGenerator, cost_answer, token_cost}

@@ -1,9 +1,9 @@
 //! What productions are to their rules, where they cost just what these do: found once, for each production.
 
 ghost use Rattle.std.specs.Prelude.{◌≡◌, ℕ, ◌<◌, All, Contains, IfOk, MatchOption, Some, length, map, slice_index};
-ghost use Rattle.cfgtables.specs.Symbols.{sym_of};
+ghost use Rattle.cfgtables.specs.NumberedSymbols.{sym_of};
 ghost use Rattle.derivation.specs.Grammar.{Rule};
-ghost use Rattle.derivation.specs.Lists.{IsListed, rule_cost};
+ghost use Rattle.derivation.specs.CostLists.{IsListed, rule_cost};
 ghost use Rattle.derivation.specs.Sums.{symbol_cost};
 ghost use Rattle.cfgleast.specs.Generator.{IsGeneratorOf, settled_tables};
 ghost use Rattle.cfgchoices.specs.Inner.Kinds.{AreKinds, HasRulesAsHeirs, IsKind, IsRowKind};

@@ -15,7 +15,7 @@ use Rattle.cfgtables.specs.Openings.{nth_production}
 use Rattle.cfgleast.specs.Generator.{CostTables, IsGenerator, cost_answer}
 use Rattle.cfgcosts.specs.Inner.Minimal.{AreAsked, AreMinimal, HasSentence, IsMadeBy, IsReadyFor, Puts, row_words, sentences_in, words_of}
 use Rattle.cfgchoices.specs.Inner.Kinds.{IsMinimal, IsOwnBelow}
-use Rattle.cfgchoices.specs.First.{dictionary}
+use Rattle.cfgchoices.specs.FirstSentence.{dictionary}
 use Rattle.cfgcosts.specs.Sentences.{numbers_of}
 use Rattle.cfgchoices.specs.Splits.{Split, done, itself, part}
 use Rattle.lemmas.proofs.Contained.{contains_cases, contains_first, contains_later, contains_none, contains_one}

@@ -6,7 +6,7 @@ use Rattle.derivation.specs.Grammar.{HasProduction}
 use Rattle.derivation.specs.Cycles.{MeetsGrowingCycle}
 use Rattle.derivation.specs.declared.errors.CostError.{CostError}
 use Rattle.derivation.specs.declared.errors.CostError.TheVariants.{NoSentence}
-use Rattle.cfggreatest.specs.Words.{AreTold, Means}
+use Rattle.cfggreatest.specs.GreatestCosts.{AreTold, Means}
 use Rattle.cfggreatest.proofs.Telling.{exactly}
 use Rattle.cfgleast.specs.Generator.{CostTables, token_cost}
 

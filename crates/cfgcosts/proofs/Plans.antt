@@ -11,7 +11,7 @@ use Rattle.std.proofs.lemmas.List.Elements.{All-nil, All-cons, All-head, All-tai
 use Rattle.derivation.specs.Grammar.{Sym, Rule, Token, IsGrammar, HasProduction}
 use Rattle.derivation.proofs.Costs.{least_is_one, minimal_costs_least}
 use Rattle.cfgtables.specs.Openings.{nth_production}
-use Rattle.derivation.specs.Lists.{rule_cost}
+use Rattle.derivation.specs.CostLists.{rule_cost}
 use Rattle.cfgleast.specs.Certificate.{rule_choice}
 use Rattle.cfgleast.specs.Generator.{CostTables, cost_answer, choice_answer, token_cost}
 use Rattle.cfgleast.proofs.Generated.{answered_some}

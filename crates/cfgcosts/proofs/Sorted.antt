@@ -14,7 +14,7 @@ use Rattle.std.proofs.lemmas.List.Filters.{dedup_is}
 use Rattle.std.proofs.lemmas.List.Kept.{Any-dedup, Contains-from_dedup, IsStrictlySortedBy-dedup}
 use Rattle.std.proofs.lemmas.List.Sorted.{Contains-permutation, IsPermutation-sym}
 use Rattle.lemmas.proofs.Contained.{contains_mapped, contains_source}
-use Rattle.cfgchoices.specs.First.{dictionary}
+use Rattle.cfgchoices.specs.FirstSentence.{dictionary}
 use Rattle.std.specs.Cmp.{Equal-is}
 use Rattle.std.proofs.lemmas.Map.Lookups.{exact_bytes}
 

@@ -7,7 +7,7 @@ use Rattle.std.proofs.lemmas.List.{map-append}
 use Rattle.std.proofs.lemmas.List.Elements.{All-weaker}
 use Rattle.std.proofs.lemmas.List.Sums.{sum_by-append, sum_by_push, sum_by-le}
 use Rattle.cfgindex.specs.declared.idxnewtype.Symbol.{Symbol}
-use Rattle.cfgtables.specs.Symbols.{sym_of}
+use Rattle.cfgtables.specs.NumberedSymbols.{sym_of}
 use Rattle.derivation.specs.Grammar.{Sym, Rule, Token}
 use Rattle.cfgtables.specs.Openings.{nth_production}
 use Rattle.cfgleast.specs.Certificate.{rule_choice}

@@ -7,7 +7,7 @@ use Rattle.derivation.specs.Grammar.{Sym}
 use Rattle.derivation.specs.Sentence.{cost_of}
 use Rattle.derivation.specs.Costs.{Greatest, Minimal, Unbounded}
 use Rattle.cfgleast.specs.Generator.{HasNone}
-use Rattle.cfgchoices.specs.First.{dictionary}
+use Rattle.cfgchoices.specs.FirstSentence.{dictionary}
 use Rattle.derivation.specs.declared.errors.CostError.{CostError}
 use Rattle.cfgcosts.specs.declared.errors.SentenceError.{SentenceError}
 use Rattle.cfgcosts.specs.declared.errors.SentenceError.TheVariants.{NoSentence, CostTooLarge, OutOfMemory}

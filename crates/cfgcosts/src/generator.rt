@@ -7,7 +7,7 @@ ghost use Rattle.cfgindex.specs.declared.idxnewtype.TIdx.{TIdx};
 ghost use Rattle.derivation.specs.Grammar.{HasProduction, IsGrammar};
 ghost use Rattle.derivation.specs.Costs.{Greatest, Least, Unbounded};
 ghost use Rattle.derivation.specs.Cycles.{MeetsGrowingCycle};
-ghost use Rattle.derivation.specs.Lists.{rule_cost};
+ghost use Rattle.derivation.specs.CostLists.{rule_cost};
 ghost use Rattle.cfgleast.specs.Certificate.{IsCovered, IsReached, choice_of, rule_choice};
 ghost use Rattle.cfgleast.specs.Generator.{HasNone, IsGenerator, IsLeastProduction, IsTooDear};
 ghost use Rattle.cfgleast.specs.Generator.{choice_answer, cost_answer, token_cost};
@@ -62,7 +62,7 @@ pub struct SentenceGenerator<'a, S: Storage, T: Tables<S>> {
 
 impl<'a, S: Storage, T: Tables<S>> Model for SentenceGenerator<'a, S, T> {
     ghost use Rattle.std.specs.Prelude.{slice_index};
-    ghost use Rattle.cfggreatest.specs.Words.{AreTold};
+    ghost use Rattle.cfggreatest.specs.GreatestCosts.{AreTold};
     ghost use Rattle.cfgchoices.specs.Inner.FirstChoices.{AreFirst, Walks};
     ghost use Rattle.cfgleast.specs.Generator.{CostTables, IsGeneratorOf, settled_tables, tables_of};
     ghost use Rattle.cfgcosts.specs.Inner.Heirs.{AreHeirs, rules_of};

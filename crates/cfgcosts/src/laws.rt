@@ -7,10 +7,10 @@ ghost use Rattle.std.specs.declared.cmp.Ordering.TheVariants.{Greater};
 ghost use Rattle.derivation.specs.Grammar.{Grammar, IsGrammar, HasProduction, Sym};
 ghost use Rattle.derivation.specs.Sentence.{Sentence, cost_of};
 ghost use Rattle.derivation.specs.Costs.{Least, Minimal};
-ghost use Rattle.derivation.specs.Lists.{rule_cost};
+ghost use Rattle.derivation.specs.CostLists.{rule_cost};
 ghost use Rattle.cfgleast.specs.Certificate.{IsCovered, IsReached};
 ghost use Rattle.cfgchoices.specs.Levels.{IsHandedDown};
-ghost use Rattle.cfgchoices.specs.First.{FirstMinimal, dictionary};
+ghost use Rattle.cfgchoices.specs.FirstSentence.{FirstMinimal, dictionary};
 ghost use Rattle.cfgchoices.specs.Splits.{Split};
 ghost use Rattle.cfgcosts.specs.declared.errors.SentenceError.{SentenceError};
 

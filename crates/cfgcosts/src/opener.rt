@@ -3,7 +3,7 @@
 ghost use Rattle.std.specs.Prelude.{◌≡◌, ℕ, ◌-◌, ◌^◌, ◌<◌, List, [], ◌∷◌, ◌++◌, OnOk, length, map};
 ghost use Rattle.derivation.specs.Grammar.{Grammar};
 ghost use Rattle.cfgtables.specs.Openings.{nth_production};
-ghost use Rattle.cfgtables.specs.Symbols.{sym_of};
+ghost use Rattle.cfgtables.specs.NumberedSymbols.{sym_of};
 ghost use Rattle.cfgcosts.specs.Inner.Walk.{AreCountsOf};
 
 use cfgindex::{PIdx, Storage, Symbol};

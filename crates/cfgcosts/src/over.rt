@@ -5,7 +5,7 @@ ghost use Rattle.derivation.specs.Grammar.{HasProduction};
 ghost use Rattle.derivation.specs.Sentence.{cost_of};
 ghost use Rattle.derivation.specs.Costs.{Least};
 ghost use Rattle.cfgleast.specs.Generator.{HasNone, IsTooDear, token_cost};
-ghost use Rattle.cfgchoices.specs.First.{FirstMinimal};
+ghost use Rattle.cfgchoices.specs.FirstSentence.{FirstMinimal};
 ghost use Rattle.cfgcosts.specs.DerivedBy.{IsDerivedBy, OpensNoneFree};
 
 use crate::errors::SentenceError;

@@ -5,7 +5,7 @@ ghost use Rattle.std.specs.Prelude.{OnErr, Some, length, map};
 ghost use Rattle.derivation.specs.Grammar.{HasProduction};
 ghost use Rattle.derivation.specs.Sentence.{cost_of};
 ghost use Rattle.cfgleast.specs.Generator.{HasNone, IsTooDear, cost_answer, token_cost};
-ghost use Rattle.cfgchoices.specs.First.{FirstMinimal};
+ghost use Rattle.cfgchoices.specs.FirstSentence.{FirstMinimal};
 ghost use Rattle.cfgcosts.specs.Inner.Walk.{HasStopped, HasWalked};
 
 use crate::errors::SentenceError;

@@ -2,6 +2,6 @@ pub mod Errors
 pub mod HeaderErrors
 pub mod HeaderTexts
 pub mod Refusal
-pub mod Texts
+pub mod ErrorTexts
 pub mod Warnings
 pub mod WarningTexts

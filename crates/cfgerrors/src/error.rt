@@ -5,7 +5,7 @@ ghost use Rattle.std.specs.Cmp.{partial_equiv_from_equiv};
 ghost use Rattle.cfgerrors.specs.HeaderErrors.{error_view};
 ghost use Rattle.cfgerrors.specs.Errors.{error_at, header_error, kind_view, same_error, same_error-equivalence};
 ghost use Rattle.cfgerrors.specs.Errors.{spanskind_of};
-ghost use Rattle.cfgerrors.specs.Texts.{error_text, fault_text};
+ghost use Rattle.cfgerrors.specs.ErrorTexts.{error_text, fault_text};
 ghost use Rattle.cfgerrors.specs.declared.error.YaccFault.TheVariants.{OutOfMemory};
 
 use crate::header::{HeaderError, HeaderErrorKind};
@@ -101,7 +101,7 @@ impl fmt::Display for YaccGrammarErrorKind {
 
     ghost styled_output = { λ kind _. Some (error_text (kind_view kind)) };
 
-    #[tactic(auto, unfolding(crate::specs::Texts::error_text))]
+    #[tactic(auto, unfolding(crate::specs::ErrorTexts::error_text))]
     fn fmt<W: fmt::Write>(&self, f: &mut fmt::Formatter<W>) -> fmt::Result {
         let text = match self {
             Self::IllegalInteger => "Illegal integer",

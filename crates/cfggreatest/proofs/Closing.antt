@@ -3,7 +3,7 @@ use Rattle.std.proofs.Common.{◌≡◌, ℕ, ◌<◌, ◌≤◌, ltb, leb, ◌&
 use Rattle.derivation.specs.Grammar.{Grammar, HasProduction}
 use Rattle.derivation.specs.declared.errors.CostError.{CostError}
 use Rattle.derivation.specs.declared.errors.CostError.TheVariants.{CostTooLarge}
-use Rattle.cfggreatest.specs.Words.{Means}
+use Rattle.cfggreatest.specs.GreatestCosts.{Means}
 use Rattle.cfggreatest.specs.Inner.Groups.{IsLast}
 use Rattle.cfggreatest.specs.Inner.Known.{AreTrue, group_answer, is_dead}
 use Rattle.cfggreatest.specs.Inner.Sums.{AreReached, AreUnder, IsGroup, IsStopped}

@@ -13,7 +13,7 @@ use Rattle.derivation.proofs.Trees.{derivation_from_trees, trees_from_derivation
 use Rattle.cfgtables.specs.Openings.{nth_production}
 use Rattle.derivation.specs.declared.errors.CostError.{CostError}
 use Rattle.derivation.specs.declared.errors.CostError.TheVariants.{NoSentence, CostTooLarge}
-use Rattle.cfggreatest.specs.Words.{Means}
+use Rattle.cfggreatest.specs.GreatestCosts.{Means}
 use Rattle.cfggreatest.specs.Inner.AtLeast.{IsDead, weigh}
 use Rattle.cfggreatest.specs.Inner.Known.{group_answer, known_cost, known_of, read_known}
 use Rattle.cfggreatest.specs.Inner.Sums.{AreReached, AreUnder, CostAtLeast, IsGroup, IsRead, row_cost}

@@ -16,7 +16,7 @@ use Rattle.derivation.proofs.Concatenation.{derives_trans, derives_left, derives
 use Rattle.derivation.proofs.Cycles.{cycle_unbounds}
 use Rattle.derivation.proofs.Trees.{trees_from_derivation, trees_join, derivation_from_trees}
 use Rattle.cfgtables.proofs.Placed.{owner}
-use Rattle.cfggreatest.specs.Words.{AreTold, Means}
+use Rattle.cfggreatest.specs.GreatestCosts.{AreTold, Means}
 use Rattle.cfggreatest.specs.Inner.AtLeast.{weigh}
 use Rattle.cfggreatest.proofs.Bounded.{missing, missing_less}
 use Rattle.cfggreatest.proofs.Telling.{exactly}

@@ -9,7 +9,7 @@ use Rattle.derivation.proofs.Trees.{derivation_from_trees}
 use Rattle.cfgtables.proofs.Placed.{all_symbols}
 use Rattle.derivation.specs.declared.errors.CostError.{CostError}
 use Rattle.derivation.specs.declared.errors.CostError.TheVariants.{NoSentence, CostTooLarge}
-use Rattle.cfggreatest.specs.Words.{Means}
+use Rattle.cfggreatest.specs.GreatestCosts.{Means}
 use Rattle.cfggreatest.specs.Inner.AtLeast.{AtLeast, HasWord, IsDead}
 use Rattle.cfggreatest.specs.Inner.Known.{IsLiveSymbol, is_dead, is_outside, known_cost, known_of, read_known, read_symbol}
 use Rattle.cfggreatest.specs.Inner.Sums.{AddsRow, AreNoLess, AreReached, CostAtLeast, CostsBeside, GrowsBeside, IsGroup, IsStopped, IsSum, IsUnder, StopsAt, TakesRow, row_cost}

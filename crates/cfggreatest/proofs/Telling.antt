@@ -5,7 +5,7 @@ use Rattle.derivation.specs.Costs.{Greatest, Unbounded}
 use Rattle.derivation.proofs.Costs.{greatest_is_bound, greatest_is_one}
 use Rattle.derivation.specs.declared.errors.CostError.{CostError}
 use Rattle.derivation.specs.declared.errors.CostError.TheVariants.{NoSentence, CostTooLarge}
-use Rattle.cfggreatest.specs.Words.{Means}
+use Rattle.cfggreatest.specs.GreatestCosts.{Means}
 
 module _ (P : ℕ → List Sym → Type 0) (cost : ℕ → ℕ) (r : ℕ) where
   none_grows : Means P cost r (Err NoSentence) → Unbounded P cost r → ⊥

@@ -1,7 +1,7 @@
 //! The greatest cost of each rule's sentences.
 
 ghost use Rattle.std.specs.Prelude.{◌≡◌, ◌≤◌, All, IfOk, length, slice_index};
-ghost use Rattle.cfggreatest.specs.Words.{AreTold};
+ghost use Rattle.cfggreatest.specs.GreatestCosts.{AreTold};
 
 use crate::live::Live;
 use crate::walk::Walk;

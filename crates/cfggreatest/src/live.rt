@@ -5,7 +5,7 @@ ghost use Rattle.cfganalysis.specs.Inner.Growth.{CanNote, CanTakeIn, TakesIn, sh
 ghost use Rattle.cfganalysis.specs.Inner.GrowingFirsts.{HoldsRule};
 ghost use Rattle.cfganalysis.specs.Inner.Waiting.{Waits};
 ghost use Rattle.cfganalysis.specs.Inner.Work.{Notes};
-ghost use Rattle.cfgtables.specs.Symbols.{sym_of};
+ghost use Rattle.cfgtables.specs.NumberedSymbols.{sym_of};
 ghost use Rattle.cfganalysis.specs.Table.{bits_on};
 ghost use Rattle.cfggreatest.specs.Inner.Live.{AreLive, HaveLive, HaveSentences, IsNoMoreLive, SayLive};
 ghost use Rattle.cfggreatest.specs.Inner.Live.{is_live, is_live_symbol, live_bounded};

@@ -5,8 +5,8 @@
 ghost use Rattle.std.specs.Prelude.{◌≡◌, ℕ, ◌+◌, ◌<◌, ◌≤◌, All, IfErr, MatchBool, MatchResult, OnOk, false, length, map, min};
 ghost use Rattle.std.specs.Prelude.{slice_index};
 ghost use Rattle.derivation.specs.Grammar.{HasProduction};
-ghost use Rattle.cfgtables.specs.Symbols.{sym_of};
-ghost use Rattle.derivation.specs.Lists.{IsListed};
+ghost use Rattle.cfgtables.specs.NumberedSymbols.{sym_of};
+ghost use Rattle.derivation.specs.CostLists.{IsListed};
 ghost use Rattle.cfggreatest.specs.Inner.Known.{IsLiveSymbol, group_answer, is_dead, known_of, read_answer};
 ghost use Rattle.cfggreatest.specs.Inner.Known.{read_known, read_symbol};
 ghost use Rattle.cfggreatest.specs.Inner.Sums.{AreNoLess, AreReached, AreUnder, IsGroup, IsStopped, IsSum, StopsAt};

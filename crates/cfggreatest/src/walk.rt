@@ -5,8 +5,8 @@
 ghost use Rattle.std.specs.Prelude.{◌≡◌, ℕ, ◌<◌, ◌≤◌, [], ◌∷◌, All, IfOk, IfSome, MatchOption, OnOk, Option, Result, false, true};
 ghost use Rattle.std.specs.Prelude.{length, map, slice_index};
 ghost use Rattle.derivation.specs.Grammar.{Grammar, HasProduction, IsGrammar, Rule};
-ghost use Rattle.cfgtables.specs.Symbols.{sym_of};
-ghost use Rattle.cfggreatest.specs.Words.{Means};
+ghost use Rattle.cfgtables.specs.NumberedSymbols.{sym_of};
+ghost use Rattle.cfggreatest.specs.GreatestCosts.{Means};
 ghost use Rattle.cfggreatest.specs.Inner.Groups.{IsLast};
 ghost use Rattle.cfggreatest.specs.Inner.Known.{AreTrue, is_dead, is_inside, is_outside, known_of};
 ghost use Rattle.cfggreatest.specs.Inner.AtLeast.{HasWord};

@@ -3,7 +3,7 @@
 ghost use Rattle.std.specs.Prelude.{◌≡◌, length, drop, IfOk, IfErr};
 ghost use Rattle.std.specs.Str.{IsCharBoundary};
 ghost use Rattle.cfgwords.specs.Places.{IsPiece};
-ghost use Rattle.cfgsection.specs.Refusal.{ListsErrors};
+ghost use Rattle.cfgsection.specs.SectionRefusal.{ListsErrors};
 ghost use Rattle.cfgsection.specs.SectionPlaces.{IsFaultAt};
 ghost use Rattle.cfgsection.specs.SectionReads.{AnswersEntry, HasOneSection};
 ghost use Rattle.cfgheader.specs.Headers.{AnswersSection};

@@ -2,7 +2,7 @@
 use Rattle.std.proofs.Common.{◌≡◌, ◌≢◌, ℕ, ◌+◌, ◌<◌, ◌≤◌, ◌==◌, ◌||◌, Bool, true, false, not, List, length, get_or, slice_set, MatchBool, bit_or, arith, refl, sym, ap, ◌∙◌, below_more, get_or-set_same, get_or-set_other, length-set}
 use Rattle.std.proofs.lemmas.Bool.{eqb-true, eqb-false}
 use Rattle.std.proofs.lemmas.List.{set-get_or}
-use Rattle.cfgindex.specs.Words.{AreJoined}
+use Rattle.cfgindex.specs.BitWords.{AreJoined}
 
 -- some word below i differs from that of a
 abbrev pub Differs : List ℕ → List ℕ → ℕ → Type 0

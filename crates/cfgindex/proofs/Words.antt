@@ -11,7 +11,7 @@ use Rattle.std.proofs.lemmas.List.FromFn.{length-map-range_with_len, get_or-map-
 use Rattle.std.proofs.lemmas.Option.{slice_get-get_or}
 use Rattle.std.proofs.lemmas.Nat.Bits.{bit_at-lt, bit_at_or, same_from_bits_below, bit_at-zero, bit_at_ones, bit_at_ones_above, ones_shr}
 use Rattle.std.proofs.Math.Nat.{zero-div, div-le_self}
-use Rattle.cfgindex.specs.Words.{word_bit, bits_of, AreWords, AreJoined}
+use Rattle.cfgindex.specs.BitWords.{word_bit, bits_of, AreWords, AreJoined}
 use Rattle.cfgindex.proofs.Bits.{union, length-union, get_or-union}
 
 pub length-bits_of : (words : List ℕ) (n : ℕ) → length (bits_of words n) ≡ n

@@ -1,2 +1,2 @@
-pub mod Symbols
-pub mod Words
+pub mod SymbolCopies
+pub mod BitWords

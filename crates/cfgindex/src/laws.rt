@@ -3,7 +3,7 @@
 
 ghost use Rattle.std.specs.Prelude.{◌≡◌, ◌↔◌, Some, IsTrue};
 ghost use Rattle.std.specs.Ordering.{nat_cmp};
-ghost use Rattle.cfgindex.specs.Symbols.{IsSymbolClone, stored, symbol_fed};
+ghost use Rattle.cfgindex.specs.SymbolCopies.{IsSymbolClone, stored, symbol_fed};
 ghost use Rattle.cfgindex.specs.declared.idxnewtype.RIdx.{RIdx};
 ghost use Rattle.cfgindex.specs.declared.idxnewtype.PIdx.{PIdx};
 ghost use Rattle.cfgindex.specs.declared.idxnewtype.SIdx.{SIdx};

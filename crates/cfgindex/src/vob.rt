@@ -8,7 +8,7 @@ ghost use Rattle.std.specs.Cmp.{bool_eq_equiv, partial_equiv_from_equiv};
 ghost use Rattle.std.specs.Cmp.Lexicographic.{lists_equiv, lists_per, pointwise};
 ghost use Rattle.std.specs.Int.{bit_at};
 ghost use Rattle.std.specs.List.{zip};
-ghost use Rattle.cfgindex.specs.Words.{AreJoined, AreWords, bits_of};
+ghost use Rattle.cfgindex.specs.BitWords.{AreJoined, AreWords, bits_of};
 
 use std::alloc::{AllocError, Global};
 use std::marker::Model;
@@ -22,7 +22,7 @@ pub struct Vob {
 
 impl Model for Vob {
     ghost use Rattle.std.specs.Prelude.{Bool, List};
-    ghost use Rattle.cfgindex.specs.Words.{AreWords, bits_of};
+    ghost use Rattle.cfgindex.specs.BitWords.{AreWords, bits_of};
 
     ghost Value = { List Bool };
 

@@ -6,7 +6,7 @@ use Rattle.std.specs.Result.{IsErrAnd}
 use Rattle.std.proofs.lemmas.List.{append-nil, map-append, take_more, take-append-drop}
 use Rattle.std.proofs.lemmas.List.Elements.{filter_map-append}
 use Rattle.lemmas.proofs.Growing.{filter_map-push}
-use Rattle.cfgkinds.specs.Kinds.{kind_unless, Refuses}
+use Rattle.cfgkinds.specs.YaccKinds.{kind_unless, Refuses}
 use Rattle.cfgkinds.specs.declared.kind.YaccKind.{YaccKind}
 use Rattle.cfgkinds.specs.declared.fault.KindFault.{KindFault}
 use Rattle.cfgkinds.specs.declared.fault.KindFault.TheVariants.{OutOfMemory}

@@ -7,7 +7,7 @@ use Rattle.std.proofs.lemmas.List.Elements.{All-nil, All-cons, All-append}
 use Rattle.lemmas.proofs.Options.{All-filter_map}
 use Rattle.cfgkinds.specs.declared.kind.YaccKind.{YaccKind}
 use Rattle.cfgkinds.specs.Values.{Placed, ShownNamespaced, ShownValue, Flag, Given, Unitary, Constructor, Number, Text, Array}
-use Rattle.cfgkinds.specs.Kinds.{kind_namespace, action_namespace, plain_kind, original_kind, wrong_namespace, wrong_member, wrong_parts, kind_unless, judged, kind_of_value}
+use Rattle.cfgkinds.specs.YaccKinds.{kind_namespace, action_namespace, plain_kind, original_kind, wrong_namespace, wrong_member, wrong_parts, kind_unless, judged, kind_of_value}
 use Rattle.cfgkinds.proofs.ValuePlaces.{EachNamePlace, EachKindPlace}
 
 module _ {T : Type 0} (P : T → Type 0) where

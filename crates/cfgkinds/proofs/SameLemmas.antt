@@ -11,7 +11,7 @@ use lib.Pointwise.{bytes_decides}
 use Rattle.cfgkinds.specs.Values.{Placed, ShownNamespaced, ShownSetting, ShownSettings, Unitary, Constructor, Number, Text, Array, no_settings, setting}
 use Rattle.cfgkinds.specs.Values.{placed_view, setting_view, settings_view}
 use Rattle.cfgkinds.specs.declared.value.Setting.{Setting}
-use Rattle.cfgkinds.specs.Same.{IsIdentity, same_placed, same_namespaced, same_setting, same_settings, setting_itself}
+use Rattle.cfgkinds.specs.SameValues.{IsIdentity, same_placed, same_namespaced, same_setting, same_settings, setting_itself}
 
 -- both names are compared
 module _ {T : Type 0} (eq : T → T → Bool) where

@@ -5,7 +5,7 @@ use Rattle.std.specs.Str.{bytes_eq}
 use Rattle.cfgbase.specs.Locations.{location_view}
 use Rattle.cfgbase.specs.declared.span.Location.{Location}
 use Rattle.cfgkinds.specs.Values.{Placed, ShownValue, Flag, Given, Unitary, Constructor, Number, Text, Array, map_placed, map_value}
-use Rattle.cfgkinds.specs.Kinds.{action_namespace, judged, kind_namespace, kind_of_value, kind_unless, original_kind, plain_kind, value_of_kind, wrong_member, wrong_namespace, wrong_parts}
+use Rattle.cfgkinds.specs.YaccKinds.{action_namespace, judged, kind_namespace, kind_of_value, kind_unless, original_kind, plain_kind, value_of_kind, wrong_member, wrong_namespace, wrong_parts}
 use Rattle.cfgkinds.specs.declared.kind.YaccKind.{YaccKind}
 use Rattle.cfgkinds.specs.declared.kind.YaccKind.TheVariants.{Original, Grmtools, Eco}
 use Rattle.cfgkinds.specs.declared.kind.YaccOriginalActionKind.TheVariants.{NoAction, UserAction, GenericParseTree}

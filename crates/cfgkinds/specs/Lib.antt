@@ -1,4 +1,4 @@
-pub mod Kinds
-pub mod Same
-pub mod Texts
+pub mod YaccKinds
+pub mod SameValues
+pub mod ValueErrorTexts
 pub mod Values

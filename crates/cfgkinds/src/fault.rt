@@ -1,7 +1,7 @@
 //! Why a call gave no answer.
 
 ghost use Rattle.std.specs.Prelude.{◌≡◌, Some};
-ghost use Rattle.cfgkinds.specs.Texts.{kind_fault_text};
+ghost use Rattle.cfgkinds.specs.ValueErrorTexts.{kind_fault_text};
 ghost use Rattle.cfgkinds.specs.declared.fault.KindFault.TheVariants.{OutOfMemory};
 
 use cfgerrors::HeaderError;

@@ -5,8 +5,8 @@ ghost use Rattle.std.specs.Option.{option_copied};
 ghost use Rattle.std.specs.Str.{bytes_eq};
 ghost use Rattle.cfgbase.specs.Locations.{location_view};
 ghost use Rattle.cfgkinds.specs.Values.{namespaced_view, value_view, map_namespaced, map_value};
-ghost use Rattle.cfgkinds.specs.Kinds.{Refuses, action_name, from_kind, judged, kind_of_value, name_of_kind};
-ghost use Rattle.cfgkinds.specs.Kinds.{original_kind, plain_kind, value_of_kind, wrong_member, wrong_namespace};
+ghost use Rattle.cfgkinds.specs.YaccKinds.{Refuses, action_name, from_kind, judged, kind_of_value, name_of_kind};
+ghost use Rattle.cfgkinds.specs.YaccKinds.{original_kind, plain_kind, value_of_kind, wrong_member, wrong_namespace};
 
 use crate::fault::KindFault;
 use crate::kind::{YaccKind, YaccOriginalActionKind};

@@ -4,8 +4,8 @@
 ghost use Rattle.std.specs.Prelude.{◌≡◌, ◌≢◌, ◌↔◌, IsTrue, List, [], Ok, Err};
 ghost use Rattle.cfgbase.specs.Locations.{location_view};
 ghost use Rattle.cfgbase.specs.declared.span.Location.{Location};
-ghost use Rattle.cfgkinds.specs.Kinds.{kind_of_value, value_of_kind};
-ghost use Rattle.cfgkinds.specs.Same.{same_header_value, same_namespaced, same_value};
+ghost use Rattle.cfgkinds.specs.YaccKinds.{kind_of_value, value_of_kind};
+ghost use Rattle.cfgkinds.specs.SameValues.{same_header_value, same_namespaced, same_value};
 ghost use Rattle.cfgkinds.specs.Values.{ShownValue, header_value_view, map_value, namespaced_view, value_view};
 ghost use Rattle.cfgkinds.specs.declared.value.HeaderValue.{HeaderValue};
 ghost use Rattle.cfgkinds.specs.declared.value.Namespaced.{Namespaced};

@@ -1,14 +1,14 @@
 //! `==` of settings, which hold settings.
 
 ghost use Rattle.std.specs.Prelude.{◌≡◌, ◌↔◌, IsTrue};
-ghost use Rattle.cfgkinds.specs.Same.{same_namespaced, same_setting, same_settings};
+ghost use Rattle.cfgkinds.specs.SameValues.{same_namespaced, same_setting, same_settings};
 ghost use Rattle.cfgkinds.specs.Values.{namespaced_view, setting_view, settings_view};
 
 use crate::value::{Namespaced, Setting};
 
 impl<T: PartialEq> PartialEq for Setting<T> {
     ghost use Rattle.std.specs.Cmp.{on_per};
-    ghost use Rattle.cfgkinds.specs.Same.{IsIdentity, same_setting_per};
+    ghost use Rattle.cfgkinds.specs.SameValues.{IsIdentity, same_setting_per};
 
     ghost eq = { λ a b. same_setting T.eq (setting_view a) (setting_view b) };
 
@@ -24,7 +24,7 @@ impl<T: PartialEq> PartialEq for Setting<T> {
 
 impl<T: Eq> Eq for Setting<T> {
     ghost use Rattle.std.specs.Cmp.{on_equiv};
-    ghost use Rattle.cfgkinds.specs.Same.{same_setting_equiv};
+    ghost use Rattle.cfgkinds.specs.SameValues.{same_setting_equiv};
 
     ghost laws = { on_equiv setting_view (same_setting_equiv T.Eq.laws) };
 }

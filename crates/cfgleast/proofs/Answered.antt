@@ -13,7 +13,7 @@ use Rattle.cfgtables.specs.Openings.{nth_production}
 use Rattle.cfgtables.proofs.Placed.{at_place}
 use Rattle.derivation.specs.Sums.{sum_of, symbol_cost}
 use Rattle.cfgleast.specs.Inner.Numbers.{IsNumberedBelow}
-use Rattle.derivation.specs.Lists.{rule_cost}
+use Rattle.derivation.specs.CostLists.{rule_cost}
 use Rattle.cfgleast.specs.Certificate.{IsChosenBelow, rule_choice}
 use Rattle.cfgleast.specs.Inner.Settled.{AreSettled}
 use Rattle.derivation.specs.declared.errors.CostError.{CostError}

@@ -15,7 +15,7 @@ use Rattle.cfgtables.specs.Openings.{nth_production}
 use Rattle.cfgtables.proofs.Placed.{same_production, at_place}
 use Rattle.derivation.specs.Sums.{symbol_cost}
 use Rattle.cfgleast.specs.Inner.Numbers.{IsNumberedBelow}
-use Rattle.derivation.specs.Lists.{IsListed, rule_cost}
+use Rattle.derivation.specs.CostLists.{IsListed, rule_cost}
 use Rattle.cfgleast.specs.Certificate.{IsCovered, IsCoveredInRange, IsChosenBelow, IsReached, IsShown, claim_of, rule_choice}
 use Rattle.derivation.proofs.Listed.{symbols_listed}
 use Rattle.derivation.proofs.Sums.{plus_zero}

@@ -9,7 +9,7 @@ use Rattle.lemmas.proofs.Elements.{get_or-set, get_or-replicate_default}
 use Rattle.derivation.specs.Grammar.{Sym, Rule, Token, Grammar}
 use Rattle.cfgtables.specs.Openings.{nth_production}
 use Rattle.derivation.specs.Sums.{symbol_cost}
-use Rattle.derivation.specs.Lists.{rule_cost}
+use Rattle.derivation.specs.CostLists.{rule_cost}
 use Rattle.cfgleast.specs.Certificate.{IsChosenBelow, rule_choice}
 use Rattle.cfgleast.specs.Inner.Open.{IsCutSum}
 use Rattle.cfgleast.specs.Inner.Settled.{unsettled, IsSettledBy, AreChosen}

@@ -13,7 +13,7 @@ use Rattle.cfgtables.specs.Openings.{nth_production}
 use Rattle.derivation.specs.declared.errors.CostError.{CostError}
 use Rattle.derivation.specs.declared.errors.CostError.TheVariants.{NoSentence, CostTooLarge}
 use Rattle.derivation.specs.Sums.{sum_of, symbol_cost}
-use Rattle.derivation.specs.Lists.{rule_cost}
+use Rattle.derivation.specs.CostLists.{rule_cost}
 use Rattle.cfgleast.specs.Certificate.{IsCovered, IsReached, IsChosenBelow, IsShown, claim_of, choice_of, rule_choice}
 use Rattle.cfgleast.specs.Generator.{CostTables, IsGenerator, AnswersLeast, HasNone, IsLeastProduction, IsTooDear, up_to_limit, where_some, cost_answer, choice_answer, token_cost}
 use Rattle.derivation.proofs.Sums.{plus_parts, plus_both}

@@ -7,7 +7,7 @@ use Rattle.lemmas.proofs.Options.{None-from_is_some}
 use Rattle.derivation.specs.Grammar.{Grammar, IsGrammar}
 use Rattle.cfgtables.specs.Openings.{nth_production}
 use Rattle.cfgleast.specs.declared.partial.Partial.{Partial}
-use Rattle.derivation.specs.Lists.{rule_cost}
+use Rattle.derivation.specs.CostLists.{rule_cost}
 use Rattle.cfgleast.specs.Inner.Open.{WaitsFor, AreAllOpen, AreWaking, waiting_for}
 use Rattle.cfgleast.specs.Inner.Settled.{AreChosen, HasPopped}
 use Rattle.cfgleast.proofs.Opened.{top_in, popped_past, settled_open, woken_wait}

@@ -3,7 +3,7 @@ use Rattle.std.specs.Prelude.{◌≡◌, ℕ, ◌<◌, ◌≤◌, List, Option, 
 use Rattle.cfgindex.specs.declared.idxnewtype.PIdx.{PIdx}
 use Rattle.derivation.specs.Grammar.{Sym, Rule, Token, Grammar, Production}
 use Rattle.cfgtables.specs.Openings.{nth_production}
-use Rattle.derivation.specs.Lists.{rule_cost, sum_by_lists}
+use Rattle.derivation.specs.CostLists.{rule_cost, sum_by_lists}
 
 -- where the rules of a production all have a cost, its sum is past 65535, or its rule costs at most the sum
 abbrev pub IsCovered : List ℕ → List (Option ℕ) → Production → Type 0

@@ -8,7 +8,7 @@ use Rattle.derivation.specs.Costs.{Least, Minimal}
 use Rattle.cfgtables.specs.Openings.{nth_production}
 use Rattle.derivation.specs.declared.errors.CostError.{CostError}
 use Rattle.derivation.specs.declared.errors.CostError.TheVariants.{NoSentence, CostTooLarge}
-use Rattle.derivation.specs.Lists.{rule_cost}
+use Rattle.derivation.specs.CostLists.{rule_cost}
 use Rattle.cfgleast.specs.declared.settle.Settled.{Settled}
 use Rattle.cfgleast.specs.Certificate.{choice_of, rule_choice}
 use Rattle.cfgleast.specs.Inner.Settled.{AreSettled}

@@ -4,7 +4,7 @@
 ghost use Rattle.std.specs.Prelude.{◌≡◌, ◌+◌, ◌^◌, ◌<◌, ◌≤◌, [], IfOk, None, OnOk, Some};
 ghost use Rattle.std.specs.Prelude.{length, map, replicate, slice_index, slice_set};
 ghost use Rattle.derivation.specs.Grammar.{IsGrammar};
-ghost use Rattle.derivation.specs.Lists.{rule_cost};
+ghost use Rattle.derivation.specs.CostLists.{rule_cost};
 ghost use Rattle.cfgleast.specs.Certificate.{choice_of};
 ghost use Rattle.cfgleast.specs.Inner.Open.{AreAllOpen, AreInput, count_open};
 ghost use Rattle.cfgleast.specs.Inner.Settled.{AreChosen, AreSettled, HasPopped};

@@ -19,7 +19,7 @@ use Rattle.lemmas.proofs.Places.{first_place, position-distinct}
 use Rattle.lemmas.proofs.Taken.{contains_taken}
 use Rattle.cfgbase.specs.declared.span.Span.{Span}
 use Rattle.cfgast.specs.Syntax.{Production, Syntax}
-use Rattle.cfgast.specs.View.{production_view}
+use Rattle.cfgast.specs.SyntaxView.{production_view}
 use Rattle.cfgast.specs.declared.production.Production as source
 use Rattle.cfglint.specs.Inner.Asked.{AreAskedBy, IsAskedBy, IsPlaceOf, Notes, has_span, place_cmp}
 

@@ -15,9 +15,9 @@ use Rattle.derivation.specs.Grammar.{Grammar, Production, Rule, Token}
 use Rattle.cfgindex.specs.declared.idxnewtype.Symbol.{Symbol}
 use Rattle.cfgindex.specs.declared.idxnewtype.Symbol.TheVariants as code
 use Rattle.cfgnumbers.specs.Numbered.{Numbered, NumberedProduction, core, production_core}
-use Rattle.cfgnumbers.specs.Shown.{production_part}
+use Rattle.cfgnumbers.specs.Accessors.{production_part}
 use Rattle.cfgtables.specs.Openings.{nth_production}
-use Rattle.cfgtables.specs.Symbols.{sym_of}
+use Rattle.cfgtables.specs.NumberedSymbols.{sym_of}
 use Rattle.cfglint.specs.Inner.Firsts.{AreFirsts, IsFirst, ordered_symbol, production_of, sym_of_ordered}
 use Rattle.cfglint.specs.contracts.repeats.OrderedSymbolOrd.TheImpl.{ghosts as order}
 use Rattle.cfglint.specs.declared.repeats.OrderedSymbol.{OrderedSymbol}

@@ -9,9 +9,9 @@ use Rattle.cfgtree.specs.Check.{nowhere}
 use Rattle.cfgindex.specs.declared.idxnewtype.Symbol.{Symbol}
 use Rattle.cfgindex.specs.declared.idxnewtype.Symbol.TheVariants as symbols
 use Rattle.cfgtables.specs.Openings.{nth_production}
-use Rattle.cfgtables.specs.Symbols.{sym_of}
+use Rattle.cfgtables.specs.NumberedSymbols.{sym_of}
 use Rattle.cfgnumbers.specs.Numbered.{Numbered, core, production_core}
-use Rattle.cfgnumbers.specs.Shown.{IsSymbolWithin, production_part, rule_part}
+use Rattle.cfgnumbers.specs.Accessors.{IsSymbolWithin, production_part, rule_part}
 use Rattle.cfgyacc.proofs.Shows.{rule_named}
 use Rattle.loops.specs.declared.rows.Step.{Step}
 use Rattle.cfglint.specs.Shown.{ShownFinding, derives_itself, rule_name, rule_span, step_text, vanishing}

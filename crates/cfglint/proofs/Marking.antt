@@ -19,7 +19,7 @@ use Rattle.lemmas.proofs.Places.{position-distinct, position-map}
 use Rattle.cfgbase.specs.declared.span.Span.{Span}
 use Rattle.cfgast.specs.Building.{has_name}
 use Rattle.cfgast.specs.Syntax.{RuleSymbol, Symbol, Syntax, TokenSymbol, entry_name}
-use Rattle.cfgast.specs.View.{precedence_entry}
+use Rattle.cfgast.specs.SyntaxView.{precedence_entry}
 use Rattle.cfgast.specs.declared.precedence.Precedence.{Precedence}
 use Rattle.cfgast.proofs.Views.{is_key}
 use Rattle.cfgtree.specs.Unused.{TokenName, entry_token, name_of}

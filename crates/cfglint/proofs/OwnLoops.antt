@@ -5,9 +5,9 @@ use Rattle.std.proofs.lemmas.List.Elements.{All-cons, All-nil}
 use Rattle.derivation.specs.Grammar.{Grammar, HasProduction}
 use Rattle.cfgnumbers.specs.Numbered.{Numbered, core}
 use Rattle.loops.specs.Alone.{DerivesItself}
-use Rattle.loops.specs.Lists.{HasStep}
+use Rattle.loops.specs.StepLists.{HasStep}
 use Rattle.loops.specs.Rows.{IsLoop, IsShortestLoop, IsShortestOf, Leads}
-use Rattle.loops.specs.Steps.{AreSteps, IsStep}
+use Rattle.loops.specs.UnitSteps.{AreSteps, IsStep}
 use Rattle.loops.specs.declared.rows.Step.{Step}
 use Rattle.cfglint.specs.Findings.{TellsLoop, rules_added}
 use Rattle.cfglint.specs.Shown.{ShownFinding, derives_itself}

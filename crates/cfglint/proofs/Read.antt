@@ -6,7 +6,7 @@ use Rattle.std.proofs.lemmas.Option.{get_or_from_slice_get}
 use Rattle.derivation.specs.Grammar.{HasProduction, Production, Sym}
 use Rattle.cfgtables.specs.Openings.{nth_production}
 use Rattle.cfgnumbers.specs.Numbered.{Numbered, NumberedProduction, NumberedRule, core, production_core}
-use Rattle.cfgnumbers.specs.Shown.{production_part, rule_part}
+use Rattle.cfgnumbers.specs.Accessors.{production_part, rule_part}
 use Rattle.cfgnumbers.specs.WellNumbered.{IsWellNumbered}
 
 -- a grammar that is seen as this one, and a number as this one

@@ -3,7 +3,7 @@ use Rattle.std.proofs.Common.{◌≡◌, ℕ, List, [], ◌∷◌, ◌++◌, Som
 use Rattle.cfgbase.specs.declared.span.Span.{Span}
 use Rattle.cfgtree.specs.Check.{nowhere}
 use Rattle.cfgnumbers.specs.Numbered.{Numbered}
-use Rattle.cfgnumbers.specs.Shown.{production_part, rule_part}
+use Rattle.cfgnumbers.specs.Accessors.{production_part, rule_part}
 use Rattle.cfgyacc.proofs.Shows.{rule_named}
 use Rattle.cfglint.specs.Shown.{ShownFinding, no_sentence, production_span, quoted, rule_name, rule_span, unusable}
 use Rattle.cfglint.specs.declared.finding.FindingKind.{FindingKind}

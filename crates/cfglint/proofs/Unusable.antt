@@ -7,7 +7,7 @@ use Rattle.derivation.specs.Sentence.{Sentence}
 use Rattle.loops.specs.Uses.{IsUsable}
 use Rattle.cfgtables.specs.Openings.{nth_production}
 use Rattle.cfgnumbers.specs.Numbered.{Numbered, core}
-use Rattle.cfgnumbers.specs.Shown.{production_part}
+use Rattle.cfgnumbers.specs.Accessors.{production_part}
 use Rattle.cfglint.specs.Findings.{IsFirstWithout, IsUnusable}
 use Rattle.cfglint.specs.Inner.Lacks.{LacksOrHas}
 use Rattle.cfglint.proofs.Read.{has_read, rule_read, symbols_read}

@@ -7,7 +7,7 @@ use Rattle.derivation.specs.Grammar.{Sym, Rule, HasProduction}
 use Rattle.derivation.specs.Sentence.{Sentence}
 use Rattle.loops.specs.Alone.{DerivesItself}
 use Rattle.loops.specs.Rows.{IsShortestLoop}
-use Rattle.loops.specs.Steps.{IsStep}
+use Rattle.loops.specs.UnitSteps.{IsStep}
 use Rattle.loops.specs.Uses.{IsUsable}
 use Rattle.loops.specs.declared.rows.Step.{Step}
 use Rattle.cfgbase.specs.declared.span.Span.{Span}

@@ -13,7 +13,7 @@ use Rattle.cfgerrors.specs.Warnings.{GrammarWarning}
 use Rattle.cfgerrors.specs.declared.warning.YaccGrammarWarningKind.{YaccGrammarWarningKind}
 use Rattle.cfgerrors.specs.declared.warning.YaccGrammarWarningKind.TheVariants as warnings
 use Rattle.cfgnumbers.specs.Numbered.{Numbered, core}
-use Rattle.cfgnumbers.specs.Shown.{production_part, rule_part, sym_name}
+use Rattle.cfgnumbers.specs.Accessors.{production_part, rule_part, sym_name}
 use Rattle.cfgtables.specs.Openings.{nth_production}
 use Rattle.cfglint.specs.declared.finding.FindingKind.{FindingKind}
 use Rattle.cfglint.specs.declared.finding.FindingKind.TheVariants.{DerivesItself, NoSentence, RepeatedProduction, UnusableProduction, UnusedPrecedence, UnusedRule, UnusedToken}

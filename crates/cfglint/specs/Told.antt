@@ -7,7 +7,7 @@ use Rattle.cfgsection.specs.SectionGrammar.{Entry}
 use Rattle.cfgsection.specs.SectionReads.{IsSection, given, section_answer}
 use Rattle.cfgerrors.specs.Errors.{GrammarError}
 use Rattle.cfgerrors.specs.Errors as errors
-use Rattle.cfgerrors.specs.Texts.{error_text}
+use Rattle.cfgerrors.specs.ErrorTexts.{error_text}
 use Rattle.cfgrender.specs.Render.{rendered}
 use Rattle.cfgyacc.specs.Answer.{Found, Unnamed, WasRead, IsRefused, in_numbers}
 use Rattle.cfgsyntax.specs.Parsed.{Parsed}

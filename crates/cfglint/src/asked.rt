@@ -1,7 +1,7 @@
 //! The places of tokens that a production's `%prec` names.
 
 ghost use Rattle.std.specs.Prelude.{◌≡◌, IfOk, OnOk};
-ghost use Rattle.cfgtree.specs.View.{syntax};
+ghost use Rattle.cfgtree.specs.TreeView.{syntax};
 ghost use Rattle.cfglint.specs.Inner.Asked.{AreAskedBy, Notes, has_span};
 
 use cfgbase::Span;

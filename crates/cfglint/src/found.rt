@@ -1,7 +1,7 @@
 //! All that is odd about a grammar.
 
 ghost use Rattle.std.specs.Prelude.{◌≡◌, IfOk};
-ghost use Rattle.cfgtree.specs.View.{syntax};
+ghost use Rattle.cfgtree.specs.TreeView.{syntax};
 ghost use Rattle.cfglint.specs.Findings.{AreFindings};
 
 use crate::finding::Finding;

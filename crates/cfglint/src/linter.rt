@@ -3,7 +3,7 @@
 ghost use Rattle.std.specs.Prelude.{◌≡◌, ◌↔◌, List, None, false, length, IfOk, IsTrue};
 ghost use Rattle.cfgyacc.specs.Answer.{Found, WasRead};
 ghost use Rattle.cfgyacc.specs.GrammarOf.{IsFoundAs, IsFoundItself};
-ghost use Rattle.cfgtree.specs.View.{syntax};
+ghost use Rattle.cfgtree.specs.TreeView.{syntax};
 ghost use Rattle.cfglint.specs.Findings.{AreFindings};
 ghost use Rattle.cfglint.specs.Shown.{ShownFinding};
 ghost use Rattle.cfglint.specs.Told.{IsFound, NamesNoKind, TellsFound, TellsText, error_lines, finding_lines};

@@ -2,8 +2,8 @@
 
 ghost use Rattle.std.specs.Prelude.{◌≡◌, ◌++◌, ◌<◌, All, IfOk, OnOk, length, map, string_bytes};
 ghost use Rattle.std.specs.List.{flat_map};
-ghost use Rattle.cfgnumbers.specs.Shown.{IsSymbolWithin, sym_name};
-ghost use Rattle.cfgtables.specs.Symbols.{sym_of};
+ghost use Rattle.cfgnumbers.specs.Accessors.{IsSymbolWithin, sym_name};
+ghost use Rattle.cfgtables.specs.NumberedSymbols.{sym_of};
 ghost use Rattle.cfglint.specs.Findings.{TellsBelow, TellsLoop};
 ghost use Rattle.cfglint.specs.Inner.OwnHeirs.{AreLoops, IsSomeStep};
 ghost use Rattle.cfglint.specs.Shown.{derives_itself, step_text, vanishing};

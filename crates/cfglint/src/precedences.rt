@@ -3,8 +3,8 @@
 ghost use Rattle.std.specs.Prelude.{◌≡◌, [], ◌∷◌, ◌++◌, length, map, IfOk, OnOk};
 ghost use Rattle.std.specs.List.{flat_map};
 ghost use Rattle.cfgast.specs.Syntax.{entry_name};
-ghost use Rattle.cfgast.specs.View.{production_view, span_entry, symbol_view};
-ghost use Rattle.cfgtree.specs.View.{syntax};
+ghost use Rattle.cfgast.specs.SyntaxView.{production_view, span_entry, symbol_view};
+ghost use Rattle.cfgtree.specs.TreeView.{syntax};
 ghost use Rattle.cfglint.specs.Findings.{TellsBelow, TellsPrecedence};
 ghost use Rattle.cfglint.specs.Inner.Taking.{AreMarked, Marks, production_names, symbol_names};
 ghost use Rattle.cfglint.specs.Shown.{unused_precedence};
@@ -46,7 +46,7 @@ struct Idle<'a> {
 
 impl Teller for Idle<'_> {
     ghost use Rattle.std.specs.Prelude.{length};
-    ghost use Rattle.cfgtree.specs.View.{syntax};
+    ghost use Rattle.cfgtree.specs.TreeView.{syntax};
     ghost use Rattle.cfglint.specs.Findings.{TellsPrecedence};
     ghost use Rattle.cfglint.specs.Inner.Taking.{AreMarked};
 

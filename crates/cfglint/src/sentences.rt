@@ -4,8 +4,8 @@ ghost use Rattle.std.specs.Prelude.{◌≡◌, ◌++◌, ◌<◌, ℕ, false, Li
 ghost use Rattle.std.specs.Prelude.{IfOk, IfSome, MatchOption, OnOk};
 ghost use Rattle.derivation.specs.Grammar.{Rule};
 ghost use Rattle.cfgnumbers.specs.Numbered.{core};
-ghost use Rattle.cfgnumbers.specs.Shown.{IsSymbolWithin};
-ghost use Rattle.cfgtables.specs.Symbols.{sym_of};
+ghost use Rattle.cfgnumbers.specs.Accessors.{IsSymbolWithin};
+ghost use Rattle.cfgtables.specs.NumberedSymbols.{sym_of};
 ghost use Rattle.cfglint.specs.Findings.{IsFirstWithout, TellsBelow, TellsNoSentence, TellsUnusable};
 ghost use Rattle.cfglint.specs.Inner.Lacks.{AreLacks, LacksOrHas};
 ghost use Rattle.cfglint.specs.Shown.{ShownFinding};

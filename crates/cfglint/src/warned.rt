@@ -3,7 +3,7 @@
 ghost use Rattle.std.specs.Prelude.{◌≡◌, ◌++◌, List, length, IfOk, MatchBool, OnOk};
 ghost use Rattle.cfgast.specs.Syntax.{Syntax};
 ghost use Rattle.cfgtree.specs.Unused.{AreWarnings};
-ghost use Rattle.cfgtree.specs.View.{syntax};
+ghost use Rattle.cfgtree.specs.TreeView.{syntax};
 ghost use Rattle.cfgerrors.specs.Warnings.{GrammarWarning};
 ghost use Rattle.cfglint.specs.Findings.{IsAskedFor, TellsBelow, TellsWarning};
 ghost use Rattle.cfglint.specs.Inner.Asked.{AreAskedBy};

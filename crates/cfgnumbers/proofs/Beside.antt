@@ -7,9 +7,9 @@ use Rattle.std.proofs.lemmas.Slice.Zip.{length-zip}
 use Rattle.indexmap.proofs.ReorderLemmas.{slice_get-zip_some, zip_push}
 use Rattle.cfgindex.specs.declared.idxnewtype.RIdx.{RIdx}
 use Rattle.cfgindex.specs.declared.idxnewtype.Symbol.{Symbol}
-use Rattle.cfgtables.specs.Symbols.{sym_of}
+use Rattle.cfgtables.specs.NumberedSymbols.{sym_of}
 use Rattle.cfgnumbers.specs.Numbered.{NumberedProduction}
-use Rattle.cfgnumbers.specs.View.{production_view}
+use Rattle.cfgnumbers.specs.TablesView.{production_view}
 use Rattle.cfgnumbers.specs.declared.rows.ProductionRow.{ProductionRow}
 use Rattle.lemmas.proofs.Elements.{element_at}
 

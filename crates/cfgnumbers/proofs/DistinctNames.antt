@@ -15,7 +15,7 @@ use Rattle.cfgast.specs.Syntax.{Syntax}
 use Rattle.lemmas.proofs.Places.{position-distinct, position-map}
 use Rattle.cfgtree.specs.Sound.{IsSound}
 use Rattle.cfgnumbers.specs.Numbered.{Numbered, NumberedRule, NumberedToken, numbered_by, added_rules, file_rule, file_token, end_token}
-use Rattle.cfgnumbers.specs.Shown.{rule_part, token_part, has_token_name}
+use Rattle.cfgnumbers.specs.Accessors.{rule_part, token_part, has_token_name}
 use Rattle.cfgnumbers.specs.WellNumbered.{HasDistinctNames}
 use Rattle.cfgnumbers.proofs.Added.{added_names_are}
 use Rattle.cfgnumbers.proofs.RowLemmas.{rule_names, rule_names-distinct, name_shown}

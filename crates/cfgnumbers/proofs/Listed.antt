@@ -16,7 +16,7 @@ use Rattle.lemmas.proofs.Passing.{places-map, places-same}
 use Rattle.cfgast.specs.Syntax.{Syntax, Production}
 use Rattle.cfgtree.specs.WellFormed.{IsWellFormed}
 use Rattle.cfgnumbers.specs.Numbered.{NumberedProduction, rules_before, file_production, added_productions, numbered_by, NumberedRule, added_rules, file_rule}
-use Rattle.cfgnumbers.specs.Shown.{production_part, rule_part}
+use Rattle.cfgnumbers.specs.Accessors.{production_part, rule_part}
 use Rattle.cfgnumbers.proofs.Added.{behind_implicit}
 use Rattle.cfgnumbers.proofs.RowLemmas.{implicit_row}
 use Rattle.cfgnumbers.proofs.Turns.{All-shown}

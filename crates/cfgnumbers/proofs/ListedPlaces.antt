@@ -9,7 +9,7 @@ use Rattle.lemmas.proofs.Elements.{element_at}
 use Rattle.cfgtables.specs.Openings.{nth_production}
 use Rattle.cfgtables.specs.Openings.{ArePlacesOf}
 use Rattle.cfgnumbers.specs.Numbered.{Numbered, NumberedProduction, core, production_core}
-use Rattle.cfgnumbers.specs.Shown.{rule_part}
+use Rattle.cfgnumbers.specs.Accessors.{rule_part}
 use Rattle.cfgnumbers.specs.WellNumbered.{ListsEachOnce}
 use Rattle.cfgnumbers.proofs.Listed.{counted_here, counted_elsewhere}
 

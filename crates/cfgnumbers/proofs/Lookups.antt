@@ -16,10 +16,10 @@ use Rattle.lemmas.proofs.Places.{position-map, position-push, first_place, posit
 use Rattle.lemmas.proofs.Elements.{slice_get_push}
 use Rattle.cfgast.specs.Building.{has_name, has_rule}
 use Rattle.cfgast.specs.Syntax.{Syntax, Rule, index_of}
-use Rattle.cfgast.specs.View.{rule_entry}
+use Rattle.cfgast.specs.SyntaxView.{rule_entry}
 use Rattle.cfgnumbers.specs.Numbered.{NumberedRule, end_token}
-use Rattle.cfgnumbers.specs.Shown.{has_token_name}
-use Rattle.cfgnumbers.specs.View.{names, rule_view, token_view}
+use Rattle.cfgnumbers.specs.Accessors.{has_token_name}
+use Rattle.cfgnumbers.specs.TablesView.{names, rule_view, token_view}
 use Rattle.cfgnumbers.specs.declared.rows.RuleRow.{RuleRow}
 use Rattle.cfgnumbers.specs.declared.rows.TokenRow.{TokenRow}
 

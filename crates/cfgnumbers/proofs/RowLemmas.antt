@@ -29,9 +29,9 @@ use Rattle.cfgbase.specs.declared.span.Span.{Span}
 use Rattle.cfgwords.specs.Bytes.{holds}
 use Rattle.reading.specs.Pieces.{starts}
 use Rattle.cfgast.specs.Syntax.{Syntax, Rule, Production, entry_name}
-use Rattle.cfgast.specs.View.{span_entry, rule_entry, rule_view as plain_rule, production_view as plain_production}
+use Rattle.cfgast.specs.SyntaxView.{span_entry, rule_entry, rule_view as plain_rule, production_view as plain_production}
 use Rattle.cfgtree.specs.Sound.{IsSound}
-use Rattle.cfgnumbers.specs.View.{names, rule_view, token_view}
+use Rattle.cfgnumbers.specs.TablesView.{names, rule_view, token_view}
 use Rattle.cfgnumbers.specs.Numbered.{NumberedRule, NumberedToken, NumberedProduction, added_production, token_index, start_name, implicit_name, implicit_start_name, added_rules, file_rule, file_token, precedence_of_token, printed_form, avoids_insert}
 use Rattle.cfgnumbers.specs.declared.rows.RuleRow.{RuleRow}
 use Rattle.cfgnumbers.specs.declared.rows.TokenRow.{TokenRow}

@@ -6,7 +6,7 @@ use Rattle.std.proofs.lemmas.List as lists
 use Rattle.std.proofs.lemmas.List.Folds.{length-flat_map-take}
 use Rattle.derivation.specs.Grammar.{Sym}
 use Rattle.cfgast.specs.Syntax.{Symbol, Syntax}
-use Rattle.cfgast.specs.View.{symbol_view}
+use Rattle.cfgast.specs.SyntaxView.{symbol_view}
 use Rattle.cfgast.specs.declared.symbol.Symbol as source
 use Rattle.cfgnumbers.specs.Numbered.{file_symbol, file_symbols, spaced}
 use Rattle.cfgnumbers.proofs.Turns.{more_taken}

@@ -14,7 +14,7 @@ use Rattle.lemmas.proofs.Elements.{slice_get_push}
 use Rattle.lemmas.proofs.Ended.{none_at_end}
 use Rattle.lemmas.proofs.Passing.{places_from-within}
 use Rattle.lemmas.proofs.Zips.{All-zip}
-use Rattle.cfgwords.specs.Words.{Word}
+use Rattle.cfgwords.specs.FileWords.{Word}
 use Rattle.derivation.specs.Grammar.{Sym, Rule, Token, Grammar, IsSymbolOf}
 use Rattle.cfgast.specs.Building.{has_name, has_rule}
 use Rattle.cfgast.specs.Syntax.{Syntax, Production, Symbol, RuleSymbol, TokenSymbol}
@@ -28,7 +28,7 @@ use Rattle.cfgnumbers.specs.Inner.Resolved.{AreTokens, Resolves}
 use Rattle.cfgnumbers.proofs.Added.{All-added, rules_len, tokens_len}
 use Rattle.cfgnumbers.proofs.Valid.{resolved}
 use Rattle.cfgnumbers.specs.WellNumbered.{IsWhole}
-use Rattle.cfgnumbers.specs.Shown.{production_part, rule_part, token_part}
+use Rattle.cfgnumbers.specs.Accessors.{production_part, rule_part, token_part}
 use Rattle.cfgnumbers.proofs.Listed.{owners, owners_are, owners_within, start_owner, lists_are}
 use Rattle.cfgnumbers.proofs.RowLemmas.{name_shown}
 

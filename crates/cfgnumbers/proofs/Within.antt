@@ -8,10 +8,10 @@ use Rattle.lemmas.proofs.Options.{All-slice_get}
 use Rattle.derivation.specs.Grammar.{Sym, IsSymbolOf}
 use Rattle.cfgindex.specs.declared.idxnewtype.Symbol.{Symbol}
 use Rattle.cfgindex.specs.declared.idxnewtype.Symbol.TheVariants as symbols
-use Rattle.cfgtables.specs.Symbols.{sym_of}
+use Rattle.cfgtables.specs.NumberedSymbols.{sym_of}
 use Rattle.cfgnumbers.specs.Numbered.{Numbered, NumberedProduction, NumberedRule, core, production_core}
 use Rattle.cfgnumbers.specs.WellNumbered.{IsWhole, IsWellNumbered}
-use Rattle.cfgnumbers.specs.Shown.{IsSymbolWithin, production_part, rule_part}
+use Rattle.cfgnumbers.specs.Accessors.{IsSymbolWithin, production_part, rule_part}
 use Rattle.cfgnumbers.proofs.Turns.{All-shown}
 
 -- what holds of the part of each element holds of one that is read

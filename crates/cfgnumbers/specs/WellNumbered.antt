@@ -5,7 +5,7 @@ use Rattle.std.specs.Str.{bytes_eq}
 use Rattle.derivation.specs.Grammar.{IsGrammar}
 use Rattle.cfgnumbers.specs.Fits.{Fits}
 use Rattle.cfgnumbers.specs.Numbered.{Numbered, core}
-use Rattle.cfgnumbers.specs.Shown.{production_part, rule_part, token_part}
+use Rattle.cfgnumbers.specs.Accessors.{production_part, rule_part, token_part}
 
 pub record IsWhole (g : Numbered) : Type 0 where
   -- rule 0 is the start rule, and has one production

@@ -3,7 +3,7 @@
 ghost use Rattle.std.specs.Prelude.{◌≡◌, ◌≤◌, ℕ, List, None, length, position, option_map, IfOk, OnOk};
 ghost use Rattle.std.specs.HashMap.{get_by};
 ghost use Rattle.std.specs.Str.{bytes_eq};
-ghost use Rattle.cfgnumbers.specs.View.{names};
+ghost use Rattle.cfgnumbers.specs.TablesView.{names};
 
 use crate::rows::TokenRow;
 use cfgindex::{Storage, TIdx, to_storage};

@@ -2,8 +2,8 @@
 
 ghost use Rattle.std.specs.Prelude.{◌≡◌, ◌<◌, ◌∷◌, ◌++◌, [], Some, length, map, option_map, slice_get, string_bytes};
 ghost use Rattle.std.specs.Prelude.{IfOk, OnOk};
-ghost use Rattle.cfgnumbers.specs.View.{production_view};
-ghost use Rattle.cfgtables.specs.Symbols.{sym_of};
+ghost use Rattle.cfgnumbers.specs.TablesView.{production_view};
+ghost use Rattle.cfgtables.specs.NumberedSymbols.{sym_of};
 
 use crate::lists::Lists;
 use crate::rows::ProductionRow;
@@ -23,7 +23,7 @@ impl<S: Storage> Model for ProductionRows<S> {
     ghost use Rattle.std.specs.Prelude.{◌≡◌, List, length, map};
     ghost use Rattle.std.specs.List.{zip};
     ghost use Rattle.cfgnumbers.specs.Numbered.{NumberedProduction};
-    ghost use Rattle.cfgnumbers.specs.View.{production_view};
+    ghost use Rattle.cfgnumbers.specs.TablesView.{production_view};
 
     ghost Value = { List NumberedProduction };
 

@@ -17,10 +17,11 @@
 #![tactic(auto)]
 
 pub mod header;
+pub mod laws;
 pub mod yacc;
 
 pub use cfgbase::{Location, Span, Spanned, SpansKind, span};
 pub use cfgindex::{PIdx, RIdx, SIdx, Storage, Symbol, TIdx, Vob, idxnewtype, storage};
-pub use cfglines::{FeedError, NewlineCache, newlinecache};
+pub use cfglines::{FeedError, NewlineCache, Places, newlinecache};
 pub use cfgmarks::markmap;
 pub use cfgrender::{render, render_all};

@@ -5,13 +5,13 @@ use Rattle.reading.specs.Read.{stop_of}
 use Rattle.cfgwords.specs.declared.fault.Fault.{Fault}
 use Rattle.cfgast.specs.Building.{add, adds}
 use Rattle.cfgast.specs.Syntax.{Syntax, syntax_of}
-use Rattle.cfgast.specs.View.{syntax_view, syntax_built}
+use Rattle.cfgast.specs.SyntaxView.{syntax_view, syntax_built}
 use Rattle.cfgast.specs.declared.syntax.Syntax.{Syntax as CodeSyntax}
 use Rattle.cfgast.proofs.Law.{adds_syntax_of}
 use Rattle.cfgkinds.specs.declared.kind.YaccKind.{YaccKind}
 use Rattle.cfgreader.specs.declared.reader.Reader.{Reader}
 use Rattle.cfgreader.specs.Inner.Builds.{Grows, IsFile}
-use Rattle.cfgreader.specs.Grammar.{file}
+use Rattle.cfgreader.specs.FileGrammar.{file}
 
 module _ (kind : YaccKind) (len : ℕ) (rest : List ℕ) (old : Reader) (whole : old.rest.now ≡ rest) (long : old.len ≡ len) where
   pub file_built : (new : Reader) (made : Syntax) → syntax_built old.tree ≡ syntax_of [] → made ≡ syntax_built new.tree

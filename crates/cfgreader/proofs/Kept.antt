@@ -8,7 +8,7 @@ use Rattle.reading.specs.Leaves.{Gives, ValueOf, Leaves}
 use Rattle.reading.specs.Construct.{Construct}
 use Rattle.reading.proofs.Keeps.{Keeps}
 use Rattle.cfgwords.specs.declared.fault.Fault.{Fault}
-use Rattle.cfgwords.specs.Words.{Word, IsName, IsInteger, word_at, integer_at, word_of}
+use Rattle.cfgwords.specs.FileWords.{Word, IsName, IsInteger, word_at, integer_at, word_of}
 use Rattle.cfgwords.specs.Places.{IsPiece, IsWithin}
 use Rattle.cfgwords.proofs.NameStarts.{begins_as_name}
 use Rattle.cfgwords.proofs.WordPlaces.{IsWordAt, StandsBehind, name_at, integer_is_at}

@@ -6,7 +6,7 @@ use Rattle.reading.specs.Construct.{Construct, ends, repeat, while_test}
 use Rattle.cfgbase.specs.declared.span.Span.{Span}
 use Rattle.cfgwords.specs.declared.fault.Fault.{Fault}
 use Rattle.cfgwords.specs.declared.fault.FaultKind.TheVariants.{IllegalInteger, IllegalString, PrematureEnd, UnknownDeclaration, UnknownSymbol}
-use Rattle.cfgwords.specs.Words.{Word}
+use Rattle.cfgwords.specs.FileWords.{Word}
 use Rattle.cfgwords.specs.Places.{IsPiece}
 use Rattle.cfgwords.specs.Text.{place}
 use Rattle.cfgwords.proofs.Cuts.{boundary_cut}

@@ -9,7 +9,7 @@ use Rattle.reading.proofs.Keeps.{Given, keeps, given_passes}
 use Rattle.reading.proofs.Yields.{Yields}
 use Rattle.cfgwords.specs.declared.fault.FaultKind.TheVariants.{IllegalName, IllegalString, IncompleteRule, NonEmptyProduction, ProductionNotTerminated}
 use Rattle.cfgwords.specs.Text.{place}
-use Rattle.cfgwords.specs.Words.{Token, word_at, word_of}
+use Rattle.cfgwords.specs.FileWords.{Token, word_at, word_of}
 use Rattle.cfgwords.specs.Places.{IsPiece}
 use Rattle.cfgwords.proofs.Cuts.{IsCut, place_cut, boundary_cut}
 use Rattle.cfgwords.proofs.NameStarts.{name_begins}
@@ -19,7 +19,7 @@ use Rattle.cfgast.specs.Syntax.{last_of}
 use Rattle.cfgkinds.specs.declared.kind.YaccKind.{YaccKind}
 use Rattle.cfgreader.specs.Here.{Turn}
 use Rattle.cfgreader.specs.Rules.{Part, SymbolPart, PrecedencePart, EmptyPart, Parts, no_parts, with_parts, part_end, symbol_in, end_of, parts_row, precedence, empty, misplaced_empty, front_part, symbol_part, part, brace_fault, end_fault, another, finish, production_end, production, rule_type, rule_body, rule}
-use Rattle.cfgreader.specs.Grammar.{programs, file}
+use Rattle.cfgreader.specs.FileGrammar.{programs, file}
 use Rattle.cfgreader.proofs.Kept.{IsNameAt, IsItemAt, IsAt, KeepsPlaces}
 use Rattle.cfgreader.proofs.KeptDeclarations.{declaration_kept, separator_fault_kept}
 

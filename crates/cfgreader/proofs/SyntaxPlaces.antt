@@ -6,7 +6,7 @@ use Rattle.lemmas.specs.Lists.{with_fronts}
 use Rattle.lemmas.proofs.Fronts.{All-with_fronts}
 use Rattle.lemmas.proofs.Options.{All-slice_get, All-filter_map}
 use Rattle.cfgbase.specs.declared.span.Span.{Span}
-use Rattle.cfgwords.specs.Words.{Word, Token, word_of}
+use Rattle.cfgwords.specs.FileWords.{Word, Token, word_of}
 use Rattle.cfgast.specs.declared.precedence.Precedence.{Precedence}
 use Rattle.cfgast.specs.Items.{Item, TokenDeclared, StartDeclared, ActionTypeDeclared, PrintedFormDeclared, ExpectDeclared, ExpectReduceReduceDeclared, ExpectedUnused, AvoidInsertBegun, AvoidInsertDeclared, ImplicitTokensBegun, ImplicitTokenDeclared, PrecedenceDeclared, RuleBegun, RuleNamed, TokenQuoted, PrecedenceUsed, Alternative}
 use Rattle.cfgast.specs.Occurrences.{declared_once}

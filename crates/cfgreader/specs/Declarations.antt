@@ -7,13 +7,13 @@ use Rattle.cfgbase.specs.declared.span.Span.{Span}
 use Rattle.cfgwords.specs.declared.fault.Fault.{Fault}
 use Rattle.cfgwords.specs.declared.fault.FaultKind.TheVariants.{PrematureEnd, ReachedEOL, UnknownDeclaration, UnknownSymbol}
 use Rattle.cfgwords.specs.Text.{place, fault_at}
-use Rattle.cfgwords.specs.Words.{Word, word_at, word_of}
+use Rattle.cfgwords.specs.FileWords.{Word, word_at, word_of}
 use Rattle.cfgast.specs.declared.precedence.AssocKind.{AssocKind}
 use Rattle.cfgast.specs.declared.precedence.AssocKind.TheVariants.{Left, Right, Nonassoc}
 use Rattle.cfgast.specs.Items.{Item, TokenDeclared, StartDeclared, ActionTypeDeclared, PrintedFormDeclared, ExpectDeclared, ExpectReduceReduceDeclared, ExpectedUnused, ParseParamDeclared, GenericsDeclared, AvoidInsertBegun, AvoidInsertDeclared, ImplicitTokensBegun, ImplicitTokenDeclared, PrecedenceDeclared, LevelEnded, RuleSymbol, TokenSymbol}
 use Rattle.cfgkinds.specs.declared.kind.YaccKind.{YaccKind}
 use Rattle.cfgkinds.specs.declared.kind.YaccKind.TheVariants.{Original, Grmtools, Eco}
-use Rattle.cfgreader.specs.Kinds.{name_kind}
+use Rattle.cfgreader.specs.FileWordKinds.{name_kind}
 use Rattle.cfgreader.specs.Keywords.{Keyword, behind, one_of}
 use Rattle.cfgreader.specs.Here.{Strict, Lax, Turn, is_open, blank_here, line_blank, name_here, token_or, token_here, integer_here, line_rest_here, epp_string_here, colon_text_here}
 

@@ -9,9 +9,9 @@ use Rattle.cfgwords.specs.declared.fault.Fault.{Fault}
 use Rattle.cfgwords.specs.declared.fault.FaultKind.TheVariants.{IllegalInteger, IllegalName, IllegalString}
 use Rattle.cfgwords.specs.Text.{fault_at}
 use Rattle.cfgwords.specs.Blank.{passes_line_end}
-use Rattle.cfgwords.specs.Words.{Word, Token, word_at, token_at, integer_at}
+use Rattle.cfgwords.specs.FileWords.{Word, Token, word_at, token_at, integer_at}
 use Rattle.cfgast.specs.Items.{Item}
-use Rattle.cfgreader.specs.Kinds.{name_kind, token_kind, integer_kind, blank_kind, line_rest_kind, epp_string_kind, colon_text_kind}
+use Rattle.cfgreader.specs.FileWordKinds.{name_kind, token_kind, integer_kind, blank_kind, line_rest_kind, epp_string_kind, colon_text_kind}
 
 -- a construct that leaves less text than it found, as each turn of a repetition must
 abbrev pub Strict : Type 0 → Type 1

@@ -9,13 +9,13 @@ use Rattle.cfgwords.specs.declared.fault.Fault.{Fault}
 use Rattle.cfgwords.specs.declared.fault.FaultKind.{FaultKind}
 use Rattle.cfgwords.specs.declared.fault.FaultKind.TheVariants.{IllegalString, IncompleteAction, IncompleteRule, MissingColon, MissingRightArrow, NonEmptyProduction, ProductionNotTerminated}
 use Rattle.cfgwords.specs.Text.{place, fault_at}
-use Rattle.cfgwords.specs.Words.{Token, word_of}
+use Rattle.cfgwords.specs.FileWords.{Token, word_of}
 use Rattle.cfgwords.specs.Actions.{action_at}
 use Rattle.cfgast.specs.Syntax.{last_of}
 use Rattle.cfgast.specs.Items.{Item, RuleHead, Body, RuleBegun, RuleNamed, TokenQuoted, PrecedenceUsed, Alternative}
 use Rattle.cfgkinds.specs.declared.kind.YaccKind.{YaccKind}
 use Rattle.cfgkinds.specs.declared.kind.YaccKind.TheVariants.{Grmtools}
-use Rattle.cfgreader.specs.Kinds.{action_kind}
+use Rattle.cfgreader.specs.FileWordKinds.{action_kind}
 use Rattle.cfgreader.specs.Here.{Strict, Lax, Turn, is_open, stands, blank_here, name_here, token_or, token_here, colon_text_here}
 
 -- a part of a production: a symbol, the token behind a `%prec`, or an `%empty`, by the place where it ends

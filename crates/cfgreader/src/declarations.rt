@@ -3,7 +3,7 @@
 ghost use Rattle.std.specs.Prelude.{◌≡◌, codes};
 ghost use Rattle.std.specs.String.{string_bytes};
 ghost use Rattle.reading.specs.Construct.{expect, goes_on, repeat};
-ghost use Rattle.cfgast.specs.View.{word_view};
+ghost use Rattle.cfgast.specs.SyntaxView.{word_view};
 ghost use Rattle.cfgast.specs.Items.{ExpectDeclared, ExpectReduceReduceDeclared};
 ghost use Rattle.cfgreader.specs.Declarations.{listed_token, start_declaration, action_type_declaration};
 ghost use Rattle.cfgreader.specs.Declarations.{printed_token, printed_form, epp_declaration, number_declaration};

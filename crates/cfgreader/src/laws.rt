@@ -3,7 +3,7 @@
 ghost use Rattle.std.specs.Prelude.{ℕ};
 ghost use Rattle.reading.specs.Graph.{IsGraph};
 ghost use Rattle.reading.specs.Construct.{Says, computes};
-ghost use Rattle.cfgreader.specs.Grammar.{file};
+ghost use Rattle.cfgreader.specs.FileGrammar.{file};
 ghost use Rattle.cfgkinds.specs.declared.kind.YaccKind.{YaccKind};
 
 /// The plain program `file`, a function on lists of bytes, reads just what the grammar relates a text to: so

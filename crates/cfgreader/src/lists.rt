@@ -3,7 +3,7 @@
 ghost use Rattle.std.specs.Prelude.{◌≡◌, OnOk};
 ghost use Rattle.reading.specs.Construct.{goes_on, repeat, while_test};
 ghost use Rattle.cfgast.specs.Building.{add};
-ghost use Rattle.cfgast.specs.View.{syntax_built, word_view};
+ghost use Rattle.cfgast.specs.SyntaxView.{syntax_built, word_view};
 ghost use Rattle.cfgreader.specs.Declarations.{is_listed, list_declaration, line_token, precedence_declaration};
 ghost use Rattle.cfgreader.specs.Declarations.{marking_declaration};
 ghost use Rattle.cfgreader.specs.Inner.Lists.{begun, listed_in, marked, said, turn_in};

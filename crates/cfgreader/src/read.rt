@@ -4,7 +4,7 @@ ghost use Rattle.std.specs.Prelude.{◌≡◌, ◌≤◌, IfOk, length};
 ghost use Rattle.reading.specs.Construct.{computes};
 ghost use Rattle.reading.specs.Read.{stop_of};
 ghost use Rattle.cfgreader.specs.Inner.Builds.{Grows, IsFile};
-ghost use Rattle.cfgreader.specs.Grammar.{file};
+ghost use Rattle.cfgreader.specs.FileGrammar.{file};
 
 use super::reader::{ReadFault, Reader};
 use cfgast::Syntax;

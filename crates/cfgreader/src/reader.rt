@@ -49,7 +49,7 @@ pub(crate) struct Reader<'a> {
 
 impl<'a> Reader<'a> {
     ghost use Rattle.cfgreader.specs.Inner.Builds.{Builds, IsPartHere, IsNameHere, IsTokenHere};
-    ghost use Rattle.cfgast.specs.View.{syntax_view, syntax_built, word_view, token_view};
+    ghost use Rattle.cfgast.specs.SyntaxView.{syntax_view, syntax_built, word_view, token_view};
     ghost use Rattle.cfgast.specs.Syntax.{syntax_of};
 
     /// At the front of what is left of a text of `len` bytes, with nothing read.

@@ -5,7 +5,7 @@ ghost use Rattle.reading.specs.Construct.{goes_on, repeat, while_test};
 ghost use Rattle.cfgwords.specs.Text.{place};
 ghost use Rattle.cfgast.specs.Items.{Alternative};
 ghost use Rattle.cfgreader.specs.Inner.Builds.{IsActionHere, parts_view};
-ghost use Rattle.cfgreader.specs.Grammar.{file, programs};
+ghost use Rattle.cfgreader.specs.FileGrammar.{file, programs};
 ghost use Rattle.cfgreader.specs.Rules.{another, end_fault, finish, is_rule_next, production};
 ghost use Rattle.cfgreader.specs.Rules.{production_end, rule, rule_body, rule_type};
 
@@ -19,7 +19,7 @@ use cfgwords::fault::FaultKind;
 
 impl<'a> Reader<'a> {
     ghost use Rattle.cfgreader.specs.Inner.Builds.{Builds};
-    ghost use Rattle.cfgast.specs.View.{head_view, body_view};
+    ghost use Rattle.cfgast.specs.SyntaxView.{head_view, body_view};
 
     /// The fault where `|` or `;` must stand: behind an action, or elsewhere in a body.
     fn end_fault(&self, has_action: bool) -> ReadFault
@@ -182,7 +182,7 @@ impl<'a> Reader<'a> {
     }
 
     /// Passes the second `%%`, if it stands here, and notes the programs behind it.
-    #[tactic(auto, unfolding(crate::specs::Grammar::programs))]
+    #[tactic(auto, unfolding(crate::specs::FileGrammar::programs))]
     fn programs(&mut self) -> Result<(), ReadFault>
         ensures { Builds (λ x. x) self.old self.new result (programs self.old.len) }
     {
@@ -194,7 +194,7 @@ impl<'a> Reader<'a> {
     }
 
     /// Passes a whole file.
-    #[tactic(auto, unfolding(crate::specs::Grammar::file))]
+    #[tactic(auto, unfolding(crate::specs::FileGrammar::file))]
     pub(super) fn file(&mut self, kind: YaccKind) -> Result<(), ReadFault>
         ensures { Builds (λ x. x) self.old self.new result (file kind self.old.len) }
     {

@@ -9,7 +9,7 @@ use Rattle.cfgwords.specs.Places.{IsPiece}
 use Rattle.cfgkinds.specs.declared.kind.YaccKind.{YaccKind}
 use Rattle.cfgerrors.specs.HeaderErrors.{ShownError}
 use Rattle.cfgkinds.specs.Values.{ShownHeaderValue, ShownValue}
-use Rattle.cfgkinds.specs.Kinds.{kind_of_value}
+use Rattle.cfgkinds.specs.YaccKinds.{kind_of_value}
 use Rattle.cfgsection.specs.SectionGrammar.{Entry}
 use Rattle.cfgsection.specs.SectionReads.{given, section_answer}
 use Rattle.cfgsection.specs.declared.section.header_fault.HeaderFault.{HeaderFault}

@@ -9,7 +9,7 @@ use Rattle.cfgerrors.specs.HeaderErrors.{ShownError, error_view}
 use Rattle.cfgerrors.specs.declared.header.HeaderError.{HeaderError}
 use Rattle.cfgkinds.specs.declared.kind.YaccKind.{YaccKind}
 use Rattle.cfgkinds.specs.declared.value.Value.{Value}
-use Rattle.cfgkinds.specs.Kinds.{kind_of_value}
+use Rattle.cfgkinds.specs.YaccKinds.{kind_of_value}
 use Rattle.cfgkinds.specs.Values.{ShownHeaderValue}
 use Rattle.cfgsection.specs.declared.section.entry.Entry.{Entry as CodeEntry}
 use Rattle.cfgsection.specs.declared.section.header_fault.HeaderFault.{HeaderFault}
@@ -18,7 +18,7 @@ use Rattle.cfgsection.specs.SectionGrammar.{Entry, Fault, entry, section}
 use Rattle.cfgsection.specs.SectionErrors.{duplicate_errors, section_errors}
 use Rattle.cfgsection.specs.SectionReads.{AnswersEntry, IsEntryAnswer, IsSectionRead, end_of, errors_view, section_of, section_answer, unless_errors, given}
 use Rattle.cfgsection.specs.Named.{Naming, IsNaming, kind_or_places, kind_given, kind_in, Names, HasOneNaming}
-use Rattle.cfgsection.specs.Refusal.{ListsErrors}
+use Rattle.cfgsection.specs.SectionRefusal.{ListsErrors}
 
 abbrev pub HasErrors : {A E : Type 0} → Result A (List E) → Type 0
 HasErrors (Ok a) = Unit {0}

@@ -1,8 +1,8 @@
 -- Who relies on the calls of this crate has to read these files; those in Inner have the definitions for private clauses.
 pub mod Inner
-pub mod Kinds
+pub mod SectionWordKinds
 pub mod Named
-pub mod Refusal
+pub mod SectionRefusal
 pub mod SectionErrors
 pub mod SectionGrammar
 pub mod SectionPlaces

@@ -5,7 +5,7 @@ use Rattle.cfgkinds.specs.declared.kind.YaccKind.{YaccKind}
 use Rattle.cfgsection.specs.declared.section.header_fault.HeaderFault.{HeaderFault}
 use Rattle.cfgsection.specs.declared.section.header_fault.HeaderFault.TheVariants as faults
 use Rattle.cfgerrors.specs.HeaderErrors.{InvalidEntry, ShownError}
-use Rattle.cfgkinds.specs.Kinds.{kind_of_value}
+use Rattle.cfgkinds.specs.YaccKinds.{kind_of_value}
 use Rattle.cfgsection.specs.SectionGrammar.{Entry, Fault}
 use Rattle.cfgsection.specs.SectionReads.{IsSection, section_answer, given, errors_view}
 use Rattle.cfgkinds.specs.Values.{ShownHeaderValue}

@@ -8,11 +8,11 @@ use Rattle.reading.specs.Construct.{Construct, ◌>>=◌, ◌>>◌, case_of, cho
 use Rattle.cfgwords.specs.declared.bytes.ByteClass.TheVariants as bytes
 use Rattle.cfgwords.specs.Bytes.{holds}
 use Rattle.cfgwords.specs.Text.{place, span_of}
-use Rattle.cfgwords.specs.Words.{integer_at}
+use Rattle.cfgwords.specs.FileWords.{integer_at}
 use Rattle.cfgwords.specs.SectionWords.{ascii_characters, wide_characters, name_at, text_at}
 use Rattle.cfgerrors.specs.HeaderErrors.{ShownErrorKind, MissingGrmtoolsSection, IllegalName, ExpectedToken, UnexpectedToken, InvalidEntry, ShownError}
 use Rattle.cfgkinds.specs.Values.{Placed, ShownNamespaced, ShownSetting, Unitary, Constructor, Number, Text, Array, settings_of, ShownValue, Flag, Given}
-use Rattle.cfgsection.specs.Kinds.{name_kind, text_kind, integer_kind}
+use Rattle.cfgsection.specs.SectionWordKinds.{name_kind, text_kind, integer_kind}
 
 -- an entry of a section: its key in lower case, the key's place, and what the key has
 pub record Entry : Type 0 where

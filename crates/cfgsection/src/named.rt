@@ -3,7 +3,7 @@
 ghost use Rattle.std.specs.Prelude.{◌≡◌, ◌∷◌, [], option_map, IfOk, IfErr, codes};
 ghost use Rattle.cfgerrors.specs.HeaderErrors.{InvalidEntry, error_view};
 ghost use Rattle.cfgsection.specs.Named.{HasOneNaming, IsNaming, Naming, Names, kind_given};
-ghost use Rattle.cfgsection.specs.Refusal.{ListsErrors};
+ghost use Rattle.cfgsection.specs.SectionRefusal.{ListsErrors};
 ghost use Rattle.cfgsection.specs.SectionPlaces.{IsFaultAt};
 ghost use Rattle.cfgsection.specs.SectionReads.{entry_view, given_by};
 

@@ -13,7 +13,7 @@ mod settings;
 ghost use Rattle.std.specs.Prelude.{length, drop, IfOk, IfErr};
 ghost use Rattle.std.specs.Str.{IsCharBoundary, IsUtf8};
 ghost use Rattle.cfgwords.specs.Places.{IsPiece};
-ghost use Rattle.cfgsection.specs.Refusal.{ListsErrors};
+ghost use Rattle.cfgsection.specs.SectionRefusal.{ListsErrors};
 ghost use Rattle.cfgsection.specs.SectionPlaces.{IsFaultAt};
 ghost use Rattle.cfgsection.specs.SectionReads.{AnswersEntry, HasOneSection, IsSectionRead, section_of};
 

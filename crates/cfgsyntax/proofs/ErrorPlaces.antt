@@ -14,7 +14,7 @@ use Rattle.cfgbase.specs.declared.span.Span.{Span}
 use Rattle.reading.specs.Read.{stop_of}
 use Rattle.reading.proofs.Yields.{EndsIn}
 use Rattle.cfgwords.specs.declared.fault.Fault.{Fault}
-use Rattle.cfgwords.specs.Words.{Word}
+use Rattle.cfgwords.specs.FileWords.{Word}
 use Rattle.cfgwords.proofs.Cuts.{IsCut, cut_here}
 use Rattle.cfgast.specs.Items.{Item}
 use Rattle.cfgast.specs.Building.{has_entry, has_name, has_rule}
@@ -35,7 +35,7 @@ use Rattle.cfgtree.specs.Check.{nowhere, first_error, start_error, symbol_error,
 use Rattle.cfgsyntax.specs.Faults.{kind_of, error_of, duplicate_error, stop_errors, errors_of}
 use Rattle.cfgwords.specs.Places.{IsPiece, IsWithin}
 use Rattle.cfgsyntax.specs.Reads.{Stop, InSection, InFile, ReadsFile, ReadsBehind, Reads}
-use Rattle.cfgsyntax.specs.Spans.{EachErrorSpan}
+use Rattle.cfgsyntax.specs.ErrorSpans.{EachErrorSpan}
 use Rattle.cfgreader.proofs.Kept.{IsItemAt}
 use Rattle.cfgreader.proofs.KeptRules.{file_kept}
 use Rattle.cfgwords.proofs.WordPlaces.{IsWordAt, StandsBehind}

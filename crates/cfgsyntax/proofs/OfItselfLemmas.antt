@@ -15,7 +15,7 @@ use Rattle.cfgerrors.specs.declared.error.YaccFault.TheVariants as faults
 use Rattle.cfgsyntax.specs.Inner.Steps.{IsRefusedBy, IsKindOf}
 use Rattle.cfgsyntax.specs.OfItself.{IsParsedAs, AnswersNaming}
 use Rattle.cfgsyntax.specs.Parsed.{Parsed}
-use Rattle.cfgsyntax.specs.Spans.{EachErrorSpan}
+use Rattle.cfgsyntax.specs.ErrorSpans.{EachErrorSpan}
 use Rattle.cfgsyntax.proofs.ErrorPlaces.{section_errors_at}
 
 pub refused_by : (naming : Naming) (errors : List (ShownError Span)) (told : List GrammarError) → naming ≡ Err errors → told ≡ map header_error errors → IsRefusedBy naming told

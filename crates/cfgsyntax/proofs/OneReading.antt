@@ -8,14 +8,14 @@ use Rattle.cfgbase.specs.declared.span.Span.{Span}
 use Rattle.cfgwords.specs.declared.fault.Fault.{Fault}
 use Rattle.cfgast.specs.Items.{Item}
 use Rattle.cfgast.specs.Syntax.{Syntax, syntax_of}
-use Rattle.cfgtree.specs.View.{syntax}
+use Rattle.cfgtree.specs.TreeView.{syntax}
 use Rattle.cfgtree.specs.declared.ast.GrammarAST.{GrammarAST}
 use Rattle.cfgkinds.specs.declared.kind.YaccKind.{YaccKind}
 use Rattle.cfgerrors.specs.HeaderErrors.{ShownError}
 use Rattle.cfgsection.specs.SectionGrammar.{Entry}
 use Rattle.cfgsection.specs.SectionReads.{section_of}
 use Rattle.cfgsection.proofs.SectionOne.{one_section, section_answered}
-use Rattle.cfgreader.specs.Grammar.{file}
+use Rattle.cfgreader.specs.FileGrammar.{file}
 use Rattle.cfgsyntax.specs.declared.read.Stopped.{Stopped}
 use Rattle.cfgsyntax.specs.Inner.Steps.{IsReadBehind, stop_view}
 use Rattle.cfgsyntax.specs.Reads.{Stop, InSection, InFile, ReadsBehind, Reads, HasOneReading}

@@ -9,7 +9,7 @@ use Rattle.cfgtree.specs.Check.{first_error, start_error, rule_error, printed_er
 use Rattle.cfgsyntax.specs.Faults.{all_errors, errors_of}
 use Rattle.cfgsyntax.specs.Reads.{Stop, Reads, HasOneReading}
 use Rattle.cfgast.specs.Items.{Item}
-use Rattle.cfgwords.specs.Words.{Word}
+use Rattle.cfgwords.specs.FileWords.{Word}
 use Rattle.cfgtree.specs.Writing.{started_at}
 use Rattle.cfgtree.specs.Sound.{IsSound}
 

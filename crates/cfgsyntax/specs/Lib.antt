@@ -4,5 +4,5 @@ pub mod Inner
 pub mod OfItself
 pub mod Parsed
 pub mod Reads
-pub mod Spans
+pub mod ErrorSpans
 pub mod Starts

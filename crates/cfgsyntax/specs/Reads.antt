@@ -10,7 +10,7 @@ use Rattle.cfgkinds.specs.declared.kind.YaccKind.{YaccKind}
 use Rattle.cfgerrors.specs.HeaderErrors.{ShownError}
 use Rattle.cfgsection.specs.SectionGrammar.{Entry, Fault as SectionFault}
 use Rattle.cfgsection.specs.SectionReads.{IsSection, section_answer}
-use Rattle.cfgreader.specs.Grammar.{file}
+use Rattle.cfgreader.specs.FileGrammar.{file}
 
 -- what stops a reading: the errors of the section, or a fault of the file
 pub data Stop : Type 0 where

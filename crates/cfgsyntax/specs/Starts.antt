@@ -1,11 +1,11 @@
 -- What was parsed, with another start, and why it isn't given one.
 use Rattle.std.specs.Prelude.{◌≡◌, ℕ, List, true, false, codes}
-use Rattle.cfgwords.specs.Words.{Word}
+use Rattle.cfgwords.specs.FileWords.{Word}
 use Rattle.cfgast.specs.Building.{has_rule}
 use Rattle.cfgast.specs.Syntax.{Syntax}
 use Rattle.cfgtree.specs.Writing.{started_at}
 use Rattle.cfgerrors.specs.Errors.{InvalidStartRule}
-use Rattle.cfgerrors.specs.Texts.{error_text}
+use Rattle.cfgerrors.specs.ErrorTexts.{error_text}
 use Rattle.cfgsyntax.specs.Parsed.{Parsed}
 use Rattle.cfgsyntax.specs.declared.yacc.ast.start.StartFault.{StartFault}
 use Rattle.cfgsyntax.specs.declared.yacc.ast.start.StartFault.TheVariants as faults

@@ -2,8 +2,8 @@
 
 ghost use Rattle.std.specs.Prelude.{◌≡◌, IfOk, map, option_map, string_bytes};
 ghost use Rattle.cfgast.specs.Building.{has_entry, has_name, has_rule};
-ghost use Rattle.cfgast.specs.View.{symbol_view, production_view};
-ghost use Rattle.cfgtree.specs.View.{syntax};
+ghost use Rattle.cfgast.specs.SyntaxView.{symbol_view, production_view};
+ghost use Rattle.cfgtree.specs.TreeView.{syntax};
 ghost use Rattle.cfgtree.specs.Check.{start_error, symbol_error};
 ghost use Rattle.cfgtree.specs.Check.{precedence_error, production_error, printed_error, place_error, rule_error};
 ghost use Rattle.cfgtree.specs.Check.{first_error, check_of};

@@ -3,7 +3,7 @@
 ghost use Rattle.std.specs.Prelude.{◌≡◌, ◌^◌, ◌<◌, ◌≤◌, All, length, map, replicate, IfOk};
 ghost use Rattle.derivation.specs.Grammar.{Grammar, IsGrammar};
 ghost use Rattle.cfgtables.specs.Openings.{ArePlacesOf, nth_production};
-ghost use Rattle.cfgtables.specs.Symbols.{sym_of};
+ghost use Rattle.cfgtables.specs.NumberedSymbols.{sym_of};
 
 use crate::productions::Productions;
 use cfgindex::{PIdx, RIdx, Storage, Symbol, TIdx};
@@ -112,7 +112,7 @@ impl<'a, S: Storage, T: Tables<S>> Productions<S> for CountedTables<'a, S, T> {
     ghost use Rattle.std.specs.Borrow.{sem};
     ghost use Rattle.std.specs.Io.BufRead.{Rests};
     ghost use Rattle.cfgtables.specs.Openings.{nth_production, OpensOne};
-    ghost use Rattle.cfgtables.specs.Symbols.{sym_of};
+    ghost use Rattle.cfgtables.specs.NumberedSymbols.{sym_of};
     ghost use Rattle.cfgtables.specs.contracts.counted.CountedTables.{the_row};
 
     ghost content = { λ x. x.grammar };

@@ -5,7 +5,7 @@ ghost use Rattle.std.specs.Borrow.{sem};
 ghost use Rattle.std.specs.Io.BufRead.{Rests};
 ghost use Rattle.derivation.specs.Grammar.{Grammar, IsGrammar};
 ghost use Rattle.cfgtables.specs.Openings.{nth_production, OpensOne};
-ghost use Rattle.cfgtables.specs.Symbols.{sym_of};
+ghost use Rattle.cfgtables.specs.NumberedSymbols.{sym_of};
 
 use cfgindex::{PIdx, RIdx, Storage, Symbol, TIdx};
 

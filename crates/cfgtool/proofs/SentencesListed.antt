@@ -7,7 +7,7 @@ use Rattle.derivation.specs.Grammar.{Sym, Grammar, IsGrammar, HasProduction}
 use Rattle.derivation.specs.Sentence.{cost_of}
 use Rattle.derivation.specs.Costs.{Minimal}
 use Rattle.cfgleast.specs.Generator.{HasNone, IsTooDear}
-use Rattle.cfgchoices.specs.First.{dictionary}
+use Rattle.cfgchoices.specs.FirstSentence.{dictionary}
 use Rattle.cfgcosts.specs.Sentences.{ListsMinimal}
 use Rattle.cfgchoices.proofs.SentenceTokens.{sentence_tokens}
 

@@ -2,7 +2,7 @@
 use Rattle.std.proofs.Common.{◌≡◌, ℕ, List, ◌++◌, slice_get, Option, Some, None, option_map, codes}
 use Rattle.std.specs.Fmt.{decimal}
 use Rattle.cfgnumbers.specs.Numbered.{Numbered}
-use Rattle.cfgnumbers.specs.Shown.{production_part, production_text}
+use Rattle.cfgnumbers.specs.Accessors.{production_part, production_text}
 use Rattle.cfgtool.specs.Lines.{production_line}
 
 -- the line of a production

@@ -8,11 +8,11 @@ use Rattle.cfglines.specs.Lines.{line_number, column}
 use Rattle.cfgast.specs.Syntax.{Syntax}
 use Rattle.cfgtree.specs.Unused.{AreWarnings}
 use Rattle.cfgerrors.specs.Errors.{GrammarError}
-use Rattle.cfgerrors.specs.Texts.{error_text}
+use Rattle.cfgerrors.specs.ErrorTexts.{error_text}
 use Rattle.cfgerrors.specs.WarningTexts.{warning_text}
 use Rattle.cfgerrors.specs.Warnings.{GrammarWarning}
 use Rattle.cfgnumbers.specs.Numbered.{Numbered, NumberedProduction}
-use Rattle.cfgnumbers.specs.Shown.{production_text}
+use Rattle.cfgnumbers.specs.Accessors.{production_text}
 
 -- `LINE:COLUMN: ` of a place in the text
 abbrev pub place_text : List ℕ → ℕ → List ℕ

@@ -8,7 +8,7 @@ use Rattle.cfgcosts.specs.Sentences.{AnswersGreatest, ListsMinimal}
 use Rattle.derivation.specs.declared.errors.CostError.{CostError}
 use Rattle.derivation.specs.declared.errors.CostError.TheVariants.{NoSentence, CostTooLarge}
 use Rattle.cfgnumbers.specs.Numbered.{Numbered, core}
-use Rattle.cfgnumbers.specs.Shown.{rule_part, sym_text}
+use Rattle.cfgnumbers.specs.Accessors.{rule_part, sym_text}
 
 abbrev pub least_word : Result ℕ CostError → List ℕ
 least_word (Ok c) = decimal c

@@ -4,8 +4,8 @@ ghost use Rattle.std.specs.Prelude.{◌≡◌, ◌+◌, ◌-◌, ◌^◌, ◌<�
 ghost use Rattle.std.specs.Prelude.{string_bytes};
 ghost use Rattle.cfgwords.specs.Places.{IsPiece, IsWithin};
 ghost use Rattle.cfgast.specs.Syntax.{EachSpan};
-ghost use Rattle.cfgtree.specs.View.{syntax};
-ghost use Rattle.cfgsyntax.specs.Spans.{EachParsedSpan};
+ghost use Rattle.cfgtree.specs.TreeView.{syntax};
+ghost use Rattle.cfgsyntax.specs.ErrorSpans.{EachParsedSpan};
 ghost use Rattle.cfgyacc.specs.Answer.{Found, WasRead};
 ghost use Rattle.cfgyacc.specs.GrammarOf.{IsFoundAs, IsFoundItself};
 ghost use Rattle.cfgtool.specs.FirstLines.{AreFirstLines};

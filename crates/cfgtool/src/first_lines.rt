@@ -3,7 +3,7 @@
 ghost use Rattle.std.specs.Prelude.{◌≡◌, ◌<◌, length, IfOk, OnOk, string_bytes};
 ghost use Rattle.cfganalysis.specs.Firsts.{epsilon_bit};
 ghost use Rattle.cfganalysis.specs.Table.{bit};
-ghost use Rattle.cfgnumbers.specs.Shown.{rule_part};
+ghost use Rattle.cfgnumbers.specs.Accessors.{rule_part};
 ghost use Rattle.cfgtool.specs.FirstLines.{empty_word, first_line, first_lines};
 ghost use Rattle.cfgtool.specs.TokenSets.{Adds};
 

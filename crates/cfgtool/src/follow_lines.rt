@@ -2,7 +2,7 @@
 
 ghost use Rattle.std.specs.Prelude.{◌≡◌, ◌<◌, length, IfOk, OnOk, string_bytes};
 ghost use Rattle.cfganalysis.specs.Table.{bit};
-ghost use Rattle.cfgnumbers.specs.Shown.{rule_part};
+ghost use Rattle.cfgnumbers.specs.Accessors.{rule_part};
 ghost use Rattle.cfgtool.specs.FollowLines.{follow_line, follow_lines};
 ghost use Rattle.cfgtool.specs.TokenSets.{Adds};
 

@@ -2,8 +2,8 @@
 
 ghost use Rattle.std.specs.Prelude.{◌≡◌, ◌++◌, ◌<◌, All, length, IfOk, OnOk, string_bytes};
 ghost use Rattle.cfgwords.specs.Places.{IsPiece};
-ghost use Rattle.cfgnumbers.specs.Shown.{production_part};
-ghost use Rattle.cfgsyntax.specs.Spans.{EachErrorSpan};
+ghost use Rattle.cfgnumbers.specs.Accessors.{production_part};
+ghost use Rattle.cfgsyntax.specs.ErrorSpans.{EachErrorSpan};
 ghost use Rattle.cfgtool.specs.Lines.{EachWarningSpan, error_line, error_lines, first_place, production_line};
 ghost use Rattle.cfgtool.specs.Lines.{production_lines, warning_line, warning_lines};
 ghost use Rattle.cfgtool.specs.TokenSets.{Adds};

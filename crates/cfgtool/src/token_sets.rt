@@ -4,7 +4,7 @@ ghost use Rattle.std.specs.Prelude.{◌≡◌, ◌↔◌, ◌++◌, ◌<◌, ℕ
 ghost use Rattle.std.specs.Prelude.{string_bytes};
 ghost use Rattle.std.specs.List.{enumerate_from, flat_map};
 ghost use Rattle.cfganalysis.specs.Table.{bit};
-ghost use Rattle.cfgnumbers.specs.Shown.{token_part};
+ghost use Rattle.cfgnumbers.specs.Accessors.{token_part};
 ghost use Rattle.cfgtool.specs.TokenSets.{Adds, set_word};
 
 use cfganalysis::{YaccFirsts, YaccFollows};

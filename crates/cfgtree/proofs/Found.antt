@@ -6,7 +6,7 @@ use Rattle.std.specs.Str.{bytes_eq}
 use Rattle.std.proofs.lemmas.Simd.{map-map}
 use Rattle.lemmas.proofs.Places.{position-map}
 use Rattle.cfgast.specs.Syntax.{entry_name}
-use Rattle.cfgast.specs.View.{rule_entry}
+use Rattle.cfgast.specs.SyntaxView.{rule_entry}
 use Rattle.cfgast.specs.declared.rule.Rule as source
 use Rattle.cfgast.proofs.Views.{is_key}
 

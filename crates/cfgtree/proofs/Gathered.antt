@@ -7,7 +7,7 @@ use Rattle.cfgbase.specs.declared.span.Span.{Span}
 use Rattle.cfgast.specs.declared.occurrence.Unique.{Unique as CodeUnique}
 use Rattle.cfgast.specs.Occurrences.{Unique, Occurrence}
 use Rattle.cfgtree.specs.Duplicates.{Duplicate, is_same, places_of}
-use Rattle.cfgtree.specs.View.{duplicate_view}
+use Rattle.cfgtree.specs.TreeView.{duplicate_view}
 use Rattle.cfgtree.proofs.Repeats.{is_same_equivalence, key_view, same_key, same_shown, places_of-push}
 use Rattle.cfgast.proofs.Written.{changed-absent, changed-set_value}
 

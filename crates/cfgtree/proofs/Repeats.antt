@@ -22,8 +22,8 @@ use Rattle.cfgast.specs.contracts.occurrence.UniquePartialEq.TheImpl.{ghosts as 
 use Rattle.cfgast.specs.Occurrences.{Unique, Occurrence}
 use Rattle.cfgast.specs.Syntax.{each_once}
 use Rattle.cfgtree.specs.Duplicates.{Duplicate, is_same, is_repeat, repeats, places_of}
-use Rattle.cfgast.specs.View.{unique_view, occurrence_view}
-use Rattle.cfgtree.specs.View.{duplicate_view}
+use Rattle.cfgast.specs.SyntaxView.{unique_view, occurrence_view}
+use Rattle.cfgtree.specs.TreeView.{duplicate_view}
 use Rattle.cfgast.proofs.Once.{filtered-push, each_once-push, known_once, key_known, key_inserted}
 
 pub is_same_equivalence : IsEquivalence is_same

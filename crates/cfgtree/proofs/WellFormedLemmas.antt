@@ -13,7 +13,7 @@ use Rattle.lemmas.specs.Lists.{with_fronts, places}
 use Rattle.lemmas.proofs.Options.{All-filter_map}
 use Rattle.lemmas.proofs.Passing.{places-same, places-map}
 use Rattle.lemmas.proofs.Tests.{list_any-map, list_any-filter_map}
-use Rattle.cfgwords.specs.Words.{Word}
+use Rattle.cfgwords.specs.FileWords.{Word}
 use Rattle.cfgbase.specs.declared.span.Span.{Span}
 use Rattle.cfgast.specs.Items.{Item, ImplicitTokensBegun, ImplicitTokenDeclared, RuleHead}
 use Rattle.cfgast.specs.Syntax.{Rule, Production, word_name, head_name, index_of, indices_of, firsts, token_named, implicit_tokens_said, typed_rule, alternatives, token_words, declared_words, rule_heads, word_entry, marked, rule_of, tables_of, syntax_of}

@@ -3,7 +3,7 @@
 -- there; then each key of `%epp` is a token; then what each symbol of the `%expect-unused` lists names is there.
 use Rattle.std.specs.Prelude.{ℕ, List, [], ◌∷◌, Option, Some, None, slice_get, if◌then◌else◌, not}
 use Rattle.std.specs.Option.{option_or, option_and_then}
-use Rattle.cfgwords.specs.Words.{Word}
+use Rattle.cfgwords.specs.FileWords.{Word}
 use Rattle.cfgbase.specs.declared.span.Span.{Span}
 use Rattle.cfgast.specs.Building.{has_entry, has_name, has_rule}
 use Rattle.cfgast.specs.Syntax.{Syntax, Rule, Production, Symbol, RuleSymbol, TokenSymbol}

@@ -2,7 +2,7 @@
 pub mod Check
 pub mod Duplicates
 pub mod Sound
-pub mod View
+pub mod TreeView
 pub mod WellFormed
 pub mod Unused
 pub mod Writing

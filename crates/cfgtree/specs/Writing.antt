@@ -1,7 +1,7 @@
 -- What the calls that write a tree make of its syntax.
 use Rattle.std.specs.Prelude.{◌≡◌, ℕ, ◌<◌, List, [], ◌∷◌, ◌++◌, All, map, length, Some, true, if◌then◌else◌}
 use Rattle.std.specs.Str.{bytes_eq}
-use Rattle.cfgwords.specs.Words.{Word}
+use Rattle.cfgwords.specs.FileWords.{Word}
 use Rattle.cfgast.specs.Items.{RuleHead}
 use Rattle.cfgast.specs.Syntax.{Syntax, Rule, Production, head_name, index_of}
 use Rattle.cfgast.specs.Building.{has_rule, new_rule, listed}

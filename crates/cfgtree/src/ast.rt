@@ -2,10 +2,10 @@ ghost use Rattle.std.specs.Prelude.{◌≡◌, ◌↔◌, Ok, map, option_map, I
 ghost use Rattle.std.specs.Map.{lookup};
 ghost use Rattle.std.specs.Str.{bytes_eq};
 ghost use Rattle.std.specs.String.{string_bytes};
-ghost use Rattle.cfgast.specs.View.{production_view, rule_view, named_view, rule_entry, settings_view};
-ghost use Rattle.cfgast.specs.View.{precedence_entry, printed_entry, span_entry, pair_view, symbol_view};
-ghost use Rattle.cfgast.specs.View.{occurrence_view, syntax_view};
-ghost use Rattle.cfgtree.specs.View.{syntax};
+ghost use Rattle.cfgast.specs.SyntaxView.{production_view, rule_view, named_view, rule_entry, settings_view};
+ghost use Rattle.cfgast.specs.SyntaxView.{precedence_entry, printed_entry, span_entry, pair_view, symbol_view};
+ghost use Rattle.cfgast.specs.SyntaxView.{occurrence_view, syntax_view};
+ghost use Rattle.cfgtree.specs.TreeView.{syntax};
 
 use cfgast::{Occurrence, Precedence, Production, Rule, Settings, Symbol, Syntax};
 use cfgbase::Span;
@@ -20,7 +20,7 @@ pub struct GrammarAST {
 }
 
 /// The tree that holds this. No public path of `cfgrammar` leads to it.
-#[tactic(auto, unfolding(crate::specs::View::syntax))]
+#[tactic(auto, unfolding(crate::specs::TreeView::syntax))]
 pub fn tree_of(said: Syntax) -> GrammarAST
     ensures { syntax result ≡ syntax_view said }
 {
@@ -54,7 +54,7 @@ fn both<A: Drop, B: Drop>(a: A, b: Result<B, AllocError>) -> Result<(A, B), Allo
     Ok((a, b?))
 }
 
-#[tactic(auto, unfolding(crate::specs::View::syntax, cfgast::specs::View::syntax_view))]
+#[tactic(auto, unfolding(crate::specs::TreeView::syntax, cfgast::specs::SyntaxView::syntax_view))]
 impl GrammarAST {
     /// The start rule's name, and the place where it is given.
     pub fn start(&self) -> &Option<(String, Span)>
@@ -208,7 +208,7 @@ impl GrammarAST {
 }
 
 impl Clone for GrammarAST {
-    ghost use Rattle.cfgtree.specs.View.{syntax};
+    ghost use Rattle.cfgtree.specs.TreeView.{syntax};
 
     ghost is_clone = { λ ast copy. syntax copy ≡ syntax ast };
 
@@ -219,7 +219,7 @@ impl Clone for GrammarAST {
 }
 
 impl Refill for GrammarAST {
-    ghost use Rattle.cfgtree.specs.View.{syntax};
+    ghost use Rattle.cfgtree.specs.TreeView.{syntax};
 
     ghost is_copy = { λ ast copy. syntax copy ≡ syntax ast };
 

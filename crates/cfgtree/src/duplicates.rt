@@ -3,8 +3,8 @@
 ghost use Rattle.std.specs.Prelude.{◌≡◌, [], map, IfOk};
 ghost use Rattle.cfgast.specs.Syntax.{each_once};
 ghost use Rattle.cfgtree.specs.Duplicates.{is_same, repeats, duplicates};
-ghost use Rattle.cfgast.specs.View.{occurrence_view};
-ghost use Rattle.cfgtree.specs.View.{duplicate_view};
+ghost use Rattle.cfgast.specs.SyntaxView.{occurrence_view};
+ghost use Rattle.cfgtree.specs.TreeView.{duplicate_view};
 
 use cfgast::{Occurrence, Unique};
 use cfgbase::Span;

@@ -9,8 +9,8 @@ ghost use Rattle.search.specs.Reached.{FoundBy, Reaches};
 ghost use Rattle.cfgtree.specs.Inner.Nodes.{nodes, node_of, HeldAt, IsNodeOf, Knows};
 ghost use Rattle.cfgtree.specs.Unused.{RuleName, TokenName, name_of, entry_token, Expected, IsStart, AreWarnings};
 ghost use Rattle.cfgtree.specs.Unused.{Name, possible_warnings};
-ghost use Rattle.cfgast.specs.View.{symbol_view, span_entry};
-ghost use Rattle.cfgtree.specs.View.{syntax};
+ghost use Rattle.cfgast.specs.SyntaxView.{symbol_view, span_entry};
+ghost use Rattle.cfgtree.specs.TreeView.{syntax};
 
 use crate::ast::GrammarAST;
 use cfgast::Symbol;
@@ -20,7 +20,7 @@ use indexmap::IndexMap;
 use search::{Bits, Edges, Search};
 use std::alloc::{AllocError, Global};
 
-#[tactic(auto, unfolding(crate::specs::View::syntax, cfgast::specs::View::syntax_view))]
+#[tactic(auto, unfolding(crate::specs::TreeView::syntax, cfgast::specs::SyntaxView::syntax_view))]
 impl GrammarAST {
     /// The rules, then the tokens, that no row of productions reaches from the start rule and that aren't expected to
     /// be unused: each as a warning, in order, at the place of its name. Without a start rule nothing is reached.
@@ -187,7 +187,7 @@ impl GrammarAST {
 impl Edges<Bits> for GrammarAST {
     ghost use Rattle.std.specs.Prelude.{length};
     ghost use Rattle.cfgtree.specs.Inner.Nodes.{nodes, LeadsTo};
-    ghost use Rattle.cfgtree.specs.View.{syntax};
+    ghost use Rattle.cfgtree.specs.TreeView.{syntax};
 
     ghost nodes = { λ tree. length (nodes (syntax tree)) };
 

@@ -9,8 +9,8 @@ ghost use Rattle.cfgast.specs.Items.{Item, RuleHead};
 ghost use Rattle.cfgast.specs.Syntax.{Syntax, syntax_of};
 ghost use Rattle.cfgast.specs.Building.{has_rule, listed};
 ghost use Rattle.cfgtree.specs.WellFormed.{IsWellFormed};
-ghost use Rattle.cfgast.specs.View.{named_view, rule_entry, symbol_view, text_view};
-ghost use Rattle.cfgtree.specs.View.{syntax};
+ghost use Rattle.cfgast.specs.SyntaxView.{named_view, rule_entry, symbol_view, text_view};
+ghost use Rattle.cfgtree.specs.TreeView.{syntax};
 ghost use Rattle.cfgtree.specs.Writing.{rule_added, production_added, programs_set, started_at, IsTree};
 ghost use Rattle.cfgtree.specs.Writing.{ProductionsKeepTrees};
 
@@ -20,7 +20,7 @@ use cfgast::{Production, Rule, Symbol};
 use cfgbase::Span;
 use std::alloc::AllocError;
 
-#[tactic(auto, unfolding(crate::specs::View::syntax, cfgast::specs::View::syntax_view))]
+#[tactic(auto, unfolding(crate::specs::TreeView::syntax, cfgast::specs::SyntaxView::syntax_view))]
 impl GrammarAST {
     /// Adds a rule that has no productions yet, with its name's place and the type that its actions answer.
     ///

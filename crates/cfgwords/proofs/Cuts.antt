@@ -14,7 +14,7 @@ use Rattle.cfgwords.specs.declared.passed.Passed.TheVariants.{InString}
 use Rattle.cfgwords.specs.Bytes.{holds}
 use Rattle.cfgwords.specs.Passed.{stops, EndsInAscii}
 use Rattle.cfgwords.specs.Text.{place}
-use Rattle.cfgwords.specs.Words.{IsName, IsIdentifier, IsQuoted, IsInteger}
+use Rattle.cfgwords.specs.FileWords.{IsName, IsIdentifier, IsQuoted, IsInteger}
 use Rattle.cfgwords.proofs.PassedLemmas.{stop_ascii}
 
 -- A text that may be cut where rest is left.

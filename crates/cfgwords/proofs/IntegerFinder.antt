@@ -11,7 +11,7 @@ use Rattle.lemmas.proofs.Options.{chosen}
 use Rattle.reading.specs.WordKind.{IsFinder, IsShorter}
 use Rattle.cfgwords.specs.declared.bytes.ByteClass.TheVariants as bytes
 use Rattle.cfgwords.specs.Bytes.{holds}
-use Rattle.cfgwords.specs.Words.{IsRunFrom, IsInteger, run_from, number_of, integer_of}
+use Rattle.cfgwords.specs.FileWords.{IsRunFrom, IsInteger, run_from, number_of, integer_of}
 use Rattle.cfgwords.proofs.NameFinders.{run_from_finder, run_from_shorter}
 
 digits_found : (text : List ℕ) (o : Option (List ℕ × List ℕ)) (number : ℕ) (rest : List ℕ) → run_from bytes.Digit bytes.Digit text ≡ o

@@ -5,7 +5,7 @@ use Rattle.reading.proofs.PiecesLemmas.{IsRun-run, run_only}
 use Rattle.cfgwords.specs.declared.bytes.ByteClass.TheVariants as bytes
 use Rattle.cfgwords.specs.declared.fault.Fault.{Fault}
 use Rattle.cfgwords.specs.Bytes.{holds}
-use Rattle.cfgwords.specs.Words.{LineRest, line_rest}
+use Rattle.cfgwords.specs.FileWords.{LineRest, line_rest}
 
 only : (text : List ℕ) (r : Result (List ℕ × List ℕ) Fault) → LineRest text r → line_rest text ≡ r
 only text (Ok (word, rest)) is = ap Ok (run_only (holds bytes.Line) text word rest is)

@@ -9,7 +9,7 @@ use Rattle.reading.specs.WordKind.{IsFinder, IsShorter}
 use Rattle.cfgwords.specs.declared.bytes.ByteClass.{ByteClass}
 use Rattle.cfgwords.specs.declared.bytes.ByteClass.TheVariants as bytes
 use Rattle.cfgwords.specs.Bytes.{holds}
-use Rattle.cfgwords.specs.Words.{IsRunFrom, IsName, IsIdentifier, run_from, name_of, identifier_of}
+use Rattle.cfgwords.specs.FileWords.{IsRunFrom, IsName, IsIdentifier, run_from, name_of, identifier_of}
 
 -- a longest run that begins with a byte of another class
 pub run_from_finder : (first others : ByteClass) → IsFinder (IsRunFrom first others) (run_from first others)

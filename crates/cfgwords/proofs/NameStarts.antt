@@ -4,7 +4,7 @@ use Rattle.std.proofs.lemmas.Bool.{or_left}
 use Rattle.reading.specs.Pieces.{starts}
 use Rattle.cfgwords.specs.declared.bytes.ByteClass.TheVariants as bytes
 use Rattle.cfgwords.specs.Bytes.{holds}
-use Rattle.cfgwords.specs.Words.{IsName}
+use Rattle.cfgwords.specs.FileWords.{IsName}
 
 abbrev pub begins_as_name : List ℕ → Type 0
 begins_as_name name = starts (holds bytes.NameStart) name ≡ true

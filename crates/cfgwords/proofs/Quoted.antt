@@ -11,7 +11,7 @@ use Rattle.std.proofs.lemmas.Bool.Decides.{nat_tests}
 use Rattle.cfgwords.specs.declared.bytes.ByteClass.TheVariants as bytes
 use Rattle.cfgwords.specs.Bytes.{holds}
 use Rattle.cfgwords.specs.Inner.Ends.{IsQuotedLen}
-use Rattle.cfgwords.specs.Words.{closed, opened, quoted_of, is_inside}
+use Rattle.cfgwords.specs.FileWords.{closed, opened, quoted_of, is_inside}
 
 -- the first two bytes open a quoted token, or don't
 pub quoted_opened : (text : List ℕ) → 2 ≤ length text → quoted_of text ≡ opened (get_or text 0 0) (get_or text 1 0) (drop 2 text)

@@ -8,7 +8,7 @@ use Rattle.reading.proofs.PiecesLemmas.{IsRun-run, run_only}
 use Rattle.reading.specs.WordKind.{IsFinder, IsShorter}
 use Rattle.cfgwords.specs.declared.bytes.ByteClass.TheVariants as bytes
 use Rattle.cfgwords.specs.Bytes.{holds}
-use Rattle.cfgwords.specs.Words.{is_inside, IsQuoted, closed, quoted_of}
+use Rattle.cfgwords.specs.FileWords.{is_inside, IsQuoted, closed, quoted_of}
 
 -- the parts of a quoted token, where the closing quote stands
 closed_parts : (quote first : ℕ) (others tail word rest : List ℕ) → closed quote first (others, tail) ≡ Some (word, rest)

@@ -7,7 +7,7 @@ use Rattle.reading.specs.Pieces.{starts}
 use Rattle.reading.specs.WordKind.{IsFinder, IsShorter}
 use Rattle.cfgwords.specs.declared.bytes.ByteClass.TheVariants as bytes
 use Rattle.cfgwords.specs.Bytes.{holds}
-use Rattle.cfgwords.specs.Words.{TokenText, IsToken, identifier_of, quoted_of, token_text, token_of}
+use Rattle.cfgwords.specs.FileWords.{TokenText, IsToken, identifier_of, quoted_of, token_text, token_of}
 use Rattle.cfgwords.proofs.NameFinders.{identifier_finder, identifier_length, identifier_shorter}
 use Rattle.cfgwords.proofs.QuotedFinder.{quoted_finder, quoted_length, quoted_shorter}
 

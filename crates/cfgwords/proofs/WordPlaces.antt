@@ -12,7 +12,7 @@ use Rattle.cfgwords.specs.Blank.{Blank}
 use Rattle.cfgwords.specs.ColonText.{ColonText, single, missing}
 use Rattle.cfgwords.specs.Strings.{EppString, closed, unopened, broken}
 use Rattle.cfgwords.specs.Text.{place, span_of, fault_at}
-use Rattle.cfgwords.specs.Words.{TokenText, Word, Token, IsName, IsIdentifier, IsQuoted, IsToken, IsInteger, LineRest, word_at, token_at, integer_at, word_of}
+use Rattle.cfgwords.specs.FileWords.{TokenText, Word, Token, IsName, IsIdentifier, IsQuoted, IsToken, IsInteger, LineRest, word_at, token_at, integer_at, word_of}
 use Rattle.cfgwords.proofs.Cuts.{IsCut, cut_here, cut_byte, cut_before, cut_end, front_utf8, string_cut, broken_cut, action_cut, cut_on, cut_same, cut_word, name_cut, identifier_cut, integer_cut, line_rest_cut, opened_cut, inside_cut, closed_cut, place_cut, boundary_cut}
 use Rattle.cfgwords.proofs.BlankCuts.{blank_ends_at}
 use Rattle.cfgwords.proofs.Trimming.{trim_no_longer}

@@ -9,4 +9,4 @@ pub mod Places
 pub mod SectionWords
 pub mod Strings
 pub mod Text
-pub mod Words
+pub mod FileWords

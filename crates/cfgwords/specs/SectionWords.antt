@@ -9,7 +9,7 @@ use Rattle.cfgwords.specs.declared.bytes.ByteClass.TheVariants as bytes
 use Rattle.cfgwords.specs.declared.passed.Passed.TheVariants.{InQuotes}
 use Rattle.cfgwords.specs.Passed.{IsPassed, passed}
 use Rattle.cfgwords.specs.Text.{place, span_of}
-use Rattle.cfgwords.specs.Words.{IsRunFrom, run_from}
+use Rattle.cfgwords.specs.FileWords.{IsRunFrom, run_from}
 
 -- The characters of white space, each by its first byte and the others: U+0009 to U+000D and U+0020,
 abbrev pub ascii_characters : List (ℕ × List ℕ)

@@ -3,7 +3,7 @@
 ghost use Rattle.std.specs.Prelude.{◌≡◌, ◌+◌, ◌≤◌, length, None, IfSome, MatchOption, option_map};
 ghost use Rattle.std.specs.Prelude.{if◌then◌else◌};
 ghost use Rattle.std.specs.List.{prefix_len};
-ghost use Rattle.cfgwords.specs.Words.{name_of, identifier_of, quoted_of, token_of, integer_of, run_from, is_inside};
+ghost use Rattle.cfgwords.specs.FileWords.{name_of, identifier_of, quoted_of, token_of, integer_of, run_from, is_inside};
 ghost use Rattle.cfgwords.specs.Inner.Ends.{IsQuotedLen};
 
 use crate::bytes::ByteClass;
@@ -41,7 +41,7 @@ impl<'a> Token<'a> {
 
 /// The longest front of bytes of the second class, where the text begins with a byte of the first, and what is left
 /// behind it.
-#[tactic(auto, unfolding(crate::specs::Words::run_from))]
+#[tactic(auto, unfolding(crate::specs::FileWords::run_from))]
 pub fn run_from(text: &str, first: ByteClass, others: ByteClass) -> Option<(&str, &str)>
     ensures exact { option_map (λ x. (x.0.now, x.1.now)) result ≡ run_from first others text.now }
     ensures lengths { IfSome result (λ x. length x.0.now + length x.1.now ≡ length text.now) }
@@ -111,7 +111,7 @@ pub fn leading_quoted(text: &str) -> Option<(&str, &str)>
 
 /// The name of the token at the front of the text, whether it is quoted, and what is left behind it: a quoted
 /// token or an identifier.
-#[tactic(auto, unfolding(crate::specs::Words::token_of))]
+#[tactic(auto, unfolding(crate::specs::FileWords::token_of))]
 pub fn leading_token(text: &str) -> Option<(&str, bool, &str)>
     ensures exact { option_map (λ x. (record { name = x.0.now; quoted = x.1 }, x.2.now)) result ≡ token_of text.now }
     ensures lengths { IfSome result
@@ -127,7 +127,7 @@ pub fn leading_token(text: &str) -> Option<(&str, bool, &str)>
 
 /// The integer at the front of the text, and what is left behind it: the number that the longest `[0-9]+` writes in
 /// decimal, where a `usize` holds it.
-#[tactic(auto, unfolding(crate::specs::Words::integer_of))]
+#[tactic(auto, unfolding(crate::specs::FileWords::integer_of))]
 pub fn leading_integer(text: &str) -> Option<(usize, &str)>
     ensures exact { option_map (λ x. (x.0, x.1.now)) result ≡ integer_of text.now }
     ensures lengths { IfSome result (λ x. length x.1.now ≤ length text.now) }

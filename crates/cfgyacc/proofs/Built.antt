@@ -5,7 +5,7 @@ use Rattle.cfgindex.specs.declared.idxnewtype.PIdx.{PIdx}
 use Rattle.cfgindex.specs.declared.idxnewtype.RIdx.{RIdx}
 use Rattle.cfgast.specs.declared.settings.Settings.{Settings}
 use Rattle.cfgast.specs.Syntax.{Syntax}
-use Rattle.cfgast.specs.View.{settings_view}
+use Rattle.cfgast.specs.SyntaxView.{settings_view}
 use Rattle.cfgerrors.specs.Errors.{GrammarError}
 use Rattle.cfgtree.specs.Sound.{IsSound}
 use Rattle.cfgkinds.specs.declared.kind.YaccKind.{YaccKind}
@@ -15,7 +15,7 @@ use Rattle.cfgsyntax.specs.Parsed.{Parsed}
 use Rattle.cfgyacc.specs.Answer.{WasRead, IsAnswer, IsGrammar, IsReadRefused, IsTooSmall, in_numbers}
 use Rattle.cfgnumbers.specs.Fits.{LeavesRoom}
 use Rattle.cfgnumbers.specs.Numbered.{Numbered, NumberedProduction, numbered, numbered_by, implicit_of, added_rules, file_rule, added_productions, file_production, file_token, end_token}
-use Rattle.cfgnumbers.specs.View.{tables, rule_view, token_view}
+use Rattle.cfgnumbers.specs.TablesView.{tables, rule_view, token_view}
 use Rattle.cfgnumbers.specs.WellNumbered.{IsWellNumbered}
 use Rattle.cfgnumbers.specs.declared.rows.RuleRow.{RuleRow}
 use Rattle.cfgnumbers.specs.declared.rows.TokenRow.{TokenRow}

@@ -11,11 +11,11 @@ use Rattle.cfgerrors.specs.declared.error.YaccFault.TheVariants as faults
 use Rattle.cfgsyntax.specs.Faults.{errors_of}
 use Rattle.cfgsyntax.specs.OfItself.{AnswersNaming, IsParsedAs}
 use Rattle.cfgsyntax.specs.Parsed.{Parsed}
-use Rattle.cfgsyntax.specs.Spans.{EachFaultSpan, EachParsedSpan}
+use Rattle.cfgsyntax.specs.ErrorSpans.{EachFaultSpan, EachParsedSpan}
 use Rattle.cfgsyntax.specs.Reads.{HasOneReading, Reads, Stop}
 use Rattle.cfgyacc.specs.Answer.{Found, WasRead, IsAnswer, IsRefused}
 use Rattle.cfgyacc.specs.GrammarOf.{IsGrammarOf, IsGrammarOfItself}
-use Rattle.cfgyacc.specs.Spans.{EachAnswerSpan}
+use Rattle.cfgyacc.specs.GrammarSpans.{EachAnswerSpan}
 use Rattle.cfgnumbers.specs.Numbered.{Numbered}
 use Rattle.cfgyacc.proofs.OfItself.{IsFaultOf, is_parsed_of, parsed_itself, parsed_of, refused_itself}
 

@@ -10,8 +10,8 @@ use Rattle.cfgast.specs.declared.settings.Settings.{Settings}
 use Rattle.derivation.specs.Grammar.{Rule, Sym, Token}
 use Rattle.cfgnumbers.specs.Numbered.{Numbered, NumberedRule, NumberedToken, NumberedProduction}
 use Rattle.cfgnumbers.specs.Fits.{Fits}
-use Rattle.cfgnumbers.specs.Shown.{rule_part, token_part, production_part, production_text, sym_name, sym_text}
-use Rattle.cfgnumbers.specs.View.{rule_view, tables}
+use Rattle.cfgnumbers.specs.Accessors.{rule_part, token_part, production_part, production_text, sym_name, sym_text}
+use Rattle.cfgnumbers.specs.TablesView.{rule_view, tables}
 use Rattle.cfgnumbers.specs.declared.rows.RuleRow.{RuleRow}
 use Rattle.cfgnumbers.specs.declared.rows.TokenRow.{TokenRow}
 

@@ -11,13 +11,13 @@ use Rattle.cfgwords.specs.Places.{IsPiece}
 use Rattle.cfgast.specs.Syntax.{EachProductionSpan, EachSpan, Production, Syntax}
 use Rattle.cfgtree.specs.Check.{nowhere}
 use Rattle.cfgerrors.specs.Errors.{StorageTooSmall, error_at}
-use Rattle.cfgsyntax.specs.Spans.{EachErrorSpan}
+use Rattle.cfgsyntax.specs.ErrorSpans.{EachErrorSpan}
 use Rattle.cfgkinds.specs.declared.kind.YaccKind.{YaccKind}
 use Rattle.cfgerrors.specs.declared.error.YaccFault.{YaccFault}
 use Rattle.cfgerrors.specs.declared.error.YaccFault.TheVariants as faults
 use Rattle.cfgyacc.specs.Answer.{IsTooSmall}
 use Rattle.cfgnumbers.specs.Numbered.{implicit_of, numbered, numbered_by, added_rules, file_rule, added_productions, file_production, end_token, file_token}
-use Rattle.cfgyacc.specs.Spans.{EachGrammarSpan, EachAnswerSpan}
+use Rattle.cfgyacc.specs.GrammarSpans.{EachGrammarSpan, EachAnswerSpan}
 use Rattle.cfgnumbers.proofs.Added.{All-added_rules, All-added_productions}
 
 part_span : {A : Type 0} (P : Span → Type 0) (span : A → Span) (o : Option A) → IfSome o (λ x. P (span x)) → IfSome (option_map span o) P

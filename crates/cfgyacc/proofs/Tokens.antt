@@ -4,8 +4,8 @@ use Rattle.cfgindex.specs.declared.idxnewtype.PIdx.{PIdx}
 use Rattle.cfgindex.specs.declared.idxnewtype.RIdx.{RIdx}
 use Rattle.cfgast.specs.declared.settings.Settings.{Settings}
 use Rattle.cfgnumbers.specs.Numbered.{Numbered, NumberedProduction, NumberedToken, end_token}
-use Rattle.cfgnumbers.specs.Shown.{token_part}
-use Rattle.cfgnumbers.specs.View.{token_view, tables}
+use Rattle.cfgnumbers.specs.Accessors.{token_part}
+use Rattle.cfgnumbers.specs.TablesView.{token_view, tables}
 use Rattle.cfgnumbers.specs.declared.rows.RuleRow.{RuleRow}
 use Rattle.cfgnumbers.specs.declared.rows.TokenRow.{TokenRow}
 

@@ -1,5 +1,5 @@
 pub mod Answer
 pub mod Counting
 pub mod GrammarOf
-pub mod Names
-pub mod Spans
+pub mod TokenNames
+pub mod GrammarSpans

@@ -56,13 +56,13 @@ module _ (E : ℕ → Type 0) (F : ℕ → ℕ → Type 0) where
   begins_before r symbols c (Rule q ∷ x) y t (inr h) = inr (h.0, begins_before r symbols c x y t h.1)
 
 module _ (P : ℕ → List Sym → Type 0) (E : ℕ → Type 0) (F : ℕ → ℕ → Type 0) (closed : IsClosed P E F) where
-  vanishes_derived : {a b : List Sym} → Derives P a b → Vanishes E b → Vanishes E a
+  pub vanishes_derived : {a b : List Sym} → Derives P a b → Vanishes E b → Vanishes E a
   vanishes_derived none h = h
   vanishes_derived (next s d) h = subst (Vanishes E) (sym s.source)
       (vanishes_before E F s.rule s.symbols (closed s.rule s.symbols s.has) s.before s.after
       (subst (Vanishes E) s.target (vanishes_derived d h)))
 
-  begins_derived : {a b : List Sym} (t : ℕ) → Derives P a b → Begins E F b t → Begins E F a t
+  pub begins_derived : {a b : List Sym} (t : ℕ) → Derives P a b → Begins E F b t → Begins E F a t
   begins_derived t none h = h
   begins_derived t (next s d) h = subst (λ l. Begins E F l t) (sym s.source)
       (begins_before E F s.rule s.symbols (closed s.rule s.symbols s.has) s.before s.after t

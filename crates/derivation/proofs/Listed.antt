@@ -3,7 +3,7 @@ use Rattle.std.proofs.Common.{ℕ, ◌<◌, [], length, All, arith}
 use Rattle.std.specs.Prelude.{slice_index_or}
 use Rattle.std.proofs.lemmas.List.Elements.{All-weaker}
 use Rattle.derivation.specs.Grammar.{Sym, Rule, Token, Grammar, Production, IsGrammar, IsSymbolOf}
-use Rattle.derivation.specs.Lists.{IsListed}
+use Rattle.derivation.specs.CostLists.{IsListed}
 
 -- the production at a place
 abbrev nth : Grammar → ℕ → Production

@@ -11,5 +11,5 @@ pub mod Cycles
 pub mod FirstSets
 pub mod FollowSets
 pub mod Sums
-pub mod Lists
-pub mod Errors
+pub mod CostLists
+pub mod CostErrorTexts

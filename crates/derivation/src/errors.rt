@@ -2,7 +2,7 @@
 
 ghost use Rattle.std.specs.Prelude.{◌≡◌, ◌↔◌, IsTrue, Some};
 ghost use Rattle.derivation.specs.declared.errors.CostError.{CostError};
-ghost use Rattle.derivation.specs.Errors.{cost_error_text};
+ghost use Rattle.derivation.specs.CostErrorTexts.{cost_error_text};
 
 use std::error::Error;
 use std::fmt;

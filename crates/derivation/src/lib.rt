@@ -13,7 +13,7 @@ ghost use Rattle.derivation.specs.Derivation.{Derives};
 ghost use Rattle.derivation.specs.Concatenation.{DerivedInParts};
 ghost use Rattle.derivation.specs.Tree.{Yields};
 ghost use Rattle.derivation.specs.First.{First, Empty};
-ghost use Rattle.derivation.specs.FirstSets.{IsClosed};
+ghost use Rattle.derivation.specs.FirstSets.{Begins, IsClosed, Vanishes};
 ghost use Rattle.derivation.specs.Follow.{MayFollow};
 ghost use Rattle.derivation.specs.FollowSets.{IsFollowClosed};
 ghost use Rattle.derivation.specs.Sentence.{Sentence, cost_of};
@@ -57,6 +57,28 @@ pub fn closed_sets_hold_first()
 /// What derivations show is closed under the productions, so it is the least of the closed sets.
 pub fn first_is_closed()
     ensures { (g : Grammar) → IsClosed (HasProduction g) (Empty (HasProduction g)) (First (HasProduction g)) }
+{}
+
+/// What a list of symbols derives first, symbol by symbol: past nullable rules, what the next symbol begins with.
+pub fn lists_begin_symbol_by_symbol()
+    ensures nullable { (g : Grammar) (a : List Sym)
+        → Vanishes (Empty (HasProduction g)) a ↔ Derives (HasProduction g) a [] }
+    ensures begins { (g : Grammar) (a : List Sym) (t : ℕ)
+        → Begins (Empty (HasProduction g)) (First (HasProduction g)) a t
+        ↔ ((rest : List Sym) × Derives (HasProduction g) a (Token t ∷ rest)) }
+{}
+
+/// Sets that are closed under the productions say of a list what they say of any list that it derives.
+pub fn closed_sets_hold_before_derivations()
+    ensures empty { (g : Grammar) (empty : ℕ → Bool) (first : ℕ → ℕ → Bool)
+        → IsClosed (HasProduction g) (λ r. IsTrue (empty r)) (λ r t. IsTrue (first r t))
+        → (a b : List Sym) → Derives (HasProduction g) a b
+        → Vanishes (λ r. IsTrue (empty r)) b → Vanishes (λ r. IsTrue (empty r)) a }
+    ensures first { (g : Grammar) (empty : ℕ → Bool) (first : ℕ → ℕ → Bool)
+        → IsClosed (HasProduction g) (λ r. IsTrue (empty r)) (λ r t. IsTrue (first r t))
+        → (a b : List Sym) (t : ℕ) → Derives (HasProduction g) a b
+        → Begins (λ r. IsTrue (empty r)) (λ r t. IsTrue (first r t)) b t
+        → Begins (λ r. IsTrue (empty r)) (λ r t. IsTrue (first r t)) a t }
 {}
 
 /// Sets that are closed under the productions hold all that follows a rule, where the end token follows the start rule.

@@ -6,7 +6,7 @@ ghost use Rattle.std.specs.HashSet.{contains_by};
 ghost use Rattle.std.specs.List.{list_any};
 ghost use Rattle.std.specs.Option.{option_map_or};
 ghost use Rattle.std.specs.Str.{bytes_eq};
-ghost use Rattle.lexcheck.specs.Names.{is_name, missing_tokens, unknown_places};
+ghost use Rattle.lexcheck.specs.LexerNames.{is_name, missing_tokens, unknown_places};
 
 use cfgindex::{Storage, TIdx, to_storage};
 use std::alloc::{AllocError, Global};

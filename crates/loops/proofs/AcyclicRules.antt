@@ -6,7 +6,7 @@ use Rattle.std.proofs.lemmas.List.Elements.{Contains-append_left, Contains-push,
 use Rattle.lemmas.proofs.Elements.{get_or-replicate_default, get_or-set}
 use Rattle.loops.specs.declared.acyclic.Visit.{Visit}
 use Rattle.loops.specs.declared.rows.Step.{Step}
-use Rattle.loops.specs.Lists.{AreWithin, HasStep}
+use Rattle.loops.specs.StepLists.{AreWithin, HasStep}
 use Rattle.loops.specs.Rows.{IsLoop}
 use Rattle.loops.specs.Inner.Acyclic.{AreVisits, Ends, IsKnown, IsVisit, ends}
 use Rattle.loops.proofs.Layers.{leads_then}

@@ -9,7 +9,7 @@ use Rattle.lemmas.proofs.Contained.{contains_first, contains_none, contains_one}
 use Rattle.lemmas.proofs.Elements.{get_or-replicate_default}
 use Rattle.loops.specs.declared.shortest.Found.{Found}
 use Rattle.loops.specs.declared.rows.Step.{Step}
-use Rattle.loops.specs.Lists.{AreWithin, HasStep}
+use Rattle.loops.specs.StepLists.{AreWithin, HasStep}
 use Rattle.loops.specs.Rows.{IsLoop, IsShortestLoop, Leads}
 use Rattle.loops.specs.Inner.Layers.{AreLayers, Finds, HaveLayers, InLayer, IsFound, IsRowTo, RowTo, noted, left}
 use Rattle.loops.proofs.Layers.{before, in_some_layer, leads_on, next_layer}

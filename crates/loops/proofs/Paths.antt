@@ -11,7 +11,7 @@ use Rattle.cfgtables.specs.Openings.{nth_production}
 use Rattle.loops.specs.Alone.{AlonePath, DerivesItself, HoldsAlone, one, more}
 use Rattle.loops.specs.declared.rows.Step.{Step}
 use Rattle.loops.specs.Rows.{IsLoop, Leads}
-use Rattle.loops.specs.Steps.{IsStep}
+use Rattle.loops.specs.UnitSteps.{IsStep}
 use Rattle.loops.proofs.Alone.{alone_along, path_to_alone}
 
 -- what stands around a place

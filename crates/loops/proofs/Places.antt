@@ -10,8 +10,8 @@ use Rattle.cfganalysis.specs.Firsts.{AreFirsts, FirstSets}
 use Rattle.loops.specs.declared.rows.Step.{Step}
 use Rattle.lemmas.proofs.Contained.{contains_none}
 use Rattle.lemmas.proofs.Elements.{get_or-replicate_default}
-use Rattle.loops.specs.Lists.{HasStep}
-use Rattle.loops.specs.Steps.{AreSteps, IsStep}
+use Rattle.loops.specs.StepLists.{HasStep}
+use Rattle.loops.specs.UnitSteps.{AreSteps, IsStep}
 use Rattle.loops.specs.Inner.Putting.{AreEmpty, ArePut}
 use Rattle.loops.proofs.Putting.{put_as, put_none, put_then}
 use Rattle.loops.proofs.Vanishing.{back_empty, front_empty}

@@ -4,7 +4,7 @@ use Rattle.std.proofs.lemmas.Bool.{cases_eq}
 use Rattle.std.proofs.lemmas.List.Elements.{Contains-append_left, Contains-push, Contains-push_cases}
 use Rattle.lemmas.proofs.Elements.{get_or-set}
 use Rattle.loops.specs.declared.rows.Step.{Step}
-use Rattle.loops.specs.Lists.{HasStep}
+use Rattle.loops.specs.StepLists.{HasStep}
 use Rattle.loops.specs.Inner.Putting.{ArePut}
 
 pub put_none : (Put : ℕ → Step → Type 0) (steps : List (List Step)) → ((a : ℕ) (step : Step) → Put a step → ⊥) → ArePut Put steps steps

@@ -6,7 +6,7 @@ use Rattle.std.proofs.lemmas.List.Elements.{Contains-append_left, Contains-push,
 use Rattle.lemmas.proofs.Contained.{contains_none}
 use Rattle.lemmas.proofs.Elements.{get_or-replicate_default}
 use Rattle.loops.specs.declared.rows.Step.{Step}
-use Rattle.loops.specs.Lists.{AreWithin, HasStep}
+use Rattle.loops.specs.StepLists.{AreWithin, HasStep}
 use Rattle.loops.specs.Rows.{IsLoop, Leads}
 use Rattle.loops.specs.Inner.Acyclic.{Ends}
 use Rattle.loops.specs.Inner.Putting.{ArePut}

@@ -1,6 +1,6 @@
 pub mod Alone
 pub mod Inner
-pub mod Lists
+pub mod StepLists
 pub mod Rows
-pub mod Steps
+pub mod UnitSteps
 pub mod Uses

@@ -1,7 +1,7 @@
 //! Rules from which each row of steps ends, so that they have no loop.
 
 ghost use Rattle.std.specs.Prelude.{◌≡◌, ℕ, ◌<◌, ◌≤◌, ◌⊎◌, Contains, false, get_or, length, replicate, IfOk, OnOk};
-ghost use Rattle.loops.specs.Lists.{AreWithin, HasStep};
+ghost use Rattle.loops.specs.StepLists.{AreWithin, HasStep};
 ghost use Rattle.loops.specs.Inner.Acyclic.{AreVisits, Ends, IsKnown, IsVisit, left_to_visit};
 
 use crate::rows::Step;

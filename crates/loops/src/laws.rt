@@ -6,7 +6,7 @@ ghost use Rattle.derivation.specs.Grammar.{Grammar, HasProduction, Sym, Rule};
 ghost use Rattle.derivation.specs.Sentence.{Sentence};
 ghost use Rattle.loops.specs.Alone.{AlonePath, DerivesAlone, DerivesItself};
 ghost use Rattle.loops.specs.Rows.{IsLoop};
-ghost use Rattle.loops.specs.Steps.{IsStep};
+ghost use Rattle.loops.specs.UnitSteps.{IsStep};
 ghost use Rattle.loops.specs.Uses.{IsUsable};
 ghost use Rattle.loops.specs.declared.rows.Step.{Step};
 

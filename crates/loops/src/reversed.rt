@@ -1,7 +1,7 @@
 //! Steps that are turned round, and rules to which no row of steps comes from a loop.
 
 ghost use Rattle.std.specs.Prelude.{◌≡◌, ◌<◌, ℕ, List, Contains, length, IfOk, OnOk};
-ghost use Rattle.loops.specs.Lists.{AreWithin, HasStep};
+ghost use Rattle.loops.specs.StepLists.{AreWithin, HasStep};
 ghost use Rattle.loops.specs.Rows.{IsLoop};
 ghost use Rattle.loops.specs.Inner.Acyclic.{IsKnown};
 ghost use Rattle.loops.specs.Inner.Putting.{ArePut};

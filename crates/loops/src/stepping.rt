@@ -2,9 +2,9 @@
 
 ghost use Rattle.std.specs.Prelude.{◌≡◌, ◌<◌, ◌≤◌, ◌↔◌, ℕ, length, map, IfOk, OnOk};
 ghost use Rattle.derivation.specs.Grammar.{Rule};
-ghost use Rattle.cfgtables.specs.Symbols.{sym_of};
+ghost use Rattle.cfgtables.specs.NumberedSymbols.{sym_of};
 ghost use Rattle.cfganalysis.specs.Firsts.{AreFirsts};
-ghost use Rattle.loops.specs.Steps.{AreSteps, IsStep};
+ghost use Rattle.loops.specs.UnitSteps.{AreSteps, IsStep};
 ghost use Rattle.loops.specs.Inner.Putting.{AreEmpty, ArePut, is_empty};
 
 use crate::rows::Step;

@@ -1,7 +1,7 @@
 -- A table of bits in one list of words, with a row of words for each row.
 use Rattle.std.specs.Prelude.{◌≡◌, ◌≢◌, ◌⊎◌, ℕ, ◌+◌, ◌*◌, ◌<◌, ◌≤◌, Bool, List, map, length, slice_index_or, MatchBool}
 use Rattle.std.specs.List.{between, range_with_len}
-use Rattle.cfgindex.specs.Words.{AreWords, AreJoined, bits_of}
+use Rattle.cfgindex.specs.BitWords.{AreWords, AreJoined, bits_of}
 use Rattle.cfganalysis.specs.Table.{Table}
 
 -- the words of a row

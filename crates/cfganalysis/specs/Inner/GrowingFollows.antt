@@ -5,7 +5,7 @@ use Rattle.derivation.specs.Follow.{MayFollow}
 use Rattle.derivation.specs.FirstSets.{Vanishes, Begins}
 use Rattle.derivation.specs.FollowSets.{Flows}
 use Rattle.cfganalysis.specs.Table.{Table, IsTable, HasBit, Joins, count_of}
-use Rattle.cfgtables.specs.Symbols.{sym_of}
+use Rattle.cfgtables.specs.NumberedSymbols.{sym_of}
 use Rattle.cfganalysis.specs.Inner.Waiting.{Waits}
 use Rattle.cfganalysis.specs.Firsts.{FirstSets, FitsGrammar, AreFirsts, IsAmongFirsts, IsEpsilon}
 use Rattle.cfganalysis.specs.declared.follows.Front.{Front}

@@ -3,7 +3,7 @@ use Rattle.std.specs.Prelude.{◌≡◌, ℕ, ◌+◌, ◌-◌, ◌*◌, ◌^◌
 use Rattle.derivation.specs.Grammar.{Grammar, Production, IsGrammar}
 use Rattle.cfgindex.specs.declared.idxnewtype.RIdx.{RIdx}
 use Rattle.cfgindex.specs.declared.idxnewtype.Symbol.{Symbol}
-use Rattle.cfgtables.specs.Symbols.{sym_of}
+use Rattle.cfgtables.specs.NumberedSymbols.{sym_of}
 use Rattle.cfgtables.specs.Openings.{most_openings, most_openings_all, nth_production}
 use Rattle.cfganalysis.specs.Table.{bits_on}
 use Rattle.cfganalysis.specs.Inner.Waiting.{waits, Waits, NoneWaits}

@@ -5,7 +5,7 @@ use Rattle.derivation.specs.Grammar.{Grammar, Sym, Rule, HasProduction}
 use Rattle.derivation.specs.Costs.{Minimal}
 use Rattle.cfgtables.specs.Openings.{nth_production}
 use Rattle.derivation.specs.Sums.{sum_of, symbol_cost}
-use Rattle.derivation.specs.Lists.{rule_cost}
+use Rattle.derivation.specs.CostLists.{rule_cost}
 use Rattle.cfgleast.specs.Generator.{CostTables, cost_answer, token_cost}
 use Rattle.cfgchoices.specs.Levels.{Along}
 use Rattle.cfgchoices.specs.declared.kinds.Kind.{Kind}

@@ -10,7 +10,7 @@ use Rattle.cfgleast.specs.Certificate.{choice_of, rule_choice}
 use Rattle.cfgchoices.specs.Inner.Choices.{ChoicesGive}
 use Rattle.cfgleast.specs.Generator.{CostTables, IsGenerator, cost_answer}
 use Rattle.cfgchoices.specs.Inner.Kinds.{HasNoHeir, IsHeir, IsTight, places_of}
-use Rattle.cfgchoices.specs.First.{dictionary}
+use Rattle.cfgchoices.specs.FirstSentence.{dictionary}
 use Rattle.cfgchoices.specs.declared.kinds.Kind.{Kind}
 use Rattle.cfgchoices.specs.declared.kinds.Kind.TheVariants.{Slack}
 use Rattle.cfgchoices.specs.declared.first.lists.Listed.{Listed}

@@ -3,8 +3,8 @@
 
 ghost use Rattle.std.specs.Prelude.{◌≡◌, ℕ, ◌<◌, ◌++◌, ◌∷◌, [], List, IfOk, IfSome, MatchOption, OnOk, length, map};
 ghost use Rattle.std.specs.Prelude.{reverse, true};
-ghost use Rattle.cfgtables.specs.Symbols.{sym_of};
-ghost use Rattle.cfgchoices.specs.First.{dictionary};
+ghost use Rattle.cfgtables.specs.NumberedSymbols.{sym_of};
+ghost use Rattle.cfgchoices.specs.FirstSentence.{dictionary};
 ghost use Rattle.cfgchoices.specs.Inner.Offers.{Choosing, FirstTokensAre, Gives, IsOffered, Pends, left_to_open};
 ghost use Rattle.cfgchoices.specs.Inner.Offers.{offers_of, row};
 ghost use Rattle.std.specs.Ordering.{is_ne};

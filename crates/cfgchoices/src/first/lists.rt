@@ -1,7 +1,7 @@
 //! Productions in lists: those that hand on to one rule, and the own ones of one cost.
 
 ghost use Rattle.std.specs.Prelude.{◌≡◌, ℕ, ◌+◌, ◌<◌, IfOk, None, Some, length, replicate};
-ghost use Rattle.derivation.specs.Lists.{rule_cost};
+ghost use Rattle.derivation.specs.CostLists.{rule_cost};
 ghost use Rattle.cfgleast.specs.Generator.{IsGeneratorOf, settled_tables};
 ghost use Rattle.cfgchoices.specs.Inner.Kinds.{AreKinds, IsKind};
 ghost use Rattle.cfgchoices.specs.Inner.Lists.{AreLists};

@@ -2,7 +2,7 @@
 
 ghost use Rattle.std.specs.Prelude.{◌≡◌, ℕ, ◌+◌, ◌^◌, ◌<◌, All, Contains, IfOk, false, length, map, slice_index_or, true};
 ghost use Rattle.cfgtables.specs.Openings.{nth_production};
-ghost use Rattle.cfgtables.specs.Symbols.{sym_of};
+ghost use Rattle.cfgtables.specs.NumberedSymbols.{sym_of};
 ghost use Rattle.cfgleast.specs.Generator.{IsGeneratorOf, settled_tables};
 ghost use Rattle.cfgchoices.specs.Inner.Kinds.{AreKinds, IsHeir, places_of};
 ghost use Rattle.cfgchoices.specs.Inner.Lists.{IsFirstFrom, IsIn, IsOwnAt};

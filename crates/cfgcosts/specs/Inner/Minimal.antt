@@ -10,7 +10,7 @@ use Rattle.cfgindex.specs.declared.idxnewtype.TIdx.{TIdx}
 use Rattle.derivation.specs.Grammar.{Grammar, Sym, Rule, Token}
 use Rattle.cfgtables.specs.Openings.{nth_production}
 use Rattle.cfgleast.specs.Generator.{CostTables, cost_answer}
-use Rattle.cfgchoices.specs.First.{dictionary}
+use Rattle.cfgchoices.specs.FirstSentence.{dictionary}
 use Rattle.cfgchoices.specs.Splits.{Split}
 use Rattle.cfgchoices.specs.Inner.Kinds.{IsMinimal, IsOwnBelow}
 use Rattle.cfgcosts.specs.Sentences.{numbers_of}

@@ -3,7 +3,7 @@ use Rattle.std.specs.Prelude.{◌≡◌, ℕ, ◌+◌, ◌*◌, ◌<◌, ◌≤�
 use Rattle.derivation.specs.Grammar.{Grammar, Sym, Rule, HasProduction}
 use Rattle.derivation.specs.Sentence.{cost_of}
 use Rattle.derivation.specs.Costs.{Least}
-use Rattle.cfgchoices.specs.First.{FirstMinimal}
+use Rattle.cfgchoices.specs.FirstSentence.{FirstMinimal}
 use Rattle.cfgchoices.specs.Splits.{Split}
 use Rattle.cfgcosts.specs.DerivedBy.{DerivesBy, IsFree, OpensNoneFree, times}
 

@@ -7,7 +7,7 @@ ghost use Rattle.derivation.specs.Costs.{Minimal};
 ghost use Rattle.cfgleast.specs.Generator.{HasNone, IsTooDear, cost_answer, token_cost};
 ghost use Rattle.cfgcosts.specs.Inner.Heirs.{HasSameSentences};
 ghost use Rattle.cfgcosts.specs.Inner.Minimal.{AreMinimal, IsMadeBy, IsReadyFor, sentences_in, words_of};
-ghost use Rattle.cfgchoices.specs.First.{dictionary};
+ghost use Rattle.cfgchoices.specs.FirstSentence.{dictionary};
 ghost use Rattle.cfgcosts.specs.Sentences.{numbers_of};
 ghost use Rattle.cfgchoices.specs.Inner.Kinds.{places_of};
 

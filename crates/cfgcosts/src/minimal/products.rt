@@ -1,7 +1,7 @@
 //! What rows of symbols derive by sentences of their rules.
 
 ghost use Rattle.std.specs.Prelude.{◌≡◌, ◌++◌, IfOk, OnOk, map};
-ghost use Rattle.cfgtables.specs.Symbols.{sym_of};
+ghost use Rattle.cfgtables.specs.NumberedSymbols.{sym_of};
 ghost use Rattle.cfgcosts.specs.Sentences.{numbers_of};
 ghost use Rattle.cfgcosts.specs.Inner.Minimal.{joined, row_words, sentences_in, words_of, words_of_symbol};
 

@@ -3,7 +3,7 @@ use Rattle.std.specs.Prelude.{◌≡◌, ℕ, ◌+◌, ◌<◌, ◌≤◌, Bool,
 use Rattle.derivation.specs.Grammar.{Sym, Rule, Token, Grammar, HasProduction, IsGrammar}
 use Rattle.derivation.specs.declared.errors.CostError.{CostError}
 use Rattle.derivation.specs.declared.errors.CostError.TheVariants.{NoSentence}
-use Rattle.cfggreatest.specs.Words.{Means}
+use Rattle.cfggreatest.specs.GreatestCosts.{Means}
 use Rattle.cfggreatest.specs.Inner.AtLeast.{HasWord, IsAbove}
 use Rattle.cfggreatest.specs.Inner.Groups.{AreGroups, IsLast}
 use Rattle.cfggreatest.specs.Inner.Known.{AreTrue, count_new, is_dead, is_inside, is_outside, known_of}

@@ -3,7 +3,7 @@ use Rattle.std.specs.Prelude.{◌≡◌, ℕ, ◌<◌, List, Option, None, Vec, 
 use Rattle.std.specs.Global.{Global}
 use Rattle.cfgnumbers.specs.Numbered.{Numbered, core}
 use Rattle.loops.specs.Rows.{IsShortestOf}
-use Rattle.loops.specs.Steps.{IsStep}
+use Rattle.loops.specs.UnitSteps.{IsStep}
 use Rattle.loops.specs.declared.rows.Step.{Step}
 
 -- for each rule a shortest loop, or none where it has no loop

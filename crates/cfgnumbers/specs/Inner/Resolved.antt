@@ -1,6 +1,6 @@
 -- Syntaxes in which every name is that of something that is there.
 use Rattle.std.specs.Prelude.{◌≡◌, ℕ, List, Option, true, All, IfSome, Some, None}
-use Rattle.cfgwords.specs.Words.{Word}
+use Rattle.cfgwords.specs.FileWords.{Word}
 use Rattle.cfgast.specs.Building.{has_name, has_rule}
 use Rattle.cfgast.specs.Syntax.{Syntax, Production}
 use Rattle.cfgtree.specs.Check.{symbol_error}

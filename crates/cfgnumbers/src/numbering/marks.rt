@@ -2,8 +2,8 @@
 
 ghost use Rattle.std.specs.Prelude.{◌≡◌, option_map, string_bytes, map, IfOk};
 ghost use Rattle.std.specs.Option.{option_map_or};
-ghost use Rattle.cfgast.specs.View.{symbol_view, production_view};
-ghost use Rattle.cfgtree.specs.View.{syntax};
+ghost use Rattle.cfgast.specs.SyntaxView.{symbol_view, production_view};
+ghost use Rattle.cfgtree.specs.TreeView.{syntax};
 ghost use Rattle.cfgnumbers.specs.Numbered.{precedence_of_token, precedence_of, last_token, printed_form};
 ghost use Rattle.cfgnumbers.specs.Numbered.{avoids_insert};
 

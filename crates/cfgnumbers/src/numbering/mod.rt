@@ -8,10 +8,10 @@ mod symbols;
 mod tokens;
 
 ghost use Rattle.std.specs.Prelude.{◌≡◌, option_map};
-ghost use Rattle.cfgtree.specs.View.{syntax};
+ghost use Rattle.cfgtree.specs.TreeView.{syntax};
 ghost use Rattle.cfgnumbers.specs.Fits.{LeavesRoom};
 ghost use Rattle.cfgnumbers.specs.Numbered.{implicit_of, rules_before};
-ghost use Rattle.cfgnumbers.specs.View.{file_of, implicit_in};
+ghost use Rattle.cfgnumbers.specs.TablesView.{file_of, implicit_in};
 
 use cfgbase::Span;
 use cfgindex::{RIdx, Storage, to_storage};

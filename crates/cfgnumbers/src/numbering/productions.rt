@@ -6,13 +6,13 @@ ghost use Rattle.std.specs.List.{zip};
 ghost use Rattle.std.specs.Option.{option_to_list};
 ghost use Rattle.derivation.specs.Grammar.{Rule, Token};
 ghost use Rattle.cfgast.specs.Building.{has_name};
-ghost use Rattle.cfgast.specs.View.{production_view as plain_production};
+ghost use Rattle.cfgast.specs.SyntaxView.{production_view as plain_production};
 ghost use Rattle.cfgtree.specs.Sound.{IsSound};
 ghost use Rattle.cfgnumbers.specs.Fits.{LeavesRoom};
 ghost use Rattle.cfgnumbers.specs.Numbered.{added_production, added_productions, file_production, token_index};
 ghost use Rattle.cfgnumbers.specs.Inner.Resolved.{AreTokens, IsResolved, Resolves};
-ghost use Rattle.cfgnumbers.specs.View.{names, file_of, implicit_in};
-ghost use Rattle.cfgtables.specs.Symbols.{sym_of};
+ghost use Rattle.cfgnumbers.specs.TablesView.{names, file_of, implicit_in};
+ghost use Rattle.cfgtables.specs.NumberedSymbols.{sym_of};
 
 use super::Numbering;
 use super::marks::precedence_of;

@@ -1,10 +1,10 @@
 //! Whether an index type counts all that a grammar will have, what is added to the file's counted in.
 
 ghost use Rattle.std.specs.Prelude.{◌≡◌, ◌↔◌, ◌+◌, ◌≤◌, ◌<◌, All, length, map, IsTrue};
-ghost use Rattle.cfgast.specs.View.{symbol_view};
+ghost use Rattle.cfgast.specs.SyntaxView.{symbol_view};
 ghost use Rattle.cfgnumbers.specs.Fits.{LeavesRoom, productions_behind};
 ghost use Rattle.cfgnumbers.specs.Numbered.{rules_before, spaced, file_symbol, file_symbols};
-ghost use Rattle.cfgnumbers.specs.View.{file_of, implicit_in};
+ghost use Rattle.cfgnumbers.specs.TablesView.{file_of, implicit_in};
 
 use super::Numbering;
 use cfgast::{Production, Symbol};

@@ -2,14 +2,14 @@
 
 ghost use Rattle.std.specs.Prelude.{◌≡◌, ◌+◌, ◌≤◌, ◌++◌, ◌∷◌, [], true, All, None, map, OnOk};
 ghost use Rattle.cfgast.specs.Building.{has_name, has_rule};
-ghost use Rattle.cfgast.specs.View.{symbol_view};
+ghost use Rattle.cfgast.specs.SyntaxView.{symbol_view};
 ghost use Rattle.cfgtree.specs.Check.{symbol_error};
 ghost use Rattle.cfgnumbers.specs.Fits.{LeavesRoom};
 ghost use Rattle.cfgnumbers.specs.Numbered.{rule_index, rules_before, token_index, file_symbol, file_symbols, spaced};
 ghost use Rattle.cfgnumbers.specs.Numbered.{start_symbols};
 ghost use Rattle.cfgnumbers.specs.Inner.Resolved.{IsResolved};
-ghost use Rattle.cfgnumbers.specs.View.{file_of, implicit_in};
-ghost use Rattle.cfgtables.specs.Symbols.{sym_of};
+ghost use Rattle.cfgnumbers.specs.TablesView.{file_of, implicit_in};
+ghost use Rattle.cfgtables.specs.NumberedSymbols.{sym_of};
 
 use super::Numbering;
 use cfgindex::{RIdx, Storage, Symbol, TIdx, to_storage};

@@ -5,7 +5,7 @@ ghost use Rattle.std.specs.List.{list_any, zip};
 ghost use Rattle.std.specs.Str.{bytes_eq};
 ghost use Rattle.cfgtree.specs.WellFormed.{IsWellFormed};
 ghost use Rattle.cfgnumbers.specs.Numbered.{file_token};
-ghost use Rattle.cfgnumbers.specs.View.{names, file_of, token_view};
+ghost use Rattle.cfgnumbers.specs.TablesView.{names, file_of, token_view};
 
 use super::Numbering;
 use super::marks::{avoids_insert, precedence_of_token, printed_form};

@@ -1,4 +1,5 @@
 //! Yacc files, and the grammars that they hold.
+pub mod cycles;
 pub mod firsts;
 pub mod follows;
 pub mod sentences;

@@ -8,20 +8,20 @@ use Rattle.cfgwords.specs.Text.{fault_at}
 use Rattle.cfgwords.specs.Blank.{part_of, front_of}
 use Rattle.reading.specs.Leaves.{Gives, ValueOf, Leaves}
 use Rattle.cfgwords.specs.declared.fault.Fault.{Fault}
-use Rattle.cfgwords.specs.Words.{TokenText, name_of, token_of, word_at, token_at}
+use Rattle.cfgwords.specs.FileWords.{TokenText, name_of, token_of, word_at, token_at}
 use Rattle.cfgwords.specs.declared.words.Word.{Word as CodeWord}
 use Rattle.cfgwords.specs.declared.words.Token.{Token as CodeToken}
 use Rattle.cfgast.specs.Items.{Item}
 use Rattle.cfgast.specs.Building.{add}
 use Rattle.cfgast.specs.Syntax.{Syntax, syntax_of}
-use Rattle.cfgast.specs.View.{syntax_view, syntax_built, word_view, token_view}
+use Rattle.cfgast.specs.SyntaxView.{syntax_view, syntax_built, word_view, token_view}
 use Rattle.cfgast.specs.declared.syntax.Syntax.{Syntax as CodeSyntax}
 use Rattle.cfgkinds.specs.declared.kind.YaccKind.{YaccKind}
 use Rattle.reading.specs.Construct.{Construct, computes}
 use Rattle.reading.specs.Read.{stop_of}
 use Rattle.reading.specs.Steps as steps
 use Rattle.reading.specs.Steps.{ReaderKind}
-use Rattle.cfgreader.specs.Grammar.{file}
+use Rattle.cfgreader.specs.FileGrammar.{file}
 use Rattle.cfgreader.specs.declared.bodies.Part.{Part as CodePart}
 use Rattle.cfgreader.specs.declared.bodies.Part.TheVariants as code_parts
 use Rattle.cfgreader.specs.declared.bodies.Parts.{Parts as CodeParts}

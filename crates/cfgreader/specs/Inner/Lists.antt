@@ -1,6 +1,6 @@
 -- What the code's lists say, as constructs and items.
 use Rattle.std.specs.Prelude.{ℕ}
-use Rattle.cfgwords.specs.Words.{Word}
+use Rattle.cfgwords.specs.FileWords.{Word}
 use Rattle.cfgast.specs.Items.{Item, AvoidInsertBegun, AvoidInsertDeclared, ImplicitTokensBegun, ImplicitTokenDeclared, PrecedenceDeclared}
 use Rattle.cfgreader.specs.declared.lists.Listed.{Listed}
 use Rattle.cfgreader.specs.declared.lists.Listed.TheVariants as listed

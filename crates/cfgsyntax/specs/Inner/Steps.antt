@@ -4,7 +4,7 @@ use denote.Ref.{Bor}
 use Rattle.reading.specs.Construct.{computes}
 use Rattle.reading.specs.Read.{stop_of}
 use Rattle.cfgast.specs.Syntax.{syntax_of}
-use Rattle.cfgtree.specs.View.{syntax}
+use Rattle.cfgtree.specs.TreeView.{syntax}
 use Rattle.cfgtree.specs.declared.ast.GrammarAST.{GrammarAST}
 use Rattle.cfgkinds.specs.declared.kind.YaccKind.{YaccKind}
 use Rattle.cfgsection.specs.declared.section.header_fault.HeaderFault.{HeaderFault}
@@ -15,7 +15,7 @@ use Rattle.cfgsection.specs.SectionReads.{section_of, errors_view}
 use Rattle.cfgerrors.specs.Errors.{GrammarError, header_error}
 use Rattle.cfgerrors.specs.declared.error.YaccFault.{YaccFault}
 use Rattle.cfgerrors.specs.declared.error.YaccFault.TheVariants as faults
-use Rattle.cfgreader.specs.Grammar.{file}
+use Rattle.cfgreader.specs.FileGrammar.{file}
 use Rattle.cfgsyntax.specs.Reads.{Stop, InSection, InFile}
 use Rattle.cfgsyntax.specs.declared.read.Stopped.{Stopped}
 use Rattle.cfgsyntax.specs.declared.read.Stopped.TheVariants as stops

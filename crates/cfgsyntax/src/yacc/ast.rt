@@ -10,16 +10,16 @@ ghost use Rattle.std.specs.Prelude.{OnOk};
 ghost use Rattle.cfgast.specs.Building.{has_rule};
 ghost use Rattle.cfgast.specs.Items.{Item};
 ghost use Rattle.cfgast.specs.Syntax.{syntax_of};
-ghost use Rattle.cfgast.specs.View.{named_view};
+ghost use Rattle.cfgast.specs.SyntaxView.{named_view};
 ghost use Rattle.cfgerrors.specs.Refusal.{ListsErrors};
-ghost use Rattle.cfgtree.specs.View.{syntax};
+ghost use Rattle.cfgtree.specs.TreeView.{syntax};
 ghost use Rattle.cfgsection.specs.Named.{HasOneNaming, Names, Naming};
 ghost use Rattle.cfgsyntax.specs.Faults.{errors_of};
 ghost use Rattle.cfgwords.specs.Places.{IsPiece, IsWithin};
 ghost use Rattle.cfgsyntax.specs.OfItself.{AnswersNaming};
 ghost use Rattle.cfgsyntax.specs.Reads.{Reads, HasOneReading, Stop};
 ghost use Rattle.cfgtree.specs.Sound.{IsSound};
-ghost use Rattle.cfgsyntax.specs.Spans.{EachFaultSpan, EachParsedSpan};
+ghost use Rattle.cfgsyntax.specs.ErrorSpans.{EachFaultSpan, EachParsedSpan};
 ghost use Rattle.cfgsyntax.specs.Starts.{restarted, IsStartFault};
 
 use crate::read::read;
@@ -44,7 +44,7 @@ pub struct ASTWithValidityInfo {
 }
 
 impl Model for ASTWithValidityInfo {
-    ghost use Rattle.cfgtree.specs.View.{syntax};
+    ghost use Rattle.cfgtree.specs.TreeView.{syntax};
     ghost use Rattle.cfgsyntax.specs.Parsed.{Parsed};
     ghost use Rattle.cfgtree.specs.Sound.{IsSound};
 

@@ -1,7 +1,7 @@
 -- Where the code finds the end of a quoted token's name, and of what stands between the braces of an action.
 use Rattle.std.specs.Prelude.{◌≡◌, ℕ, suc, List, length, ◌+◌, ◌≤◌, ◌<◌, take, drop, Some, slice_index}
 use Rattle.cfgwords.specs.Actions.{split_balanced}
-use Rattle.cfgwords.specs.Words.{quoted_of}
+use Rattle.cfgwords.specs.FileWords.{quoted_of}
 
 -- the name of the quoted token at the front has n bytes; ASCII quotes stand round it
 pub record IsQuotedLen (text : List ℕ) (n : ℕ) : Type 0 where

@@ -19,7 +19,7 @@ impl<S: Storage> Tables<S> for YaccGrammar<S> {
     ghost use Rattle.std.specs.Prelude.{◌≡◌, ◌<◌, length, map};
     ghost use Rattle.cfgtables.specs.Openings.{nth_production};
     ghost use Rattle.cfgtables.specs.Openings.{ArePlacesOf};
-    ghost use Rattle.cfgtables.specs.Symbols.{sym_of};
+    ghost use Rattle.cfgtables.specs.NumberedSymbols.{sym_of};
 
     ghost grammar = { core };
 

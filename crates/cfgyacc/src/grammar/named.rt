@@ -6,7 +6,7 @@ use lexcheck::NamedTokens;
 
 impl<S: Storage> NamedTokens<S> for YaccGrammar<S> {
     ghost use Rattle.std.specs.Prelude.{◌≡◌, ◌<◌, Some, length, option_map, slice_get};
-    ghost use Rattle.cfgyacc.specs.Names.{token_names};
+    ghost use Rattle.cfgyacc.specs.TokenNames.{token_names};
 
     ghost names = { token_names };
 

@@ -7,20 +7,20 @@ ghost use Rattle.std.specs.HashMap.{get_by};
 ghost use Rattle.std.specs.Str.{IsUtf8, bytes_eq};
 ghost use Rattle.std.specs.String.{string_bytes};
 ghost use Rattle.cfgwords.specs.Places.{IsPiece, IsWithin};
-ghost use Rattle.cfgast.specs.View.{pair_view};
+ghost use Rattle.cfgast.specs.SyntaxView.{pair_view};
 ghost use Rattle.cfgerrors.specs.Refusal.{ListsErrors};
-ghost use Rattle.cfgtree.specs.View.{syntax};
+ghost use Rattle.cfgtree.specs.TreeView.{syntax};
 ghost use Rattle.cfgtree.specs.Sound.{IsSound};
-ghost use Rattle.cfgsyntax.specs.Spans.{EachParsedSpan};
+ghost use Rattle.cfgsyntax.specs.ErrorSpans.{EachParsedSpan};
 ghost use Rattle.cfgkinds.specs.declared.kind.YaccKind.{YaccKind};
 ghost use Rattle.cfgyacc.specs.Answer.{IsAnswer, WasRead};
 ghost use Rattle.cfgyacc.specs.Counting.{YieldsNumbersInOrder};
 ghost use Rattle.cfgnumbers.specs.Fits.{LeavesRoom};
 ghost use Rattle.cfgyacc.specs.GrammarOf.{IsGrammarOf, IsGrammarOfItself};
 ghost use Rattle.cfgnumbers.specs.Numbered.{implicit_of, numbered};
-ghost use Rattle.cfgnumbers.specs.Shown.{IsSymbolWithin, has_token_name, production_part, production_text, rule_part};
-ghost use Rattle.cfgnumbers.specs.Shown.{token_part};
-ghost use Rattle.cfgyacc.specs.Spans.{EachAnswerSpan};
+ghost use Rattle.cfgnumbers.specs.Accessors.{IsSymbolWithin, has_token_name, production_part, production_text, rule_part};
+ghost use Rattle.cfgnumbers.specs.Accessors.{token_part};
+ghost use Rattle.cfgyacc.specs.GrammarSpans.{EachAnswerSpan};
 ghost use Rattle.cfgnumbers.specs.WellNumbered.{IsWellNumbered};
 
 use super::fault::storage_too_small;
@@ -58,7 +58,7 @@ pub struct YaccGrammar<S: Storage> {
 
 impl<S: Storage> Model for YaccGrammar<S> {
     ghost use Rattle.cfgnumbers.specs.Numbered.{Numbered};
-    ghost use Rattle.cfgnumbers.specs.View.{tables};
+    ghost use Rattle.cfgnumbers.specs.TablesView.{tables};
     ghost use Rattle.cfgnumbers.specs.WellNumbered.{IsWellNumbered};
 
     ghost Value = { Numbered };
@@ -191,9 +191,9 @@ impl<S: Storage> YaccGrammar<S> {
     }
 }
 
-#[tactic(auto, unfolding(cfgnumbers::specs::View::tables))]
+#[tactic(auto, unfolding(cfgnumbers::specs::TablesView::tables))]
 impl<S: Storage> YaccGrammar<S> {
-    ghost use Rattle.cfgtables.specs.Symbols.{sym_of};
+    ghost use Rattle.cfgtables.specs.NumberedSymbols.{sym_of};
 
     /// A law, so the call does nothing: what holds of every grammar holds of this one. Rule 0 is the start rule, with
     /// the one production `start_prod`; the last token is the end token, which no production holds; all that is

@@ -1,7 +1,7 @@
 -- Rules from which each row of steps ends, and what a search in depth for them knows.
 use Rattle.std.specs.Prelude.{◌≡◌, ℕ, ◌+◌, ◌<◌, Bool, false, not, List, [], Contains, IsTrue, get_or, length}
 use Rattle.std.specs.List.{count_by}
-use Rattle.loops.specs.Lists.{HasStep}
+use Rattle.loops.specs.StepLists.{HasStep}
 use Rattle.loops.specs.declared.acyclic.Visit.{Visit}
 use Rattle.loops.specs.declared.rows.Step.{Step}
 

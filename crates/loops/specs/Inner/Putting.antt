@@ -2,7 +2,7 @@
 use Rattle.std.specs.Prelude.{◌≡◌, ℕ, ◌<◌, ◌≤◌, ◌⊎◌, ◌↔◌, Bool, false, List, IsTrue, get_or, length}
 use Rattle.derivation.specs.Grammar.{Sym, Rule, Token}
 use Rattle.cfganalysis.specs.Firsts.{FirstSets, epsilon_bit}
-use Rattle.loops.specs.Lists.{HasStep}
+use Rattle.loops.specs.StepLists.{HasStep}
 use Rattle.loops.specs.declared.rows.Step.{Step}
 
 -- these steps were put, and nothing else changed

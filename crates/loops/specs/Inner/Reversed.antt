@@ -1,6 +1,6 @@
 -- Steps that are turned round.
 use Rattle.std.specs.Prelude.{ℕ, ◌↔◌, List}
-use Rattle.loops.specs.Lists.{HasStep}
+use Rattle.loops.specs.StepLists.{HasStep}
 use Rattle.loops.specs.declared.rows.Step.{Step}
 
 -- the step by the same place, to this rule

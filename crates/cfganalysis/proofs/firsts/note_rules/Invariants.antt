@@ -1,5 +1,5 @@
 use Rattle.std.proofs.Common.{map}
-use Rattle.cfgtables.specs.Symbols.{sym_of}
+use Rattle.cfgtables.specs.NumberedSymbols.{sym_of}
 use Rattle.cfganalysis.proofs.Noting.{NotesFront}
 use Rattle.cfganalysis.proofs.firsts.note_rules.Given as goal
 

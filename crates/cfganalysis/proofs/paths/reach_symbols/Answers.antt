@@ -1,7 +1,7 @@
 use Rattle.std.proofs.Common.{arith, ◌∙◌}
 use Rattle.derivation.specs.Grammar.{IsSymbolOf}
 use Rattle.search.proofs.Each.{each_more, each_all, each_none, found_mapped}
-use Rattle.cfgtables.specs.Symbols.{sym_of}
+use Rattle.cfgtables.specs.NumberedSymbols.{sym_of}
 use Rattle.cfgtables.proofs.Slices.{mapped_all}
 use Rattle.cfganalysis.proofs.References.{found_rules}
 use Rattle.cfganalysis.proofs.paths.reach_symbols.Goals as goal

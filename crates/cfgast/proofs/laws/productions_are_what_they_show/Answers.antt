@@ -1,5 +1,5 @@
 use Rattle.std.proofs.Common.{rules}
-use Rattle.cfgast.specs.View.{symbol_view}
+use Rattle.cfgast.specs.SyntaxView.{symbol_view}
 use Rattle.cfgast.specs.contracts.symbol.SymbolPartialEq.TheImpl.{ghosts as symbols}
 use Rattle.cfgast.proofs.Compared.{lists_show}
 use Rattle.cfgast.proofs.laws.productions_are_what_they_show.Goals as goal

@@ -1,5 +1,5 @@
 use Rattle.std.proofs.Common.{map, sym, ap, ◌∙◌}
-use Rattle.cfgast.specs.View.{rule_entry, rule_view}
+use Rattle.cfgast.specs.SyntaxView.{rule_entry, rule_view}
 use Rattle.cfgast.specs.declared.rule.Rule.{Rule}
 use Rattle.cfgast.proofs.Views.{longer, on_err, changed-absent, changed-nothing, changed-set_value}
 use Rattle.cfgast.proofs.rule.list_production.Goals as goal

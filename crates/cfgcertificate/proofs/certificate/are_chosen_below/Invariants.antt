@@ -1,5 +1,5 @@
 use Rattle.std.proofs.Common.{map, take, All}
-use Rattle.cfgtables.specs.Symbols.{sym_of}
+use Rattle.cfgtables.specs.NumberedSymbols.{sym_of}
 use Rattle.cfgleast.specs.Certificate.{IsChosenBelow, choice_of}
 use Rattle.cfgcertificate.proofs.certificate.are_chosen_below.Given as goal
 

@@ -1,6 +1,6 @@
 use Rattle.std.proofs.Common.{◌≡◌, map, length, refl, subst, sym, ap, ◌∙◌, List, All, Some, true≢false}
 use Rattle.derivation.specs.Grammar.{Sym}
-use Rattle.derivation.specs.Lists.{sum_by_lists}
+use Rattle.derivation.specs.CostLists.{sum_by_lists}
 use Rattle.cfgleast.specs.Certificate.{IsChosenBelow, choice_of}
 use Rattle.cfgleast.proofs.Certified.{production_listed, reached_none, reached_not, shown_from_reached, reached_from_shown}
 use Rattle.cfgcertificate.proofs.certificate.is_reached.Goals as goal

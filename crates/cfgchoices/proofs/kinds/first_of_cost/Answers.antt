@@ -2,9 +2,9 @@ use Rattle.std.proofs.Common.{◌≡◌, ◌++◌, ◌∷◌, ℕ, [], inl, inr,
 use Rattle.std.proofs.lemmas.List.{length-map, take_all, take_more}
 use Rattle.std.proofs.lemmas.List.Elements.{Contains-get_or, Contains-push_cases}
 use Rattle.derivation.specs.Grammar.{Rule}
-use Rattle.cfgtables.specs.Symbols.{sym_of}
+use Rattle.cfgtables.specs.NumberedSymbols.{sym_of}
 use Rattle.cfgtables.proofs.Slices.{mapped_within, mapped_at, mapped_all}
-use Rattle.derivation.specs.Lists.{IsListed, rule_cost}
+use Rattle.derivation.specs.CostLists.{IsListed, rule_cost}
 use Rattle.lemmas.proofs.Contained.{contains_none}
 use Rattle.cfgchoices.proofs.kinds.first_of_cost.Goals as goal
 

@@ -1,7 +1,7 @@
 use Rattle.std.proofs.Common.{◌≡◌, ℕ, Some, Contains, map, take}
 use Rattle.derivation.specs.Grammar.{Rule}
-use Rattle.cfgtables.specs.Symbols.{sym_of}
-use Rattle.derivation.specs.Lists.{rule_cost}
+use Rattle.cfgtables.specs.NumberedSymbols.{sym_of}
+use Rattle.derivation.specs.CostLists.{rule_cost}
 use Rattle.cfgchoices.proofs.kinds.first_of_cost.Given as goal
 
 abbrev pub invariant-loop-symbol : goal.invariant-loop-symbol

@@ -1,8 +1,8 @@
 use Rattle.std.proofs.Common.{◌≡◌, get_or, map, refl, subst, ◌∙◌, arith}
 use Rattle.std.specs.List.{slice_index}
 use Rattle.cfgtables.specs.Openings.{nth_production}
-use Rattle.cfgtables.specs.Symbols.{sym_of}
-use Rattle.derivation.specs.Lists.{rule_cost}
+use Rattle.cfgtables.specs.NumberedSymbols.{sym_of}
+use Rattle.derivation.specs.CostLists.{rule_cost}
 use Rattle.cfgleast.specs.Generator.{tables_of}
 use Rattle.cfgchoices.specs.Inner.Kinds.{IsRowKind}
 use Rattle.cfgleast.proofs.Generated.{entry_read}

@@ -1,8 +1,8 @@
 use Rattle.std.proofs.Common.{◌≡◌, map, sym, ◌∙◌, arith}
 use Rattle.std.proofs.lemmas.Option.{same_Some}
 use Rattle.std.specs.List.{slice_index}
-use Rattle.cfgtables.specs.Symbols.{sym_of}
-use Rattle.derivation.specs.Lists.{rule_cost}
+use Rattle.cfgtables.specs.NumberedSymbols.{sym_of}
+use Rattle.derivation.specs.CostLists.{rule_cost}
 use Rattle.cfgchoices.proofs.Tight.{stops_none}
 use Rattle.cfgchoices.proofs.kinds.row_kind.Goals as goal
 

@@ -2,7 +2,7 @@ use Rattle.std.proofs.Common.{◌≡◌, ℕ, ◌<◌, Err, length, get_or}
 use Rattle.std.specs.List.{slice_index}
 use Rattle.derivation.specs.Grammar.{HasProduction}
 use Rattle.derivation.specs.declared.errors.CostError.TheVariants.{NoSentence}
-use Rattle.cfggreatest.specs.Words.{Means}
+use Rattle.cfggreatest.specs.GreatestCosts.{Means}
 use Rattle.cfggreatest.specs.Inner.Known.{AreTrue}
 use Rattle.cfggreatest.specs.Inner.Walk.{IsWalk}
 use Rattle.cfggreatest.proofs.greatest.greatest_costs.Given as goal

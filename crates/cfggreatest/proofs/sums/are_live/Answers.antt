@@ -1,6 +1,6 @@
 use Rattle.std.proofs.Common.{length}
-use Rattle.cfgtables.specs.Symbols.{sym_of}
-use Rattle.derivation.specs.Lists.{IsListed}
+use Rattle.cfgtables.specs.NumberedSymbols.{sym_of}
+use Rattle.derivation.specs.CostLists.{IsListed}
 use Rattle.derivation.proofs.Rows.{shown_all, shown_holds, shown_more}
 use Rattle.cfggreatest.specs.Inner.Known.{IsLiveSymbol}
 use Rattle.cfggreatest.proofs.sums.are_live.Goals as goal

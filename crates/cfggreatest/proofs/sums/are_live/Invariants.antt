@@ -1,5 +1,5 @@
 use Rattle.std.proofs.Common.{All, map, take}
-use Rattle.cfgtables.specs.Symbols.{sym_of}
+use Rattle.cfgtables.specs.NumberedSymbols.{sym_of}
 use Rattle.cfggreatest.specs.Inner.Known.{IsLiveSymbol}
 use Rattle.cfggreatest.proofs.sums.are_live.Given as goal
 

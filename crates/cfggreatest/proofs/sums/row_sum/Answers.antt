@@ -2,9 +2,9 @@ use Rattle.std.proofs.Common.{◌<◌, ◌≤◌, ◌∙◌, List, [], ◌∷◌
 use Rattle.std.specs.List.{slice_index}
 use Rattle.std.proofs.lemmas.Result.{err_from_is_err_and}
 use Rattle.derivation.specs.Grammar.{Sym}
-use Rattle.cfgtables.specs.Symbols.{sym_of}
+use Rattle.cfgtables.specs.NumberedSymbols.{sym_of}
 use Rattle.cfgtables.proofs.Slices.{mapped_at, mapped_within}
-use Rattle.derivation.specs.Lists.{IsListed}
+use Rattle.derivation.specs.CostLists.{IsListed}
 use Rattle.derivation.proofs.Rows.{shown_holds}
 use Rattle.cfggreatest.specs.Inner.Sums.{IsSum}
 use Rattle.cfggreatest.proofs.Summing.{next_taken, sum_inside, sum_none, sum_outside, sum_whole}

@@ -1,6 +1,6 @@
 use Rattle.std.proofs.Common.{◌≤◌, map, take}
 use Rattle.std.specs.List.{slice_index}
-use Rattle.cfgtables.specs.Symbols.{sym_of}
+use Rattle.cfgtables.specs.NumberedSymbols.{sym_of}
 use Rattle.cfggreatest.specs.Inner.Sums.{IsSum}
 use Rattle.cfggreatest.proofs.sums.row_sum.Given as goal
 

@@ -3,10 +3,10 @@ use Rattle.std.specs.List.{slice_index}
 use Rattle.std.proofs.lemmas.List.{length-map}
 use Rattle.std.proofs.lemmas.Result.{err_from_is_err_and}
 use Rattle.derivation.specs.Grammar.{HasProduction}
-use Rattle.cfgtables.specs.Symbols.{sym_of}
+use Rattle.cfgtables.specs.NumberedSymbols.{sym_of}
 use Rattle.cfgtables.specs.Openings.{ArePlacesOf}
 use Rattle.cfgtables.proofs.Slices.{mapped_all, mapped_at, mapped_within}
-use Rattle.derivation.specs.Lists.{IsListed}
+use Rattle.derivation.specs.CostLists.{IsListed}
 use Rattle.derivation.proofs.Listed.{symbols_listed}
 use Rattle.cfggreatest.specs.Inner.AtLeast.{IsDead}
 use Rattle.cfggreatest.specs.Inner.Sums.{IsUnder}

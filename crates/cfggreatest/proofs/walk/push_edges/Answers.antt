@@ -1,8 +1,8 @@
 use Rattle.std.proofs.Common.{◌<◌, All, length, map, sym, subst}
 use Rattle.cfgtables.specs.Openings.{ArePlacesOf}
-use Rattle.cfgtables.specs.Symbols.{sym_of}
+use Rattle.cfgtables.specs.NumberedSymbols.{sym_of}
 use Rattle.cfgtables.proofs.Slices.{mapped_all, mapped_at, mapped_within}
-use Rattle.derivation.specs.Lists.{IsListed}
+use Rattle.derivation.specs.CostLists.{IsListed}
 use Rattle.derivation.proofs.Listed.{symbols_listed}
 use Rattle.cfggreatest.specs.Inner.Walk.{IsEdge}
 use Rattle.cfggreatest.proofs.Placed.{placed}

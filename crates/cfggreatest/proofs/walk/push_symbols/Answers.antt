@@ -1,6 +1,6 @@
 use Rattle.std.proofs.Common.{All, sym, subst}
 use Rattle.std.proofs.lemmas.List.Elements.{All-push}
-use Rattle.cfgtables.specs.Symbols.{sym_of}
+use Rattle.cfgtables.specs.NumberedSymbols.{sym_of}
 use Rattle.derivation.proofs.Rows.{shown_holds}
 use Rattle.cfggreatest.specs.Inner.Walk.{IsEdge, IsEdgeTo}
 use Rattle.cfggreatest.proofs.walk.push_symbols.Goals as goal

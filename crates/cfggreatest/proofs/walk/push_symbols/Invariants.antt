@@ -1,6 +1,6 @@
 use Rattle.std.proofs.Common.{All, map}
 use Rattle.derivation.specs.Grammar.{Grammar}
-use Rattle.cfgtables.specs.Symbols.{sym_of}
+use Rattle.cfgtables.specs.NumberedSymbols.{sym_of}
 use Rattle.cfggreatest.specs.Inner.Walk.{IsEdge, IsEdgeTo}
 use Rattle.cfggreatest.proofs.walk.push_symbols.Given as goal
 

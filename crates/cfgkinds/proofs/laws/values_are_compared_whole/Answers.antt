@@ -1,6 +1,6 @@
 use Rattle.std.proofs.Common.{◌∙◌, ◌&&◌, ap, refl, true, false}
 use Rattle.cfgkinds.specs.Values.{namespaced_view}
-use Rattle.cfgkinds.specs.Same.{same_placed}
+use Rattle.cfgkinds.specs.SameValues.{same_placed}
 use Rattle.cfgkinds.specs.declared.value.Value.TheVariants as values
 use Rattle.cfgkinds.proofs.SameLemmas.{same_both, same_namespaces}
 use Rattle.cfgkinds.proofs.laws.values_are_compared_whole.Goals as goal

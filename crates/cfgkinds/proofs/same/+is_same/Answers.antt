@@ -1,6 +1,6 @@
 use Rattle.std.proofs.Common.{sym, ap, ◌∙◌, ◌&&◌, ◌+◌, ◌<◌, drop, get_or, length, subst}
 use Rattle.cfgkinds.specs.Values.{settings_view}
-use Rattle.cfgkinds.specs.Same.{same_settings}
+use Rattle.cfgkinds.specs.SameValues.{same_settings}
 use Rattle.cfgkinds.proofs.SameLemmas.{one_left, other_lengths}
 use Rattle.cfgkinds.proofs.same.+is_same.Goals as goal
 

@@ -1,6 +1,6 @@
 use Rattle.std.proofs.Common.{◌≡◌, drop}
 use Rattle.cfgkinds.specs.Values.{settings_view}
-use Rattle.cfgkinds.specs.Same.{same_settings}
+use Rattle.cfgkinds.specs.SameValues.{same_settings}
 use Rattle.cfgkinds.proofs.same.+is_same.Given as goal
 
 -- what is left decides

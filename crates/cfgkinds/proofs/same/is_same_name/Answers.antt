@@ -1,6 +1,6 @@
 use Rattle.std.proofs.Common.{◌∙◌, ◌&&◌, ap}
 use Rattle.cfgkinds.specs.Values.{namespaced_view}
-use Rattle.cfgkinds.specs.Same.{same_placed}
+use Rattle.cfgkinds.specs.SameValues.{same_placed}
 use Rattle.cfgkinds.proofs.SameLemmas.{same_both, same_namespaces}
 use Rattle.cfgkinds.proofs.same.is_same_name.Goals as goal
 

@@ -2,7 +2,7 @@ use Rattle.std.proofs.Common.{◌≡◌, ℕ, List, [], None, Option, map, lengt
 use Rattle.std.specs.List.{slice_index}
 use Rattle.std.proofs.lemmas.List.{length-replicate}
 use Rattle.std.proofs.lemmas.List.Sorted.{length_permutation}
-use Rattle.derivation.specs.Lists.{rule_cost}
+use Rattle.derivation.specs.CostLists.{rule_cost}
 use Rattle.cfgleast.specs.Certificate.{choice_of}
 use Rattle.cfgleast.specs.Inner.Open.{AreAllOpen, AreOpen}
 use Rattle.cfgleast.proofs.Chosen.{none_chosen_yet}

@@ -1,6 +1,6 @@
 use Rattle.std.proofs.Common.{◌≡◌, map, length}
 use Rattle.std.specs.List.{slice_index}
-use Rattle.derivation.specs.Lists.{rule_cost}
+use Rattle.derivation.specs.CostLists.{rule_cost}
 use Rattle.cfgleast.specs.Certificate.{choice_of}
 use Rattle.cfgleast.specs.Inner.Open.{AreAllOpen, AreInput, count_open}
 use Rattle.cfgleast.specs.Inner.Settled.{AreChosen}

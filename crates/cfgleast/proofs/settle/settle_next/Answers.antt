@@ -4,7 +4,7 @@ use Rattle.std.proofs.lemmas.Result.{on_ok_weaker}
 use Rattle.std.specs.List.{slice_index}
 use Rattle.cfgtables.specs.Openings.{nth_production}
 use Rattle.cfgleast.specs.Certificate.{choice_of}
-use Rattle.derivation.specs.Lists.{rule_cost}
+use Rattle.derivation.specs.CostLists.{rule_cost}
 use Rattle.cfgleast.specs.Inner.Open.{AreAllOpen, AreInput}
 use Rattle.cfgleast.specs.Inner.Settled.{AreChosen}
 use Rattle.cfgleast.proofs.Settles.{popped_place, popped_again, settles_chosen, settles_woken, settled_if_some, unset_if_none, owner_within}

@@ -3,9 +3,9 @@ use Rattle.std.proofs.lemmas.List.{length-map}
 use Rattle.std.proofs.lemmas.Result.{on_ok_weaker}
 use Rattle.std.specs.List.{slice_index}
 use Rattle.derivation.specs.Grammar.{Sym}
-use Rattle.cfgtables.specs.Symbols.{sym_of}
+use Rattle.cfgtables.specs.NumberedSymbols.{sym_of}
 use Rattle.cfgtables.specs.Openings.{nth_production}
-use Rattle.derivation.specs.Lists.{IsListed, rule_cost}
+use Rattle.derivation.specs.CostLists.{IsListed, rule_cost}
 use Rattle.cfgleast.specs.Inner.Open.{IsCutSum, StopsAt, MovesOn, enters, waits}
 use Rattle.derivation.proofs.Listed.{symbols_listed}
 use Rattle.cfgleast.proofs.Walked.{stop_listed, stop_waits}

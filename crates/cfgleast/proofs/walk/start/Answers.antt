@@ -1,6 +1,6 @@
 use Rattle.std.proofs.Common.{◌<◌, ◌≤◌, length, arith, refl, ◌∙◌}
 use Rattle.std.specs.List.{slice_index}
-use Rattle.derivation.specs.Lists.{rule_cost}
+use Rattle.derivation.specs.CostLists.{rule_cost}
 use Rattle.cfgleast.proofs.Walked.{start_more, lists_moved, all_open}
 use Rattle.cfgleast.proofs.walk.start.Goals as goal
 

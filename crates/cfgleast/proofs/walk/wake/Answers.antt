@@ -2,7 +2,7 @@ use Rattle.std.proofs.Common.{get_or, arith, ◌∙◌}
 use Rattle.std.specs.List.{slice_index}
 use Rattle.std.proofs.lemmas.List.{get_or_default}
 use Rattle.cfgleast.specs.declared.partial.Partial.{Partial}
-use Rattle.derivation.specs.Lists.{rule_cost}
+use Rattle.derivation.specs.CostLists.{rule_cost}
 use Rattle.cfgleast.proofs.Walked.{wake_more, wake_all, lists_moved, count_moved}
 use Rattle.cfgleast.proofs.walk.wake.Goals as goal
 

@@ -1,6 +1,6 @@
 use Rattle.std.proofs.Common.{◌≡◌, ◌+◌, length}
 use Rattle.std.specs.List.{slice_index}
-use Rattle.derivation.specs.Lists.{rule_cost}
+use Rattle.derivation.specs.CostLists.{rule_cost}
 use Rattle.cfgleast.specs.Inner.Open.{AreWaking, count_open}
 use Rattle.cfgleast.proofs.walk.wake.Given as goal
 

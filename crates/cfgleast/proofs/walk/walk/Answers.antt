@@ -2,8 +2,8 @@ use Rattle.std.proofs.Common.{◌≡◌, ◌+◌, ◌≤◌, List, min, map, len
 use Rattle.std.proofs.lemmas.List.{get_or-map, length-map, take_all}
 use Rattle.std.specs.List.{slice_index}
 use Rattle.derivation.specs.Grammar.{Sym, Rule}
-use Rattle.cfgtables.specs.Symbols.{sym_of}
-use Rattle.derivation.specs.Lists.{IsListed, rule_cost}
+use Rattle.cfgtables.specs.NumberedSymbols.{sym_of}
+use Rattle.derivation.specs.CostLists.{IsListed, rule_cost}
 use Rattle.derivation.proofs.Rows.{shown_at, shown_within, shown_holds}
 use Rattle.cfgleast.specs.Inner.Open.{IsCutSum}
 use Rattle.cfgleast.proofs.Walked.{cut_more}

@@ -6,7 +6,7 @@ use Rattle.std.specs.Str.{bytes_eq}
 use Rattle.std.proofs.lemmas.Option.{slice_get_past, slice_get_read}
 use Rattle.lemmas.proofs.Places.{position-map}
 use Rattle.cfgbase.specs.declared.span.Span.{Span}
-use Rattle.cfgtree.specs.View.{syntax}
+use Rattle.cfgtree.specs.TreeView.{syntax}
 use Rattle.cfgtree.proofs.Found.{names_differ}
 use Rattle.cfglint.proofs.AskedPlaces.{no_span, no_token, noted}
 use Rattle.cfglint.specs.Inner.Asked.{place_cmp}

@@ -1,6 +1,6 @@
 use Rattle.std.proofs.Common.{ℕ, ◌+◌, ◌<◌, arith, ap, sym, subst, ◌∙◌}
-use Rattle.cfgnumbers.specs.Shown.{IsSymbolWithin, sym_name}
-use Rattle.cfgtables.specs.Symbols.{sym_of}
+use Rattle.cfgnumbers.specs.Accessors.{IsSymbolWithin, sym_name}
+use Rattle.cfgtables.specs.NumberedSymbols.{sym_of}
 use Rattle.cfgyacc.proofs.Shows.{rule_named}
 use Rattle.cfglint.proofs.own_heirs.symbol_name.Goals as goal
 

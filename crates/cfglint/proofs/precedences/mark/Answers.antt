@@ -4,8 +4,8 @@ use Rattle.std.proofs.lemmas.List.{length-map}
 use Rattle.cfgbase.specs.declared.span.Span.{Span}
 use Rattle.cfgast.specs.declared.precedence.Precedence.{Precedence}
 use Rattle.cfgast.specs.Syntax.{entry_name}
-use Rattle.cfgast.specs.View.{precedence_entry}
-use Rattle.cfgtree.specs.View.{syntax}
+use Rattle.cfgast.specs.SyntaxView.{precedence_entry}
+use Rattle.cfgtree.specs.TreeView.{syntax}
 use Rattle.cfglint.specs.Inner.Taking.{Marks}
 use Rattle.cfglint.proofs.Marking.{marks_nothing, marks_one, precedence_position, precedences_differ}
 use Rattle.cfglint.proofs.precedences.mark.Goals as goal

@@ -6,8 +6,8 @@ use Rattle.std.proofs.lemmas.Simd.{map-map}
 use Rattle.lemmas.proofs.Elements.{element_at}
 use Rattle.cfgbase.specs.declared.span.Span.{Span}
 use Rattle.cfgast.specs.Syntax.{entry_name}
-use Rattle.cfgast.specs.View.{span_entry}
-use Rattle.cfgtree.specs.View.{syntax}
+use Rattle.cfgast.specs.SyntaxView.{span_entry}
+use Rattle.cfgtree.specs.TreeView.{syntax}
 use Rattle.cfglint.specs.Inner.Taking.{Marks}
 use Rattle.cfglint.proofs.Marking.{marks_all, marks_more, marks_none}
 use Rattle.cfglint.proofs.precedences.mark_table.Goals as goal

@@ -2,7 +2,7 @@ use Rattle.std.proofs.Common.{Some, option_map, string_bytes, sym, ap, ◌∙◌
 use Rattle.std.specs.Map.Iter.{deref_pair}
 use Rattle.std.proofs.lemmas.Option.{slice_get-map}
 use Rattle.cfgindex.specs.declared.idxnewtype.TIdx.{TIdx}
-use Rattle.cfgnumbers.specs.View.{names}
+use Rattle.cfgnumbers.specs.TablesView.{names}
 use Rattle.cfgnumbers.proofs.Lookups.{names-distinct, token_put}
 use Rattle.cfgnumbers.proofs.names.put_names.Goals as goal
 

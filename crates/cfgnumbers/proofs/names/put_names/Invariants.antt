@@ -1,7 +1,7 @@
 use Rattle.std.proofs.Common.{◌≡◌, ℕ, List, option_map, position, take}
 use Rattle.std.specs.HashMap.{get_by}
 use Rattle.std.specs.Str.{bytes_eq}
-use Rattle.cfgnumbers.specs.View.{names}
+use Rattle.cfgnumbers.specs.TablesView.{names}
 use Rattle.cfgnumbers.proofs.names.put_names.Given as goal
 
 abbrev pub invariant-loop-place : goal.invariant-loop-place

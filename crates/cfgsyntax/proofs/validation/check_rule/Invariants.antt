@@ -1,5 +1,5 @@
 use Rattle.std.proofs.Common.{◌≡◌, drop}
-use Rattle.cfgtree.specs.View.{syntax}
+use Rattle.cfgtree.specs.TreeView.{syntax}
 use Rattle.cfgtree.specs.Check.{first_error, place_error}
 use Rattle.cfgsyntax.proofs.validation.check_rule.Given as goal
 

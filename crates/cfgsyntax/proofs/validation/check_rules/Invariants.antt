@@ -1,6 +1,6 @@
 use Rattle.std.proofs.Common.{◌≡◌, map}
-use Rattle.cfgast.specs.View.{rule_entry}
-use Rattle.cfgtree.specs.View.{syntax}
+use Rattle.cfgast.specs.SyntaxView.{rule_entry}
+use Rattle.cfgtree.specs.TreeView.{syntax}
 use Rattle.cfgtree.specs.Check.{first_error, rule_error}
 use Rattle.cfgsyntax.proofs.validation.check_rules.Given as goal
 

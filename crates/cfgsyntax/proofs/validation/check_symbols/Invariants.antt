@@ -1,6 +1,6 @@
 use Rattle.std.proofs.Common.{◌≡◌, map, drop}
-use Rattle.cfgast.specs.View.{symbol_view}
-use Rattle.cfgtree.specs.View.{syntax}
+use Rattle.cfgast.specs.SyntaxView.{symbol_view}
+use Rattle.cfgtree.specs.TreeView.{syntax}
 use Rattle.cfgtree.specs.Check.{first_error, symbol_error}
 use Rattle.cfgsyntax.proofs.validation.check_symbols.Given as goal
 

@@ -2,8 +2,8 @@
 
 ghost use Rattle.std.specs.Prelude.{◌≡◌, map, option_map, IfOk};
 ghost use Rattle.cfgtree.specs.Duplicates.{duplicates};
-ghost use Rattle.cfgast.specs.View.{occurrence_view};
-ghost use Rattle.cfgtree.specs.View.{syntax};
+ghost use Rattle.cfgast.specs.SyntaxView.{occurrence_view};
+ghost use Rattle.cfgtree.specs.TreeView.{syntax};
 ghost use Rattle.cfgsection.specs.SectionReads.{errors_view};
 ghost use Rattle.cfgerrors.specs.Errors.{kind_view, header_error};
 ghost use Rattle.cfgsyntax.specs.Faults.{repeated_kind, duplicate_error, stop_errors, all_errors};

@@ -4,7 +4,7 @@ ghost use Rattle.std.specs.Prelude.{IfErr};
 ghost use Rattle.cfgerrors.specs.Refusal.{ListsErrors};
 ghost use Rattle.cfgsection.specs.Named.{HasOneNaming, Names, Naming};
 ghost use Rattle.cfgsyntax.specs.Inner.Steps.{IsKindOf};
-ghost use Rattle.cfgsyntax.specs.Spans.{EachFaultSpan};
+ghost use Rattle.cfgsyntax.specs.ErrorSpans.{EachFaultSpan};
 ghost use Rattle.cfgwords.specs.Places.{IsPiece};
 
 use super::errors::section_errors;

@@ -3,7 +3,7 @@
 ghost use Rattle.std.specs.Prelude.{◌≡◌, ◌↔◌, IsTrue, Some};
 ghost use Rattle.std.specs.Cmp.{partial_equiv_from_equiv};
 ghost use Rattle.cfgerrors.specs.Errors.{kind_view, same_kind, same_kind-equivalence};
-ghost use Rattle.cfgerrors.specs.Texts.{error_text};
+ghost use Rattle.cfgerrors.specs.ErrorTexts.{error_text};
 ghost use Rattle.cfgsyntax.specs.Starts.{start_fault_text};
 ghost use Rattle.cfgsyntax.specs.declared.yacc.ast.start.StartFault.TheVariants.{OutOfMemory};
 

@@ -2,7 +2,7 @@ use Rattle.std.proofs.Common.{All, sym, subst, ap, ◌∙◌}
 use Rattle.std.proofs.lemmas.Result.{err_from_is_err_and}
 use Rattle.cfgwords.specs.Places.{IsPiece}
 use Rattle.cfgerrors.specs.declared.error.YaccFault.TheVariants as faults
-use Rattle.cfgsyntax.specs.Spans.{EachErrorSpan}
+use Rattle.cfgsyntax.specs.ErrorSpans.{EachErrorSpan}
 use Rattle.cfgyacc.specs.Answer.{WasRead}
 use Rattle.cfgyacc.proofs.OfItself.{parsed_itself, refused_itself}
 use Rattle.cfgtool.specs.Lines.{error_lines}

@@ -2,8 +2,8 @@ use Rattle.std.proofs.Common.{◌≡◌, All, string_bytes, sym, subst, ap, ◌�
 use Rattle.std.proofs.lemmas.Result.{IfOk-weaker}
 use Rattle.cfgwords.specs.Places.{IsPiece, IsWithin}
 use Rattle.cfgast.specs.Syntax.{Syntax, EachSpan}
-use Rattle.cfgtree.specs.View.{syntax}
-use Rattle.cfgsyntax.specs.Spans.{EachErrorSpan}
+use Rattle.cfgtree.specs.TreeView.{syntax}
+use Rattle.cfgsyntax.specs.ErrorSpans.{EachErrorSpan}
 use Rattle.cfgnumbers.specs.Numbered.{Numbered}
 use Rattle.cfgyacc.specs.Answer.{WasRead, in_numbers}
 use Rattle.cfgtool.specs.Lines.{error_lines}

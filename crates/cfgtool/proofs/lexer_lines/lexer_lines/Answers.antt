@@ -7,8 +7,8 @@ use Rattle.lemmas.proofs.Passing.{places_from-within}
 use Rattle.cfgindex.specs.declared.idxnewtype.TIdx.{TIdx}
 use Rattle.cfgnumbers.specs.Numbered.{NumberedToken}
 use Rattle.cfgnumbers.proofs.Turns.{All-shown}
-use Rattle.lexcheck.specs.Names.{is_missing, is_unknown, missing_tokens, unknown_places}
-use Rattle.cfgyacc.specs.Names.{token_names}
+use Rattle.lexcheck.specs.LexerNames.{is_missing, is_unknown, missing_tokens, unknown_places}
+use Rattle.cfgyacc.specs.TokenNames.{token_names}
 use Rattle.cfgtool.specs.LexerLines.{missing_line_of, unknown_line_at}
 use Rattle.cfgtool.proofs.lexer_lines.lexer_lines.Goals as goal
 

@@ -3,7 +3,7 @@ use Rattle.std.specs.List.{concat}
 use Rattle.std.proofs.lemmas.List.{get_or_default}
 use Rattle.derivation.specs.Grammar.{Token}
 use Rattle.cfgindex.specs.declared.idxnewtype.TIdx.{TIdx}
-use Rattle.cfgnumbers.specs.Shown.{sym_name}
+use Rattle.cfgnumbers.specs.Accessors.{sym_name}
 use Rattle.cfgyacc.proofs.Shows.{token_named}
 use Rattle.cfgnumbers.proofs.Turns.{All-shown, more_joined}
 use Rattle.cfgtool.specs.SentenceLines.{token_text}

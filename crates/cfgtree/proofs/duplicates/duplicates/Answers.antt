@@ -1,8 +1,8 @@
 use Rattle.std.proofs.Common.{refl, sym, ap, ◌∙◌}
 use Rattle.std.specs.Borrow.{Bor}
 use Rattle.cfgast.specs.declared.occurrence.Unique.{Unique}
-use Rattle.cfgast.specs.View.{occurrence_view}
-use Rattle.cfgtree.specs.View.{duplicate_view}
+use Rattle.cfgast.specs.SyntaxView.{occurrence_view}
+use Rattle.cfgtree.specs.TreeView.{duplicate_view}
 use Rattle.cfgtree.specs.Duplicates.{duplicates}
 use Rattle.cfgtree.proofs.Gathered.{place_apart, place_added, placed_nowhere}
 use Rattle.cfgtree.proofs.Repeats.{shown_more}

@@ -1,8 +1,8 @@
 use Rattle.std.proofs.Common.{◌≡◌, map, take}
 use Rattle.cfgast.specs.Syntax.{each_once}
 use Rattle.cfgtree.specs.Duplicates.{is_same, repeats}
-use Rattle.cfgast.specs.View.{occurrence_view}
-use Rattle.cfgtree.specs.View.{duplicate_view}
+use Rattle.cfgast.specs.SyntaxView.{occurrence_view}
+use Rattle.cfgtree.specs.TreeView.{duplicate_view}
 use Rattle.cfgtree.proofs.Gathered.{placed}
 use Rattle.cfgtree.proofs.duplicates.duplicates.Given as goal
 

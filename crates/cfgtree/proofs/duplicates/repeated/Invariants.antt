@@ -1,5 +1,5 @@
 use Rattle.std.proofs.Common.{map, take}
-use Rattle.cfgast.specs.View.{occurrence_view}
+use Rattle.cfgast.specs.SyntaxView.{occurrence_view}
 use Rattle.cfgtree.proofs.Repeats.{InRepeats}
 use Rattle.cfgtree.proofs.duplicates.repeated.Given as goal
 

@@ -1,7 +1,7 @@
 use Rattle.std.proofs.Common.{Some, ap}
 use Rattle.cfgast.specs.Syntax.{Syntax}
-use Rattle.cfgast.specs.View.{syntax_view, named_view}
-use Rattle.cfgtree.specs.View.{syntax}
+use Rattle.cfgast.specs.SyntaxView.{syntax_view, named_view}
+use Rattle.cfgtree.specs.TreeView.{syntax}
 use Rattle.cfgtree.proofs.writing.clone_with_start.Goals as goal
 
 pub returns : goal.returns

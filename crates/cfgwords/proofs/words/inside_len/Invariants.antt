@@ -1,6 +1,6 @@
 use Rattle.std.proofs.Common.{◌≡◌, ◌+◌, drop}
 use Rattle.std.specs.List.{prefix_len}
-use Rattle.cfgwords.specs.Words.{is_inside}
+use Rattle.cfgwords.specs.FileWords.{is_inside}
 use Rattle.cfgwords.proofs.words.inside_len.Given as goal
 
 -- what is counted so far, and what is left inside, make the whole

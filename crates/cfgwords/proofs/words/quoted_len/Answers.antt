@@ -2,7 +2,7 @@ use Rattle.std.proofs.Common.{arith, ◌≡◌, ℕ, List, ◌-◌, take, length
 use Rattle.std.specs.List.{prefix_len}
 use Rattle.std.proofs.lemmas.List.{take_rest}
 use Rattle.std.proofs.lemmas.List.Sums.{prefix_len-le-length}
-use Rattle.cfgwords.specs.Words.{is_inside}
+use Rattle.cfgwords.specs.FileWords.{is_inside}
 use Rattle.cfgwords.proofs.Quoted.{quoted_short, quoted_other, quoted_line, quoted_open, quoted_other_end, quoted_found}
 use Rattle.cfgwords.proofs.words.quoted_len.Goals as goal
 use Rattle.cfgwords.proofs.words.quoted_len.Goals.{then-bytes-lt2-via-then-bytes-lt2, then-bytes-lt2-via-else-bytes-lt2+then-not-holds, then-bytes-lt2-via-else-bytes-lt2+else-not-holds+then-bytes-eq10, else-len-bytes-via-then-len-bytes+else-bytes-len, else-len-bytes-via-else-len-bytes}

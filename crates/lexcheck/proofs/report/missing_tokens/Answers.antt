@@ -5,7 +5,7 @@ use Rattle.std.specs.Str.{bytes_eq}
 use Rattle.std.proofs.lemmas.List.{take_all}
 use Rattle.cfgindex.specs.declared.idxnewtype.TIdx.{TIdx}
 use Rattle.lemmas.specs.Lists.{places}
-use Rattle.lexcheck.specs.Names.{is_missing}
+use Rattle.lexcheck.specs.LexerNames.{is_missing}
 use Rattle.lexcheck.proofs.Among.{places_read, pushed_shown}
 use Rattle.lexcheck.proofs.report.missing_tokens.Goals as goal
 

@@ -1,6 +1,6 @@
 use Rattle.std.proofs.Common.{◌≡◌, map, take}
 use Rattle.lemmas.specs.Lists.{places}
-use Rattle.lexcheck.specs.Names.{is_missing}
+use Rattle.lexcheck.specs.LexerNames.{is_missing}
 use Rattle.lexcheck.proofs.report.missing_tokens.Given as goal
 
 -- of the tokens before the next one the missing ones are there

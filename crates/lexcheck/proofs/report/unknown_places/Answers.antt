@@ -1,5 +1,5 @@
 use Rattle.std.proofs.Common.{◌++◌, ◌∷◌, [], Bor, List, ℕ, cond, not, sym, ◌∙◌, arith}
-use Rattle.lexcheck.specs.Names.{is_unknown}
+use Rattle.lexcheck.specs.LexerNames.{is_unknown}
 use Rattle.lexcheck.proofs.Among.{places_shown}
 use Rattle.lexcheck.proofs.report.unknown_places.Goals as goal
 

@@ -1,6 +1,6 @@
 use Rattle.std.proofs.Common.{◌≡◌, map, take}
 use Rattle.lemmas.specs.Lists.{places}
-use Rattle.lexcheck.specs.Names.{is_unknown}
+use Rattle.lexcheck.specs.LexerNames.{is_unknown}
 use Rattle.lexcheck.proofs.report.unknown_places.Given as goal
 
 abbrev pub invariant-loop-place : goal.invariant-loop-place

@@ -1,5 +1,5 @@
 use Rattle.std.proofs.Common.{inl, inr, Contains, length, arith, sym, ap, subst, ◌∙◌}
-use Rattle.loops.specs.Lists.{AreWithin}
+use Rattle.loops.specs.StepLists.{AreWithin}
 use Rattle.loops.proofs.Finding.{finds_as}
 use Rattle.loops.proofs.Ending.{begins, count_fits, ends, no_layer, not_noted, some_layer, goes_on, have_layers, layer_within, less_to_do, rule_noted}
 use Rattle.loops.proofs.shortest.shortest_loop.Goals as goal

@@ -1,6 +1,6 @@
 use Rattle.std.proofs.Common.{None, false, length, arith, sym, ap, subst, ◌∙◌}
 use Rattle.std.proofs.lemmas.List.{get_or_default, length_push}
-use Rattle.loops.specs.Lists.{HasStep}
+use Rattle.loops.specs.StepLists.{HasStep}
 use Rattle.loops.specs.Rows.{IsShortestOf}
 use Rattle.loops.proofs.AcyclicRules.{ends_without_loop, one_more_rule}
 use Rattle.loops.proofs.shortest.shortest_loops.Goals as goal

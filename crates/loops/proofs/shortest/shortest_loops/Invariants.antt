@@ -1,5 +1,5 @@
 use Rattle.std.proofs.Common.{◌≡◌, ℕ, ◌<◌, None, get_or, length}
-use Rattle.loops.specs.Lists.{HasStep}
+use Rattle.loops.specs.StepLists.{HasStep}
 use Rattle.loops.specs.Rows.{IsShortestOf}
 use Rattle.loops.proofs.shortest.shortest_loops.Given as goal
 

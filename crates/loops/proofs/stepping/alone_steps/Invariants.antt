@@ -1,5 +1,5 @@
 use Rattle.std.proofs.Common.{◌<◌, [], replicate}
-use Rattle.loops.specs.Steps.{IsStep}
+use Rattle.loops.specs.UnitSteps.{IsStep}
 use Rattle.loops.specs.Inner.Putting.{ArePut}
 use Rattle.loops.proofs.stepping.alone_steps.Given as goal
 

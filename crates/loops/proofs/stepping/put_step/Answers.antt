@@ -1,6 +1,6 @@
 use Rattle.std.proofs.Common.{◌≡◌, ℕ, subst, sym, ap, ◌∙◌}
 use Rattle.derivation.specs.Grammar.{Rule}
-use Rattle.cfgtables.specs.Symbols.{sym_of}
+use Rattle.cfgtables.specs.NumberedSymbols.{sym_of}
 use Rattle.loops.specs.Inner.Putting.{ArePut}
 use Rattle.loops.proofs.Putting.{put_as, put_one}
 use Rattle.loops.proofs.stepping.put_step.Goals as goal

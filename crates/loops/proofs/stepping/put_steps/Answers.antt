@@ -1,7 +1,7 @@
 use Rattle.std.proofs.Common.{◌≡◌, ℕ, ◌+◌, ◌<◌, ◌≤◌, ◌↔◌, true, arith, map, length, refl, sym, subst, ap, true≢false, ◌∙◌}
 use Rattle.std.proofs.lemmas.List.{length-map}
 use Rattle.cfgtables.specs.Openings.{nth_production}
-use Rattle.cfgtables.specs.Symbols.{sym_of}
+use Rattle.cfgtables.specs.NumberedSymbols.{sym_of}
 use Rattle.loops.specs.Inner.Putting.{AreEmpty, ArePut, is_empty}
 use Rattle.loops.proofs.EmptyPlaces.{front_gone, front_kept, symbol_at}
 use Rattle.loops.proofs.Places.{all_places, IsBefore, no_place, shown_left, shown_taken}

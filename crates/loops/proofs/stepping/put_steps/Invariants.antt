@@ -1,5 +1,5 @@
 use Rattle.std.proofs.Common.{◌≡◌, ◌↔◌, true, map}
-use Rattle.cfgtables.specs.Symbols.{sym_of}
+use Rattle.cfgtables.specs.NumberedSymbols.{sym_of}
 use Rattle.loops.specs.Inner.Putting.{AreEmpty, ArePut}
 use Rattle.loops.proofs.Places.{IsBefore}
 use Rattle.loops.proofs.stepping.put_steps.Given as goal

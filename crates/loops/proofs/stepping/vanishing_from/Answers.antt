@@ -1,5 +1,5 @@
 use Rattle.std.proofs.Common.{◌≡◌, ◌+◌, ◌≤◌, ◌↔◌, arith, map, length, sym, subst, ap, ◌∙◌}
-use Rattle.cfgtables.specs.Symbols.{sym_of}
+use Rattle.cfgtables.specs.NumberedSymbols.{sym_of}
 use Rattle.loops.specs.Inner.Putting.{AreEmpty, is_empty}
 use Rattle.loops.proofs.EmptyPlaces.{place_kept, place_moved, symbol_at}
 use Rattle.loops.proofs.stepping.vanishing_from.Goals as goal

@@ -1,5 +1,5 @@
 use Rattle.std.proofs.Common.{ℕ, ◌≤◌, ◌↔◌, map}
-use Rattle.cfgtables.specs.Symbols.{sym_of}
+use Rattle.cfgtables.specs.NumberedSymbols.{sym_of}
 use Rattle.loops.specs.Inner.Putting.{AreEmpty}
 use Rattle.loops.proofs.stepping.vanishing_from.Given as goal
 

@@ -1,7 +1,7 @@
 use Rattle.std.proofs.Common.{◌≡◌, false, get_or, subst, sym, ap, ◌∙◌}
 use Rattle.std.proofs.lemmas.Option.{unwrap_or-slice_get}
 use Rattle.std.specs.Option.{unwrap_or}
-use Rattle.cfgtables.specs.Symbols.{sym_of}
+use Rattle.cfgtables.specs.NumberedSymbols.{sym_of}
 use Rattle.cfganalysis.specs.Firsts.{epsilon_bit}
 use Rattle.cfganalysis.specs.Inner.GrowingFirsts.{is_empty_symbol}
 use Rattle.cfganalysis.proofs.firsts.GrowingFirsts.is_empty_symbol.Goals as goal

@@ -1,6 +1,6 @@
 use Rattle.std.proofs.Common.{sym, ap, ◌∙◌}
 use Rattle.cfganalysis.specs.Inner.GrowingFirsts.{is_empty_symbol}
-use Rattle.cfgtables.specs.Symbols.{sym_of}
+use Rattle.cfgtables.specs.NumberedSymbols.{sym_of}
 use Rattle.cfganalysis.proofs.Gathering.{steps_over, steps_through}
 use Rattle.cfganalysis.proofs.follows.GrowingFollows.front_before.Goals as goal
 

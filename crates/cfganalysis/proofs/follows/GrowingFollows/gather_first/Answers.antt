@@ -3,7 +3,7 @@ use Rattle.derivation.specs.Grammar.{IsSymbolOf}
 use Rattle.cfganalysis.specs.Table.{row_of}
 use Rattle.cfganalysis.specs.Inner.Joined.{joined}
 use Rattle.cfganalysis.specs.Inner.GrowingFollows.{BeginsList, Gathers}
-use Rattle.cfgtables.specs.Symbols.{sym_of}
+use Rattle.cfgtables.specs.NumberedSymbols.{sym_of}
 use Rattle.cfganalysis.proofs.Joins.{row_wide}
 use Rattle.cfganalysis.proofs.Gathering.{gathers_rule}
 use Rattle.cfganalysis.proofs.follows.GrowingFollows.gather_first.Goals as goal

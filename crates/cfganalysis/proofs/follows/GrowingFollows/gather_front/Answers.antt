@@ -1,7 +1,7 @@
 use Rattle.std.proofs.Common.{◌≡◌, ◌<◌, ◌↔◌, ℕ, List, Bool, false, length, replicate, subst, sym, ap, ◌∙◌}
 use Rattle.std.proofs.lemmas.List.{length-replicate}
 use Rattle.derivation.specs.Grammar.{Grammar}
-use Rattle.cfgindex.specs.Words.{AreWords, bits_of}
+use Rattle.cfgindex.specs.BitWords.{AreWords, bits_of}
 use Rattle.cfganalysis.specs.Table.{HasBit, row_of}
 use Rattle.cfganalysis.specs.Inner.Joined.{joined}
 use Rattle.cfganalysis.specs.Inner.GrowingFollows.{FollowSets, FitFollows, FrontGives, Gathers, IsFrontOf, IsGathered}

@@ -1,7 +1,7 @@
 use Rattle.std.proofs.Common.{◌≡◌, ◌<◌, length, arith, subst, sym, ap}
 use Rattle.derivation.specs.Grammar.{Rule, IsSymbolOf}
 use Rattle.cfganalysis.specs.Inner.GrowingFollows.{FrontGives, PutsBehind}
-use Rattle.cfgtables.specs.Symbols.{sym_of}
+use Rattle.cfgtables.specs.NumberedSymbols.{sym_of}
 use Rattle.cfganalysis.proofs.FollowVisits.{rule_behind}
 use Rattle.cfganalysis.proofs.follows.GrowingFollows.put_behind.Goals as goal
 

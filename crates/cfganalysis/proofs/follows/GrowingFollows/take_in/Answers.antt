@@ -3,7 +3,7 @@ use Rattle.std.proofs.lemmas.List.{length-map}
 use Rattle.derivation.specs.Grammar.{IsSymbolOf}
 use Rattle.cfganalysis.specs.Firsts.{FitsGrammar}
 use Rattle.cfganalysis.specs.Inner.GrowingFollows.{Behind, FrontGives}
-use Rattle.cfgtables.specs.Symbols.{sym_of}
+use Rattle.cfgtables.specs.NumberedSymbols.{sym_of}
 use Rattle.cfgtables.proofs.Placed.{owner, all_symbols}
 use Rattle.cfgtables.proofs.Slices.{mapped_all, mapped_drop, mapped_rest}
 use Rattle.cfganalysis.proofs.FollowVisits.{Flowing, flowing_none, flowing_one, flowing_all}

@@ -1,5 +1,5 @@
 use Rattle.std.proofs.Common.{map, length}
-use Rattle.cfgtables.specs.Symbols.{sym_of}
+use Rattle.cfgtables.specs.NumberedSymbols.{sym_of}
 use Rattle.cfganalysis.proofs.FollowVisits.{Flowing}
 use Rattle.cfganalysis.proofs.Gathering.{Fronting}
 use Rattle.cfganalysis.proofs.follows.GrowingFollows.take_in.Given as goal

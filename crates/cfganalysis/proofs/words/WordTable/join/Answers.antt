@@ -1,5 +1,5 @@
 use Rattle.std.proofs.Common.{length, sym, ap, ◌∙◌, subst, arith}
-use Rattle.cfgindex.specs.Words.{AreWords, bits_of}
+use Rattle.cfgindex.specs.BitWords.{AreWords, bits_of}
 use Rattle.cfganalysis.proofs.Flat.{columns_are, row_fits_in, as_many, now_rows, now_joins}
 use Rattle.cfganalysis.proofs.words.WordTable.join.Goals as goal
 

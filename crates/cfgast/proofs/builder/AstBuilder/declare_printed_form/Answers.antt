@@ -3,7 +3,7 @@ use Rattle.std.proofs.lemmas.Result.{on_ok_weaker}
 use Rattle.cfgast.specs.Building.{add}
 use Rattle.cfgast.specs.Syntax.{Syntax}
 use Rattle.cfgast.specs.Items.{PrintedFormDeclared}
-use Rattle.cfgast.specs.View.{syntax_view, syntax_built, word_view}
+use Rattle.cfgast.specs.SyntaxView.{syntax_view, syntax_built, word_view}
 use Rattle.cfgast.proofs.Views.{form_view, shown-put}
 use Rattle.cfgast.proofs.builder.AstBuilder.declare_printed_form.Goals as goal
 

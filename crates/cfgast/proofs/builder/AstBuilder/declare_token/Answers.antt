@@ -1,4 +1,4 @@
-use Rattle.cfgast.specs.View.{syntax_view, syntax_built, word_view}
+use Rattle.cfgast.specs.SyntaxView.{syntax_view, syntax_built, word_view}
 use Rattle.cfgast.proofs.Steps.{declared-noted}
 use Rattle.cfgast.proofs.builder.AstBuilder.declare_token.Goals as goal
 

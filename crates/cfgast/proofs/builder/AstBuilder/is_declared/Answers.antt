@@ -3,7 +3,7 @@ use Rattle.std.specs.List.{list_any}
 use Rattle.std.specs.Option.{option_map_or}
 use Rattle.lemmas.proofs.Places.{position-map}
 use Rattle.cfgast.specs.Building.{is_declared}
-use Rattle.cfgast.specs.View.{syntax_view, syntax_built}
+use Rattle.cfgast.specs.SyntaxView.{syntax_view, syntax_built}
 use Rattle.cfgast.proofs.Found.{none_declared}
 use Rattle.cfgast.proofs.builder.AstBuilder.is_declared.Goals as goal
 

@@ -4,7 +4,7 @@ use Rattle.std.specs.Map.{keys_of}
 use Rattle.lemmas.proofs.Places.{place_found}
 use Rattle.cfgast.specs.Syntax.{index_of, typed}
 use Rattle.cfgast.specs.Building.{new_rule}
-use Rattle.cfgast.specs.View.{syntax_view, syntax_built, rule_entry, rule_view, head_view}
+use Rattle.cfgast.specs.SyntaxView.{syntax_view, syntax_built, rule_entry, rule_view, head_view}
 use Rattle.cfgast.proofs.Steps.{rule-known, rule-new}
 use Rattle.cfgast.proofs.Views.{is_key, has_entry-entries, entries-new, rule_index, rule_index-new}
 use Rattle.cfgast.proofs.builder.AstBuilder.put_rule.Goals as goal

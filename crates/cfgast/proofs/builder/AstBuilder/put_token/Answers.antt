@@ -3,7 +3,7 @@ use Rattle.lemmas.specs.Lists.{pushed_unless}
 use Rattle.lemmas.proofs.Places.{place_found}
 use Rattle.cfgast.specs.Syntax.{index_of}
 use Rattle.cfgast.specs.Building.{has_name}
-use Rattle.cfgast.specs.View.{syntax_view, syntax_built, word_view}
+use Rattle.cfgast.specs.SyntaxView.{syntax_view, syntax_built, word_view}
 use Rattle.cfgast.proofs.Steps.{quoted-known, quoted-new}
 use Rattle.cfgast.proofs.Views.{is_key, index_of-keys, index_of-insert_key, has_name-keys, keys-insert_key}
 use Rattle.cfgast.proofs.builder.AstBuilder.put_token.Goals as goal

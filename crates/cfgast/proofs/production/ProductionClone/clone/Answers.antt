@@ -1,7 +1,7 @@
 use Rattle.std.proofs.Common.{arith, ◌≡◌, map}
 use Rattle.std.proofs.lemmas.Grind.{common_steps}
 use Rattle.lemmas.proofs.Copies.{map-copies}
-use Rattle.cfgast.specs.View.{symbol_view}
+use Rattle.cfgast.specs.SyntaxView.{symbol_view}
 use Rattle.cfgast.proofs.production.ProductionClone.clone.Goals as goal
 
 pub returns : goal.returns

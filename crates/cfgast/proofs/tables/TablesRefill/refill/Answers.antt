@@ -1,7 +1,7 @@
 use Rattle.std.proofs.Common.{rules}
 use Rattle.std.proofs.lemmas.List.Elements.{same_from_all_zip}
 use Rattle.lemmas.proofs.Copies.{map-copies}
-use Rattle.cfgast.specs.View.{precedence_entry, printed_entry}
+use Rattle.cfgast.specs.SyntaxView.{precedence_entry, printed_entry}
 use Rattle.cfgast.proofs.Views.{marked-copies}
 use Rattle.cfgast.proofs.tables.TablesRefill.refill.Goals as goal
 

@@ -1,5 +1,5 @@
 use Rattle.std.proofs.Common.{◌≡◌, ℕ, ◌<◌, Some}
-use Rattle.derivation.specs.Lists.{rule_cost}
+use Rattle.derivation.specs.CostLists.{rule_cost}
 use Rattle.cfgchoices.proofs.first.lists.costs_len.Given as goal
 
 abbrev pub invariant-loop-entry : goal.invariant-loop-entry

@@ -1,6 +1,6 @@
 use Rattle.std.proofs.Common.{◌≡◌, None, Some, ap, cond, get_or, sym, subst, ◌∙◌, arith}
 use Rattle.std.proofs.lemmas.Bool.{lt-leb}
-use Rattle.derivation.specs.Lists.{rule_cost}
+use Rattle.derivation.specs.CostLists.{rule_cost}
 use Rattle.cfgleast.specs.Generator.{CostTables, IsGenerator, up_to_limit}
 use Rattle.cfgleast.proofs.Generated.{entry_read, reads_none, reads_cost, reads_dear, some_answered}
 use Rattle.cfgcosts.proofs.generator.SentenceGenerator.min_sentence_cost.Given.{Over}

@@ -1,6 +1,6 @@
 use Rattle.std.proofs.Common.{◌≡◌, ◌<◌, List, ℕ, All, length, arith, refl, sym, subst, ◌∙◌}
 use Rattle.std.specs.Prelude.{slice_index}
-use Rattle.cfggreatest.specs.Words.{AreTold}
+use Rattle.cfggreatest.specs.GreatestCosts.{AreTold}
 use Rattle.cfgleast.specs.Generator.{IsGeneratorOf, tables_of}
 use Rattle.cfgchoices.specs.Inner.FirstChoices.{AreFirst, Walks}
 use Rattle.cfgchoices.specs.Inner.Kinds.{AreKinds, HasRulesAsHeirs}

@@ -3,7 +3,7 @@ use Rattle.std.proofs.lemmas.List.{length-map, map-append}
 use Rattle.std.proofs.lemmas.List.Elements.{All-get_or}
 use Rattle.cfgindex.specs.declared.idxnewtype.Symbol.TheVariants as symbols
 use Rattle.cfgtables.specs.Openings.{nth_production}
-use Rattle.cfgtables.specs.Symbols.{sym_of}
+use Rattle.cfgtables.specs.NumberedSymbols.{sym_of}
 use Rattle.derivation.specs.Grammar.{Grammar, Rule}
 use Rattle.cfgleast.specs.Certificate.{choice_of, rule_choice}
 use Rattle.cfgleast.specs.Generator.{CostTables, cost_answer, tables_of, token_cost}

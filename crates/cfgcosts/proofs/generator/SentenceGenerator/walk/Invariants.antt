@@ -1,5 +1,5 @@
 use Rattle.std.proofs.Common.{◌≡◌, ◌+◌, map}
-use Rattle.cfgtables.specs.Symbols.{sym_of}
+use Rattle.cfgtables.specs.NumberedSymbols.{sym_of}
 use Rattle.cfgleast.specs.Generator.{tables_of}
 use Rattle.cfgcosts.proofs.Walking.{IsOnTheWay}
 use Rattle.cfgcosts.proofs.Weights.{weigh}

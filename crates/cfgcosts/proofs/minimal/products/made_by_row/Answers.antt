@@ -1,6 +1,6 @@
 use Rattle.std.proofs.Common.{◌∷◌, ◌++◌, [], map, take, sym, ap, ◌∙◌}
 use Rattle.std.proofs.lemmas.List.{map_more, take_all}
-use Rattle.cfgtables.specs.Symbols.{sym_of}
+use Rattle.cfgtables.specs.NumberedSymbols.{sym_of}
 use Rattle.cfgcosts.specs.Inner.Minimal.{joined, row_words, sentences_in, words_of_symbol}
 use Rattle.cfgcosts.specs.Sentences.{numbers_of}
 use Rattle.cfgcosts.proofs.Joins.{row_more}

@@ -1,5 +1,5 @@
 use Rattle.std.proofs.Common.{◌≡◌, map, take}
-use Rattle.cfgtables.specs.Symbols.{sym_of}
+use Rattle.cfgtables.specs.NumberedSymbols.{sym_of}
 use Rattle.cfgcosts.specs.Inner.Minimal.{row_words, sentences_in, words_of}
 use Rattle.cfgcosts.proofs.minimal.products.made_by_row.Given as goal
 

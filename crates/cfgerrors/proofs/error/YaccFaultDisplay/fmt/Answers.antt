@@ -4,7 +4,7 @@ use Rattle.std.proofs.Output.{has_written_append, has_written_of_eq, has_written
 use Rattle.std.proofs.lemmas.List.{flat_map_more, take_all}
 use Rattle.std.specs.List.{flat_map, join_by}
 use Rattle.cfgerrors.specs.Errors.{GrammarError}
-use Rattle.cfgerrors.specs.Texts.{error_text, fault_text}
+use Rattle.cfgerrors.specs.ErrorTexts.{error_text, fault_text}
 use Rattle.cfgerrors.proofs.error.YaccFaultDisplay.fmt.Goals as goal
 
 pub loop-error-preserved : goal.loop-error-preserved

@@ -1,7 +1,7 @@
 use Rattle.std.proofs.Common.{◌++◌, take, codes}
 use Rattle.std.specs.Fmt.{HasWritten, HasWrittenStyled, IsFlush, IsPlainFormatter}
 use Rattle.std.specs.List.{flat_map}
-use Rattle.cfgerrors.specs.Texts.{error_text}
+use Rattle.cfgerrors.specs.ErrorTexts.{error_text}
 use Rattle.cfgerrors.proofs.error.YaccFaultDisplay.fmt.Given as goal
 
 -- behind the first error the others so far are written, each behind a line end

@@ -2,7 +2,7 @@ use Rattle.std.proofs.Common.{◌≡◌, ◌∙◌, ◌++◌, ℕ, List, Bor, co
 use Rattle.std.proofs.Output.{has_written_append, has_written_of_eq, has_written_styled_append, has_written_styled_of_eq}
 use Rattle.cfgerrors.specs.declared.error.YaccGrammarErrorKind.{YaccGrammarErrorKind}
 use Rattle.cfgerrors.specs.Errors.{kind_view}
-use Rattle.cfgerrors.specs.Texts.{error_text}
+use Rattle.cfgerrors.specs.ErrorTexts.{error_text}
 use Rattle.cfgerrors.proofs.error.YaccGrammarErrorKindDisplay.fmt.Goals as goal
 use Rattle.cfgerrors.proofs.error.YaccGrammarErrorKindDisplay.fmt.Goals.{in-IllegalInteger, in-IllegalName, in-IllegalString, in-IncompleteRule, in-IncompleteComment, in-IncompleteAction, in-MissingColon, in-MissingRightArrow, in-MismatchedBrace, in-NonEmptyProduction, in-PrematureEnd, in-ProductionNotTerminated, in-ProgramsNotSupported, in-UnknownDeclaration, in-PrecNotFollowedByToken, in-DuplicatePrecedence, in-DuplicateAvoidInsertDeclaration, in-DuplicateImplicitTokensDeclaration, in-DuplicateExpectDeclaration, in-DuplicateExpectRRDeclaration, in-DuplicateStartDeclaration, in-DuplicateActiontypeDeclaration, in-DuplicateEPP, in-ReachedEOL, in-InvalidString, in-NoStartRule, in-UnknownSymbol, in-InvalidYaccKind, in-StorageTooSmall}
 

@@ -1,5 +1,5 @@
 use Rattle.std.proofs.Common.{◌∙◌, sym, IsTrue, true≢false}
-use Rattle.cfgtables.specs.Symbols.{sym_of}
+use Rattle.cfgtables.specs.NumberedSymbols.{sym_of}
 use Rattle.derivation.proofs.Rows.{shown_all, shown_holds, shown_more}
 use Rattle.cfggreatest.specs.Inner.Live.{is_live_symbol}
 use Rattle.cfggreatest.proofs.live.Live.has_all.Goals as goal

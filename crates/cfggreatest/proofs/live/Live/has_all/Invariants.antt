@@ -1,5 +1,5 @@
 use Rattle.std.proofs.Common.{map, take}
-use Rattle.cfgtables.specs.Symbols.{sym_of}
+use Rattle.cfgtables.specs.NumberedSymbols.{sym_of}
 use Rattle.cfggreatest.specs.Inner.Live.{AreLive}
 use Rattle.cfggreatest.proofs.live.Live.has_all.Given as goal
 

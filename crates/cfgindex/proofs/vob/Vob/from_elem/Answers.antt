@@ -1,5 +1,5 @@
 use Rattle.std.proofs.Common.{◌<◌, arith, sym, ap, ◌∙◌, subst}
-use Rattle.cfgindex.specs.Words.{AreWords, bits_of}
+use Rattle.cfgindex.specs.BitWords.{AreWords, bits_of}
 use Rattle.cfgindex.proofs.Words.{filled_all, made_full}
 use Rattle.cfgindex.proofs.vob.Vob.from_elem.Goals as goal
 

@@ -1,5 +1,5 @@
 use Rattle.std.proofs.Common.{subst, sym, ap, ◌∙◌}
-use Rattle.cfgindex.specs.Words.{AreWords, bits_of}
+use Rattle.cfgindex.specs.BitWords.{AreWords, bits_of}
 use Rattle.cfgindex.proofs.Bits.{union}
 use Rattle.cfgindex.proofs.vob.Vob.or.Goals as goal
 

@@ -1,7 +1,7 @@
 use Rattle.std.proofs.Common.{◌≡◌, ◌≢◌, ℕ, Bool, List, Vec, length, MatchBool, refl, subst, sym, ap, ◌∙◌}
 use Rattle.std.specs.Vec.{with_items}
 use Rattle.std.proofs.lemmas.List.{with_items_is}
-use Rattle.cfgindex.specs.Words.{AreWords, AreJoined, bits_of}
+use Rattle.cfgindex.specs.BitWords.{AreWords, AreJoined, bits_of}
 use Rattle.cfgindex.proofs.Bits.{union}
 use Rattle.cfgindex.proofs.Words.{length-bits_of, same_length, words_joined, bits_joined, joined_changed}
 use Rattle.cfgindex.proofs.vob.Vob.or_words.Goals as goal

@@ -1,5 +1,5 @@
 use Rattle.std.proofs.Common.{◌≡◌, ◌<◌, ◌/◌, ℕ, Bool, List, length, slice_get, slice_set, Some, ap, sym, ◌∙◌, subst, arith}
-use Rattle.cfgindex.specs.Words.{bits_of}
+use Rattle.cfgindex.specs.BitWords.{bits_of}
 use Rattle.cfgindex.proofs.Words.{slice_get-bits_of, word_within, word_bit_read, length-bits_of, words_set, bits_set, changed_bit}
 use Rattle.cfgindex.proofs.vob.Vob.set.Goals as goal
 

@@ -1,5 +1,5 @@
 use Rattle.std.proofs.Common.{◌≡◌, ℕ, List, Bool, length, subst, sym, ap, ◌∙◌}
-use Rattle.cfgindex.specs.Words.{AreWords, bits_of}
+use Rattle.cfgindex.specs.BitWords.{AreWords, bits_of}
 use Rattle.cfgindex.proofs.Words.{length-bits_of}
 use Rattle.cfgindex.proofs.vob.Vob.words.Goals as goal
 

@@ -2,11 +2,11 @@ use Rattle.std.proofs.Common.{ℕ, List, ◌≤◌, All, length, map, refl, sym,
 use Rattle.std.proofs.lemmas.Bool.{false≢true}
 use Rattle.std.proofs.lemmas.List.{take_all}
 use Rattle.std.proofs.lemmas.List.Elements.{All-more}
-use Rattle.cfgast.specs.View.{symbol_view}
+use Rattle.cfgast.specs.SyntaxView.{symbol_view}
 use Rattle.cfgast.specs.declared.production.Production.{Production}
 use Rattle.cfgast.specs.declared.symbol.Symbol.{Symbol}
 use Rattle.cfgnumbers.specs.Numbered.{file_symbols}
-use Rattle.cfgnumbers.specs.View.{file_of, implicit_in}
+use Rattle.cfgnumbers.specs.TablesView.{file_of, implicit_in}
 use Rattle.cfgnumbers.proofs.numbering.Numbering.all_symbols_fit.Goals as goal
 use Rattle.cfgnumbers.specs.declared.numbering.Numbering.{Numbering}
 

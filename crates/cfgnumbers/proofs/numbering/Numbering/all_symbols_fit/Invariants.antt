@@ -1,7 +1,7 @@
 use Rattle.std.proofs.Common.{◌≤◌, All, length, map, take}
-use Rattle.cfgast.specs.View.{symbol_view}
+use Rattle.cfgast.specs.SyntaxView.{symbol_view}
 use Rattle.cfgnumbers.specs.Numbered.{file_symbols}
-use Rattle.cfgnumbers.specs.View.{file_of, implicit_in}
+use Rattle.cfgnumbers.specs.TablesView.{file_of, implicit_in}
 use Rattle.cfgnumbers.proofs.numbering.Numbering.all_symbols_fit.Given as goal
 
 abbrev pub invariant-loop-production : goal.invariant-loop-production

@@ -1,9 +1,9 @@
 use Rattle.std.proofs.Common.{◌≤◌, All, length, sym, subst}
 use Rattle.std.proofs.lemmas.List.Elements.{All-map}
 use Rattle.cfgast.specs.Syntax.{Production}
-use Rattle.cfgast.specs.View.{production_view}
+use Rattle.cfgast.specs.SyntaxView.{production_view}
 use Rattle.cfgnumbers.specs.Numbered.{file_symbols}
-use Rattle.cfgnumbers.specs.View.{file_of, implicit_in}
+use Rattle.cfgnumbers.specs.TablesView.{file_of, implicit_in}
 use Rattle.cfgnumbers.proofs.Turns.{All-shown}
 use Rattle.cfgnumbers.proofs.numbering.Numbering.fits.Goals as goal
 

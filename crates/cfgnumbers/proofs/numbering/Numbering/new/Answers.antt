@@ -1,10 +1,10 @@
 use Rattle.std.proofs.Common.{map, option_map, inl, inr, sym, ap, ◌∙◌}
 use Rattle.cfgast.specs.Syntax.{entry_name}
-use Rattle.cfgast.specs.View.{span_entry}
-use Rattle.cfgtree.specs.View.{syntax}
+use Rattle.cfgast.specs.SyntaxView.{span_entry}
+use Rattle.cfgtree.specs.TreeView.{syntax}
 use Rattle.cfgkinds.specs.declared.kind.YaccKind.{YaccKind}
 use Rattle.cfgnumbers.specs.Numbered.{implicit_of}
-use Rattle.cfgnumbers.specs.View.{names}
+use Rattle.cfgnumbers.specs.TablesView.{names}
 use Rattle.cfgnumbers.proofs.RowLemmas.{names_shown}
 use Rattle.cfgnumbers.proofs.numbering.Numbering.new.Goals as goal
 use Rattle.cfgnumbers.proofs.numbering.Numbering.new.Goals.{in-Eco, in-Original}

@@ -1,10 +1,10 @@
 use Rattle.std.proofs.Common.{◌≡◌, ◌++◌, None, map, arith, sym, ap, subst, ◌∙◌}
 use Rattle.std.proofs.lemmas.List.{get_or-map, length-map, take_all}
 use Rattle.cfgast.specs.Syntax.{Symbol}
-use Rattle.cfgast.specs.View.{symbol_view}
+use Rattle.cfgast.specs.SyntaxView.{symbol_view}
 use Rattle.cfgtree.specs.Check.{symbol_error}
 use Rattle.cfgnumbers.specs.Numbered.{file_symbol, file_symbols, spaced}
-use Rattle.cfgnumbers.specs.View.{file_of, implicit_in}
+use Rattle.cfgnumbers.specs.TablesView.{file_of, implicit_in}
 use Rattle.cfgnumbers.proofs.Symbols.{more_symbols}
 use Rattle.cfgnumbers.proofs.numbering.Numbering.number_symbols.Goals as goal
 

@@ -1,8 +1,8 @@
 use Rattle.std.proofs.Common.{◌≡◌, map, take}
-use Rattle.cfgast.specs.View.{symbol_view}
+use Rattle.cfgast.specs.SyntaxView.{symbol_view}
 use Rattle.cfgnumbers.specs.Numbered.{file_symbols}
-use Rattle.cfgnumbers.specs.View.{file_of, implicit_in}
-use Rattle.cfgtables.specs.Symbols.{sym_of}
+use Rattle.cfgnumbers.specs.TablesView.{file_of, implicit_in}
+use Rattle.cfgtables.specs.NumberedSymbols.{sym_of}
 use Rattle.cfgnumbers.proofs.numbering.Numbering.number_symbols.Given as goal
 
 abbrev pub invariant-loop-symbol : goal.invariant-loop-symbol

@@ -1,6 +1,6 @@
 use Rattle.std.proofs.Common.{◌++◌, ap, ◌∙◌}
 use Rattle.cfgnumbers.specs.Numbered.{added_productions}
-use Rattle.cfgnumbers.specs.View.{file_of, implicit_in}
+use Rattle.cfgnumbers.specs.TablesView.{file_of, implicit_in}
 use Rattle.cfgnumbers.proofs.numbering.Numbering.production_rows.Goals as goal
 
 pub returns : goal.returns

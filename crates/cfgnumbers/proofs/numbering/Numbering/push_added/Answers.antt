@@ -1,7 +1,7 @@
 use Rattle.std.proofs.Common.{◌≡◌, ◌++◌, ◌∷◌, [], option_map, sym, subst, ap, ◌∙◌}
 use Rattle.std.specs.Result.{OnOk}
 use Rattle.cfgnumbers.specs.Numbered.{added_production, added_productions, start_symbols}
-use Rattle.cfgnumbers.specs.View.{names, file_of}
+use Rattle.cfgnumbers.specs.TablesView.{names, file_of}
 use Rattle.cfgnumbers.proofs.numbering.Numbering.push_added.Goals as goal
 
 pub returns-in-Some : goal.returns-in-Some

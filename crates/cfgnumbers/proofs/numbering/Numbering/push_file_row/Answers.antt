@@ -1,7 +1,7 @@
 use Rattle.std.proofs.Common.{◌≡◌, None, All, map, sym, subst}
-use Rattle.cfgast.specs.View.{symbol_view}
+use Rattle.cfgast.specs.SyntaxView.{symbol_view}
 use Rattle.cfgtree.specs.Check.{symbol_error}
-use Rattle.cfgnumbers.specs.View.{file_of}
+use Rattle.cfgnumbers.specs.TablesView.{file_of}
 use Rattle.cfgnumbers.proofs.numbering.Numbering.push_file_row.Goals as goal
 
 pub number_symbols-requires-clause-known : goal.number_symbols-requires-clause-known

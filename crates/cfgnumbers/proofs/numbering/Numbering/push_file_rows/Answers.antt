@@ -6,7 +6,7 @@ use Rattle.cfgast.specs.Syntax.{Production}
 use Rattle.cfgast.specs.declared.production.Production as source
 use Rattle.cfgnumbers.specs.Numbered.{file_production}
 use Rattle.cfgnumbers.specs.Inner.Resolved.{Resolves}
-use Rattle.cfgnumbers.specs.View.{file_of, implicit_in}
+use Rattle.cfgnumbers.specs.TablesView.{file_of, implicit_in}
 use Rattle.lemmas.proofs.Roads.{item_holds, more_shown}
 use Rattle.cfgnumbers.proofs.RowLemmas.{production_seen, productions_road}
 use Rattle.lemmas.proofs.Zips.{All-zip}

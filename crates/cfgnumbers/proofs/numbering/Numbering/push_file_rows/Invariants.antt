@@ -1,6 +1,6 @@
 use Rattle.std.proofs.Common.{◌≡◌, map}
 use Rattle.cfgnumbers.specs.Numbered.{file_production}
-use Rattle.cfgnumbers.specs.View.{file_of, implicit_in}
+use Rattle.cfgnumbers.specs.TablesView.{file_of, implicit_in}
 use Rattle.cfgnumbers.proofs.RowLemmas.{production_seen}
 use Rattle.cfgnumbers.proofs.numbering.Numbering.push_file_rows.Given as goal
 

@@ -1,6 +1,6 @@
 use Rattle.std.proofs.Common.{sym, subst}
 use Rattle.cfgnumbers.specs.Fits.{LeavesRoom}
-use Rattle.cfgnumbers.specs.View.{file_of}
+use Rattle.cfgnumbers.specs.TablesView.{file_of}
 use Rattle.cfgnumbers.proofs.numbering.Numbering.push_for_implicit.Goals as goal
 
 pub push_implicit-requires-clause-implicit : goal.push_implicit-requires-clause-implicit

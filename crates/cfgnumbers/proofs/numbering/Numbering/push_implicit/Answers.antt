@@ -4,7 +4,7 @@ use Rattle.cfgbase.specs.declared.span.Span.{Span}
 use Rattle.derivation.specs.Grammar.{Rule, Token}
 use Rattle.cfgast.specs.Building.{has_name}
 use Rattle.cfgnumbers.specs.Numbered.{added_production, token_index}
-use Rattle.cfgnumbers.specs.View.{file_of}
+use Rattle.cfgnumbers.specs.TablesView.{file_of}
 use Rattle.lemmas.proofs.Roads.{item_holds, more_shown}
 use Rattle.cfgnumbers.proofs.RowLemmas.{implicit_row, name_seen, names_road}
 use Rattle.cfgnumbers.proofs.numbering.Numbering.push_implicit.Goals as goal

@@ -1,5 +1,5 @@
 use Rattle.std.proofs.Common.{◌≡◌, ◌++◌, map}
-use Rattle.cfgnumbers.specs.View.{file_of}
+use Rattle.cfgnumbers.specs.TablesView.{file_of}
 use Rattle.cfgnumbers.proofs.RowLemmas.{implicit_row, name_seen}
 use Rattle.cfgnumbers.proofs.numbering.Numbering.push_implicit.Given as goal
 

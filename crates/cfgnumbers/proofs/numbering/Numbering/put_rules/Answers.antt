@@ -3,9 +3,9 @@ use Rattle.std.specs.List.{list_any}
 use Rattle.std.specs.Str.{bytes_eq}
 use Rattle.std.proofs.lemmas.Iterator.Consumers.{YieldsList-end}
 use Rattle.cfgast.specs.Syntax.{Rule}
-use Rattle.cfgast.specs.View.{rule_view as plain_rule}
+use Rattle.cfgast.specs.SyntaxView.{rule_view as plain_rule}
 use Rattle.cfgnumbers.specs.Numbered.{added_rules, file_rule}
-use Rattle.cfgnumbers.specs.View.{file_of, implicit_in}
+use Rattle.cfgnumbers.specs.TablesView.{file_of, implicit_in}
 use Rattle.cfgnumbers.proofs.Places.{listed_within}
 use Rattle.lemmas.proofs.Roads.{item_holds, more_shown, name_is_new}
 use Rattle.cfgnumbers.proofs.RowLemmas.{added_names, rule_names-distinct, rule_names_shown, rule_seen, rules_road}

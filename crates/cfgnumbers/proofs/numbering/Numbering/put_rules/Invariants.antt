@@ -1,6 +1,6 @@
 use Rattle.std.proofs.Common.{◌≡◌, ◌++◌, length, map}
 use Rattle.cfgnumbers.specs.Numbered.{added_rules, file_rule}
-use Rattle.cfgnumbers.specs.View.{file_of, implicit_in, rule_view}
+use Rattle.cfgnumbers.specs.TablesView.{file_of, implicit_in, rule_view}
 use Rattle.cfgnumbers.proofs.RowLemmas.{rule_seen}
 use Rattle.cfgnumbers.proofs.numbering.Numbering.put_rules.Given as goal
 

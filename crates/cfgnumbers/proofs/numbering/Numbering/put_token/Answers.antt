@@ -1,5 +1,5 @@
 use Rattle.std.proofs.Common.{refl}
-use Rattle.cfgnumbers.specs.View.{file_of}
+use Rattle.cfgnumbers.specs.TablesView.{file_of}
 use Rattle.cfgnumbers.proofs.RowLemmas.{token_put}
 use Rattle.cfgnumbers.proofs.numbering.Numbering.put_token.Goals as goal
 

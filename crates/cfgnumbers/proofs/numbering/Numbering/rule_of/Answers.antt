@@ -1,7 +1,7 @@
 use Rattle.std.proofs.Common.{◌+◌, sym, ap, ◌∙◌, is_some}
 use Rattle.std.proofs.lemmas.Option.{same_Some}
 use Rattle.cfgnumbers.specs.Numbered.{rules_before}
-use Rattle.cfgnumbers.specs.View.{file_of, implicit_in}
+use Rattle.cfgnumbers.specs.TablesView.{file_of, implicit_in}
 use Rattle.cfgnumbers.proofs.Lookups.{rule_place}
 use Rattle.cfgnumbers.proofs.numbering.Numbering.rule_of.Goals as goal
 

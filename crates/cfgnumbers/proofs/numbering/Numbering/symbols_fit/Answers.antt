@@ -1,6 +1,6 @@
 use Rattle.std.proofs.Common.{arith}
 use Rattle.std.proofs.lemmas.Bool.{false≢true}
-use Rattle.cfgnumbers.specs.View.{file_of, implicit_in}
+use Rattle.cfgnumbers.specs.TablesView.{file_of, implicit_in}
 use Rattle.cfgnumbers.proofs.Symbols.{width_more, width_within}
 use Rattle.cfgnumbers.proofs.numbering.Numbering.symbols_fit.Goals as goal
 

@@ -1,6 +1,6 @@
 use Rattle.std.proofs.Common.{sym, ap, ◌∙◌, is_some}
 use Rattle.std.proofs.lemmas.Option.{same_Some}
-use Rattle.cfgnumbers.specs.View.{file_of}
+use Rattle.cfgnumbers.specs.TablesView.{file_of}
 use Rattle.cfgnumbers.proofs.Lookups.{token_place}
 use Rattle.cfgnumbers.proofs.numbering.Numbering.token_of.Goals as goal
 

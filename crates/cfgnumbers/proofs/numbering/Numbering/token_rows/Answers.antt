@@ -7,7 +7,7 @@ use Rattle.std.proofs.lemmas.Iterator.Consumers.{YieldsList-end}
 use Rattle.std.proofs.lemmas.Slice.Zip.{firsts-zip}
 use Rattle.cfgbase.specs.declared.span.Span.{Span}
 use Rattle.cfgnumbers.specs.Numbered.{file_token}
-use Rattle.cfgnumbers.specs.View.{file_of}
+use Rattle.cfgnumbers.specs.TablesView.{file_of}
 use Rattle.lemmas.proofs.Roads.{more_shown, name_is_new}
 use Rattle.cfgnumbers.proofs.RowLemmas.{token_names_shown, token_seen, tokens_road}
 use Rattle.cfgnumbers.proofs.numbering.Numbering.token_rows.Goals as goal

@@ -1,6 +1,6 @@
 use Rattle.std.proofs.Common.{◌≡◌, map}
 use Rattle.cfgnumbers.specs.Numbered.{file_token}
-use Rattle.cfgnumbers.specs.View.{file_of, token_view}
+use Rattle.cfgnumbers.specs.TablesView.{file_of, token_view}
 use Rattle.cfgnumbers.proofs.RowLemmas.{token_seen}
 use Rattle.cfgnumbers.proofs.numbering.Numbering.token_rows.Given as goal
 

@@ -1,6 +1,6 @@
 use Rattle.std.proofs.Common.{map, take, Some, option_map, sym, ap, ◌∙◌}
 use Rattle.std.specs.Option.{option_or}
-use Rattle.cfgast.specs.View.{symbol_view}
+use Rattle.cfgast.specs.SyntaxView.{symbol_view}
 use Rattle.cfgast.specs.declared.symbol.Symbol.{Symbol}
 use Rattle.cfgnumbers.specs.Numbered.{token_in, last_token}
 use Rattle.cfgnumbers.proofs.Marks.{last_token-push}

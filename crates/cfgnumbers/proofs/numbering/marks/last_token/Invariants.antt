@@ -1,5 +1,5 @@
 use Rattle.std.proofs.Common.{◌≡◌, map, take, option_map}
-use Rattle.cfgast.specs.View.{symbol_view}
+use Rattle.cfgast.specs.SyntaxView.{symbol_view}
 use Rattle.cfgnumbers.specs.Numbered.{last_token}
 use Rattle.cfgnumbers.proofs.numbering.marks.last_token.Given as goal
 

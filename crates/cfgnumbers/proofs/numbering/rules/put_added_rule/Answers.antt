@@ -1,5 +1,5 @@
 use Rattle.std.proofs.Common.{◌∷◌, ◌++◌, [], map, None, ◌∙◌}
-use Rattle.cfgnumbers.specs.View.{rule_view}
+use Rattle.cfgnumbers.specs.TablesView.{rule_view}
 use Rattle.cfgnumbers.proofs.RowLemmas.{entry_put}
 use Rattle.cfgnumbers.proofs.numbering.rules.put_added_rule.Goals as goal
 

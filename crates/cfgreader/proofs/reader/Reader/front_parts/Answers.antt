@@ -1,7 +1,7 @@
 use Rattle.std.proofs.Common.{map, ap, arith}
 use Rattle.cfgwords.specs.Text.{place}
 use Rattle.std.proofs.lemmas.Result.{err_from_is_err_and}
-use Rattle.cfgast.specs.View.{token_view}
+use Rattle.cfgast.specs.SyntaxView.{token_view}
 use Rattle.cfgreader.specs.Rules.{front_part, no_parts}
 use Rattle.cfgreader.proofs.Parts.{parts_start, parts_on, parts_smaller, parts_done, parts_fail, parts_shorter}
 use Rattle.cfgreader.proofs.reader.Reader.front_parts.Goals as goal

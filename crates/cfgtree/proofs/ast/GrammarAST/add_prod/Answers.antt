@@ -6,8 +6,8 @@ use Rattle.lemmas.proofs.Lookups.{found-lookup}
 use Rattle.lemmas.proofs.Places.{place_found}
 use Rattle.cfgast.specs.Syntax.{Syntax, index_of}
 use Rattle.cfgast.specs.Building.{listed}
-use Rattle.cfgast.specs.View.{syntax_view, rule_entry, rule_view, production_view}
-use Rattle.cfgtree.specs.View.{syntax}
+use Rattle.cfgast.specs.SyntaxView.{syntax_view, rule_entry, rule_view, production_view}
+use Rattle.cfgtree.specs.TreeView.{syntax}
 use Rattle.cfgast.specs.declared.production.Production.{Production}
 use Rattle.cfgast.proofs.Views.{is_key, has_entry-entries, rule_index}
 use Rattle.cfgtree.proofs.ast.GrammarAST.add_prod.Goals as goal

@@ -5,8 +5,8 @@ use Rattle.std.specs.Str.{bytes_eq}
 use Rattle.cfgast.specs.Syntax.{Syntax}
 use Rattle.cfgast.specs.Items.{RuleHead}
 use Rattle.cfgast.specs.Building.{has_rule, new_rule}
-use Rattle.cfgast.specs.View.{syntax_view, named_view, rule_entry, rule_view}
-use Rattle.cfgtree.specs.View.{syntax}
+use Rattle.cfgast.specs.SyntaxView.{syntax_view, named_view, rule_entry, rule_view}
+use Rattle.cfgtree.specs.TreeView.{syntax}
 use Rattle.cfgast.specs.declared.rule.Rule.{Rule}
 use Rattle.cfgast.proofs.Views.{is_key, has_entry-entries, entries-new, on_err, changed-set_value}
 use Rattle.cfgtree.proofs.AddedRules.{added-known, added-new, added-there}

@@ -2,8 +2,8 @@ use Rattle.std.proofs.Common.{◌≡◌, Option, Some, None, option_map, bytes_e
 use Rattle.std.specs.Borrow.{Bor}
 use Rattle.std.specs.Option.{option_copied}
 use Rattle.lemmas.proofs.Lookups.{lookup-map}
-use Rattle.cfgast.specs.View.{syntax_view, rule_view}
-use Rattle.cfgtree.specs.View.{syntax}
+use Rattle.cfgast.specs.SyntaxView.{syntax_view, rule_view}
+use Rattle.cfgtree.specs.TreeView.{syntax}
 use Rattle.cfgast.specs.declared.rule.Rule.{Rule}
 use Rattle.cfgtree.proofs.ast.GrammarAST.get_rule.Goals as goal
 

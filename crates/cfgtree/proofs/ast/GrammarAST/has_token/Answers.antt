@@ -1,8 +1,8 @@
 use Rattle.std.proofs.Common.{map, string_bytes, sym, ◌∙◌}
 use Rattle.std.specs.Cmp.Lexicographic.{bytes_decides, nat_list_eq_equiv}
 use Rattle.std.proofs.lemmas.Map.Views.{Contains-from_any, list_any-from_Contains}
-use Rattle.cfgast.specs.View.{syntax_view}
-use Rattle.cfgtree.specs.View.{syntax}
+use Rattle.cfgast.specs.SyntaxView.{syntax_view}
+use Rattle.cfgtree.specs.TreeView.{syntax}
 use Rattle.cfgast.proofs.Views.{has_name-keys}
 use Rattle.cfgtree.proofs.ast.GrammarAST.has_token.Goals as goal
 

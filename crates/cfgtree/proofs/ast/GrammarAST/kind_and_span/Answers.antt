@@ -3,8 +3,8 @@ use Rattle.std.proofs.lemmas.List.{length-map}
 use Rattle.std.proofs.lemmas.Option.{slice_get-map, slice_get_read, slice_get_past}
 use Rattle.cfgerrors.specs.Warnings.{warning_at}
 use Rattle.cfgerrors.specs.declared.warning.YaccGrammarWarningKind.TheVariants.{UnusedToken}
-use Rattle.cfgast.specs.View.{syntax_view, rule_entry}
-use Rattle.cfgtree.specs.View.{syntax}
+use Rattle.cfgast.specs.SyntaxView.{syntax_view, rule_entry}
+use Rattle.cfgtree.specs.TreeView.{syntax}
 use Rattle.cfgtree.proofs.Warning.{rule_there, token_there}
 use Rattle.cfgtree.proofs.ast.GrammarAST.kind_and_span.Goals as goal
 

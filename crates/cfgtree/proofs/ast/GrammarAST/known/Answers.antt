@@ -1,7 +1,7 @@
 use Rattle.std.proofs.Common.{◌∙◌}
 use Rattle.search.proofs.Reaching.{begun}
 use Rattle.search.specs.Reached.{IsReachedIn}
-use Rattle.cfgtree.specs.View.{syntax}
+use Rattle.cfgtree.specs.TreeView.{syntax}
 use Rattle.cfgtree.proofs.Nodes.{knows}
 use Rattle.cfgtree.proofs.ast.GrammarAST.known.Goals as goal
 

@@ -2,8 +2,8 @@ use Rattle.std.proofs.Common.{arith, ◌≡◌, map, length, ap, ◌∙◌}
 use Rattle.std.proofs.lemmas.List.{length-map}
 use Rattle.std.proofs.lemmas.Result.{on_ok_weaker}
 use Rattle.cfgast.specs.Building.{listed}
-use Rattle.cfgast.specs.View.{syntax_view, rule_entry, production_view}
-use Rattle.cfgtree.specs.View.{syntax}
+use Rattle.cfgast.specs.SyntaxView.{syntax_view, rule_entry, production_view}
+use Rattle.cfgtree.specs.TreeView.{syntax}
 use Rattle.cfgtree.proofs.ast.GrammarAST.list_next.Goals as goal
 
 pub returns-clause-listed : goal.returns-clause-listed

@@ -1,8 +1,8 @@
 use Rattle.std.proofs.Common.{string_bytes, bytes_eq, arith, sym, subst}
 use Rattle.std.specs.List.{IsDistinct}
 use Rattle.std.proofs.lemmas.List.{length-map}
-use Rattle.cfgast.specs.View.{syntax_view, rule_entry}
-use Rattle.cfgtree.specs.View.{syntax}
+use Rattle.cfgast.specs.SyntaxView.{syntax_view, rule_entry}
+use Rattle.cfgtree.specs.TreeView.{syntax}
 use Rattle.cfgtree.proofs.Found.{names_differ, rule_names}
 use Rattle.cfgtree.proofs.Nodes.{nodes_length}
 use Rattle.cfgtree.proofs.ast.GrammarAST.node_count.Goals as goal

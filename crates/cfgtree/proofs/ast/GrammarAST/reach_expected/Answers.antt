@@ -3,8 +3,8 @@ use Rattle.std.proofs.lemmas.Result.{IfOk-weaker}
 use Rattle.search.specs.Reached.{FoundBy, Reaches}
 use Rattle.cfgtree.specs.Inner.Nodes.{IsNodeOf}
 use Rattle.cfgtree.specs.Unused.{name_of}
-use Rattle.cfgast.specs.View.{syntax_view, symbol_view, span_entry}
-use Rattle.cfgtree.specs.View.{syntax}
+use Rattle.cfgast.specs.SyntaxView.{syntax_view, symbol_view, span_entry}
+use Rattle.cfgtree.specs.TreeView.{syntax}
 use Rattle.cfgtree.proofs.Nodes.{expected_named, expected_both}
 use Rattle.cfgtree.proofs.ast.GrammarAST.reach_expected.Goals as goal
 

@@ -6,8 +6,8 @@ use Rattle.search.proofs.Reaching.{reaches_as, reaches_known}
 use Rattle.cfgtree.specs.Inner.Nodes.{HeldAt, IsNodeOf}
 use Rattle.cfgast.specs.Syntax.{Production}
 use Rattle.cfgtree.specs.Unused.{name_of}
-use Rattle.cfgast.specs.View.{syntax_view, production_view, symbol_view}
-use Rattle.cfgtree.specs.View.{syntax}
+use Rattle.cfgast.specs.SyntaxView.{syntax_view, production_view, symbol_view}
+use Rattle.cfgtree.specs.TreeView.{syntax}
 use Rattle.cfgtree.proofs.ast.GrammarAST.reach_held.Goals as goal
 
 pub returns-in-Some : goal.returns-in-Some

@@ -3,8 +3,8 @@ use Rattle.search.specs.Reached.{Reaches}
 use Rattle.search.proofs.Each.{each_none, each_more, each_all, found_mapped}
 use Rattle.cfgtree.specs.Inner.Nodes.{IsNodeOf}
 use Rattle.cfgtree.specs.Unused.{name_of}
-use Rattle.cfgast.specs.View.{symbol_view}
-use Rattle.cfgtree.specs.View.{syntax}
+use Rattle.cfgast.specs.SyntaxView.{symbol_view}
+use Rattle.cfgtree.specs.TreeView.{syntax}
 use Rattle.cfgtree.proofs.ast.GrammarAST.reach_symbols.Goals as goal
 
 pub loop-symbol-init : goal.loop-symbol-init

@@ -6,8 +6,8 @@ use Rattle.search.proofs.Each.{each_none, each_more, each_all, found_mapped}
 use Rattle.cfgbase.specs.declared.span.Span.{Span}
 use Rattle.cfgtree.specs.Inner.Nodes.{IsNodeOf, node_of}
 use Rattle.cfgtree.specs.Unused.{TokenName, entry_token}
-use Rattle.cfgast.specs.View.{span_entry}
-use Rattle.cfgtree.specs.View.{syntax}
+use Rattle.cfgast.specs.SyntaxView.{span_entry}
+use Rattle.cfgtree.specs.TreeView.{syntax}
 use Rattle.cfgtree.proofs.ast.GrammarAST.reach_tokens.Goals as goal
 use Rattle.cfgtree.proofs.ast.GrammarAST.reach_tokens.Goals.{in-Some+in_ok-reach_one, in_default}
 

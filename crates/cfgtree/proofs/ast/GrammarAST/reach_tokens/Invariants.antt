@@ -2,8 +2,8 @@ use Rattle.std.proofs.Common.{take}
 use Rattle.search.specs.Reached.{FoundBy, Reaches}
 use Rattle.cfgtree.specs.Inner.Nodes.{IsNodeOf}
 use Rattle.cfgtree.specs.Unused.{entry_token}
-use Rattle.cfgast.specs.View.{span_entry}
-use Rattle.cfgtree.specs.View.{syntax}
+use Rattle.cfgast.specs.SyntaxView.{span_entry}
+use Rattle.cfgtree.specs.TreeView.{syntax}
 use Rattle.cfgtree.proofs.ast.GrammarAST.reach_tokens.Given as goal
 
 abbrev pub invariant-loop-place : goal.invariant-loop-place

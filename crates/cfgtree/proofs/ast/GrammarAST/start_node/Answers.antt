@@ -1,10 +1,10 @@
 use Rattle.std.proofs.Common.{option_map, refl, sym, ap, ◌∙◌}
 use Rattle.std.proofs.lemmas.Option.{same_Some}
-use Rattle.cfgwords.specs.Words.{Word}
+use Rattle.cfgwords.specs.FileWords.{Word}
 use Rattle.cfgtree.specs.Inner.Nodes.{node_of}
 use Rattle.cfgtree.specs.Unused.{RuleName}
-use Rattle.cfgast.specs.View.{syntax_view, named_view}
-use Rattle.cfgtree.specs.View.{syntax}
+use Rattle.cfgast.specs.SyntaxView.{syntax_view, named_view}
+use Rattle.cfgtree.specs.TreeView.{syntax}
 use Rattle.cfgtree.proofs.ast.GrammarAST.start_node.Goals as goal
 
 pub returns-clause-node : goal.returns-clause-node

@@ -1,8 +1,8 @@
 use Rattle.std.proofs.Common.{◌≡◌, Some, ◌+◌, arith, length, map, string_bytes, bytes_eq, option_map, sym, ap, ◌∙◌}
 use Rattle.std.proofs.lemmas.List.{length-map}
 use Rattle.lemmas.proofs.Places.{position-map}
-use Rattle.cfgast.specs.View.{syntax_view, rule_entry}
-use Rattle.cfgtree.specs.View.{syntax}
+use Rattle.cfgast.specs.SyntaxView.{syntax_view, rule_entry}
+use Rattle.cfgtree.specs.TreeView.{syntax}
 use Rattle.cfgtree.proofs.ast.GrammarAST.token_node.Goals as goal
 
 pub returns-in_err-place-clause-node : goal.returns-in_err-place-clause-node

@@ -1,7 +1,7 @@
 use Rattle.std.proofs.Common.{◌+◌, [], List, take, arith, sym, subst}
 use Rattle.cfgerrors.specs.Warnings.{GrammarWarning}
 use Rattle.cfgtree.specs.Unused.{Warned, none, possible_warnings}
-use Rattle.cfgtree.specs.View.{syntax}
+use Rattle.cfgtree.specs.TreeView.{syntax}
 use Rattle.cfgtree.proofs.Warning.{unused, warned_more, warned_known, warned_past, warned_all}
 use Rattle.cfgtree.proofs.ast.GrammarAST.warnings.Goals as goal
 use Rattle.cfgtree.proofs.ast.GrammarAST.warnings.Goals.{then-not-is_reached+in-Some+in_ok-warning_at+in_ok-push, then-not-is_reached+in_default, else-not-is_reached}

@@ -1,6 +1,6 @@
 use Rattle.std.proofs.Common.{take}
 use Rattle.cfgtree.specs.Unused.{Warned, possible_warnings}
-use Rattle.cfgtree.specs.View.{syntax}
+use Rattle.cfgtree.specs.TreeView.{syntax}
 use Rattle.cfgtree.proofs.ast.GrammarAST.warnings.Given as goal
 
 abbrev pub invariant-loop-node : goal.invariant-loop-node

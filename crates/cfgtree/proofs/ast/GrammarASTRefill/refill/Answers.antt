@@ -1,8 +1,8 @@
 use Rattle.std.proofs.Common.{◌≡◌, rules, option_map, string_bytes}
 use Rattle.std.proofs.lemmas.List.Elements.{same_from_all_zip}
 use Rattle.lemmas.proofs.Copies.{map-copies, option_map-copies}
-use Rattle.cfgast.specs.View.{syntax_view, named_view, rule_entry, production_view, symbol_view, occurrence_view}
-use Rattle.cfgtree.specs.View.{syntax}
+use Rattle.cfgast.specs.SyntaxView.{syntax_view, named_view, rule_entry, production_view, symbol_view, occurrence_view}
+use Rattle.cfgtree.specs.TreeView.{syntax}
 use Rattle.cfgtree.proofs.ast.GrammarASTRefill.refill.Goals as goal
 
 pub returns-clause-copied : goal.returns-clause-copied

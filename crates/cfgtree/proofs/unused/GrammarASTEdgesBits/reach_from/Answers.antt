@@ -4,8 +4,8 @@ use Rattle.std.proofs.lemmas.Result.{IfOk-weaker}
 use Rattle.lemmas.proofs.Lookups.{lookup-map}
 use Rattle.search.specs.Reached.{FoundBy, Reaches}
 use Rattle.cfgtree.specs.Inner.Nodes.{HeldAt}
-use Rattle.cfgast.specs.View.{syntax_view, rule_entry, rule_view}
-use Rattle.cfgtree.specs.View.{syntax}
+use Rattle.cfgast.specs.SyntaxView.{syntax_view, rule_entry, rule_view}
+use Rattle.cfgtree.specs.TreeView.{syntax}
 use Rattle.cfgtree.proofs.Nodes.{leads_to, leads_nowhere, rule_there}
 use Rattle.cfgtree.proofs.unused.GrammarASTEdgesBits.reach_from.Goals as goal
 

@@ -2,7 +2,7 @@ use Rattle.std.proofs.Common.{◌<◌, Contains, length, get_or, arith, refl, sy
 use Rattle.std.proofs.lemmas.List.{get_or_default, take_all}
 use Rattle.std.proofs.lemmas.List.Elements.{Contains-get_or}
 use Rattle.lemmas.proofs.Contained.{contains_none}
-use Rattle.loops.specs.Lists.{AreWithin, HasStep}
+use Rattle.loops.specs.StepLists.{AreWithin, HasStep}
 use Rattle.loops.specs.Inner.Layers.{Finds}
 use Rattle.loops.proofs.Finding.{finds_as, finds_next, finds_nothing}
 use Rattle.loops.proofs.shortest.Layers.next.Goals as goal

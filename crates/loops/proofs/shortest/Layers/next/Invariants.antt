@@ -1,5 +1,5 @@
 use Rattle.std.proofs.Common.{◌≡◌, []}
-use Rattle.loops.specs.Lists.{HasStep}
+use Rattle.loops.specs.StepLists.{HasStep}
 use Rattle.loops.proofs.Finding.{FindsLayer}
 use Rattle.loops.proofs.shortest.Layers.next.Given as goal
 

@@ -3,7 +3,7 @@ use Rattle.std.proofs.lemmas.List.{get_or_default, take_all}
 use Rattle.std.proofs.lemmas.List.Elements.{Contains-get_or}
 use Rattle.lemmas.proofs.Contained.{contains_none}
 use Rattle.loops.specs.declared.rows.Step.{Step}
-use Rattle.loops.specs.Lists.{HasStep}
+use Rattle.loops.specs.StepLists.{HasStep}
 use Rattle.loops.proofs.Finding.{finds_as, finds_more, finds_nothing}
 use Rattle.loops.proofs.shortest.Layers.note_steps.Goals as goal
 

@@ -1,5 +1,5 @@
 use Rattle.std.proofs.Common.{ℕ, List, map}
-use Rattle.cfgtables.specs.Symbols.{sym_of}
+use Rattle.cfgtables.specs.NumberedSymbols.{sym_of}
 use Rattle.cfgchoices.specs.Inner.Offers.{Gives, Pends, left_to_open, offers_of, row}
 use Rattle.cfgchoices.proofs.Compared.{Rests}
 use Rattle.cfgchoices.proofs.first.offers.Firsts.compare.Given as goal

@@ -1,7 +1,7 @@
 use Rattle.std.proofs.Common.{◌≡◌, ◌<◌, ◌-◌, ◌++◌, [], ◌∷◌, Option, map, take, None, length, sym, ap, subst, ◌∙◌, arith}
 use Rattle.std.proofs.lemmas.List.{length-map}
 use Rattle.derivation.specs.Grammar.{Rule, Token}
-use Rattle.cfgtables.specs.Symbols.{sym_of}
+use Rattle.cfgtables.specs.NumberedSymbols.{sym_of}
 use Rattle.cfgleast.specs.Certificate.{choice_of, rule_choice}
 use Rattle.cfgchoices.specs.Inner.Offers.{Pends, left_to_open, offers_of}
 use Rattle.cfgchoices.proofs.Pending.{GoesOn, choice_shown, goes_on_free, goes_on_opened, last_shown, none_pending, rule_less, rule_within, symbol_less, token_pending, turned_shown}

@@ -1,5 +1,5 @@
 use Rattle.std.proofs.Common.{map}
-use Rattle.cfgtables.specs.Symbols.{sym_of}
+use Rattle.cfgtables.specs.NumberedSymbols.{sym_of}
 use Rattle.cfgchoices.specs.Inner.Offers.{left_to_open, offers_of}
 use Rattle.cfgchoices.proofs.Pending.{GoesOn}
 use Rattle.cfgchoices.proofs.first.offers.Firsts.next_token.Given as goal

@@ -1,5 +1,5 @@
 use Rattle.std.proofs.Common.{◌++◌, map, reverse, ap, ◌∙◌}
-use Rattle.cfgtables.specs.Symbols.{sym_of}
+use Rattle.cfgtables.specs.NumberedSymbols.{sym_of}
 use Rattle.cfgchoices.proofs.Pending.{reverse_map}
 use Rattle.cfgchoices.proofs.first.tight.TightTables.pending.Goals as goal
 

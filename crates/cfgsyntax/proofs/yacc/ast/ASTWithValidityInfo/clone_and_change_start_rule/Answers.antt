@@ -1,7 +1,7 @@
 use Rattle.std.proofs.Common.{◌≡◌, true, sym, ap, subst, ◌∙◌}
 use Rattle.cfgast.specs.Building.{has_rule}
-use Rattle.cfgast.specs.View.{named_view}
-use Rattle.cfgtree.specs.View.{syntax}
+use Rattle.cfgast.specs.SyntaxView.{named_view}
+use Rattle.cfgtree.specs.TreeView.{syntax}
 use Rattle.cfgtree.specs.Writing.{started_at}
 use Rattle.cfgtree.specs.Sound.{IsSound}
 use Rattle.cfgsyntax.proofs.SoundLemmas.{IsSound-restarted}

@@ -3,7 +3,7 @@ use Rattle.std.specs.Prelude.{IfOk}
 use Rattle.cfgsyntax.specs.Faults.{all_errors}
 use Rattle.cfgsyntax.specs.Inner.Steps.{stop_view}
 use Rattle.cfgtree.specs.Check.{check_of}
-use Rattle.cfgtree.specs.View.{syntax}
+use Rattle.cfgtree.specs.TreeView.{syntax}
 use Rattle.cfgtree.specs.WellFormed.{IsWellFormed}
 use Rattle.cfgtree.proofs.WellFormedLemmas.{syntax_of-IsWellFormed}
 use Rattle.cfgwords.proofs.NameStarts.{begins_as_name}

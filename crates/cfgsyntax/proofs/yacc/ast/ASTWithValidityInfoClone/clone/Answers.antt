@@ -1,6 +1,6 @@
 use Rattle.std.proofs.Common.{◌≡◌, sym, subst, ◌∙◌}
 use Rattle.std.proofs.lemmas.List.Elements.{same_from_all_zip}
-use Rattle.cfgtree.specs.View.{syntax}
+use Rattle.cfgtree.specs.TreeView.{syntax}
 use Rattle.cfgtree.specs.Sound.{IsSound}
 use Rattle.cfgsyntax.proofs.yacc.ast.ASTWithValidityInfoClone.clone.Goals as goal
 

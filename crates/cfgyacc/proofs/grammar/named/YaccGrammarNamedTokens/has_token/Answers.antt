@@ -3,8 +3,8 @@ use Rattle.std.specs.List.{list_any}
 use Rattle.lemmas.proofs.Places.{first_place, no_place}
 use Rattle.lemmas.proofs.Tests.{list_any-map}
 use Rattle.cfgnumbers.specs.Numbered.{NumberedToken}
-use Rattle.cfgnumbers.specs.Shown.{has_token_name}
-use Rattle.lexcheck.specs.Names.{is_name}
+use Rattle.cfgnumbers.specs.Accessors.{has_token_name}
+use Rattle.lexcheck.specs.LexerNames.{is_name}
 use Rattle.cfgyacc.proofs.grammar.named.YaccGrammarNamedTokens.has_token.Goals as goal
 
 -- a place is found where some element passes

@@ -1,6 +1,6 @@
 use Rattle.std.proofs.Common.{ap}
 use Rattle.cfgnumbers.specs.Numbered.{Numbered}
-use Rattle.cfgnumbers.specs.View.{tables}
+use Rattle.cfgnumbers.specs.TablesView.{tables}
 use Rattle.cfgyacc.proofs.Shows.{production_shown, production_there}
 use Rattle.cfgyacc.proofs.grammar.tables.YaccGrammar.action_span.Goals as goal
 

@@ -1,8 +1,8 @@
 use Rattle.std.proofs.Common.{◌++◌, [], length, map, option_map, sym, subst, ◌∙◌}
 use Rattle.lending.proofs.Given.{given, given_match}
 use Rattle.std.specs.List.{zip}
-use Rattle.cfgast.specs.View.{production_view}
-use Rattle.cfgtree.specs.View.{syntax}
+use Rattle.cfgast.specs.SyntaxView.{production_view}
+use Rattle.cfgtree.specs.TreeView.{syntax}
 use Rattle.cfgtree.specs.WellFormed.{IsWellFormed}
 use Rattle.cfgtree.specs.Sound.{IsSound}
 use Rattle.cfgnumbers.specs.Fits.{LeavesRoom}

@@ -1,10 +1,10 @@
 use Rattle.std.proofs.Common.{List, Option, ℕ, rules, sym, subst, ◌∙◌, true≢false}
 use Rattle.cfgwords.specs.Places.{IsPiece, IsWithin}
 use Rattle.cfgast.specs.Syntax.{Syntax}
-use Rattle.cfgtree.specs.View.{syntax}
+use Rattle.cfgtree.specs.TreeView.{syntax}
 use Rattle.cfgnumbers.specs.Fits.{LeavesRoom}
 use Rattle.cfgnumbers.specs.Numbered.{implicit_of, numbered}
-use Rattle.cfgyacc.specs.Spans.{EachGrammarSpan}
+use Rattle.cfgyacc.specs.GrammarSpans.{EachGrammarSpan}
 use Rattle.cfgyacc.proofs.Built.{too_large, answered, of_both}
 use Rattle.cfgyacc.proofs.Refusals.{errors_list, too_small_lists}
 use Rattle.cfgyacc.proofs.Spans.{grammar_spans, nowhere_placed, too_small_spans}

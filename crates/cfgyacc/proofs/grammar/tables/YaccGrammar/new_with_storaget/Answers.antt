@@ -3,7 +3,7 @@ use Rattle.std.proofs.lemmas.Result.{IfErr-weaker}
 use Rattle.cfgwords.specs.Places.{IsPiece, IsWithin}
 use Rattle.cfgerrors.specs.declared.error.YaccFault.TheVariants as faults
 use Rattle.cfgsyntax.specs.OfItself.{IsParsedAs}
-use Rattle.cfgsyntax.specs.Spans.{EachFaultSpan, EachParsedSpan}
+use Rattle.cfgsyntax.specs.ErrorSpans.{EachFaultSpan, EachParsedSpan}
 use Rattle.cfgyacc.proofs.OfParsed.{answer_spans, carried, carried_fault, of_kind, parsed_as}
 use Rattle.cfgyacc.proofs.Refusals.{grammar_lists}
 use Rattle.cfgyacc.proofs.grammar.tables.YaccGrammar.new_with_storaget.Goals as goal

@@ -1,9 +1,9 @@
 use Rattle.std.proofs.Common.{rules, ◌≡◌, ℕ, ◌++◌, map, take, codes, List, [], Bor, Option, option_map, unwrap_or, string_bytes, sym, ap, ◌∙◌, append_assoc, Some}
 use Rattle.std.specs.List.{concat}
 use Rattle.std.proofs.lemmas.List.{take_all}
-use Rattle.cfgnumbers.specs.Shown.{sym_name, sym_text}
+use Rattle.cfgnumbers.specs.Accessors.{sym_name, sym_text}
 use Rattle.cfgindex.specs.declared.idxnewtype.Symbol.{Symbol}
-use Rattle.cfgtables.specs.Symbols.{sym_of}
+use Rattle.cfgtables.specs.NumberedSymbols.{sym_of}
 use Rattle.cfgyacc.proofs.Shows.{rule_named, shown_text, token_named}
 use Rattle.cfgnumbers.proofs.Turns.{more_joined}
 use Rattle.cfgyacc.proofs.grammar.tables.YaccGrammar.pp_prod.Goals as goal

@@ -1,7 +1,7 @@
 use Rattle.std.proofs.Common.{◌≡◌, ◌++◌, map, take, string_bytes}
 use Rattle.std.specs.List.{concat}
-use Rattle.cfgnumbers.specs.Shown.{sym_text}
-use Rattle.cfgtables.specs.Symbols.{sym_of}
+use Rattle.cfgnumbers.specs.Accessors.{sym_text}
+use Rattle.cfgtables.specs.NumberedSymbols.{sym_of}
 use Rattle.cfgyacc.proofs.grammar.tables.YaccGrammar.pp_prod.Given as goal
 
 abbrev pub invariant-loop-symbol : goal.invariant-loop-symbol

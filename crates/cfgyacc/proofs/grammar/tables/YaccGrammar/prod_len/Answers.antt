@@ -2,8 +2,8 @@ use Rattle.std.proofs.Common.{Some, arith, ap, subst, ◌∙◌}
 use Rattle.std.proofs.lemmas.List.{length-map}
 use Rattle.cfgnumbers.specs.Fits.{Fits}
 use Rattle.cfgnumbers.specs.Numbered.{Numbered}
-use Rattle.cfgnumbers.specs.View.{tables}
-use Rattle.cfgtables.specs.Symbols.{sym_of}
+use Rattle.cfgnumbers.specs.TablesView.{tables}
+use Rattle.cfgtables.specs.NumberedSymbols.{sym_of}
 use Rattle.cfgyacc.proofs.Shows.{production_shown, production_there, symbols_counted, symbols_long}
 use Rattle.cfgyacc.proofs.grammar.tables.YaccGrammar.prod_len.Goals as goal
 

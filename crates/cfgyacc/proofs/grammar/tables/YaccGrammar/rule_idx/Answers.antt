@@ -1,7 +1,7 @@
 use Rattle.std.proofs.Common.{sym, ap, subst, ◌∙◌, position, Some}
 use Rattle.std.specs.Str.{bytes_eq}
 use Rattle.cfgnumbers.specs.Numbered.{Numbered, NumberedRule}
-use Rattle.cfgnumbers.specs.View.{tables}
+use Rattle.cfgnumbers.specs.TablesView.{tables}
 use Rattle.cfgnumbers.specs.WellNumbered.{HasDistinctNames}
 use Rattle.cfgnumbers.proofs.Lookups.{rule_position}
 use Rattle.cfgnumbers.proofs.DistinctNames.{rule_found}

@@ -1,6 +1,6 @@
 use Rattle.std.proofs.Common.{ap, arith}
 use Rattle.cfgnumbers.specs.Numbered.{Numbered}
-use Rattle.cfgnumbers.specs.View.{tables}
+use Rattle.cfgnumbers.specs.TablesView.{tables}
 use Rattle.cfgnumbers.proofs.Within.{refers}
 use Rattle.cfgyacc.proofs.grammar.tables.YaccGrammar.start_prod.Goals as goal
 

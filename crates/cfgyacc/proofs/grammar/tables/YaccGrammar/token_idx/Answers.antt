@@ -1,7 +1,7 @@
 use Rattle.std.proofs.Common.{sym, ap, subst, ◌∙◌, position, Some}
 use Rattle.cfgnumbers.specs.Numbered.{Numbered}
-use Rattle.cfgnumbers.specs.Shown.{has_token_name}
-use Rattle.cfgnumbers.specs.View.{tables}
+use Rattle.cfgnumbers.specs.Accessors.{has_token_name}
+use Rattle.cfgnumbers.specs.TablesView.{tables}
 use Rattle.cfgnumbers.specs.WellNumbered.{HasDistinctNames}
 use Rattle.cfgnumbers.proofs.Lookups.{token_position}
 use Rattle.cfgnumbers.proofs.DistinctNames.{token_found}

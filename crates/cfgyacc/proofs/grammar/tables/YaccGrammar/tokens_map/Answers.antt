@@ -1,8 +1,8 @@
 use Rattle.std.proofs.Common.{position, ap, ◌∙◌}
 use Rattle.std.proofs.lemmas.Result.{IfOk-weaker}
 use Rattle.cfgnumbers.specs.Numbered.{Numbered}
-use Rattle.cfgnumbers.specs.Shown.{has_token_name}
-use Rattle.cfgnumbers.specs.View.{tables}
+use Rattle.cfgnumbers.specs.Accessors.{has_token_name}
+use Rattle.cfgnumbers.specs.TablesView.{tables}
 use Rattle.cfgnumbers.proofs.Lookups.{token_named}
 use Rattle.cfgyacc.proofs.grammar.tables.YaccGrammar.tokens_map.Goals as goal
 

@@ -2,7 +2,7 @@
 use Rattle.std.specs.Prelude.{ℕ, List}
 use Rattle.reading.specs.WordKind.{WordKind}
 use Rattle.cfgwords.specs.SectionWords.{IsName, IsText, name_of, text_of}
-use Rattle.cfgwords.specs.Words.{IsInteger, integer_of}
+use Rattle.cfgwords.specs.FileWords.{IsInteger, integer_of}
 use Rattle.cfgwords.proofs.Finders.{integer_finder, integer_shorter}
 use Rattle.cfgwords.proofs.SectionFinders.{name_finder, name_shorter, text_finder, text_shorter}
 

@@ -3,7 +3,7 @@ use Rattle.std.specs.Prelude.{◌≡◌, ℕ, List, String, None, map, option_ma
 use Rattle.std.specs.String.{string_bytes}
 use Rattle.std.specs.declared.alloc.Global.{Global}
 use Rattle.cfgbase.specs.declared.span.Span.{Span}
-use Rattle.cfgwords.specs.Words.{Word, Token}
+use Rattle.cfgwords.specs.FileWords.{Word, Token}
 use Rattle.cfgast.specs.Syntax as plain
 use Rattle.cfgast.specs.Syntax.{Syntax, RuleSymbol, TokenSymbol}
 use Rattle.cfgast.specs.Occurrences as once

@@ -4,7 +4,7 @@ use Rattle.std.specs.Borrow.{Bor}
 use Rattle.std.specs.declared.alloc.Global.{Global}
 use Rattle.cfgbase.specs.declared.span.Span.{Span}
 use Rattle.cfgast.specs.Syntax.{Syntax}
-use Rattle.cfgast.specs.View.{syntax_view, unique_view}
+use Rattle.cfgast.specs.SyntaxView.{syntax_view, unique_view}
 use Rattle.cfgast.specs.declared.occurrence.Unique.{Unique}
 use Rattle.cfgtree.specs.Duplicates.{Duplicate}
 use Rattle.cfgtree.specs.declared.ast.GrammarAST.{GrammarAST}

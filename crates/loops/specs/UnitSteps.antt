@@ -3,7 +3,7 @@ use Rattle.std.specs.Prelude.{◌≡◌, ℕ, ◌+◌, ◌<◌, ◌↔◌, List,
 use Rattle.derivation.specs.Grammar.{Rule, Grammar, HasProduction}
 use Rattle.derivation.specs.Derivation.{Derives}
 use Rattle.cfgtables.specs.Openings.{nth_production}
-use Rattle.loops.specs.Lists.{AreWithin, HasStep}
+use Rattle.loops.specs.StepLists.{AreWithin, HasStep}
 use Rattle.loops.specs.declared.rows.Step.{Step}
 
 -- The step's production is one of the rule's, and has the step's rule at its place. What stands before and behind that

@@ -8,7 +8,7 @@ use Rattle.cfgwords.specs.Actions.{IsAction, action_of}
 use Rattle.cfgwords.specs.Blank.{Blank, blank}
 use Rattle.cfgwords.specs.ColonText.{ColonText, colon_text}
 use Rattle.cfgwords.specs.Strings.{EppString, epp_string}
-use Rattle.cfgwords.specs.Words.{TokenText, IsName, IsToken, IsInteger, LineRest, name_of, token_of, integer_of, line_rest}
+use Rattle.cfgwords.specs.FileWords.{TokenText, IsName, IsToken, IsInteger, LineRest, name_of, token_of, integer_of, line_rest}
 use Rattle.cfgwords.proofs.Blanks.{blank_graph, blank_no_longer}
 use Rattle.cfgwords.proofs.ColonTexts.{colon_text_graph, colon_text_no_longer}
 use Rattle.cfgwords.proofs.EppStrings.{epp_string_graph, epp_string_no_longer}

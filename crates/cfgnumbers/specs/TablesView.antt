@@ -7,9 +7,9 @@ use Rattle.cfgindex.specs.declared.idxnewtype.RIdx.{RIdx}
 use Rattle.cfgindex.specs.declared.idxnewtype.Symbol.{Symbol}
 use Rattle.cfgast.specs.declared.settings.Settings.{Settings}
 use Rattle.cfgast.specs.Syntax.{Syntax}
-use Rattle.cfgast.specs.View.{settings_view}
-use Rattle.cfgtree.specs.View.{syntax}
-use Rattle.cfgtables.specs.Symbols.{sym_of}
+use Rattle.cfgast.specs.SyntaxView.{settings_view}
+use Rattle.cfgtree.specs.TreeView.{syntax}
+use Rattle.cfgtables.specs.NumberedSymbols.{sym_of}
 use Rattle.cfgnumbers.specs.Numbered.{Numbered, NumberedRule, NumberedToken, NumberedProduction, end_token}
 use Rattle.cfgnumbers.specs.declared.numbering.Numbering.{Numbering}
 use Rattle.cfgnumbers.specs.declared.rows.RuleRow.{RuleRow}

@@ -1,0 +1,12 @@
+-- Lemmas on lists and on what calls answer, for proofs of users.
+pub use Rattle.lemmas.proofs.Contained
+pub use Rattle.lemmas.proofs.Elements
+pub use Rattle.lemmas.proofs.Passing
+pub use Rattle.lemmas.proofs.Places
+pub use Rattle.lemmas.proofs.Taken
+pub use Rattle.lemmas.proofs.Tests
+pub use Rattle.lemmas.proofs.Zips
+pub use Rattle.cfgtree.proofs.Found
+pub use Rattle.cfgnumbers.proofs.Turns
+pub use Rattle.cfgyacc.proofs.OfItself
+pub use Rattle.cfgyacc.proofs.Shows
