@@ -3,7 +3,6 @@
 mod analysed;
 mod fault;
 mod iter;
-mod named;
 mod tables;
 
 pub use cfganalysis::{CountedTables, Productions, Tables};
