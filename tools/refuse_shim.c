@@ -21,7 +21,7 @@
 #include <time.h>
 #include <unistd.h>
 
-/* ROOM is that of crates/rows/src/files.rt. */
+/* ROOM is that of crates/vectors_rows/src/files.rt. */
 enum { ROOM = 1048573, MOST_WRITTEN = 1 << 26, CHILD_SECONDS = 60 };
 enum { TOLD = 41, UNNEEDED = 42, WRONG = 43 };
 

@@ -1,40 +1,21 @@
 //! Where the names that a lexer gives and those of a grammar's tokens differ.
 
-ghost use Rattle.std.specs.Prelude.{◌≡◌, ◌++◌, ◌∷◌, ◌<◌, [], ℕ, if◌then◌else◌, false, not, length, slice_get};
-ghost use Rattle.std.specs.Prelude.{List, Option, Some, map, option_map, IfOk, OnOk};
-ghost use Rattle.std.specs.HashSet.{contains_by};
+ghost use Rattle.std.specs.Prelude.{◌≡◌, [], true, map, option_map, IfOk, IfSome, OnOk};
 ghost use Rattle.std.specs.List.{list_any};
-ghost use Rattle.std.specs.Option.{option_map_or};
-ghost use Rattle.std.specs.Str.{bytes_eq};
-ghost use Rattle.lexcheck.specs.LexerNames.{is_name, missing_tokens, unknown_places};
+ghost use Rattle.cfgrammar.specs.Accessors.{has_token_name};
+ghost use Rattle.cfgrammar.specs.TokenNames.{token_names};
+ghost use Rattle.lexcheck.specs.Inner.Marks.{AreMarks, IsTokensMap};
+ghost use Rattle.lexcheck.specs.LexerNames.{is_missing, missing_tokens, unknown_places};
 
-use cfgindex::{Storage, TIdx, to_storage};
+use cfgrammar::yacc::YaccGrammar;
+use cfgrammar::{Storage, TIdx, Vob};
 use std::alloc::{AllocError, Global};
-use std::collections::HashSet;
-
-/// Tokens, by their indices: some of them have names. A grammar's are such.
-pub trait NamedTokens<S: Storage> {
-    // Of each token, in the order of their indices, the name, if it has one.
-    ghost names: { Self → List (Option (List ℕ)) };
-
-    /// How many tokens there are.
-    fn tokens_len(&self) -> TIdx<S>
-        ensures { S.number result.0 ≡ length (names self.now) };
-
-    /// The name of a token, if it has one.
-    fn token_name(&self, tidx: TIdx<S>) -> Option<&str>
-        requires { S.number tidx.0 < length (names self.now) }
-        ensures { slice_get (names self.now) (S.number tidx.0) ≡ Some (option_map (λ name. name.now) result) };
-
-    /// Whether a token has the name.
-    fn has_token(&self, name: &str) -> bool
-        ensures { result ≡ list_any (is_name name.now) (names self.now) };
-}
+use std::collections::HashMap;
 
 /// Where the names that a lexer gives and those of a grammar's tokens differ.
 #[derive(Clone, Debug, Drop, PartialEq, Eq)]
 pub struct LexReport<S: Storage> {
-    /// The places, among the names, of those that no token has, in order: of a repeated name, each.
+    /// The positions, among the names, of those that no token has, in order: of a repeated name, each.
     pub unknown: Vec<usize>,
     /// The tokens whose names aren't given, in the order of their indices. The end token has no name.
     pub missing: Vec<TIdx<S>>,
@@ -45,84 +26,91 @@ pub struct LexReport<S: Storage> {
 ///
 /// # Errors
 ///
-/// Want of memory.
-pub fn check<S: Storage, G: NamedTokens<S>>(
+/// Out of memory.
+pub fn check<S: Storage>(
     alloc: Global,
-    grm: &G,
+    grm: &YaccGrammar<S>,
     names: &[&str],
 ) -> Result<LexReport<S>, AllocError>
     ensures unknown { IfOk result (λ report. report.unknown.items
-        ≡ unknown_places (G.names grm.now) (map (λ name. name.now) names.now)) }
+        ≡ unknown_places (token_names grm.now) (map (λ name. name.now) names.now)) }
     ensures missing { IfOk result (λ report. map (λ t. S.number t.0) report.missing.items
-        ≡ missing_tokens (G.names grm.now) (map (λ name. name.now) names.now)) }
+        ≡ missing_tokens (token_names grm.now) (map (λ name. name.now) names.now)) }
 {
-    Ok(LexReport {
-        unknown: unknown_places::<S, G>(alloc, grm, names)?,
-        missing: missing_tokens(alloc, grm, names)?,
-    })
+    let tokens = grm.tokens_map(alloc)?;
+    let (tokens_len, _) = grm.iter_tidxs().size_hint();
+    let mut given = Vob::from_elem(alloc, false, tokens_len)?;
+    let unknown = mark_given(alloc, grm, &tokens, names, &mut given)?;
+    let missing = unmarked_tokens(alloc, grm, &tokens, names, &given)?;
+    Ok(LexReport { unknown, missing })
 }
 
-/// The places of the names that no token has.
-fn unknown_places<S: Storage, G: NamedTokens<S>>(
+/// Marks the tokens whose names are given, and returns the positions of the names that no token has.
+fn mark_given<S: Storage>(
     alloc: Global,
-    grm: &G,
+    grm: &YaccGrammar<S>,
+    tokens: &HashMap<&str, TIdx<S>>,
     names: &[&str],
+    given: &mut Vob,
 ) -> Result<Vec<usize>, AllocError>
-    ensures { IfOk result (λ unknown. unknown.items
-        ≡ unknown_places (G.names grm.now) (map (λ name. name.now) names.now)) }
+    requires map { IsTokensMap S.number grm.now tokens.now }
+    requires none { AreMarks grm.now [] given.old }
+    ensures unknown { IfOk result (λ unknown. unknown.items
+        ≡ unknown_places (token_names grm.now) (map (λ name. name.now) names.now)) }
+    ensures marks { OnOk result (AreMarks grm.now (map (λ name. name.now) names.now) given.new) }
 {
     let mut unknown = Vec::new(alloc);
     for (place, name) in names.iter().enumerate() {
-        push_if(&mut unknown, !grm.has_token(name), place)?;
+        match tokens.get(name) {
+            Some(tidx) => {
+                given.set(tidx.0.to_usize(), true);
+            }
+            None => unknown.push(place)?,
+        }
     }
     Ok(unknown)
 }
 
-/// The tokens whose names aren't among these.
-fn missing_tokens<S: Storage, G: NamedTokens<S>>(
+/// The tokens with names that aren't marked.
+fn unmarked_tokens<S: Storage>(
     alloc: Global,
-    grm: &G,
+    grm: &YaccGrammar<S>,
+    tokens: &HashMap<&str, TIdx<S>>,
     names: &[&str],
+    given: &Vob,
 ) -> Result<Vec<TIdx<S>>, AllocError>
+    requires map { IsTokensMap S.number grm.now tokens.now }
+    requires marks { AreMarks grm.now (map (λ name. name.now) names.now) given.now }
     ensures { IfOk result (λ missing. map (λ t. S.number t.0) missing.items
-        ≡ missing_tokens (G.names grm.now) (map (λ name. name.now) names.now)) }
+        ≡ missing_tokens (token_names grm.now) (map (λ name. name.now) names.now)) }
 {
-    let given = set_of(alloc, names)?;
     let mut missing = Vec::new(alloc);
-    let tokens_len = grm.tokens_len().0.to_usize();
-    for place in 0..tokens_len {
-        let tidx = TIdx(to_storage(place));
-        push_if(&mut missing, is_missing(&given, grm.token_name(tidx)), tidx)?;
+    for tidx in grm.iter_tidxs() {
+        if is_unmarked(grm, tokens, names, given, grm.token_name(tidx)) {
+            missing.push(tidx)?;
+        }
     }
     Ok(missing)
 }
 
-/// The names, each once.
-fn set_of<'a>(alloc: Global, names: &[&'a str]) -> Result<HashSet<&'a str>, AllocError>
-    ensures { IfOk result (λ given. (name : List ℕ) → contains_by (λ key. bytes_eq name key.now) given
-        ≡ list_any (bytes_eq name) (map (λ name. name.now) names.now)) }
-{
-    names.iter().copied().collect(alloc)
-}
-
-/// Whether a token has a name that isn't given.
-fn is_missing(given: &HashSet<&str>, name: Option<&str>) -> bool
-    ensures { result ≡ option_map_or (λ name. not (contains_by (λ key. bytes_eq name key.now) given.now))
-        (option_map (λ name. name.now) name.entry) false }
+/// Whether a token has a name that isn't marked: where its name is that of a token, that token's mark is off.
+fn is_unmarked<S: Storage>(
+    grm: &YaccGrammar<S>,
+    tokens: &HashMap<&str, TIdx<S>>,
+    names: &[&str],
+    given: &Vob,
+    name: Option<&str>,
+) -> bool
+    requires map { IsTokensMap S.number grm.now tokens.now }
+    requires marks { AreMarks grm.now (map (λ name. name.now) names.now) given.now }
+    requires named { IfSome name (λ name. list_any (has_token_name name.now) grm.now.tokens ≡ true) }
+    ensures { result ≡ is_missing (map (λ name. name.now) names.now) (option_map (λ name. name.now) name) }
 {
     match name {
-        Some(name) => !given.contains(name),
+        Some(name) => match tokens.get(name) {
+            Some(tidx) => given.get(tidx.0.to_usize()) == Some(false),
+            None => false,
+        },
         None => false,
     }
-}
-
-/// Adds an element, if it passes.
-fn push_if<T: Copy>(found: &mut Vec<T>, passes: bool, element: T) -> Result<(), AllocError>
-    ensures { OnOk result (found.new.items
-        ≡ (if passes then found.old.items ++ element ∷ [] else found.old.items)) }
-{
-    if passes {
-        found.push(element)?;
-    }
-    Ok(())
 }

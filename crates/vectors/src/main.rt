@@ -1,0 +1,57 @@
+//! The program of worked rows: it reads rows from the files that its words name, and writes for each row its name and
+//! all that the public calls answer of it. A person reads what it writes beside docs/BEHAVIOUR.md; the merge gate
+//! compares it with what is stored.
+#![tactic(auto)]
+
+mod desk;
+mod given;
+mod narrow;
+mod programs;
+mod reports;
+mod rooms;
+mod runs;
+mod uses;
+
+use std::io;
+use vectors_rows::files::{Answers, write_files};
+use vectors_rows::page::Page;
+use vectors_rows::row::Row;
+use vectors_sections::kinds;
+use vectors_trees::{every, written};
+use vectors_values::{lines, marks, numbers};
+
+/// What is answered of rows of all kinds.
+struct All;
+
+impl Answers for All {
+    fn write(&self, out: &mut Page, rt: &HostRuntime, row: &Row<'_>, text: &str) {
+        match row.tries {
+            "row" => vectors_grammars::tell(out, row, text),
+            "cuts" => every::tell(out, rt, row, text),
+            "section" => vectors_sections::tell(out, row, text),
+            "generator" => vectors_costs::tell(out, row, text),
+            "lines" => lines::tell(out, row, text),
+            "marks" => marks::tell(out, row),
+            "values" => numbers::tell(out, row, text),
+            "errors" => kinds::tell(out, row, text),
+            "tree" => written::tell(out, row, text),
+            "report" => reports::tell(out, row, text),
+            "run" | "lint" => runs::tell(out, row, text),
+            "program" | "lint-program" => programs::tell(out, rt, row, text),
+            "guide" => guide(out, row.name, text),
+            _ => writeln!(out, "no such row: {}", row.tries),
+        }
+    }
+}
+
+/// Writes what the caller of this name in the guide answers of a text.
+fn guide(out: &mut Page, call: &str, text: &str) {
+    match uses::answers::tell(out.alloc, call, text) {
+        Ok(answer) => out.push_str(answer.as_str()),
+        Err(_) => out.tear(),
+    }
+}
+
+fn main(rt: HostRuntime) -> io::Result<()> {
+    write_files(&rt, &All)
+}

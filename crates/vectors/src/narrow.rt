@@ -1,0 +1,104 @@
+//! A writer with little room.
+
+use std::alloc::Global;
+use std::io::{self, ErrorKind, Write};
+use vectors_rows::row::Row;
+
+/// What a writer does where its room ends.
+#[derive(Clone, Copy)]
+pub(crate) enum End {
+    Fails,
+    IsInterrupted,
+    TakesNone,
+}
+
+/// A writer that takes few bytes at a time, and so many in all; then it ends.
+#[derive(Drop)]
+pub(crate) struct Narrow {
+    taken: Vec<u8>,
+    step: usize,
+    room: usize,
+    end: End,
+    /// How many faults it is known to have had.
+    pub(crate) faults: u64,
+    /// Whether memory ended for what it took, which is no fault of the run.
+    pub(crate) wants_memory: bool,
+}
+
+impl Narrow {
+    pub(crate) fn new(alloc: Global, step: usize, room: usize, end: End) -> Self {
+        Narrow {
+            taken: Vec::new(alloc),
+            step,
+            room,
+            end,
+            faults: 0,
+            wants_memory: false,
+        }
+    }
+
+    /// The writer that a row describes: `room NAME N` says how many bytes it takes, `step NAME N` how many of them at a
+    /// time; `full NAME` that it takes none where its room ends, and `interrupts NAME` that it is interrupted there.
+    /// Else it takes all.
+    pub(crate) fn of_row(alloc: Global, row: &Row<'_>, name: &str) -> Self {
+        Narrow::new(
+            alloc,
+            row.number_of("step", name).unwrap_or(usize::MAX),
+            row.number_of("room", name).unwrap_or(usize::MAX),
+            end_of_row(row, name),
+        )
+    }
+
+    /// A writer that takes all.
+    pub(crate) fn wide(alloc: Global) -> Self {
+        Narrow::new(alloc, usize::MAX, usize::MAX, End::Fails)
+    }
+
+    /// What it took.
+    pub(crate) fn bytes(&self) -> &[u8] {
+        self.taken.as_slice()
+    }
+
+    /// Whether memory ended for a run with this status, of which this is the output: then nothing is written here, and
+    /// the other one says so. Nothing is told by that where the input is one for which memory ended.
+    pub(crate) fn is_wanted(&self, status: u8, errors: &Narrow, is_input: bool) -> bool {
+        let says_so = b"cfgtool: out of memory\n".starts_with(errors.bytes())
+            || b"cfglint: out of memory\n".starts_with(errors.bytes());
+        let is_told = status == 3 && says_so && self.taken.is_empty();
+        self.wants_memory || errors.wants_memory || (is_told && !is_input)
+    }
+}
+
+/// What the writer of a row does where its room ends.
+fn end_of_row(row: &Row<'_>, name: &str) -> End {
+    if row.number_of("full", name).is_some() {
+        End::TakesNone
+    } else if row.number_of("interrupts", name).is_some() {
+        End::IsInterrupted
+    } else {
+        End::Fails
+    }
+}
+
+impl Write for Narrow {
+    fn write(&mut self, bytes: &[u8]) -> io::Result<usize> {
+        let count = bytes.len().min(self.step).min(self.room);
+        match self.end {
+            End::Fails if count == 0 => return Err(ErrorKind::BrokenPipe.into()),
+            End::IsInterrupted if count == 0 => return Err(ErrorKind::Interrupted.into()),
+            _ => {}
+        }
+        match self.taken.extend_from_slice(&bytes[..count]) {
+            Ok(()) => self.room -= count,
+            Err(fault) => {
+                self.wants_memory = true;
+                return Err(io::Error::from(fault));
+            }
+        }
+        Ok(count)
+    }
+
+    fn flush(&mut self) -> io::Result<()> {
+        Ok(())
+    }
+}

@@ -1,0 +1,95 @@
+//! Rows on the reports of a text.
+
+use crate::narrow::{End, Narrow};
+use crate::rooms::{Run, write_rooms};
+use crate::runs::write_taken;
+use cfgtool::words::{command_of, kind_of};
+use cfgtool::{Counted, KindArg, Outcome, ReportFault, Sink, report, report_lex};
+use std::alloc::{AllocError, Global};
+use vectors_rows::page::Page;
+use vectors_rows::pen;
+use vectors_rows::row::Row;
+use vectors_rows::text::of_turn;
+
+/// A report of a text: what the command tells, or else where its tokens and the names differ.
+#[derive(Drop)]
+struct Report<'a> {
+    alloc: Global,
+    kind: KindArg,
+    command: &'a str,
+    names: &'a str,
+    text: &'a str,
+}
+
+impl Run for Report<'_> {
+    fn ended(&self, writer: &mut Narrow) -> Result<&'static str, AllocError> {
+        let mut counted = Counted::new(&mut *writer);
+        let answer = match command_of(self.command) {
+            Some(command) => report(self.alloc, self.kind, command, self.text, &mut counted),
+            None => report_lex(self.alloc, self.kind, self.text, self.names, &mut counted),
+        };
+        let faults = counted.faults();
+        writer.faults = faults;
+        if writer.wants_memory {
+            return Err(AllocError);
+        }
+        match answer {
+            Ok(Outcome::Done) => Ok("Done"),
+            Ok(Outcome::Refused) => Ok("Refused"),
+            Err(ReportFault::Write) => Ok("Write"),
+            Err(ReportFault::OutOfMemory) if writer.bytes().is_empty() => Err(AllocError),
+            Err(ReportFault::OutOfMemory) => Ok("OutOfMemory behind a beginning"),
+        }
+    }
+}
+
+/// Writes what is answered of the report that the row's words ask for, and what was written; and over writers of every
+/// room, where the row asks for that.
+pub(crate) fn tell(out: &mut Page, row: &Row<'_>, text: &str) {
+    let words = row.first("words").unwrap_or("");
+    let (kind, command) = words.split_once(' ').unwrap_or((words, ""));
+    let Ok(names) = of_turn(out.alloc, row.first("names").unwrap_or(""), 0) else {
+        return out.tear();
+    };
+    match kind_of(kind) {
+        Some(kind) => {
+            let names = names.as_str();
+            let asked = Report {
+                alloc: out.alloc,
+                kind,
+                command,
+                names,
+                text,
+            };
+            tell_report(out, row, &asked)
+        }
+        None => out.push_str("no such kind\n"),
+    }
+}
+
+/// Writes how many faults a writer that takes nothing had before it is asked, and then.
+fn write_counted(out: &mut Page, writer: &mut Narrow) {
+    pen::without_memory(out);
+    let mut counted = Counted::new(writer);
+    write!(out, "    faults {}", counted.faults());
+    let is_taken = counted.write(b"a").is_ok();
+    pen::flag(out, ", taken: ", is_taken);
+    writeln!(out, ", faults {}", counted.faults());
+}
+
+/// Writes what is answered of a report.
+fn tell_report(out: &mut Page, row: &Row<'_>, asked: &Report<'_>) {
+    if row.first("show") == Some("without-memory") {
+        return write_counted(out, &mut Narrow::new(asked.alloc, 1, 0, End::Fails));
+    }
+    let mut output = Narrow::of_row(asked.alloc, row, "out");
+    let Ok(word) = asked.ended(&mut output) else {
+        return out.tear();
+    };
+    writeln!(out, "report {}: {word}", asked.command);
+    write_taken(out, "output", &output);
+    match row.first("rooms") {
+        Some(_) => write_rooms(out, asked, output.bytes()),
+        None => {}
+    }
+}

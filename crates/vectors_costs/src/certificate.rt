@@ -1,0 +1,115 @@
+//! Lists of least costs and of choices, and what the two checkers say of them.
+
+ghost use Rattle.std.specs.Prelude.{◌≡◌, IsTrue, length};
+ghost use Rattle.cfgrammar.specs.Numbered.{core};
+
+use cfgrammar::PIdx;
+use cfgrammar::yacc::YaccGrammar;
+use cfgrammar::yacc::sentences::{SentenceGenerator, check_least, check_reached};
+use std::alloc::{AllocError, Global};
+use vectors_rows::page::Page;
+use vectors_rows::pen::{self, Piece};
+
+/// A cost for each rule, or none, and a choice for each rule, or none.
+#[derive(Drop)]
+pub(crate) struct Certificate {
+    least: Vec<Option<u16>>,
+    choices: Vec<Option<(PIdx<u32>, u32)>>,
+}
+
+impl Certificate {
+    /// What the generator answers.
+    pub(crate) fn of_generator(
+        alloc: Global,
+        grammar: &YaccGrammar<u32>,
+        generator: &SentenceGenerator<'_, u32>,
+    ) -> Result<Self, AllocError>
+        requires { generator.now.grammar ≡ core grammar.now }
+    {
+        let mut certificate = Certificate {
+            least: Vec::new(alloc),
+            choices: Vec::new(alloc),
+        };
+        certificate.add_rules(grammar, generator)?;
+        Ok(certificate)
+    }
+
+    /// Adds what the generator answers of each rule.
+    fn add_rules(
+        &mut self,
+        grammar: &YaccGrammar<u32>,
+        generator: &SentenceGenerator<'_, u32>,
+    ) -> Result<(), AllocError>
+        requires { generator.now.grammar ≡ core grammar.now }
+    {
+        for ridx in grammar.iter_rules() {
+            self.least.push(generator.min_sentence_cost(ridx).ok())?;
+            self.choices.push(generator.choice(ridx))?;
+        }
+        Ok(())
+    }
+
+    /// The costs that words spell, and behind `by` the choices.
+    pub(crate) fn read(alloc: Global, words: &str) -> Result<Self, AllocError> {
+        let (costs, pairs) = words.split_once(" by ").unwrap_or((words, ""));
+        let least = costs
+            .split(' ')
+            .map(|word| word.parse().ok())
+            .collect(alloc)?;
+        let choices = pairs
+            .split(' ')
+            .map(|word| read_choice(word))
+            .collect(alloc)?;
+        Ok(Certificate { least, choices })
+    }
+
+    /// Whether `check_least` is true of the costs.
+    pub(crate) fn is_least(&self, grammar: &YaccGrammar<u32>, costs: &[u8]) -> bool {
+        self.is_whole(grammar, costs) && check_least(grammar, costs, &self.least)
+    }
+
+    /// Whether `check_reached` is true of the costs and the choices.
+    pub(crate) fn is_reached(&self, grammar: &YaccGrammar<u32>, costs: &[u8]) -> bool {
+        self.is_whole(grammar, costs)
+            && self.choices.len() == self.least.len()
+            && check_reached(grammar, costs, &self.least, &self.choices)
+    }
+
+    /// Whether there is a cost for each token and one for each rule.
+    fn is_whole(&self, grammar: &YaccGrammar<u32>, costs: &[u8]) -> bool
+        ensures costs { IsTrue result → length costs.now ≡ length grammar.now.tokens }
+        ensures least { IsTrue result → length self.now.least.items ≡ length grammar.now.rules }
+    {
+        costs.len() == usize::from(grammar.tokens_len())
+            && self.least.len() == usize::from(grammar.rules_len())
+    }
+}
+
+/// The production and the number that stand on both sides of a colon.
+fn read_choice(word: &str) -> Option<(PIdx<u32>, u32)> {
+    let (production, number) = word.split_once(':')?;
+    match (production.parse(), number.parse()) {
+        (Ok(production), Ok(number)) => Some((PIdx(production), number)),
+        _ => None,
+    }
+}
+
+/// Writes which of the two checkers refuses what the generator answers.
+pub(crate) fn write_failures(
+    out: &mut Page,
+    grammar: &YaccGrammar<u32>,
+    generator: &SentenceGenerator<'_, u32>,
+)
+    requires { generator.now.grammar ≡ core grammar.now }
+{
+    let Ok(certificate) = Certificate::of_generator(out.alloc, grammar, generator) else {
+        return out.tear();
+    };
+    let is_least = certificate.is_least(grammar, generator.token_costs());
+    let is_reached = certificate.is_reached(grammar, generator.token_costs());
+    let pieces = [
+        Piece::If(!is_least, "    the least costs don't pass\n"),
+        Piece::If(!is_reached, "    the choices don't pass\n"),
+    ];
+    pen::pieces(out, &pieces);
+}

@@ -1,0 +1,109 @@
+//! The grammar of a row, and the costs of its tokens.
+
+ghost use Rattle.std.specs.Prelude.{◌≡◌, ◌<◌};
+ghost use Rattle.cfgrammar.specs.Numbered.{core};
+
+use super::{asked, certificate, plain, rules};
+use cfgrammar::TIdx;
+use cfgrammar::yacc::sentences::SentenceGenerator;
+use cfgrammar::yacc::{YaccFault, YaccGrammar, YaccKind, YaccOriginalActionKind};
+use std::cell::Cell;
+use vectors_rows::page::Page;
+use vectors_rows::row::Row;
+use vectors_rows::{pen, text};
+use vectors_trees::read::kind_of;
+
+/// Writes a row's text, where the row isn't brief, and what is answered of its costs.
+pub fn tell(out: &mut Page, row: &Row<'_>, text: &str) {
+    let kind = kind_of(row).unwrap_or(YaccKind::Original(YaccOriginalActionKind::GenericParseTree));
+    writeln!(out, "text of {} bytes, {kind:?}", text.len());
+    if row.first("show") != Some("brief") {
+        text::write_text(out, text);
+    }
+    tell_text(out, row, kind, text);
+}
+
+/// Writes what is answered of the costs of a text's grammar, where it has one.
+fn tell_text(out: &mut Page, row: &Row<'_>, kind: YaccKind, text: &str) {
+    match YaccGrammar::new(out.alloc, kind, text) {
+        Ok(grammar) => tell_grammar(out, row, &grammar),
+        Err(YaccFault::Errors(_)) => out.push_str("no grammar\n"),
+        Err(YaccFault::OutOfMemory) => out.tear(),
+    }
+}
+
+/// Writes what is answered of the costs of a grammar.
+fn tell_grammar(out: &mut Page, row: &Row<'_>, grammar: &YaccGrammar<u32>) {
+    let asked = Cell::new(0);
+    let made = grammar.sentence_generator(out.alloc, |tidx| asked_cost(row, &asked, tidx));
+    let is_asked = asked.get() == usize::from(grammar.tokens_len());
+    match made {
+        Ok(generator) => tell_costs(out, row, grammar, &generator, is_asked),
+        Err(_) => out.tear(),
+    }
+}
+
+/// What a token costs. It is counted where it is the next one to be asked of.
+fn asked_cost(row: &Row<'_>, asked: &Cell<usize>, tidx: TIdx<u32>) -> u8
+    ensures { 0 < result }
+{
+    let number = usize::from(tidx);
+    let is_next = number == asked.get();
+    let next = if is_next {
+        number.saturating_add(1)
+    } else {
+        usize::MAX
+    };
+    asked.set(next);
+    cost_of(row, tidx)
+}
+
+/// What a token costs by the row's `costs`, where the list is so long, or else by its `cost`, or else 1.
+fn cost_of(row: &Row<'_>, tidx: TIdx<u32>) -> u8
+    ensures { 0 < result }
+{
+    let listed = row
+        .first("costs")
+        .and_then(|costs| costs.split(' ').nth(usize::from(tidx)));
+    let word = listed.or(row.first("cost")).unwrap_or("");
+    word.parse().unwrap_or(1).max(1)
+}
+
+/// Writes the tokens' costs and what the generator answers, and what the row asks for.
+fn tell_costs(
+    out: &mut Page,
+    row: &Row<'_>,
+    grammar: &YaccGrammar<u32>,
+    generator: &SentenceGenerator<'_, u32>,
+    is_asked: bool,
+)
+    requires { generator.now.grammar ≡ core grammar.now }
+{
+    pen::text_if(
+        out,
+        !is_asked,
+        "    costs aren't asked once of each token, in order\n",
+    );
+    if row.first("show") == Some("without-memory") {
+        return plain::write_without_memory(out, grammar, generator);
+    }
+    write_tokens(out, grammar, generator.token_costs());
+    rules::write_rules(out, row, grammar, generator);
+    certificate::write_failures(out, grammar, generator);
+    asked::write_asked(out, row, grammar, generator);
+}
+
+/// Writes the tokens' names and what each costs.
+fn write_tokens(out: &mut Page, grammar: &YaccGrammar<u32>, costs: &[u8]) {
+    out.push_str("    tokens:");
+    for tidx in grammar.iter_tidxs() {
+        match grammar.token_name(tidx) {
+            Some(name) => pen::name(out, " ", name),
+            None => out.push_str(" end"),
+        }
+        if let Some(cost) = costs.get(usize::from(tidx)) {
+            pen::number(out, " ", usize::from(*cost));
+        }
+    }
+    out.push('\n');
+}

@@ -1,0 +1,161 @@
+//! What sentences of a grammar's rules cost, and those of least cost.
+
+ghost use Rattle.std.specs.Prelude.{◌≡◌, ◌<◌};
+ghost use Rattle.cfgrammar.specs.Numbered.{core};
+
+use cfgrammar::yacc::YaccGrammar;
+use cfgrammar::yacc::sentences::{CostError, SentenceError, SentenceGenerator};
+use cfgrammar::{RIdx, TIdx};
+use vectors_rows::page::Page;
+use vectors_rows::pen::{self, Piece};
+use vectors_rows::row::Row;
+
+/// How many sentences of a rule are written, and how many tokens of a sentence; of more than these their number is.
+const MOST: usize = 20;
+
+/// Writes for each rule a line.
+pub(crate) fn write_rules(
+    out: &mut Page,
+    row: &Row<'_>,
+    grammar: &YaccGrammar<u32>,
+    generator: &SentenceGenerator<'_, u32>,
+)
+    requires { generator.now.grammar ≡ core grammar.now }
+{
+    for ridx in grammar.iter_rules() {
+        let name = grammar.rule_name_str(ridx);
+        write_rule(out, name, generator, ridx);
+        if is_asked(row, name) {
+            let sentences = generator.min_sentences(out.alloc, ridx);
+            write_sentences(out, sentences);
+        }
+        out.push('\n');
+    }
+}
+
+/// Whether all minimal sentences of a rule are asked for: of each rule where the row doesn't name some.
+fn is_asked(row: &Row<'_>, name: &str) -> bool {
+    match row.first("sentences") {
+        Some(names) => names.split(' ').any(|other| other == name),
+        None => true,
+    }
+}
+
+/// Writes a rule's costs, its choice, and a minimal sentence.
+fn write_rule(out: &mut Page, name: &str, generator: &SentenceGenerator<'_, u32>, ridx: RIdx<u32>)
+    requires { ridx.0 < generator.now.grammar.rules }
+{
+    let pieces = [
+        Piece::Number("    rule ", usize::from(ridx)),
+        Piece::Text(" "),
+        Piece::Text(name),
+    ];
+    pen::pieces(out, &pieces);
+    write_costs(out, generator, ridx);
+    out.push_str("; sentence ");
+    match generator.min_sentence(out.alloc, ridx) {
+        Ok(sentence) => write_sentence(out, &sentence),
+        Err(error) => write_refusal(out, error),
+    }
+}
+
+/// Writes a rule's costs, and its choice: a production, and its number.
+pub(crate) fn write_costs(out: &mut Page, generator: &SentenceGenerator<'_, u32>, ridx: RIdx<u32>)
+    requires { ridx.0 < generator.now.grammar.rules }
+{
+    write_cost(out, ": least ", generator.min_sentence_cost(ridx).map(Some));
+    write_cost(out, ", greatest ", generator.max_sentence_cost(ridx));
+    match generator.choice(ridx) {
+        Some((pidx, number)) => pen::numbers(
+            out,
+            ("; production ", usize::from(pidx)),
+            (" at ", number as usize),
+        ),
+        None => out.push_str("; production none"),
+    }
+}
+
+/// Writes a cost, or why there is none.
+fn write_cost(out: &mut Page, before: &str, cost: Result<Option<u16>, CostError>) {
+    out.push_str(before);
+    match cost {
+        Ok(Some(cost)) => pen::number(out, "", usize::from(cost)),
+        Ok(None) => out.push_str("unbounded"),
+        Err(CostError::NoSentence) => out.push_str("none"),
+        Err(CostError::CostTooLarge) => out.push_str("too large"),
+    }
+}
+
+/// Writes what is printed of why costs of the rule of this name are refused.
+pub(crate) fn write_refused(
+    out: &mut Page,
+    grammar: &YaccGrammar<u32>,
+    generator: &SentenceGenerator<'_, u32, YaccGrammar<u32>>,
+    name: &str,
+)
+    requires { generator.now.grammar ≡ core grammar.now }
+{
+    pen::words(out, "    refused ", name);
+    let Some(ridx) = grammar.rule_idx(name) else {
+        return out.push_str(": no such rule\n");
+    };
+    write_reason(
+        out,
+        "; least: ",
+        generator.min_sentence_cost(ridx).map(Some),
+    );
+    write_reason(out, "; greatest: ", generator.max_sentence_cost(ridx));
+    out.push('\n');
+}
+
+/// Writes what is printed of why a cost is refused.
+fn write_reason(out: &mut Page, before: &str, cost: Result<Option<u16>, CostError>) {
+    if let Err(reason) = cost {
+        write!(out, "{before}{reason}");
+    }
+}
+
+/// Writes why there is no sentence.
+pub(crate) fn write_refusal(out: &mut Page, error: SentenceError) {
+    out.push_str(match error {
+        SentenceError::NoSentence => "none",
+        SentenceError::CostTooLarge => "too large",
+        SentenceError::OutOfMemory => return out.tear(),
+    });
+}
+
+/// Writes a sentence by its tokens' indices, or how many there are.
+fn write_sentence(out: &mut Page, sentence: &[TIdx<u32>]) {
+    if sentence.len() > MOST {
+        pen::number(out, "", sentence.len());
+        return out.push_str(" tokens");
+    }
+    let mut before = "[";
+    for tidx in sentence {
+        pen::number(out, before, usize::from(*tidx));
+        before = " ";
+    }
+    out.push_str(if sentence.is_empty() { "[]" } else { "]" });
+}
+
+/// Writes all minimal sentences, or how many there are, or why there are none.
+fn write_sentences(out: &mut Page, sentences: Result<Vec<Vec<TIdx<u32>>>, SentenceError>) {
+    match sentences {
+        Ok(sentences) if sentences.len() > MOST => pen::number(out, "; all ", sentences.len()),
+        Ok(sentences) => write_each(out, &sentences),
+        Err(SentenceError::OutOfMemory) => out.tear(),
+        Err(error) => {
+            out.push_str("; all ");
+            write_refusal(out, error);
+        }
+    }
+}
+
+/// Writes sentences, each behind a space.
+fn write_each(out: &mut Page, sentences: &[Vec<TIdx<u32>>]) {
+    out.push_str("; all");
+    for sentence in sentences {
+        out.push(' ');
+        write_sentence(out, sentence);
+    }
+}

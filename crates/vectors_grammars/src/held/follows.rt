@@ -1,0 +1,90 @@
+//! FOLLOW sets of a grammar.
+
+ghost use Rattle.std.specs.Prelude.{◌≡◌, ◌<◌, length};
+
+use super::firsts::write_bit;
+use cfgrammar::yacc::YaccGrammar;
+use cfgrammar::yacc::follows::YaccFollows;
+use cfgrammar::{RIdx, Storage};
+use vectors_rows::page::Page;
+use vectors_rows::{indices, pen};
+
+/// Writes each rule's FOLLOW set: the tokens by their indices, and where the two accessors differ.
+pub(crate) fn write_follows<S: Storage>(out: &mut Page, grammar: &YaccGrammar<S>) {
+    match grammar.follows(out.alloc) {
+        Ok(follows) => write_sets(out, grammar, &follows),
+        Err(_) => out.tear(),
+    }
+}
+
+/// Writes each rule's set.
+pub(crate) fn write_sets<S: Storage>(
+    out: &mut Page,
+    grammar: &YaccGrammar<S>,
+    follows: &YaccFollows<S>,
+)
+    requires { length follows.now.rows ≡ length grammar.now.rules }
+{
+    for ridx in grammar.iter_rules() {
+        write_rule(out, grammar, follows, ridx);
+    }
+}
+
+/// Writes a rule's set.
+fn write_rule<S: Storage>(
+    out: &mut Page,
+    grammar: &YaccGrammar<S>,
+    follows: &YaccFollows<S>,
+    ridx: RIdx<S>,
+)
+    requires { S.number ridx.0 < length follows.now.rows }
+{
+    indices::rule(out, "    follow of ", ridx);
+    out.push_str(":");
+    write_tokens(out, grammar, follows, ridx);
+    out.push('\n');
+}
+
+fn write_tokens<S: Storage>(
+    out: &mut Page,
+    grammar: &YaccGrammar<S>,
+    follows: &YaccFollows<S>,
+    ridx: RIdx<S>,
+)
+    requires { S.number ridx.0 < length follows.now.rows }
+{
+    let tokens = follows.follows(ridx);
+    for tidx in grammar.iter_tidxs() {
+        write_bit(out, tidx, follows.is_set(ridx, tidx), tokens);
+    }
+}
+
+/// Writes how many tokens the FOLLOW sets of a grammar have, all together.
+pub(crate) fn write_lengths<S: Storage>(out: &mut Page, grammar: &YaccGrammar<S>) {
+    match YaccFollows::new(out.alloc, grammar) {
+        Ok(follows) => write_count(out, grammar, &follows),
+        Err(_) => out.tear(),
+    }
+}
+
+fn write_count<S: Storage>(out: &mut Page, grammar: &YaccGrammar<S>, follows: &YaccFollows<S>) {
+    let mut tokens = 0usize;
+    for ridx in grammar.iter_rules() {
+        tokens = tokens.saturating_add(tokens_in(grammar, follows, ridx));
+    }
+    pen::number(out, "    follows of ", tokens);
+    out.push_str(" tokens\n");
+}
+
+/// How many tokens follow a rule.
+fn tokens_in<S: Storage>(
+    grammar: &YaccGrammar<S>,
+    follows: &YaccFollows<S>,
+    ridx: RIdx<S>,
+) -> usize {
+    let mut tokens = 0usize;
+    for tidx in grammar.iter_tidxs() {
+        tokens = tokens.saturating_add(usize::from(follows.is_set(ridx, tidx)));
+    }
+    tokens
+}

@@ -1,0 +1,237 @@
+//! What the tables of a grammar hold, by what their accessors answer.
+
+ghost use Rattle.std.specs.Prelude.{◌<◌, length};
+
+use super::firsts::write_firsts;
+use super::follows::write_follows;
+use cfgrammar::yacc::{Precedence, YaccGrammar};
+use cfgrammar::{PIdx, RIdx, Storage, Symbol, TIdx};
+use vectors_rows::indices;
+use vectors_rows::page::Page;
+use vectors_rows::pen::{self, Piece};
+use vectors_rows::said::{write_precedence, write_settings};
+use vectors_rows::text::push_pictures;
+
+/// Writes all that a grammar holds.
+pub(crate) fn write_grammar<S: Storage>(out: &mut Page, grammar: &YaccGrammar<S>) {
+    write_tables(out, grammar, true);
+    write_firsts(out, grammar);
+    write_follows(out, grammar);
+}
+
+/// Writes all that the tables of a grammar hold, and productions as text, which take memory, where they are asked for.
+pub(crate) fn write_tables<S: Storage>(out: &mut Page, grammar: &YaccGrammar<S>, is_printed: bool) {
+    write_lengths(out, grammar);
+    write_rules(out, grammar);
+    for pidx in grammar.iter_pidxs() {
+        write_production(out, grammar, pidx, is_printed);
+    }
+    write_tokens(out, grammar);
+    write_rule_names(out, grammar);
+    write_token_names(out, grammar);
+}
+
+/// Writes how many rules, productions and tokens there are, which of them are the start's and the end's, and what is
+/// said of the grammar as a whole.
+pub(crate) fn write_lengths<S: Storage>(out: &mut Page, grammar: &YaccGrammar<S>) {
+    write_counts(out, grammar);
+    write_expected(out, grammar);
+    let (param, generics) = (grammar.parse_param(), grammar.parse_generics());
+    write_settings(out, param, generics, grammar.programs());
+}
+
+/// Writes how many rules, productions and tokens there are, and which of them are the start's and the end's.
+fn write_counts<S: Storage>(out: &mut Page, grammar: &YaccGrammar<S>) {
+    let pieces = [
+        Piece::Number("    rules ", usize::from(grammar.rules_len())),
+        Piece::Number(", start ", usize::from(grammar.start_rule_idx())),
+        Piece::Number("; productions ", usize::from(grammar.prods_len())),
+        Piece::Number(", start ", usize::from(grammar.start_prod())),
+        Piece::Number("; tokens ", usize::from(grammar.tokens_len())),
+        Piece::Number(", end ", usize::from(grammar.eof_token_idx())),
+    ];
+    pen::pieces(out, &pieces);
+}
+
+/// Writes the rule of the implicit tokens, ends the line, and writes how many conflicts are expected, each where it is
+/// there.
+fn write_expected<S: Storage>(out: &mut Page, grammar: &YaccGrammar<S>) {
+    let implicit = indices::rule_number(grammar.implicit_rule());
+    let (expect, expectrr) = (grammar.expect(), grammar.expectrr());
+    let pieces = [
+        Piece::NumberOr("; implicit tokens in ", implicit, ""),
+        Piece::NumberOr("\n    expect ", expect, ""),
+        Piece::NumberOr("\n    expect-rr ", expectrr, ""),
+        Piece::Text("\n"),
+    ];
+    pen::pieces(out, &pieces);
+}
+
+/// Writes a line for each rule.
+fn write_rules<S: Storage>(out: &mut Page, grammar: &YaccGrammar<S>) {
+    for ridx in grammar.iter_rules() {
+        write_rule(out, grammar, ridx);
+    }
+}
+
+/// Writes a rule: its index, its name, the name's place, and its productions; and where the two calls that answer its
+/// name differ.
+fn write_rule<S: Storage>(out: &mut Page, grammar: &YaccGrammar<S>, ridx: RIdx<S>)
+    requires { S.number ridx.0 < length grammar.now.rules }
+{
+    let name = grammar.rule_name_str(ridx);
+    let pieces = [
+        Piece::Number("    rule ", usize::from(ridx)),
+        Piece::Name(" ", name),
+        Piece::Span(grammar.rule_name_span(ridx)),
+        Piece::Text(":"),
+    ];
+    pen::pieces(out, &pieces);
+    write_indices(out, grammar.rule_to_prods(ridx));
+    let pieces = [
+        Piece::TextOr(", type ", grammar.actiontype(ridx), ""),
+        Piece::If(grammar.rule_name(ridx) != name, ", another name"),
+        Piece::Text("\n"),
+    ];
+    pen::pieces(out, &pieces);
+}
+
+fn write_indices<S: Storage>(out: &mut Page, pidxs: &[PIdx<S>]) {
+    for pidx in pidxs {
+        indices::production(out, " ", *pidx);
+    }
+}
+
+/// Writes a production: its index, its place, its rule, its symbols, itself as text, and its precedence and its action,
+/// where it has them.
+fn write_production<S: Storage>(
+    out: &mut Page,
+    grammar: &YaccGrammar<S>,
+    pidx: PIdx<S>,
+    is_printed: bool,
+)
+    requires { S.number pidx.0 < length grammar.now.productions }
+{
+    let pieces = [
+        Piece::Number("    production ", usize::from(pidx)),
+        Piece::Span(grammar.prod_span(pidx)),
+        Piece::Number(" of rule ", usize::from(grammar.prod_to_rule(pidx))),
+        Piece::Number(", ", usize::from(grammar.prod_len(pidx))),
+        Piece::Text(" symbols:"),
+    ];
+    pen::pieces(out, &pieces);
+    write_body(out, grammar.prod(pidx));
+    if is_printed {
+        write_printed(out, grammar, pidx);
+    }
+    write_action(out, grammar, pidx);
+}
+
+fn write_body<S: Storage>(out: &mut Page, symbols: &[Symbol<S>]) {
+    for symbol in symbols {
+        match *symbol {
+            Symbol::Rule(ridx) => indices::rule(out, " rule ", ridx),
+            Symbol::Token(tidx) => indices::token(out, " token ", tidx),
+        }
+    }
+}
+
+/// Writes a production as text.
+fn write_printed<S: Storage>(out: &mut Page, grammar: &YaccGrammar<S>, pidx: PIdx<S>)
+    requires { S.number pidx.0 < length grammar.now.productions }
+{
+    out.push_str("; ");
+    match grammar.pp_prod(out.alloc, pidx) {
+        Ok(printed) => push_pictures(out, printed.as_str()),
+        Err(_) => out.tear(),
+    }
+}
+
+/// Writes a production's precedence and its action, where it has them, and ends the line.
+fn write_action<S: Storage>(out: &mut Page, grammar: &YaccGrammar<S>, pidx: PIdx<S>)
+    requires { S.number pidx.0 < length grammar.now.productions }
+{
+    write_level(out, ", precedence ", grammar.prod_precedence(pidx), "");
+    let pieces = [
+        Piece::TextOr(", action ", grammar.action(pidx), ""),
+        Piece::SpanOr(grammar.action_span(pidx), ""),
+        Piece::Text("\n"),
+    ];
+    pen::pieces(out, &pieces);
+}
+
+/// Writes a line for each token.
+fn write_tokens<S: Storage>(out: &mut Page, grammar: &YaccGrammar<S>) {
+    for tidx in grammar.iter_tidxs() {
+        write_token(out, grammar, tidx);
+    }
+}
+
+/// Writes a token: its index, its name, the name's place, its precedence, its printed form where that isn't its name,
+/// and whether it is not to be inserted.
+fn write_token<S: Storage>(out: &mut Page, grammar: &YaccGrammar<S>, tidx: TIdx<S>)
+    requires { S.number tidx.0 < length grammar.now.tokens }
+{
+    let name = grammar.token_name(tidx);
+    let pieces = [
+        Piece::Number("    token ", usize::from(tidx)),
+        Piece::NameOr(" ", name, ""),
+        Piece::SpanOr(grammar.token_span(tidx), ""),
+    ];
+    pen::pieces(out, &pieces);
+    write_level(out, ", precedence ", grammar.token_precedence(tidx), "");
+    write_epp(out, grammar.token_epp(tidx), name);
+    pen::text_if(out, grammar.avoid_insert(tidx), ", avoid_insert");
+    out.push('\n');
+}
+
+/// Writes a token's printed form where that isn't its name.
+fn write_epp(out: &mut Page, epp: Option<&str>, name: Option<&str>) {
+    if epp == name {
+        return;
+    }
+    pen::name(out, ", epp ", epp.unwrap_or("none"));
+}
+
+/// Writes a precedence behind `before`, or what stands for one that is missing.
+pub(crate) fn write_level(
+    out: &mut Page,
+    before: &str,
+    answered: Option<Precedence>,
+    missing: &str,
+) {
+    match answered {
+        Some(Precedence { level, kind }) => write_precedence(out, before, level, &kind),
+        None => out.push_str(missing),
+    }
+}
+
+/// Writes what each rule's name stands for.
+fn write_rule_names<S: Storage>(out: &mut Page, grammar: &YaccGrammar<S>) {
+    for ridx in grammar.iter_rules() {
+        write_name(out, grammar, grammar.rule_name_str(ridx));
+    }
+}
+
+/// Writes what each token's name stands for, and the empty name, which the end token stands for here.
+fn write_token_names<S: Storage>(out: &mut Page, grammar: &YaccGrammar<S>) {
+    for tidx in grammar.iter_tidxs() {
+        write_name(out, grammar, grammar.token_name(tidx).unwrap_or(""));
+    }
+}
+
+/// Writes which rule and which token have a name.
+fn write_name<S: Storage>(out: &mut Page, grammar: &YaccGrammar<S>, name: &str) {
+    let rule = indices::rule_number(grammar.rule_idx(name));
+    let token = indices::token_number(grammar.token_idx(name));
+    let is_unnamed = rule.is_none() && token.is_none();
+    let pieces = [
+        Piece::Name("    name ", name),
+        Piece::Text(":"),
+        Piece::NumberOr(" rule ", rule, ""),
+        Piece::NumberOr(" token ", token, ""),
+        Piece::If(is_unnamed, " nothing"),
+        Piece::Text("\n"),
+    ];
+    pen::pieces(out, &pieces);
+}

@@ -1,0 +1,46 @@
+//! Another start of a syntax.
+
+use crate::grammar::write_parsed;
+use crate::tables;
+use cfgrammar::yacc::ast::{ASTWithValidityInfo, StartFault};
+use vectors_rows::made::{Writer, write_made};
+use vectors_rows::page::Page;
+use vectors_rows::pen;
+use vectors_rows::row::Row;
+use vectors_trees::written::restarted;
+
+/// Writes what is answered of each other start that the row asks for.
+pub(crate) fn write_starts(
+    out: &mut Page,
+    row: &Row<'_>,
+    text: &str,
+    parsed: &ASTWithValidityInfo,
+) {
+    for (word, rest) in &row.lines {
+        if *word == "start" {
+            pen::line(out, "start ", *rest);
+            let changed = restarted(out.alloc, parsed, *rest);
+            write_made(out, &Start { text }, changed);
+        }
+    }
+}
+
+/// A text that is read with another start.
+#[derive(Drop)]
+struct Start<'a> {
+    text: &'a str,
+}
+
+impl Writer<ASTWithValidityInfo, StartFault> for Start<'_> {
+    fn write(&self, out: &mut Page, changed: &mut ASTWithValidityInfo) {
+        write_parsed(out, self.text, changed);
+        tables::write_tables_of_tree(out, self.text, changed);
+    }
+
+    fn refuse(&self, out: &mut Page, fault: &StartFault) {
+        match fault {
+            StartFault::Modification(error) => writeln!(out, "    {error}"),
+            StartFault::OutOfMemory => out.tear(),
+        }
+    }
+}

@@ -1,0 +1,138 @@
+//! What the keys of a section have.
+
+use cfgrammar::header::{HeaderError, HeaderValue, KindFault, Namespaced, Setting, Value};
+use cfgrammar::yacc::YaccKind;
+use cfgrammar::{Location, Span};
+use vectors_rows::made::Writer;
+use vectors_rows::page::Page;
+use vectors_rows::pen;
+
+/// A place of a value.
+pub(crate) trait Place: Clone + Drop {
+    /// Writes a space and the place.
+    fn write(&self, out: &mut Page);
+}
+
+impl Place for Span {
+    fn write(&self, out: &mut Page) {
+        pen::span(out, *self);
+    }
+}
+
+impl Place for Location {
+    fn write(&self, out: &mut Page) {
+        match self {
+            Location::Span(span) => pen::span(out, *span),
+            Location::CommandLine => out.push_str(" command line"),
+            Location::Other(words) => pen::name(out, " ", words.as_str()),
+        }
+    }
+}
+
+/// What keys have, as it is written once it is made.
+pub(crate) struct Held;
+
+impl<T: Place, E> Writer<HeaderValue<T>, E> for Held {
+    fn write(&self, out: &mut Page, held: &mut HeaderValue<T>) {
+        write_held(out, held);
+    }
+}
+
+impl<T: Place, E> Writer<Value<T>, E> for Held {
+    fn write(&self, out: &mut Page, value: &mut Value<T>) {
+        write_value(out, value);
+    }
+}
+
+/// Writes the place of a key, and what it has.
+pub(crate) fn write_held<T: Place>(out: &mut Page, held: &HeaderValue<T>) {
+    held.0.write(out);
+    out.push_str(": ");
+    write_value(out, &held.1);
+}
+
+/// Writes what a key has, and the kind that it names, or why it names none.
+pub(crate) fn write_value<T: Place>(out: &mut Page, value: &Value<T>) {
+    match value {
+        Value::Flag(on, place) => {
+            pen::flag(out, "", *on);
+            place.write(out);
+        }
+        Value::Setting(setting) => write_setting(out, setting),
+    }
+    write_kind(out, value);
+}
+
+/// Writes the kind that a value names, or why it names none.
+fn write_kind<T: Place>(out: &mut Page, value: &Value<T>) {
+    match YaccKind::try_from_value(out.alloc, value) {
+        Ok(kind) => write!(out, "; kind {kind:?}"),
+        Err(fault) => write_fault(out, &fault),
+    }
+}
+
+fn write_fault<T: Place>(out: &mut Page, fault: &KindFault<T>) {
+    match fault {
+        KindFault::Error(error) => write_refused(out, error),
+        KindFault::OutOfMemory => out.tear(),
+    }
+}
+
+fn write_refused<T: Place>(out: &mut Page, error: &HeaderError<T>) {
+    write!(out, "; {:?}", error.kind);
+    for place in &error.locations {
+        place.write(out);
+    }
+}
+
+#[cycle(write_setting)]
+fn write_setting<T: Place>(out: &mut Page, setting: &Setting<T>) {
+    match setting {
+        Setting::Unitary(name) => write_namespaced(out, name),
+        Setting::Constructor { ctor, arg } => write_constructor(out, ctor, arg),
+        Setting::Num(number, place) => {
+            pen::number(out, "", *number as usize);
+            place.write(out);
+        }
+        Setting::String(text, place) => {
+            pen::name(out, "", text.as_str());
+            place.write(out);
+        }
+        Setting::Array(settings, opens, closes) => {
+            write_settings(out, settings);
+            opens.write(out);
+            closes.write(out);
+        }
+    }
+}
+
+#[cycle(write_setting)]
+fn write_settings<T: Place>(out: &mut Page, settings: &Vec<Setting<T>>) {
+    out.push_str("[");
+    for (index, setting) in settings.iter().enumerate() {
+        pen::text_if(out, index > 0, ", ");
+        write_setting(out, setting);
+    }
+    out.push_str("]");
+}
+
+fn write_constructor<T: Place>(out: &mut Page, ctor: &Namespaced<T>, arg: &Namespaced<T>) {
+    write_namespaced(out, ctor);
+    out.push_str("(");
+    write_namespaced(out, arg);
+    out.push_str(")");
+}
+
+/// Writes a name with its place, and before it its namespace where one is given.
+fn write_namespaced<T: Place>(out: &mut Page, name: &Namespaced<T>) {
+    if let Some((namespace, place)) = &name.namespace {
+        write_placed(out, namespace.as_str(), place);
+        out.push_str("::");
+    }
+    write_placed(out, name.member.0.as_str(), &name.member.1);
+}
+
+fn write_placed<T: Place>(out: &mut Page, word: &str, place: &T) {
+    out.push_str(word);
+    place.write(out);
+}

@@ -1,0 +1,144 @@
+//! Rows on the texts of errors and warnings.
+
+use cfgrammar::yacc::{YaccGrammarError, YaccGrammarErrorKind as Kind, YaccGrammarWarningKind};
+use cfgrammar::{Span, Spanned};
+use std::alloc::{AllocError, Global};
+use vectors_rows::page::Page;
+use vectors_rows::pen;
+use vectors_rows::row::{Row, numbers};
+
+/// Writes a line for each error that the row names: its kind, its spans, what they stand for, and its text. A kind that
+/// holds a name holds the row's text, or else `µ`.
+pub fn tell(out: &mut Page, row: &Row<'_>, text: &str) {
+    let held = if text.is_empty() { "µ" } else { text };
+    if row.first("show") == Some("without-memory") {
+        return tell_without_memory(out, row, held);
+    }
+    for (word, rest) in &row.lines {
+        match *word {
+            "error" => tell_error(out, held, *rest),
+            "warning" => tell_warning(out, *rest),
+            _ => {}
+        }
+    }
+}
+
+/// Makes an error of its parts, and writes it.
+fn tell_without_memory(out: &mut Page, row: &Row<'_>, held: &str) {
+    match parts_of(out.alloc, held, row.first("error").unwrap_or("")) {
+        Ok((kind, spans)) => {
+            pen::without_memory(out);
+            write_parts(out, &YaccGrammarError::new(kind, spans));
+            out.push('\n');
+        }
+        Err(_) => out.tear(),
+    }
+}
+
+fn tell_warning(out: &mut Page, name: &str) {
+    let kind = match name {
+        "UnusedRule" => YaccGrammarWarningKind::UnusedRule,
+        _ => YaccGrammarWarningKind::UnusedToken,
+    };
+    write!(out, "    {kind:?}: {kind}");
+    pen::unless_copied(out, &kind, ", and a copy that isn't the same");
+    out.push('\n');
+}
+
+fn tell_error(out: &mut Page, held: &str, line: &str) {
+    match parts_of(out.alloc, held, line) {
+        Ok((kind, spans)) => write_error(out, &YaccGrammarError::new(kind, spans)),
+        Err(_) => out.tear(),
+    }
+}
+
+/// The kind and the spans of the error that a line tells.
+fn parts_of(alloc: Global, held: &str, line: &str) -> Result<(Kind, Vec<Span>), AllocError> {
+    let (name, rest) = line.split_once(' ').unwrap_or((line, ""));
+    let spans = spans_of(alloc, numbers(rest))?;
+    let kind = kind_of(alloc, name, held)?;
+    Ok((kind, spans))
+}
+
+/// A span and its end, or no spans where they would end before they start.
+fn spans_of(alloc: Global, (start, end): (usize, usize)) -> Result<Vec<Span>, AllocError> {
+    if start > end {
+        return Ok(Vec::new(alloc));
+    }
+    [Span::new(start, end), Span::new(end, end)].to_vec(alloc)
+}
+
+fn write_error(out: &mut Page, error: &YaccGrammarError) {
+    write_parts(out, error);
+    write!(out, ": {error}");
+    pen::unless_copied(out, error, ", and a copy that isn't the same");
+    pen::unless_copied(
+        out,
+        error.kind(),
+        ", and a copy of its kind that isn't the same",
+    );
+    out.push('\n');
+}
+
+/// Writes the kind of an error, its spans, and what they stand for.
+pub(crate) fn write_parts(out: &mut Page, error: &YaccGrammarError) {
+    write!(out, "    {:?}", error.kind());
+    pen::spans(out, error.spans());
+    write!(out, " {:?}", error.spanskind());
+}
+
+/// The kind of this name. A kind that holds a name holds this one.
+fn kind_of(alloc: Global, name: &str, held: &str) -> Result<Kind, AllocError> {
+    match plain_kind(name) {
+        Some(kind) => Ok(kind),
+        None => Ok(kind_with(String::from_str(alloc, held)?, name)),
+    }
+}
+
+/// The kind of this name, of those that hold no name. One that holds a character has `µ`.
+fn plain_kind(name: &str) -> Option<Kind> {
+    Some(match name {
+        "IllegalInteger" => Kind::IllegalInteger,
+        "IllegalName" => Kind::IllegalName,
+        "IllegalString" => Kind::IllegalString,
+        "InvalidString" => Kind::InvalidString,
+        "ReachedEOL" => Kind::ReachedEOL,
+        "PrematureEnd" => Kind::PrematureEnd,
+        "ExpectedInput" => Kind::ExpectedInput('µ'),
+        "StorageTooSmall" => Kind::StorageTooSmall,
+        "NoStartRule" => Kind::NoStartRule,
+        "IncompleteRule" => Kind::IncompleteRule,
+        "IncompleteComment" => Kind::IncompleteComment,
+        "IncompleteAction" => Kind::IncompleteAction,
+        "MissingColon" => Kind::MissingColon,
+        "MissingRightArrow" => Kind::MissingRightArrow,
+        "MismatchedBrace" => Kind::MismatchedBrace,
+        "NonEmptyProduction" => Kind::NonEmptyProduction,
+        "ProductionNotTerminated" => Kind::ProductionNotTerminated,
+        "PrecNotFollowedByToken" => Kind::PrecNotFollowedByToken,
+        "ProgramsNotSupported" => Kind::ProgramsNotSupported,
+        "UnknownDeclaration" => Kind::UnknownDeclaration,
+        "UnknownSymbol" => Kind::UnknownSymbol,
+        "DuplicatePrecedence" => Kind::DuplicatePrecedence,
+        "DuplicateAvoidInsertDeclaration" => Kind::DuplicateAvoidInsertDeclaration,
+        "DuplicateImplicitTokensDeclaration" => Kind::DuplicateImplicitTokensDeclaration,
+        "DuplicateExpectDeclaration" => Kind::DuplicateExpectDeclaration,
+        "DuplicateExpectRRDeclaration" => Kind::DuplicateExpectRRDeclaration,
+        "DuplicateStartDeclaration" => Kind::DuplicateStartDeclaration,
+        "DuplicateActiontypeDeclaration" => Kind::DuplicateActiontypeDeclaration,
+        "DuplicateEPP" => Kind::DuplicateEPP,
+        "InvalidYaccKind" => Kind::InvalidYaccKind,
+        _ => return None,
+    })
+}
+
+/// The kind of this name, of those that hold one.
+fn kind_with(held: String, name: &str) -> Kind {
+    match name {
+        "InvalidStartRule" => Kind::InvalidStartRule(held),
+        "UnknownRuleRef" => Kind::UnknownRuleRef(held),
+        "UnknownToken" => Kind::UnknownToken(held),
+        "NoPrecForToken" => Kind::NoPrecForToken(held),
+        _ => Kind::UnknownEPP(held),
+    }
+}

@@ -1,0 +1,69 @@
+//! What is answered of a section, once that is read, by calls that take no memory.
+
+use crate::kinds::write_parts;
+use cfgrammar::header::{
+    GrmtoolsSectionParser, Header, HeaderError, HeaderFault, HeaderValue, KindFault, Value,
+};
+use cfgrammar::yacc::{YaccGrammarError, YaccKind};
+use cfgrammar::{Location, Span};
+use vectors_rows::page::Page;
+use vectors_rows::pen;
+
+/// Reads a section that must be there, and writes a line for each key, or for each error.
+pub(crate) fn write_section(out: &mut Page, text: &str) {
+    match GrmtoolsSectionParser::new(text, true).parse(out.alloc) {
+        Ok(parsed) => write_parsed(out, &parsed),
+        Err(HeaderFault::Errors(errors)) => write_each(out, errors),
+        Err(HeaderFault::OutOfMemory) => out.tear(),
+    }
+}
+
+/// Writes a line for each key, and how a section begins again to be read.
+fn write_parsed(out: &mut Page, (header, _): &(Header<Span>, usize)) {
+    pen::without_memory(out);
+    let _parser = GrmtoolsSectionParser::new("", false);
+    for (key, held) in header {
+        write_held(out, key.as_str(), held);
+    }
+}
+
+/// Writes a key, the place that speaks for its value, and the kind that the value names where the key is `yacckind`.
+fn write_held(out: &mut Page, key: &str, held: &HeaderValue<Span>) {
+    let place = *held.1.primary_location();
+    pen::name(out, "    ", key);
+    pen::span(out, place);
+    write!(out, " {:?}", Location::from(place));
+    if key == "yacckind" {
+        write_kind(out, &held.1);
+    }
+    out.push('\n');
+}
+
+/// Writes the kind that a value names.
+fn write_kind(out: &mut Page, value: &Value<Span>) {
+    match YaccKind::try_from_value(out.alloc, value) {
+        Ok(kind) => write!(out, "; kind {kind:?}"),
+        Err(KindFault::Error(_)) => out.push_str("; no kind"),
+        Err(KindFault::OutOfMemory) => out.tear(),
+    }
+}
+
+/// Values that are written as they go. One generic function owns them.
+trait Told: Drop {
+    fn tell(self, out: &mut Page);
+}
+
+/// An error is written as that of a whole text.
+impl Told for HeaderError<Span> {
+    fn tell(self, out: &mut Page) {
+        write_parts(out, &YaccGrammarError::from(self));
+        out.push('\n');
+    }
+}
+
+fn write_each<T: Told>(out: &mut Page, values: Vec<T>) {
+    pen::without_memory(out);
+    for value in values {
+        value.tell(out);
+    }
+}

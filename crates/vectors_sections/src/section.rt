@@ -1,0 +1,196 @@
+//! Rows on sections by themselves.
+
+ghost use Rattle.std.specs.Str.{IsCharBoundary};
+
+use crate::held::{Held, write_held, write_value};
+use crate::plain;
+use cfgrammar::header::{
+    GrmtoolsSectionParser, Header, HeaderError, HeaderFault, HeaderValue, Value,
+};
+use cfgrammar::yacc::{YaccKind, YaccOriginalActionKind};
+use cfgrammar::{Location, Span, Spanned};
+use std::alloc::{AllocError, Global};
+use vectors_rows::made::write_made;
+use vectors_rows::page::Page;
+use vectors_rows::row::Row;
+use vectors_rows::{pen, text};
+
+/// Writes what is answered of the section at a text's front, of that of each of its beginnings, or of an entry at each
+/// of its places; or the values of all kinds.
+pub fn tell(out: &mut Page, row: &Row<'_>, text: &str) {
+    pen::number(out, "text of ", text.len());
+    out.push_str(" bytes\n");
+    text::write_text(out, text);
+    match row.first("show") {
+        Some("cuts") => write_cuts(out, text),
+        Some("entries") => write_entries(out, text),
+        Some("kinds") => write_kinds(out),
+        Some("without-memory") => plain::write_section(out, text),
+        _ => {
+            out.push_str("section");
+            write_section(out, text);
+        }
+    }
+}
+
+/// Writes what is answered of each beginning of the text that ends where a character begins or the text ends.
+fn write_cuts(out: &mut Page, text: &str) {
+    for len in 0..=text.len() {
+        if let Some(cut) = text.get(..len) {
+            pen::number(out, "cut ", len);
+            write_section(out, cut);
+        }
+    }
+}
+
+/// Writes what is answered where a section must stand and where none need, once where it is the same.
+fn write_section(out: &mut Page, text: &str) {
+    let (mut required, mut optional) = (Page::new(out.alloc), Page::new(out.alloc));
+    parse_section(&mut required, text, true);
+    parse_section(&mut optional, text, false);
+    out.follow(&required);
+    out.follow(&optional);
+    write_both(out, required.as_str(), optional.as_str());
+}
+
+fn write_both(out: &mut Page, required: &str, optional: &str) {
+    if required == optional {
+        return pen::words(out, ":", required);
+    }
+    pen::words(out, ", required:", required);
+    pen::words(out, "    not required:", optional);
+}
+
+/// Writes what is answered of a section: where it ends, and a line for each key; or its errors.
+fn parse_section(out: &mut Page, text: &str, required: bool) {
+    match GrmtoolsSectionParser::new(text, required).parse(out.alloc) {
+        Ok(parsed) => write_parsed(out, &parsed),
+        Err(fault) => write_fault(out, &fault),
+    }
+}
+
+fn write_fault(out: &mut Page, fault: &HeaderFault) {
+    match fault {
+        HeaderFault::Errors(errors) => write_errors(out, errors),
+        HeaderFault::OutOfMemory => out.tear(),
+    }
+}
+
+/// Writes where a section ends, and a line for each key: its place and what it has.
+fn write_parsed(out: &mut Page, (header, end): &(Header<Span>, usize)) {
+    pen::number(out, " ends at ", *end);
+    out.push('\n');
+    for (key, held) in header {
+        write_key(out, key.as_str(), held);
+    }
+}
+
+/// Writes a key, its place and what it has. With locations in place of spans it is the same.
+fn write_key(out: &mut Page, key: &str, held: &HeaderValue<Span>) {
+    let (mut told, mut located) = (Page::new(out.alloc), Page::new(out.alloc));
+    write_held(&mut told, held);
+    write_made(&mut located, &Held, held.to_location(out.alloc));
+    pen::name(out, "    ", key);
+    write_told(out, &told, &located);
+    out.push('\n');
+}
+
+/// Writes what is told with spans, and whether something else is with locations.
+fn write_told(out: &mut Page, told: &Page, located: &Page) {
+    out.follow(told);
+    out.follow(located);
+    out.push_str(told.as_str());
+    pen::text_if(
+        out,
+        told.as_str() != located.as_str(),
+        " and with other locations",
+    );
+}
+
+/// Writes what is answered of an entry at each place where a character begins or the text ends.
+fn write_entries(out: &mut Page, text: &str) {
+    for place in 0..=text.len() {
+        if text.is_char_boundary(place) {
+            parse_entry(out, text, place);
+        }
+    }
+}
+
+fn parse_entry(out: &mut Page, text: &str, place: usize)
+    requires { IsCharBoundary text.now place }
+{
+    pen::number(out, "entry at ", place);
+    out.push_str(":");
+    match GrmtoolsSectionParser::new(text, true).parse_key_value(out.alloc, place) {
+        Ok(entry) => write_entry(out, &entry),
+        Err(fault) => write_fault(out, &fault),
+    }
+}
+
+/// Writes a line for each error: its kind, its spans, what they stand for, and its text.
+fn write_errors(out: &mut Page, errors: &[HeaderError<Span>]) {
+    for (index, error) in errors.iter().enumerate() {
+        out.push_str(if index == 0 { " " } else { "    " });
+        write_error(out, error);
+    }
+}
+
+fn write_error(out: &mut Page, error: &HeaderError<Span>) {
+    write!(out, "{:?}", error.kind);
+    pen::spans(out, error.spans());
+    writeln!(out, " {:?}: {error}", error.spanskind());
+    match error.clone() {
+        Ok(copy) => write_other(out, error, &copy),
+        Err(_) => out.tear(),
+    }
+}
+
+/// Writes whether a copy of an error hasn't its kind and its spans.
+fn write_other(out: &mut Page, error: &HeaderError<Span>, copy: &HeaderError<Span>) {
+    let is_same = copy.kind == error.kind && copy.spans() == error.spans();
+    pen::text_if(out, !is_same, "    and a copy that isn't the same\n");
+}
+
+/// Writes a key with its place, what it has, and where it ends. With locations in place of spans it is the same.
+fn write_entry(out: &mut Page, (key, span, value, end): &(String, Span, Value<Span>, usize)) {
+    pen::name(out, " ", key.as_str());
+    pen::span(out, *span);
+    out.push_str(": ");
+    write_both_ways(out, value);
+    pen::number(out, ", then ", *end);
+    out.push('\n');
+}
+
+fn write_both_ways(out: &mut Page, value: &Value<Span>) {
+    let (mut told, mut located) = (Page::new(out.alloc), Page::new(out.alloc));
+    write_value(&mut told, value);
+    write_made(&mut located, &Held, to_location(out.alloc, value));
+    write_told(out, &told, &located);
+}
+
+/// A value with locations in place of spans.
+fn to_location(alloc: Global, value: &Value<Span>) -> Result<Value<Location>, AllocError> {
+    match value {
+        Value::Setting(setting) => Ok(Value::Setting(setting.to_location(alloc)?)),
+        Value::Flag(..) => value.to_location(alloc),
+    }
+}
+
+/// Writes the value of each kind.
+fn write_kinds(out: &mut Page) {
+    for kind in &[
+        YaccKind::Original(YaccOriginalActionKind::UserAction),
+        YaccKind::Original(YaccOriginalActionKind::GenericParseTree),
+        YaccKind::Original(YaccOriginalActionKind::NoAction),
+        YaccKind::Grmtools,
+        YaccKind::Eco,
+    ] {
+        write_kind(out, *kind);
+    }
+}
+
+fn write_kind(out: &mut Page, kind: YaccKind) {
+    write!(out, "{kind:?}: ");
+    write_made(out, &Held, Value::try_from_kind(out.alloc, kind));
+    out.push('\n');
+}

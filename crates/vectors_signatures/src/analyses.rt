@@ -1,0 +1,122 @@
+//! FIRST and FOLLOW.
+
+ghost use Rattle.std.specs.Prelude.{◌<◌, length};
+ghost use Rattle.cfgrammar.specs.Numbered.{core};
+ghost use Rattle.cfgrammar.specs.Firsts.{AreFirsts};
+
+use cfgrammar::yacc::YaccGrammar;
+use cfgrammar::yacc::firsts::{YaccFirsts, firsts_over};
+use cfgrammar::yacc::follows::{YaccFollows, follows_over};
+use cfgrammar::yacc::grammar::Productions;
+use cfgrammar::{PIdx, RIdx, Storage, Symbol, TIdx, Vob};
+use std::alloc::{AllocError, Global};
+
+/// The FIRST sets of a grammar.
+pub fn firsts<S: Storage>(
+    alloc: Global,
+    grammar: &YaccGrammar<S>,
+) -> Result<YaccFirsts<S>, AllocError> {
+    grammar.firsts(alloc)
+}
+
+/// The FOLLOW sets of a grammar.
+pub fn follows<S: Storage>(
+    alloc: Global,
+    grammar: &YaccGrammar<S>,
+) -> Result<YaccFollows<S>, AllocError> {
+    grammar.follows(alloc)
+}
+
+/// The FIRST sets, by their own name.
+pub fn new_firsts<S: Storage>(
+    alloc: Global,
+    grammar: &YaccGrammar<S>,
+) -> Result<YaccFirsts<S>, AllocError> {
+    YaccFirsts::new(alloc, grammar)
+}
+
+/// The FOLLOW sets, by their own name.
+pub fn new_follows<S: Storage>(
+    alloc: Global,
+    grammar: &YaccGrammar<S>,
+) -> Result<YaccFollows<S>, AllocError> {
+    YaccFollows::new(alloc, grammar)
+}
+
+/// The FIRST sets, by productions that are opened and counted.
+pub fn counted_firsts<S: Storage>(
+    alloc: Global,
+    grammar: &YaccGrammar<S>,
+) -> Result<YaccFirsts<S>, AllocError> {
+    let mut productions = grammar.productions(alloc)?;
+    firsts_over(alloc, &mut productions)
+}
+
+/// The FOLLOW sets, by productions that are opened and counted.
+pub fn counted_follows<S: Storage>(
+    alloc: Global,
+    grammar: &YaccGrammar<S>,
+    firsts: &YaccFirsts<S>,
+) -> Result<YaccFollows<S>, AllocError>
+    requires { AreFirsts (core grammar.now) firsts.now }
+{
+    let mut productions = grammar.productions(alloc)?;
+    follows_over(alloc, &mut productions, firsts)
+}
+
+/// What is read of FIRST sets, and a bit that is set.
+pub fn first_bits<S: Storage>(
+    firsts: &mut YaccFirsts<S>,
+    rule: RIdx<S>,
+    token: TIdx<S>,
+) -> (bool, usize)
+    requires rule { S.number rule.0 < length firsts.old.firsts.rows }
+    requires token { S.number token.0 < firsts.old.firsts.columns }
+{
+    let len = {
+        let first: &Vob = firsts.firsts(rule);
+        first.len()
+    };
+    let is_set: bool = firsts.is_set(rule, token) && firsts.is_epsilon_set(rule);
+    let was_set: bool = firsts.set(rule, token);
+    (was_set && is_set, len)
+}
+
+/// What is read of FOLLOW sets.
+pub fn follow_bits<S: Storage>(
+    follows: &YaccFollows<S>,
+    rule: RIdx<S>,
+    token: TIdx<S>,
+) -> (bool, usize)
+    requires { S.number rule.0 < length follows.now.rows }
+{
+    let follow: &Vob = follows.follows(rule);
+    (follows.is_set(rule, token), follow.len())
+}
+
+/// The productions of any grammar.
+pub fn lengths<S: Storage, P: Productions<S>>(
+    productions: &P,
+) -> (RIdx<S>, TIdx<S>, PIdx<S>, u128) {
+    let opened_all: u128 = productions.opened_all();
+    (
+        productions.rules_len(),
+        productions.tokens_len(),
+        productions.prods_len(),
+        opened_all,
+    )
+}
+
+/// A production that is opened.
+pub fn opened<S: Storage>(
+    alloc: Global,
+    grammar: &YaccGrammar<S>,
+) -> Result<(RIdx<S>, u64, usize), AllocError> {
+    let mut productions = grammar.productions(alloc)?;
+    let first: PIdx<S> = grammar.start_prod();
+    let rule: RIdx<S> = productions.rule_of(first);
+    let symbols: &[Symbol<S>] = productions.open(first);
+    let len = symbols.len();
+    let opened: u64 = productions.opened(first);
+    Ok((rule, opened, len))
+}

@@ -1,0 +1,59 @@
+//! Errors of a text, line by line.
+
+use cfgrammar::yacc::YaccGrammarError;
+use cfgrammar::{Places, Span, Spanned};
+use vectors_rows::page::Page;
+use vectors_rows::pen;
+
+/// Writes whether there are errors, and a line for each.
+pub fn write_errors(out: &mut Page, text: &str, errors: &[YaccGrammarError]) {
+    if errors.is_empty() {
+        return out.push_str("errors: none\n");
+    }
+    out.push_str("errors\n");
+    write_error_lines(out, text, errors);
+}
+
+/// Writes a line for each error: its kind, its spans, the line and the column of the first span's start, what the spans
+/// stand for, and its text.
+pub fn write_error_lines(out: &mut Page, text: &str, errors: &[YaccGrammarError]) {
+    match Places::new(out.alloc, text) {
+        Ok(places) => write_placed_errors(out, &places, errors),
+        Err(_) => out.tear(),
+    }
+}
+
+fn write_placed_errors(out: &mut Page, places: &Places<'_>, errors: &[YaccGrammarError]) {
+    for error in errors {
+        write_error(out, places, error);
+    }
+}
+
+fn write_error(out: &mut Page, places: &Places<'_>, error: &YaccGrammarError) {
+    out.push_str("   ");
+    write_kind(out, error);
+    pen::spans(out, error.spans());
+    write_place(out, places, first_start(error.spans()));
+    writeln!(out, " {:?}: {error}", error.spanskind());
+}
+
+/// Where the first span starts, or 0 where there is none.
+fn first_start(spans: &[Span]) -> usize {
+    match spans.first() {
+        Some(span) => span.start(),
+        None => 0,
+    }
+}
+
+/// Writes the line and the column of a byte.
+fn write_place(out: &mut Page, places: &Places<'_>, byte: usize) {
+    match places.line_and_column(byte) {
+        Some((line, column)) => pen::numbers(out, (" ", line), (":", column)),
+        None => out.push_str(" no place"),
+    }
+}
+
+/// Writes a space and the kind of an error.
+pub fn write_kind(out: &mut Page, error: &YaccGrammarError) {
+    write!(out, " {:?}", error.kind());
+}

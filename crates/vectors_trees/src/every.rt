@@ -1,0 +1,67 @@
+//! Each beginning of each text of a file of rows.
+
+use crate::cuts::{Counts, write_counted};
+use cfgrammar::yacc::{YaccKind, YaccOriginalActionKind};
+use std::io::ErrorKind;
+use vectors_rows::digest::write_digest;
+use vectors_rows::page::Page;
+use vectors_rows::row::{Row, numbers, rows};
+use vectors_rows::text::of_row;
+
+/// How many bytes the texts have at most that are cut, where a row doesn't name one.
+const LONGEST: usize = 4096;
+
+/// As what a text is read: each kind, and the one that it names.
+const KINDS: [Option<YaccKind>; 6] = [
+    Some(YaccKind::Original(YaccOriginalActionKind::NoAction)),
+    Some(YaccKind::Original(YaccOriginalActionKind::UserAction)),
+    Some(YaccKind::Original(YaccOriginalActionKind::GenericParseTree)),
+    Some(YaccKind::Grmtools),
+    Some(YaccKind::Eco),
+    None,
+];
+
+/// Writes a digest of what is answered of each beginning of each text that the rows in a file spell, as each kind, and as
+/// the one that it names; and how many beginnings were grammars, and how many were refused. Texts without a byte and
+/// large ones are passed over, unless the row asks for one.
+pub fn tell(out: &mut Page, rt: &HostRuntime, row: &Row<'_>, file: &str) {
+    let mut whole = Page::new(out.alloc);
+    let counts = Counts::new();
+    match rows(rt.alloc(), file) {
+        Ok(rows) => tell_rows(&mut whole, rt, &counts, row, &rows),
+        Err(_) => whole.tear(),
+    }
+    out.follow(&whole);
+    write_digest(out, row, whole.as_str());
+    counts.write(out);
+}
+
+fn tell_rows(out: &mut Page, rt: &HostRuntime, counts: &Counts, asked: &Row<'_>, rows: &[Row<'_>]) {
+    for row in rows {
+        if asked.first("only").unwrap_or(row.name) == row.name {
+            tell_row(out, rt, counts, asked, row);
+        }
+    }
+}
+
+fn tell_row(out: &mut Page, rt: &HostRuntime, counts: &Counts, asked: &Row<'_>, row: &Row<'_>) {
+    match of_row(rt, row) {
+        Ok(text) => tell_text(out, counts, asked, text.as_str()),
+        Err(fault) if fault.kind() == ErrorKind::OutOfMemory => out.tear(),
+        Err(fault) => writeln!(out, "no text: {fault}"),
+    }
+}
+
+/// Writes what is answered of each beginning of a text, or of those as long as the row asks for, as each kind.
+fn tell_text(out: &mut Page, counts: &Counts, asked: &Row<'_>, text: &str) {
+    if asked.first("only").is_none() && (text.is_empty() || text.len() > LONGEST) {
+        return;
+    }
+    let (least, most) = match asked.first("bytes") {
+        Some(bytes) => numbers(bytes),
+        None => (0, text.len()),
+    };
+    for kind in &KINDS {
+        write_counted(out, counts, *kind, text, (least, most.min(text.len())));
+    }
+}

@@ -1,0 +1,247 @@
+//! The syntax of a text, by what its readers answer.
+
+use crate::cuts::write_errors;
+use cfgrammar::Span;
+use cfgrammar::yacc::Precedence;
+use cfgrammar::yacc::ast::{ASTWithValidityInfo, GrammarAST, Production, Rule, Symbol};
+use indexmap::IndexMap;
+use std::alloc::AllocError;
+use vectors_rows::made::{Writer, write_made};
+use vectors_rows::page::Page;
+use vectors_rows::pen::{self, Piece};
+use vectors_rows::said::{write_precedence, write_settings};
+
+/// Writes all that a syntax holds: its start, what the declarations say, and a line for each rule, production and
+/// token. A copy holds the same.
+pub fn write_syntax(out: &mut Page, parsed: &ASTWithValidityInfo) {
+    let (mut shown, mut of_copy) = (Page::new(out.alloc), Page::new(out.alloc));
+    write_parts(&mut shown, parsed.ast());
+    write_made(&mut of_copy, &Whole, parsed.ast().clone());
+    out.follow(&shown);
+    out.follow(&of_copy);
+    write_shown(out, shown.as_str(), of_copy.as_str());
+}
+
+/// Writes what is answered of a text that was read, by calls that take no memory: whether it is valid, its kind, its
+/// errors, and all that its syntax holds.
+pub fn write_without_memory(out: &mut Page, parsed: &ASTWithValidityInfo) {
+    pen::without_memory(out);
+    let (is_valid, kind) = (parsed.is_valid(), parsed.yacc_kind());
+    write!(out, "valid: {is_valid}, {kind:?}, errors:");
+    write_errors(out, parsed.errors());
+    out.push('\n');
+    write_parts(out, parsed.ast());
+}
+
+fn write_shown(out: &mut Page, shown: &str, of_copy: &str) {
+    out.push_str("syntax\n");
+    out.push_str(shown);
+    pen::text_if(
+        out,
+        of_copy != shown,
+        "    and a copy that isn't the same\n",
+    );
+}
+
+/// Writes all that a tree holds.
+struct Whole;
+
+impl Writer<GrammarAST, AllocError> for Whole {
+    fn write(&self, out: &mut Page, ast: &mut GrammarAST) {
+        write_parts(out, ast);
+    }
+}
+
+/// Writes how much there is in a syntax.
+pub fn write_lengths(out: &mut Page, ast: &GrammarAST) {
+    let pieces = [
+        Piece::Number("syntax of ", ast.rules().len()),
+        Piece::Number(" rules, ", ast.prods().len()),
+        Piece::Number(" productions, ", ast.tokens().len()),
+        Piece::Number(" tokens, ", ast.token_directives().len()),
+        Piece::Text(" of them declared\n"),
+    ];
+    pen::pieces(out, &pieces);
+}
+
+fn write_parts(out: &mut Page, ast: &GrammarAST) {
+    write_start(out, ast.start());
+    write_said_of_file(out, ast);
+    write_said_of_tokens(out, ast);
+    write_rules(out, ast);
+    write_productions(out, ast);
+    write_tokens(out, ast);
+}
+
+/// Writes what the declarations say of conflicts, of the parser and of the programs.
+fn write_said_of_file(out: &mut Page, ast: &GrammarAST) {
+    write_expected(out, "    expect ", ast.expect());
+    write_expected(out, "    expect-rr ", ast.expectrr());
+    write_settings(out, ast.parse_param(), ast.parse_generics(), ast.programs());
+}
+
+/// Writes the start's name and its place, where there is a start.
+fn write_start(out: &mut Page, start: &Option<(String, Span)>) {
+    if let Some((name, span)) = start {
+        write_named(out, "    start ", (name.as_str(), *span), "\n");
+    }
+}
+
+/// Writes a name and its place between two texts.
+fn write_named(out: &mut Page, before: &str, (name, span): (&str, Span), behind: &str) {
+    pen::name(out, before, name);
+    pen::span(out, span);
+    out.push_str(behind);
+}
+
+/// Writes how many conflicts are expected, and where the text says so.
+fn write_expected(out: &mut Page, word: &str, expected: &Option<(usize, Span)>) {
+    if let Some((number, span)) = expected {
+        pen::number(out, word, *number);
+        pen::span(out, *span);
+        out.push('\n');
+    }
+}
+
+/// Writes what the declarations say of single tokens.
+fn write_said_of_tokens(out: &mut Page, ast: &GrammarAST) {
+    write_unused(out, ast);
+    write_precedences(out, ast);
+    write_printed_forms(out, ast);
+    write_table(out, "    avoid_insert:", ast.avoid_insert());
+    write_table(out, "    implicit_tokens:", ast.implicit_tokens());
+}
+
+/// Writes a line for each symbol that is expected to be unused.
+fn write_unused(out: &mut Page, ast: &GrammarAST) {
+    for symbol in ast.expect_unused() {
+        out.push_str("    expect-unused");
+        write_symbol(out, symbol);
+        out.push('\n');
+    }
+}
+
+/// Writes a line for each token that has a precedence: its name, the place where it gets it, and the precedence.
+fn write_precedences(out: &mut Page, ast: &GrammarAST) {
+    for (name, (Precedence { level, kind }, span)) in ast.precs() {
+        write_named(out, "    precedence ", (name.as_str(), *span), ": ");
+        write_precedence(out, "", *level, kind);
+        out.push('\n');
+    }
+}
+
+/// Writes a line for each token that has a printed form: its name and its place, and that form and its place.
+fn write_printed_forms(out: &mut Page, ast: &GrammarAST) {
+    for (name, (key, (printed, span))) in ast.epp() {
+        write_named(out, "    epp ", (name.as_str(), *key), ": ");
+        write_named(out, "", (printed.as_str(), *span), "\n");
+    }
+}
+
+/// Writes a list of tokens as a line, where there is such a list.
+fn write_table(out: &mut Page, word: &str, table: &Option<IndexMap<String, Span>>) {
+    let Some(table) = table else {
+        return;
+    };
+    out.push_str(word);
+    for (name, span) in table {
+        write_named(out, " ", (name.as_str(), *span), "");
+    }
+    out.push('\n');
+}
+
+/// Writes a line for each rule.
+fn write_rules(out: &mut Page, ast: &GrammarAST) {
+    for rule in ast.rules().values() {
+        write_rule(out, ast, rule);
+    }
+}
+
+/// Writes a line for each production.
+fn write_productions(out: &mut Page, ast: &GrammarAST) {
+    for (index, production) in ast.prods().iter().enumerate() {
+        write_production(out, index, production);
+    }
+}
+
+/// Writes a rule: its name, the name's place, and its productions. It is found by its name.
+fn write_rule(out: &mut Page, ast: &GrammarAST, rule: &Rule) {
+    let (name, span) = &rule.name;
+    write_named(out, "    rule ", (name.as_str(), *span), ":");
+    write_indices(out, &rule.pidxs);
+    let pieces = [
+        Piece::TextOr(", type ", &rule.actiont, ""),
+        Piece::If(!is_found(ast, rule), ", not by its name"),
+        Piece::Text("\n"),
+    ];
+    pen::pieces(out, &pieces);
+}
+
+/// Whether a rule is found by its name.
+fn is_found(ast: &GrammarAST, rule: &Rule) -> bool {
+    ast.get_rule(rule.name.0.as_str()) == Some(rule)
+}
+
+fn write_indices(out: &mut Page, indices: &[usize]) {
+    for index in indices {
+        pen::number(out, " ", *index);
+    }
+}
+
+/// Writes a production: its place, its symbols with their places, and its precedence and action, where it has some.
+fn write_production(out: &mut Page, index: usize, production: &Production) {
+    let pieces = [
+        Piece::Number("    production ", index),
+        Piece::Span(production.prod_span),
+        Piece::Text(":"),
+    ];
+    pen::pieces(out, &pieces);
+    write_symbols(out, &production.symbols);
+    pen::pieces(
+        out,
+        &[Piece::TextOr(", precedence of ", &production.precedence, "")],
+    );
+    write_action(out, &production.action);
+}
+
+fn write_symbols(out: &mut Page, symbols: &[Symbol]) {
+    for symbol in symbols {
+        write_symbol(out, symbol);
+    }
+}
+
+/// Writes an action and its place, where it is there, and ends the line.
+fn write_action(out: &mut Page, action: &Option<(String, Span)>) {
+    match action {
+        Some((action, span)) => write_named(out, ", action ", (action.as_str(), *span), "\n"),
+        None => out.push('\n'),
+    }
+}
+
+/// Writes a symbol: its kind, its name and the name's place. The name is also what the symbol prints.
+fn write_symbol(out: &mut Page, symbol: &Symbol) {
+    match symbol {
+        Symbol::Rule(name, span) => write_named(out, " rule ", (name.as_str(), *span), ""),
+        Symbol::Token(name, span) => write_named(out, " token ", (name.as_str(), *span), ""),
+    }
+}
+
+/// Writes each token: its name, the name's place, and whether a `%token` declares it.
+fn write_tokens(out: &mut Page, ast: &GrammarAST) {
+    for (index, (name, span)) in ast.tokens().iter().zip(ast.spans()).enumerate() {
+        write_token(out, ast, index, name.as_str(), *span);
+    }
+}
+
+fn write_token(out: &mut Page, ast: &GrammarAST, index: usize, name: &str, span: Span) {
+    let is_declared = ast.token_directives().contains(&index);
+    let pieces = [
+        Piece::Number("    token ", index),
+        Piece::Name(" ", name),
+        Piece::Span(span),
+        Piece::If(is_declared, " declared"),
+        Piece::If(!ast.has_token(name), ", not by its name"),
+        Piece::Text("\n"),
+    ];
+    pen::pieces(out, &pieces);
+}

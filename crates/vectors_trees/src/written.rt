@@ -1,0 +1,226 @@
+//! Rows on what writes a syntax: another start, rules, productions and programs.
+
+use crate::{copies, warnings};
+use cfgrammar::Span;
+use cfgrammar::yacc::ast::{
+    ASTModificationError, ASTWithValidityInfo, GrammarAST, Rule, StartFault,
+};
+use cfgrammar::yacc::{YaccKind, YaccOriginalActionKind};
+use std::alloc::{AllocError, Global};
+use vectors_rows::made::{Writer, write_made};
+use vectors_rows::page::Page;
+use vectors_rows::pen;
+use vectors_rows::row::{Row, number, words};
+
+/// Writes what each call of the row answers on the row's text: each `start` on what was read, which stays as it was,
+/// and then the others, one after another on a copy of the tree.
+pub fn tell(out: &mut Page, row: &Row<'_>, text: &str) {
+    let kind = YaccKind::Original(YaccOriginalActionKind::GenericParseTree);
+    let parsed = ASTWithValidityInfo::new(out.alloc, kind, text);
+    write_made(out, &Script { row }, parsed);
+}
+
+/// The calls of a row.
+#[derive(Drop)]
+struct Script<'a> {
+    row: &'a Row<'a>,
+}
+
+impl Writer<ASTWithValidityInfo, AllocError> for Script<'_> {
+    fn write(&self, out: &mut Page, parsed: &mut ASTWithValidityInfo) {
+        write_start(out, parsed);
+        change_starts(out, self.row, parsed);
+        write_start(out, parsed);
+        copies::write_copies(out, parsed);
+        write_made(out, self, parsed.ast().clone());
+    }
+}
+
+impl Writer<GrammarAST, AllocError> for Script<'_> {
+    fn write(&self, out: &mut Page, ast: &mut GrammarAST) {
+        if self.row.first("show") == Some("without-memory") {
+            return set_programs_twice(out, self.row, ast);
+        }
+        for line in &self.row.lines {
+            change_told(out, ast, *line);
+        }
+        write_tree(out, ast);
+    }
+}
+
+fn change_starts(out: &mut Page, row: &Row<'_>, parsed: &ASTWithValidityInfo) {
+    for (word, rest) in &row.lines {
+        if *word == "start" {
+            let changed = restarted(out.alloc, parsed, *rest);
+            write_made(out, &Start, changed);
+        }
+    }
+}
+
+/// Writes what starts in a tree that has another start.
+struct Start;
+
+impl Writer<ASTWithValidityInfo, StartFault> for Start {
+    fn write(&self, out: &mut Page, changed: &mut ASTWithValidityInfo) {
+        write_start(out, changed);
+    }
+
+    fn refuse(&self, out: &mut Page, fault: &StartFault) {
+        match fault {
+            StartFault::Modification(error) => write_refused(out, error),
+            StartFault::OutOfMemory => out.tear(),
+        }
+    }
+}
+
+fn write_refused(out: &mut Page, error: &ASTModificationError) {
+    write!(out, "    {error}");
+    pen::unless_copied(out, error, ", and a copy that isn't the same");
+    out.push('\n');
+}
+
+/// What was parsed, with the start that a line tells, or why that can't be the start.
+pub fn restarted(
+    alloc: Global,
+    parsed: &ASTWithValidityInfo,
+    line: &str,
+) -> Result<ASTWithValidityInfo, StartFault> {
+    let rule = rule_of(alloc, line)?;
+    parsed.clone_and_change_start_rule(alloc, rule)
+}
+
+/// Writes the start, the number of errors, and the warnings.
+fn write_start(out: &mut Page, parsed: &ASTWithValidityInfo) {
+    write_named(out, parsed.ast().start());
+    pen::number(out, ", ", parsed.errors().len());
+    out.push_str(" errors, ");
+    warnings::write_warnings(out, parsed.ast());
+}
+
+/// Writes the start's name and its place, where there is a start.
+fn write_named(out: &mut Page, start: &Option<(String, Span)>) {
+    match start {
+        Some((name, span)) => {
+            pen::name(out, "    start ", name.as_str());
+            pen::span(out, *span);
+        }
+        None => out.push_str("    no start"),
+    }
+}
+
+/// The rule whose name a line tells.
+fn rule_of(alloc: Global, line: &str) -> Result<Rule, AllocError> {
+    Ok(Rule {
+        name: name_of(alloc, line)?,
+        pidxs: Vec::new(alloc),
+        actiont: None,
+    })
+}
+
+/// The name that a line tells, and its place: the name is the first word, and the two ends of the place are the others.
+fn name_of(alloc: Global, line: &str) -> Result<(String, Span), AllocError> {
+    let (name, start, end) = words(line);
+    let (start, end) = (number(start), number(end));
+    let place = Span::new(start.min(end), end);
+    Ok((String::from_str(alloc, name)?, place))
+}
+
+/// Makes a call that writes a tree. Where memory ended, the tree is looked at, and the call is made again.
+fn change_told(out: &mut Page, ast: &mut GrammarAST, line: (&str, &str)) {
+    let mut before = Page::new(out.alloc);
+    write_tree(&mut before, ast);
+    out.follow(&before);
+    if change(out.alloc, ast, line).is_err() {
+        out.push_str("out of memory\n");
+        write_difference(out, ast, before.as_str());
+        let changed = change(out.alloc, ast, line);
+        out.note(changed);
+    }
+}
+
+/// Writes whether a tree isn't what it was before.
+fn write_difference(out: &mut Page, ast: &GrammarAST, before: &str) {
+    let mut now = Page::new(out.alloc);
+    write_tree(&mut now, ast);
+    out.follow(&now);
+    pen::text_if(out, now.as_str() != before, "    with another tree\n");
+}
+
+fn change(
+    alloc: Global,
+    ast: &mut GrammarAST,
+    (word, line): (&str, &str),
+) -> Result<(), AllocError> {
+    match word {
+        "rule" => add_rule(alloc, ast, line),
+        "production" => add_production(alloc, ast, line),
+        "programs" => set_programs(alloc, ast, line),
+        _ => Ok(()),
+    }
+}
+
+/// Writes a tree: its rules, how many productions there are, its programs and its warnings.
+pub(crate) fn write_tree(out: &mut Page, ast: &GrammarAST) {
+    write_rules(out, ast);
+    pen::number(out, "    ", ast.prods().len());
+    write_programs(out, " productions, ", ast.programs(), ", ");
+    warnings::write_warnings(out, ast);
+}
+
+fn add_rule(alloc: Global, ast: &mut GrammarAST, line: &str) -> Result<(), AllocError> {
+    ast.add_rule(name_of(alloc, line)?, None)
+}
+
+fn set_programs(alloc: Global, ast: &mut GrammarAST, text: &str) -> Result<(), AllocError> {
+    ast.set_programs(String::from_str(alloc, text)?);
+    Ok(())
+}
+
+/// Sets the row's programs, and others in their place, by the two calls that do so.
+fn set_programs_twice(out: &mut Page, row: &Row<'_>, ast: &mut GrammarAST) {
+    let first = String::from_str(out.alloc, row.first("programs").unwrap_or(""));
+    let second = String::from_str(out.alloc, row.first("add-programs").unwrap_or(""));
+    let (Ok(first), Ok(second)) = (first, second) else {
+        return out.tear();
+    };
+    pen::without_memory(out);
+    ast.set_programs(first);
+    write_programs(out, "    ", ast.programs(), "\n");
+    ast.add_programs(second);
+    write_programs(out, "    ", ast.programs(), "\n");
+}
+
+/// Writes the programs, or that there are none, between two texts.
+fn write_programs(out: &mut Page, before: &str, programs: &Option<String>, behind: &str) {
+    out.push_str(before);
+    match programs {
+        Some(programs) => {
+            pen::name(out, "programs Some(", programs.as_str());
+            out.push(')');
+        }
+        None => out.push_str("programs None"),
+    }
+    out.push_str(behind);
+}
+
+/// Adds an empty production to the rule of this name, where it is there.
+fn add_production(alloc: Global, ast: &mut GrammarAST, name: &str) -> Result<(), AllocError> {
+    if ast.get_rule(name).is_none() {
+        return Ok(());
+    }
+    let rule = String::from_str(alloc, name)?;
+    ast.add_prod(rule, Vec::new(alloc), None, None, Span::new(0, 0))
+}
+
+/// Writes a line for each rule: its name, its place, and the productions that it lists.
+fn write_rules(out: &mut Page, ast: &GrammarAST) {
+    for (name, rule) in ast.rules() {
+        write_rule(out, name.as_str(), rule);
+    }
+}
+
+fn write_rule(out: &mut Page, name: &str, rule: &Rule) {
+    pen::words(out, "    ", name);
+    pen::span(out, rule.name.1);
+    writeln!(out, ": {:?}", rule.pidxs);
+}

@@ -1,0 +1,151 @@
+//! Calls at the place of a key.
+
+use super::{Act, Key, refused, write_done};
+use cfgrammar::markmap::{Entry, MarkMap, OccupiedEntry, VacantEntry};
+use std::alloc::AllocError;
+use vectors_rows::page::Page;
+use vectors_rows::pen::{self, Piece};
+
+/// Makes a call at the place of a key, and writes what it answers.
+pub(super) fn call<K: Key>(
+    out: &mut Page,
+    map: &mut MarkMap<K, u32>,
+    key: &K,
+    act: Act,
+) -> Result<(), AllocError> {
+    match map.entry(key.clone()?) {
+        Entry::Occupied(mut entry) => {
+            let told = call_occupied(&mut entry, act);
+            pen::pieces(out, &[told, Piece::Text("\n")]);
+            Ok(())
+        }
+        Entry::Vacant(entry) => call_vacant(out, entry, key, act),
+    }
+}
+
+/// Makes a call at the place of a key that holds a value, and answers what is written of it.
+fn call_occupied<K: Key>(entry: &mut OccupiedEntry<'_, K, u32>, act: Act) -> Piece<'static> {
+    match act {
+        Act::Insert(value) => Piece::Number("occupied, ", entry.insert(value) as usize),
+        Act::MarkUsed => {
+            entry.mark_used();
+            Piece::Flag("occupied, used: ", entry.is_used())
+        }
+        Act::MarkRequired => {
+            entry.mark_required();
+            Piece::Flag("occupied, required: ", entry.is_required())
+        }
+        Act::SetMergeBehavior(behavior) => {
+            entry.set_merge_behavior(behavior);
+            Piece::Number("occupied, mark ", usize::from(entry.get_mark()))
+        }
+        _ => Piece::Number("occupied, ", *entry.get() as usize),
+    }
+}
+
+/// Makes a call at the place of a key that holds no value, and writes what it answers.
+fn call_vacant<K: Key>(
+    out: &mut Page,
+    mut entry: VacantEntry<'_, K, u32>,
+    key: &K,
+    act: Act,
+) -> Result<(), AllocError> {
+    match act {
+        Act::Insert(value) => write_filled(
+            out,
+            "vacant, lends ",
+            &lend(entry, value),
+            (key, value),
+        ),
+        Act::InsertEntry(value) => write_filled(
+            out,
+            "vacant, mark ",
+            &occupy(entry, value),
+            (key, value),
+        ),
+        _ => mark_vacant(out, &mut entry, act),
+    }
+}
+
+/// Gives a key at its place a value, and answers the one that is lent.
+fn lend<K: Key>(entry: VacantEntry<'_, K, u32>, value: u32) -> Result<usize, (K, u32)> {
+    Ok(*entry.insert(value)? as usize)
+}
+
+/// Gives a key at its place a value, and answers the marks that it then has.
+fn occupy<K: Key>(entry: VacantEntry<'_, K, u32>, value: u32) -> Result<usize, (K, u32)> {
+    match entry.insert_entry(value) {
+        Ok(occupied) => Ok(usize::from(occupied.get_mark())),
+        Err(back) => Err(back),
+    }
+}
+
+fn write_filled<K: Key>(
+    out: &mut Page,
+    before: &str,
+    filled: &Result<usize, (K, u32)>,
+    handed: (&K, u32),
+) -> Result<(), AllocError> {
+    match filled {
+        Ok(number) => {
+            pen::number(out, before, *number);
+            out.push('\n');
+            Ok(())
+        }
+        Err(back) => refused(out, back, handed),
+    }
+}
+
+/// Marks a key at its place where it holds no value, or writes it.
+fn mark_vacant<K: Key>(
+    out: &mut Page,
+    entry: &mut VacantEntry<'_, K, u32>,
+    act: Act,
+) -> Result<(), AllocError> {
+    let done = match act {
+        Act::MarkRequired => entry.mark_required(),
+        Act::SetMergeBehavior(behavior) => entry.set_merge_behavior(behavior),
+        _ => {
+            entry.key().tell(out, "vacant, ");
+            out.push('\n');
+            return Ok(());
+        }
+    };
+    write_done(out, done, "vacant, ()\n")
+}
+
+/// Writes a key, its value and its marks.
+pub(super) fn write_key<K: Key>(out: &mut Page, map: &mut MarkMap<K, u32>, word: &str) {
+    match K::of(out.alloc, word) {
+        Ok(key) => {
+            write_marks(out, map, &key);
+            write_mark(out, &map.entry(key));
+        }
+        Err(_) => out.tear(),
+    }
+}
+
+/// Writes a key, its value, and whether it is used and required.
+fn write_marks<K: Key>(out: &mut Page, map: &MarkMap<K, u32>, key: &K) {
+    key.tell(out, " [");
+    write_value(out, map.get(key));
+    let is_there = map.get(key).is_some();
+    pen::text_if(out, map.contains_key(key) != is_there, " (or not)");
+    pen::text_if(out, map.is_used(key), " used");
+    pen::text_if(out, map.is_required(key), " required");
+}
+
+fn write_value(out: &mut Page, value: Option<&u32>) {
+    match value {
+        Some(value) => pen::number(out, " ", *value as usize),
+        None => out.push_str(" -"),
+    }
+}
+
+/// Writes the mark of a key that holds a value.
+fn write_mark<K: Key>(out: &mut Page, entry: &Entry<'_, K, u32>) {
+    match entry {
+        Entry::Occupied(entry) => write!(out, ", mark {}]", entry.get_mark()),
+        Entry::Vacant(_) => out.push_str("]"),
+    }
+}

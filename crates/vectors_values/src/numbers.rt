@@ -1,0 +1,208 @@
+//! Rows on spans, on indices, and on lists of bits.
+
+ghost use Rattle.std.specs.Prelude.{◌≡◌, ◌<◌, length};
+
+use cfgrammar::{Location, PIdx, RIdx, SIdx, Span, Storage, Symbol, TIdx, Vob};
+use vectors_rows::page::Page;
+use vectors_rows::pen::{self, Piece};
+use vectors_rows::row::{Row, number, numbers};
+
+/// Writes what is answered of each value of the row. The row's text, or else `a script`, is the place that no span is.
+pub fn tell(out: &mut Page, row: &Row<'_>, text: &str) {
+    if row.first("show") == Some("without-memory") {
+        return tell_without_memory(out, row);
+    }
+    let script = if text.is_empty() { "a script" } else { text };
+    for line in &row.lines {
+        tell_line(out, row, script, *line);
+    }
+}
+
+fn tell_line(out: &mut Page, row: &Row<'_>, script: &str, (word, rest): (&str, &str)) {
+    match word {
+        "span" => write_span(out, Some(script), numbers(rest)),
+        "number" => write_number(out, number(rest)),
+        "bits" => write_bits(out, row, numbers(rest)),
+        _ => {}
+    }
+}
+
+/// Writes what is answered of each value of the row, and of the row's list of bits, all of them made before.
+fn tell_without_memory(out: &mut Page, row: &Row<'_>) {
+    let (len, first) = numbers(row.first("bits").unwrap_or(""));
+    match (
+        Vob::from_elem(out.alloc, first == 1, len),
+        Vob::from_elem(out.alloc, true, len),
+    ) {
+        (Ok(mut bits), Ok(others)) => write_values(out, row, &mut bits, &others),
+        _ => out.tear(),
+    }
+}
+
+/// Writes what is answered of each span and each number of the row, and of a list of bits.
+fn write_values(out: &mut Page, row: &Row<'_>, bits: &mut Vob, others: &Vob) {
+    pen::without_memory(out);
+    for (word, rest) in &row.lines {
+        let (first, second) = numbers(*rest);
+        match *word {
+            "span" => write_span(out, None, (first, second)),
+            "number" => write_number(out, first),
+            "or" if others.len() == bits.len() => write_or(out, bits, 1, others),
+            other => write_call(out, bits, other, first, second),
+        }
+    }
+}
+
+/// Writes the parts of a span, and of the place that it is; and whether the place that a script is equals its copy.
+fn write_span(out: &mut Page, script: Option<&str>, (start, end): (usize, usize)) {
+    if start > end {
+        return out.push_str("    no span\n");
+    }
+    write_parts(out, Span::new(start, end));
+    if let Some(script) = script {
+        write_other(out, script);
+    }
+    out.push('\n');
+}
+
+/// Writes the parts of a span, and of the place that it is, and whether that equals a copy, and the command line.
+fn write_parts(out: &mut Page, span: Span) {
+    let pieces = [
+        Piece::Number("    (", span.start()),
+        Piece::Number(",", span.end()),
+        Piece::Number(") has ", span.len()),
+        Piece::Text(" bytes"),
+        Piece::If(span.is_empty(), ", is empty"),
+    ];
+    pen::pieces(out, &pieces);
+    let place = Location::from(span);
+    write!(out, ", as a place {place:?};");
+    write_copied(out, &place);
+    pen::flag(out, " ", place == Location::CommandLine);
+}
+
+fn write_other(out: &mut Page, script: &str) {
+    match String::from_str(out.alloc, script) {
+        Ok(words) => write_copied(out, &Location::Other(words)),
+        Err(_) => out.tear(),
+    }
+}
+
+/// Writes whether a place equals a copy.
+fn write_copied(out: &mut Page, place: &Location) {
+    match place.clone() {
+        Ok(copy) => pen::flag(out, " ", copy == *place),
+        Err(_) => out.tear(),
+    }
+}
+
+/// Writes a number as each index type stores it.
+fn write_number(out: &mut Page, number: usize) {
+    pen::number(out, "    ", number);
+    out.push(':');
+    write_stored::<u8>(out, " u8", number);
+    write_stored::<u16>(out, " u16", number);
+    write_stored::<u32>(out, " u32", number);
+    out.push('\n');
+}
+
+/// Writes a number as one index type stores it, and as the indices of this type tell it.
+fn write_stored<S: Storage>(out: &mut Page, storage: &str, number: usize) {
+    out.push_str(storage);
+    let Some(stored) = S::from_usize(number) else {
+        return out.push_str(" none");
+    };
+    pen::number(out, " ", stored.to_usize());
+    let (rule, production) = (RIdx(stored), PIdx(stored));
+    let (symbol, token) = (SIdx(stored), TIdx(stored));
+    let numbers = [
+        usize::from(rule),
+        usize::from(production),
+        usize::from(symbol),
+        usize::from(token),
+        u32::from(rule) as usize,
+        u32::from(production) as usize,
+        u32::from(symbol) as usize,
+        u32::from(token) as usize,
+        rule.as_storaget().to_usize(),
+        production.as_storaget().to_usize(),
+        symbol.as_storaget().to_usize(),
+        token.as_storaget().to_usize(),
+    ];
+    let is_rule = Symbol::Rule(rule) == Symbol::Token(token);
+    if numbers.iter().any(|other| *other != number) || is_rule {
+        out.push_str(" with other indices");
+    }
+}
+
+/// Writes a list of bits that are all off or all on, the answers of the row's calls, and the list after each.
+fn write_bits(out: &mut Page, row: &Row<'_>, (len, first): (usize, usize)) {
+    match Vob::from_elem(out.alloc, first == 1, len) {
+        Ok(mut bits) => write_calls(out, row, &mut bits),
+        Err(_) => out.tear(),
+    }
+}
+
+/// Writes a list of bits, the answers of the row's calls, and the list after each.
+fn write_calls(out: &mut Page, row: &Row<'_>, bits: &mut Vob) {
+    write_list(out, bits);
+    for (word, rest) in &row.lines {
+        let (place, bit) = numbers(*rest);
+        match *word {
+            "or" => write_or_all(out, bits, place),
+            _ => write_call(out, bits, *word, place, bit),
+        }
+    }
+}
+
+/// Writes what a call on a list of bits answers.
+fn write_call(out: &mut Page, bits: &mut Vob, word: &str, place: usize, bit: usize) {
+    match word {
+        "set" if place < bits.len() => write_set(out, bits, place, bit),
+        "get" => writeln!(out, "    get({place}): {:?}", bits.get(place)),
+        _ => {}
+    }
+}
+
+/// Sets a bit, and writes whether it changed, and the list.
+fn write_set(out: &mut Page, bits: &mut Vob, place: usize, bit: usize)
+    requires { place < length bits.old }
+{
+    pen::numbers(out, ("    set(", place), (", ", bit));
+    pen::flag(out, "): ", bits.set(place, bit == 1));
+    out.push('\n');
+    write_list(out, bits);
+}
+
+/// Takes in the bits of a list of bits that are all off or all on.
+fn write_or_all(out: &mut Page, bits: &mut Vob, bit: usize) {
+    match Vob::from_elem(out.alloc, bit == 1, bits.len()) {
+        Ok(other) => write_or(out, bits, bit, &other),
+        Err(_) => out.tear(),
+    }
+}
+
+/// Takes in the bits of another list as long, and writes whether that changed it, whether they are equal, and the list.
+fn write_or(out: &mut Page, bits: &mut Vob, place: usize, other: &Vob)
+    requires { length other.now ≡ length bits.old }
+{
+    pen::number(out, "    or(", place);
+    pen::flag(out, "..): ", bits.or(other));
+    pen::flag(out, ", equal: ", *bits == *other);
+    out.push('\n');
+    write_list(out, bits);
+}
+
+/// Writes the bits of a list.
+fn write_list(out: &mut Page, bits: &Vob) {
+    pen::number(out, "    ", bits.len());
+    out.push_str(" bits ");
+    for place in 0..bits.len() {
+        out.push_str(if bits.get(place) == Some(true) {
+            "1"
+        } else {
+            "0"
+        });
+    }
+    out.push('\n');
+}
