@@ -1,1 +1,2 @@
-pub mod Among
+pub mod Marked
+pub mod Reports

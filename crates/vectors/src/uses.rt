@@ -5,6 +5,7 @@ pub(crate) mod answers;
 mod errors;
 mod findings;
 mod keys;
+mod nullable;
 mod productions;
 mod repairs;
 mod tables;

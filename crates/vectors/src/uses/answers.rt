@@ -3,6 +3,7 @@
 use super::errors::show_errors;
 use super::findings::show_findings;
 use super::keys::print_indent;
+use super::nullable::print_nullable;
 use super::productions::print_productions;
 use super::repairs::print_repairs;
 use super::tables::print_table;
@@ -69,6 +70,7 @@ fn indent(alloc: Global, text: &str) -> Result<String, AllocError> {
 
 fn answer_of(alloc: Global, call: &str, grammar: &YaccGrammar<u32>) -> Result<String, AllocError> {
     match call {
+        "print_nullable" => print_nullable(alloc, grammar),
         "print_productions" => print_productions(alloc, grammar),
         "print_repairs" => print_repairs(alloc, grammar),
         _ => {

@@ -1,6 +1,6 @@
 use Rattle.std.proofs.Common.{rules}
 use Rattle.std.proofs.lemmas.List.Elements.{same_from_all_zip}
-use Rattle.lexcheck.proofs.Among.{lists_equal}
+use Rattle.lexcheck.proofs.Reports.{lists_equal}
 use Rattle.lexcheck.proofs.laws.reports_are_what_they_hold.Goals as goal
 
 pub returns-clause-equal : goal.returns-clause-equal
