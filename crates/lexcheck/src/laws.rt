@@ -6,8 +6,8 @@ ghost use Rattle.std.specs.List.{AllZip};
 ghost use Rattle.lexcheck.specs.declared.report.LexReport.{LexReport};
 
 use super::report::LexReport;
-use cfgindex::Storage;
-use cfgindex::laws::tokens_are_their_numbers;
+use cfgrammar::Storage;
+use cfgrammar::laws::tokens_are_their_numbers;
 
 /// Reports are equal exactly where they have the same places and the same tokens. A clone has the places of its source,
 /// and clones of its tokens, in order.

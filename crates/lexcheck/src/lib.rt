@@ -4,4 +4,4 @@
 pub mod laws;
 pub mod report;
 
-pub use report::{LexReport, NamedTokens, check};
+pub use report::{LexReport, check};
