@@ -1,16 +1,29 @@
 -- Marks of the tokens whose names are given, one more name at a time, and what they say of a token.
-use Rattle.std.proofs.Common.{◌≡◌, ℕ, ◌+◌, ◌<◌, ◌==◌, Bool, true, false, ◌||◌, List, [], ◌∷◌, ◌++◌, length, get_or, slice_set, replicate, Option, Some, None, position, bytes_eq, refl, sym, ap, subst, ◌∙◌, eqb}
+use Rattle.std.proofs.Common.{◌≡◌, ℕ, ◌+◌, ◌<◌, ◌==◌, Bool, true, false, cond, not, ◌||◌, List, [], ◌∷◌, ◌++◌, length, map, take, get_or, slice_get, slice_set, replicate, Option, Some, None, IfSome, is_some, option_map, Bor, position, bytes_eq, refl, sym, ap, subst, ◌∙◌, arith}
 use Rattle.std.specs.List.{list_any}
 use Rattle.std.specs.Option.{option_map_or}
 use Rattle.std.proofs.lemmas.Bool.{false≢true, eq-eqb, eqb-true}
-use Rattle.std.proofs.lemmas.List.{length-set, length-replicate, get_or-set_same, get_or-set_other}
+use Rattle.std.proofs.lemmas.List.{length-map, length-set, length-replicate, get_or-map, get_or-set_same, get_or-set_other, length-take-le, map_push, take_more}
+use Rattle.std.proofs.lemmas.Option.{get_or_from_slice_get, slice_get_within}
 use Rattle.std.proofs.lemmas.List.Folds.{list_any-append}
 use Rattle.std.proofs.lemmas.List.Quantifiers.{position-Some}
+use Rattle.std.proofs.lemmas.Map.Keys.{any_passes_from_place}
 use Rattle.std.proofs.lemmas.Slice.Eq.{bytes_eq-Decides}
 use Rattle.cfgrammar.specs.Accessors.{has_token_name}
+use Rattle.cfgrammar.specs.Lists.{places}
 use Rattle.cfgrammar.specs.Numbered.{Numbered, NumberedToken}
+use Rattle.cfgrammar.specs.TokenNames.{token_names}
 use Rattle.cfgrammar.proofs.Elements.{get_or-replicate_default}
+use Rattle.cfgrammar.proofs.ListPlaces.{first_place, no_place}
+use Rattle.cfgrammar.proofs.Passing.{places-push}
+use Rattle.cfgrammar.proofs.Tests.{list_any-map}
 use Rattle.lexcheck.specs.Inner.Marks.{AreMarks, names_token}
+use Rattle.lexcheck.specs.LexerNames.{is_name, is_unknown}
+
+-- what one more element shows
+pub one_more : {A B : Type 0} (f : A → B) (xs : List A) (n : ℕ) (d : A) → n < length xs → take (n + 1) (map f xs) ≡ take n (map f xs) ++ f (get_or xs n d) ∷ []
+one_more f xs n d within =
+    take_more (map f xs) n (f d) (omega (arith, within, length-map xs f)) ∙ ap (λ e. take n (map f xs) ++ e ∷ []) (get_or-map f xs n d (f d) within)
 
 or_false : (b : Bool) → (b || false) ≡ b
 or_false true = refl
@@ -20,7 +33,42 @@ or_true : (b : Bool) → (b || true) ≡ true
 or_true true = refl
 or_true false = refl
 
+-- the places among the first elements of a list, with one more
+pub places_more : {A : Type 0} (p : A → Bool) (xs : List A) (n : ℕ) (x : A) → slice_get xs n ≡ Some x
+    → places p (take (n + 1) xs) ≡ cond (p x) (places p (take n xs) ++ n ∷ []) (places p (take n xs))
+places_more p xs n x there =
+    let within = slice_get_within xs n x there in
+    ap (places p) (take_more xs n x within ∙ ap (λ e. take n xs ++ e ∷ []) (get_or_from_slice_get xs n x x there)) ∙ places-push p (take n xs) x
+    ∙ ap (λ k. cond (p x) (places p (take n xs) ++ k ∷ []) (places p (take n xs))) (length-take-le n xs (omega (arith, within)))
+
+pub nameless : NumberedToken
+nameless = record { name = None; span = None; precedence = None; printed = None; avoid_insert = false }
+
+-- a place is found where some element passes
+found_somewhere : {A : Type 0} (p : A → Bool) (xs : List A) → is_some (position p xs) ≡ list_any p xs
+found_somewhere p xs = go (list_any p xs) refl
+  where
+    go : (b : Bool) → list_any p xs ≡ b → is_some (position p xs) ≡ b
+    go true e = ap is_some (first_place p xs e)
+    go false e = ap is_some (no_place p xs e)
+
 module _ (g : Numbered) where
+  -- the positions of unknown names, with one more name
+  pub unknown_more : (names : List (List ℕ)) (name : List ℕ) (n : ℕ) → length names ≡ n → (o : Option ℕ) → position (has_token_name name) g.tokens ≡ o
+      → places (is_unknown (token_names g)) (names ++ name ∷ []) ≡ cond (is_some o) (places (is_unknown (token_names g)) names) (places (is_unknown (token_names g)) names ++ n ∷ [])
+  unknown_more names name n counted o at =
+      places-push (is_unknown (token_names g)) names name
+      ∙ (λ i. cond (unknown i) (places (is_unknown (token_names g)) names ++ counted i ∷ []) (places (is_unknown (token_names g)) names))
+      ∙ go (is_some o)
+    where
+      unknown : is_unknown (token_names g) name ≡ not (is_some o)
+      unknown = ap not (list_any-map (is_name name) (λ (token : NumberedToken). token.name) g.tokens ∙ sym (found_somewhere (has_token_name name) g.tokens) ∙ ap is_some at)
+
+      go : (b : Bool) → cond (not b) (places (is_unknown (token_names g)) names ++ n ∷ []) (places (is_unknown (token_names g)) names)
+          ≡ cond b (places (is_unknown (token_names g)) names) (places (is_unknown (token_names g)) names ++ n ∷ [])
+      go true = refl
+      go false = refl
+
   pub none_marked : AreMarks g [] (replicate (length g.tokens) false)
   none_marked = record {
     counted = length-replicate (length g.tokens) false;
@@ -67,17 +115,20 @@ module _ (g : Numbered) where
       go None has also = absurd (false≢true has)
       go (Some x) has also = (bytes_eq-Decides name x).0 has ∙ sym ((bytes_eq-Decides other x).0 also)
 
+  -- where a name is found, and that the token there has it
+  pub found : (name : List ℕ) (k : ℕ) → position (has_token_name name) g.tokens ≡ Some k
+      → (k < length g.tokens) × (has_token_name name (get_or g.tokens k nameless) ≡ true)
+  found name k at = let is = position-Some (has_token_name name) g.tokens k nameless at in (is.0, is.1)
+
+  -- the name of a token is found
+  pub not_nowhere : (name : List ℕ) → list_any (has_token_name name) g.tokens ≡ true → position (has_token_name name) g.tokens ≡ None → ⊥
+  not_nowhere name some none = let no : None ≡ Some _ = sym none ∙ first_place (has_token_name name) g.tokens some in cc
+
   -- a token's mark says whether its name is among the names
   pub mark_of : (names : List (List ℕ)) (marks : List Bool) → AreMarks g names marks → (name : List ℕ) (k : ℕ) → position (has_token_name name) g.tokens ≡ Some k
       → get_or marks k false ≡ list_any (bytes_eq name) names
   mark_of names marks are name k at = are.each k (found name k at).0 ∙ ap (λ p. list_any p names) (λ i other. same other i)
     where
-      nameless : NumberedToken
-      nameless = record { name = None; precedence = None; printed = None; avoid_insert = false; span = None }
-
-      found : (other : List ℕ) (j : ℕ) → position (has_token_name other) g.tokens ≡ Some j → (j < length g.tokens) × (has_token_name other (get_or g.tokens j nameless) ≡ true)
-      found other j there = let is = position-Some (has_token_name other) g.tokens j nameless there in (is.0, is.1.0)
-
       same : (other : List ℕ) → names_token g k other ≡ bytes_eq name other
       same other = go (bytes_eq name other) refl
         where
@@ -94,3 +145,23 @@ module _ (g : Numbered) where
           go : (b : Bool) → bytes_eq name other ≡ b → names_token g k other ≡ b
           go true e = ap (λ n. names_token g k n) (sym ((bytes_eq-Decides name other).0 e)) ∙ ap (λ o. option_map_or (λ j. j == k) o false) at ∙ eq-eqb k k refl
           go false e = there (position (has_token_name other) g.tokens) refl e
+
+-- a token that shows a name has it
+pub token_has_name : (tokens : List NumberedToken) (t : ℕ) (name : Option (Bor (List ℕ)))
+    → option_map (λ (token : NumberedToken). token.name) (slice_get tokens t) ≡ Some (option_map (λ n. n.now) name) → IfSome name (λ n. list_any (has_token_name n.now) tokens ≡ true)
+token_has_name tokens t None shown = tt
+token_has_name tokens t (Some name) shown = go (slice_get tokens t) refl shown
+  where
+    go : (o : Option NumberedToken) → slice_get tokens t ≡ o → option_map (λ (token : NumberedToken). token.name) o ≡ Some (Some name.now)
+        → list_any (has_token_name name.now) tokens ≡ true
+    go None there shown = let no : None ≡ Some (Some name.now) = shown in cc
+    go (Some token) there shown =
+        let is : token.name ≡ Some name.now = cc in
+        any_passes_from_place (has_token_name name.now) tokens t token there
+        (ap (λ o. option_map_or (bytes_eq name.now) o false) is ∙ (bytes_eq-Decides name.now name.now).1 refl)
+
+-- what is pushed shows as a number
+pub pushed_shown : {A : Type 0} (number : A → ℕ) (passes : Bool) (xs : List A) (x : A) (shown : List ℕ) (n : ℕ) → map number xs ≡ shown → number x ≡ n
+    → map number (cond passes (xs ++ x ∷ []) xs) ≡ cond passes (shown ++ n ∷ []) shown
+pushed_shown number true xs x shown n is here = map_push number xs x ∙ (λ i. is i ++ here i ∷ [])
+pushed_shown number false xs x shown n is here = is

@@ -4,7 +4,7 @@ use Rattle.std.specs.Prelude.{ℕ, Bool, false, not, List, Option}
 use Rattle.std.specs.List.{list_any}
 use Rattle.std.specs.Option.{option_map_or}
 use Rattle.std.specs.Str.{bytes_eq}
-use Rattle.lemmas.specs.Lists.{places}
+use Rattle.cfgrammar.specs.Lists.{places}
 
 -- the token has this name
 abbrev pub is_name : List ℕ → Option (List ℕ) → Bool

@@ -1,6 +1,7 @@
 //! Where the names that a lexer gives and those of a grammar's tokens differ.
 
-ghost use Rattle.std.specs.Prelude.{◌≡◌, [], true, map, option_map, IfOk, IfSome, OnOk};
+ghost use Rattle.std.specs.Prelude.{◌≡◌, ◌++◌, ◌∷◌, [], true, if◌then◌else◌, map, option_map, IfOk, IfSome};
+ghost use Rattle.std.specs.Prelude.{OnOk};
 ghost use Rattle.std.specs.List.{list_any};
 ghost use Rattle.cfgrammar.specs.Accessors.{has_token_name};
 ghost use Rattle.cfgrammar.specs.TokenNames.{token_names};
@@ -46,11 +47,11 @@ pub fn check<S: Storage>(
 }
 
 /// Marks the tokens whose names are given, and returns the positions of the names that no token has.
-fn mark_given<S: Storage>(
+fn mark_given<'a, S: Storage>(
     alloc: Global,
     grm: &YaccGrammar<S>,
-    tokens: &HashMap<&str, TIdx<S>>,
-    names: &[&str],
+    tokens: &HashMap<&'a str, TIdx<S>>,
+    names: &[&'a str],
     given: &mut Vob,
 ) -> Result<Vec<usize>, AllocError>
     requires map { IsTokensMap S.number grm.now tokens.now }
@@ -72,11 +73,11 @@ fn mark_given<S: Storage>(
 }
 
 /// The tokens with names that aren't marked.
-fn unmarked_tokens<S: Storage>(
+fn unmarked_tokens<'a, S: Storage>(
     alloc: Global,
     grm: &YaccGrammar<S>,
-    tokens: &HashMap<&str, TIdx<S>>,
-    names: &[&str],
+    tokens: &HashMap<&'a str, TIdx<S>>,
+    names: &[&'a str],
     given: &Vob,
 ) -> Result<Vec<TIdx<S>>, AllocError>
     requires map { IsTokensMap S.number grm.now tokens.now }
@@ -86,31 +87,41 @@ fn unmarked_tokens<S: Storage>(
 {
     let mut missing = Vec::new(alloc);
     for tidx in grm.iter_tidxs() {
-        if is_unmarked(grm, tokens, names, given, grm.token_name(tidx)) {
-            missing.push(tidx)?;
-        }
+        let unmarked = is_unmarked(grm, tokens, names, given, grm.token_name(tidx));
+        push_if(&mut missing, unmarked, tidx)?;
     }
     Ok(missing)
 }
 
 /// Whether a token has a name that isn't marked: where its name is that of a token, that token's mark is off.
-fn is_unmarked<S: Storage>(
+fn is_unmarked<'a, S: Storage>(
     grm: &YaccGrammar<S>,
-    tokens: &HashMap<&str, TIdx<S>>,
-    names: &[&str],
+    tokens: &HashMap<&'a str, TIdx<S>>,
+    names: &[&'a str],
     given: &Vob,
     name: Option<&str>,
 ) -> bool
     requires map { IsTokensMap S.number grm.now tokens.now }
     requires marks { AreMarks grm.now (map (λ name. name.now) names.now) given.now }
     requires named { IfSome name (λ name. list_any (has_token_name name.now) grm.now.tokens ≡ true) }
-    ensures { result ≡ is_missing (map (λ name. name.now) names.now) (option_map (λ name. name.now) name) }
+    ensures { result ≡ is_missing (map (λ name. name.now) names.now) (option_map (λ name. name.now) name.entry) }
 {
     match name {
         Some(name) => match tokens.get(name) {
-            Some(tidx) => given.get(tidx.0.to_usize()) == Some(false),
+            Some(tidx) => !given.get(tidx.0.to_usize()).unwrap_or(false),
             None => false,
         },
         None => false,
     }
+}
+
+/// Adds an element, if it passes.
+fn push_if<T: Copy>(found: &mut Vec<T>, passes: bool, element: T) -> Result<(), AllocError>
+    ensures { OnOk result (found.new.items
+        ≡ (if passes then found.old.items ++ element ∷ [] else found.old.items)) }
+{
+    if passes {
+        found.push(element)?;
+    }
+    Ok(())
 }
