@@ -174,6 +174,7 @@ pub use Rattle.cfgast.specs.declared.precedence.AssocKind
 pub use Rattle.cfgast.specs.declared.precedence.Precedence
 pub use Rattle.cfgtree.specs.declared.ast.GrammarAST
 pub use Rattle.cfgsyntax.specs.declared.yacc.ast.ASTWithValidityInfo
+pub use Rattle.cfgsyntax.specs.declared.yacc.ast.source.KindSource
 pub use Rattle.cfgsyntax.specs.declared.yacc.ast.start.ASTModificationError
 pub use Rattle.cfgsyntax.specs.declared.yacc.ast.start.StartFault
 pub use Rattle.cfgyacc.specs.declared.grammar.tables.YaccGrammar

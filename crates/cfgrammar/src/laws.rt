@@ -58,5 +58,6 @@ pub use cfgkinds::laws::{
     action_kinds_are_told_apart, values_are_compared_whole, yacc_kinds_are_told_apart,
 };
 pub use cfgmarks::laws::{merge_behaviors_are_bits, merge_behaviors_are_told_apart};
+pub use cfgsyntax::laws::kind_sources_are_told_apart;
 pub use derivation::errors::cost_errors_are_told_apart;
 pub use loops::laws::steps_are_copied;

@@ -1,4 +1,5 @@
 pub mod Given
+pub mod KindIfNamed
 pub mod NamedLemmas
 pub mod NamedPlaces
 pub mod Refusals
@@ -8,3 +9,4 @@ pub mod SectionKept
 pub mod SectionOne
 pub mod SectionPlaces
 pub mod SectionRepeats
+pub mod SectionThere

@@ -8,22 +8,22 @@ use Rattle.cfgsection.specs.SectionReads.{IsSectionRead, entry_view, section_of,
 use Rattle.cfgsection.specs.Named.{Naming, IsNaming, kind_given, kind_in, Names, HasOneNaming}
 use Rattle.cfgsection.proofs.SectionOne.{one_section, section_answered}
 
-naming_is : (text : List ℕ) (naming : Naming) → Names text naming → kind_in (section_of true text) ≡ naming
+pub naming_is : (text : List ℕ) (naming : Naming) → Names text naming → kind_in (section_of true text) ≡ naming
 naming_is text naming names = ap kind_in (section_answered true text names.entries names.end names.section) ∙ names.naming_is
+
+pub naming_of : (text : List ℕ) → Names text (kind_in (section_of true text))
+naming_of text =
+    let one = one_section true text in
+    record {
+      entries = one.entries;
+      end = one.end;
+      section = one.is;
+      naming_is = ap kind_in (sym (section_answered true text one.entries one.end one.is));
+    }
 
 pub one_naming : (text : List ℕ) → HasOneNaming text
 one_naming text =
-    let one = one_section true text in
-    record {
-      naming = kind_in (section_of true text);
-      names = record {
-        entries = one.entries;
-        end = one.end;
-        section = one.is;
-        naming_is = ap kind_in (sym (section_answered true text one.entries one.end one.is));
-      };
-      only = λ other names. sym (naming_is text other names);
-    }
+    record { naming = kind_in (section_of true text); names = naming_of text; only = λ other names. sym (naming_is text other names) }
 
 -- of a section with errors
 pub refused : (text : List ℕ) (fault : HeaderFault) → IsSectionRead (section_of true text) (Err fault)

@@ -17,7 +17,7 @@ use Rattle.cfgsection.specs.declared.section.header_fault.HeaderFault.TheVariant
 use Rattle.cfgsection.specs.SectionGrammar.{Entry, Fault, entry, section}
 use Rattle.cfgsection.specs.SectionErrors.{duplicate_errors, section_errors}
 use Rattle.cfgsection.specs.SectionReads.{AnswersEntry, IsEntryAnswer, IsSectionRead, end_of, errors_view, section_of, section_answer, unless_errors, given}
-use Rattle.cfgsection.specs.Named.{Naming, IsNaming, kind_or_places, kind_given, kind_in, Names, HasOneNaming}
+use Rattle.cfgsection.specs.Named.{Naming, kind_or_places, kind_given, kind_in, Names}
 use Rattle.cfgsection.specs.SectionRefusal.{ListsErrors}
 
 abbrev pub HasErrors : {A E : Type 0} → Result A (List E) → Type 0
@@ -74,11 +74,3 @@ entry_listed len (Err (faults.Errors errors)) (Err fault) is = listed errors.ite
 
 pub entry_lists : (len : ℕ) (text : List ℕ) (result : Result (String Global × Span × Value Span × ℕ) HeaderFault) → AnswersEntry len text result → IfErr result ListsErrors
 entry_lists len text result answers = entry_listed len result _ (answers _ ((agree (entry len)).sound text))
-
-naming_listed : (naming : Naming) (result : Result YaccKind HeaderFault) → HasErrors naming → IsNaming naming result → IfErr result ListsErrors
-naming_listed naming (Ok kind) some is = tt
-naming_listed naming (Err faults.OutOfMemory) some is = tt
-naming_listed naming (Err (faults.Errors errors)) some is = listed errors.items (subst HasErrors is some)
-
-pub naming_lists : (text : List ℕ) (result : Result YaccKind HeaderFault) → HasOneNaming text → ((naming : Naming) → Names text naming → IsNaming naming result) → IfErr result ListsErrors
-naming_lists text result one is = naming_listed one.naming result (errors_there text one.naming one.names) (is one.naming one.names)

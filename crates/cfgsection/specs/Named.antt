@@ -1,5 +1,5 @@
 -- The kind of Yacc that the section of a text names, or the errors that keep it from naming one.
-use Rattle.std.specs.Prelude.{◌≡◌, ℕ, true, List, [], ◌∷◌, Option, Some, None, Result, Ok, Err, codes}
+use Rattle.std.specs.Prelude.{◌≡◌, ℕ, true, false, List, [], ◌∷◌, Option, Some, None, Result, Ok, Err, codes}
 use Rattle.cfgbase.specs.declared.span.Span.{Span}
 use Rattle.cfgkinds.specs.declared.kind.YaccKind.{YaccKind}
 use Rattle.cfgsection.specs.declared.section.header_fault.HeaderFault.{HeaderFault}
@@ -44,8 +44,28 @@ pub record HasOneNaming (text : List ℕ) : Type 0 where
   pub names : Names text naming
   pub only : (other : Naming) → Names text other → other ≡ naming
 
+-- the text has no section, or one without errors that gives nothing for `yacckind`
+pub record NamesNoKind (text : List ℕ) : Type 0 where
+  pub entries : List Entry
+  pub rest : List ℕ
+  pub section : IsSection false text entries (Ok rest)
+  pub whole : section_answer entries (Ok rest) ≡ Ok (entries, rest)
+  pub none : given entries (codes "yacckind") ≡ None
+
 -- what a call answers that asks for the kind
 abbrev pub IsNaming : Naming → Result YaccKind HeaderFault → Type 0
 IsNaming naming (Ok kind) = naming ≡ Ok kind
 IsNaming naming (Err (faults.Errors errors)) = naming ≡ Err (errors_view errors.items)
 IsNaming naming (Err faults.OutOfMemory) = Unit {0}
+
+-- The same where the text may name no kind, and only there none is given. Running out of memory says nothing.
+abbrev pub IsKindIfNamed : List ℕ → Result (Option YaccKind) HeaderFault → Type 0
+IsKindIfNamed text (Ok None) = NamesNoKind text
+IsKindIfNamed text (Ok (Some kind)) = (NamesNoKind text → ⊥) × Names text (Ok kind)
+IsKindIfNamed text (Err (faults.Errors errors)) = (NamesNoKind text → ⊥) × Names text (Err (errors_view errors.items))
+IsKindIfNamed text (Err faults.OutOfMemory) = Unit {0}
+
+-- a result of two parts, by its first
+abbrev pub first_part : {A B E : Type 0} → Result (A × B) E → Result A E
+first_part (Ok (a, b)) = Ok a
+first_part (Err error) = Err error

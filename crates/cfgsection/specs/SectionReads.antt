@@ -1,6 +1,6 @@
 -- A reading of a text's section: the entries that count as read, and what is left of the text behind the section, or what stopped
 -- the reading.
-use Rattle.std.specs.Prelude.{◌≡◌, ℕ, Bool, List, [], ◌∷◌, length, Option, Some, None, Result, Ok, Err, fold, map, String, string_bytes, Vec, if◌then◌else◌}
+use Rattle.std.specs.Prelude.{◌≡◌, ℕ, Bool, false, List, [], ◌∷◌, length, Option, Some, None, Result, Ok, Err, fold, map, String, string_bytes, Vec, if◌then◌else◌}
 use Rattle.std.specs.Str.{bytes_eq}
 use Rattle.std.specs.declared.alloc.Global.{Global}
 use denote.Ref.{Bor}
@@ -50,6 +50,10 @@ section_answer entries end = unless_errors (section_errors entries end) entries 
 unfoldable pub section_of : Bool → List ℕ → Result (List Entry × List ℕ) (List (ShownError Span))
 section_of required text =
     section_answer (computes (section (length text) required) text).items (end_of (computes (section (length text) required) text).outcome)
+
+-- this is left of the text after its section, which may be missing, and has no errors
+abbrev pub IsAfterSection : List ℕ → List ℕ → Type 0
+IsAfterSection text rest = (entries : List Entry) × (section_of false text ≡ Ok (entries, rest))
 
 -- what an entry gives its key
 abbrev pub given_by : Entry → ShownHeaderValue Span

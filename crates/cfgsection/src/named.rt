@@ -2,10 +2,10 @@
 
 ghost use Rattle.std.specs.Prelude.{◌≡◌, ◌∷◌, [], option_map, IfOk, IfErr, codes};
 ghost use Rattle.cfgerrors.specs.HeaderErrors.{InvalidEntry, error_view};
-ghost use Rattle.cfgsection.specs.Named.{HasOneNaming, IsNaming, Naming, Names, kind_given};
+ghost use Rattle.cfgsection.specs.Named.{HasOneNaming, IsKindIfNamed, IsNaming, Naming, Names, first_part, kind_given};
 ghost use Rattle.cfgsection.specs.SectionRefusal.{ListsErrors};
 ghost use Rattle.cfgsection.specs.SectionPlaces.{IsFaultAt};
-ghost use Rattle.cfgsection.specs.SectionReads.{entry_view, given_by};
+ghost use Rattle.cfgsection.specs.SectionReads.{IsAfterSection, entry_view, given_by};
 
 use crate::section::{Entry, HeaderFault, entry_of, section_entries};
 use cfgbase::Span;
@@ -43,19 +43,43 @@ fn kind_given(alloc: Global, given: Option<&Entry>) -> Result<YaccKind, HeaderFa
     Err(HeaderFault::Errors(errors))
 }
 
-/// The kind that the section of a text names. A text names one kind, or has one list of errors, each at places of the
-/// text.
+/// The kind that the section of a text names, and what is left of the text after that. A text names one kind, or has one
+/// list of errors, each at places of the text.
 ///
 /// # Errors
 ///
 /// The errors of the section, which must be there; where there are none, one error where it has no key `yacckind`, or
-/// gives that what is no kind; and want of memory.
-pub fn kind_named(alloc: Global, text: &str) -> Result<YaccKind, HeaderFault>
+/// gives that what is no kind; and running out of memory.
+pub fn kind_named(alloc: Global, text: &str) -> Result<(YaccKind, &str), HeaderFault>
     ensures one { HasOneNaming text.now }
-    ensures naming { (naming : Naming) → Names text.now naming → IsNaming naming result }
+    ensures naming { (naming : Naming) → Names text.now naming → IsNaming naming (first_part result) }
+    ensures rest { IfOk result (λ x. IsAfterSection text.now x.1.now) }
     ensures places { IfErr result (IsFaultAt text.now) }
     ensures listed { IfErr result ListsErrors }
 {
-    let (entries, _) = section_entries(alloc, text, true)?;
-    kind_given(alloc, entry_of(entries.as_slice(), "yacckind"))
+    let (entries, rest) = section_entries(alloc, text, true)?;
+    let kind = kind_given(alloc, entry_of(entries.as_slice(), "yacckind"))?;
+    Ok((kind, rest))
+}
+
+/// The kind that the section of a text names, and what is left of the text after that. Where the text has no section, or
+/// one without errors that has no key `yacckind`, there is no kind.
+///
+/// # Errors
+///
+/// The errors of the section; where there are none, one error where it gives `yacckind` what is no kind; and running out
+/// of memory.
+pub fn kind_if_named(alloc: Global, text: &str) -> Result<(Option<YaccKind>, &str), HeaderFault>
+    ensures naming { IsKindIfNamed text.now (first_part result) }
+    ensures rest { IfOk result (λ x. IsAfterSection text.now x.1.now) }
+    ensures places { IfErr result (IsFaultAt text.now) }
+    ensures listed { IfErr result ListsErrors }
+{
+    let (entries, rest) = section_entries(alloc, text, false)?;
+    let given = entry_of(entries.as_slice(), "yacckind");
+    if given.is_none() {
+        return Ok((None, rest));
+    }
+    let kind = kind_given(alloc, given)?;
+    Ok((Some(kind), rest))
 }

@@ -3,10 +3,12 @@ use Rattle.std.specs.Prelude.{◌≡◌, ℕ, List, map, Option, Result, Ok, Err
 use Rattle.cfgast.specs.Items.{Item}
 use Rattle.cfgast.specs.Syntax.{syntax_of}
 use Rattle.cfgkinds.specs.declared.kind.YaccKind.{YaccKind}
-use Rattle.cfgsection.specs.Named.{Naming}
+use Rattle.cfgsection.specs.Named.{Names, NamesNoKind, Naming}
 use Rattle.cfgerrors.specs.Errors.{GrammarError, header_error}
 use Rattle.cfgerrors.specs.declared.error.YaccFault.{YaccFault}
 use Rattle.cfgerrors.specs.declared.error.YaccFault.TheVariants as faults
+use Rattle.cfgsyntax.specs.declared.yacc.ast.source.KindSource.{KindSource}
+use Rattle.cfgsyntax.specs.declared.yacc.ast.source.KindSource.TheVariants as sources
 use Rattle.cfgsyntax.specs.Faults.{errors_of}
 use Rattle.cfgsyntax.specs.Parsed.{Parsed}
 use Rattle.cfgsyntax.specs.Reads.{Stop, Reads, HasOneReading}
@@ -33,3 +35,14 @@ AnswersErrors errors (Err (faults.Errors told)) = told.items ≡ errors
 abbrev pub AnswersNaming : List ℕ → Naming → Result Parsed YaccFault → Type 0
 AnswersNaming text (Ok kind) result = AnswersKind kind text result
 AnswersNaming text (Err errors) result = AnswersErrors (map header_error errors) result
+
+-- The text names a kind, or has errors that keep it from that, and this is the result.
+abbrev pub AnswersItself : List ℕ → Result Parsed YaccFault → Type 0
+AnswersItself text result = (NamesNoKind text → ⊥) × ((naming : Naming) × Names text naming × AnswersNaming text naming result)
+
+-- of a text that is read as a file of this kind where it names none
+abbrev pub AnswersOr : YaccKind → List ℕ → Result (Parsed × KindSource) YaccFault → Type 0
+AnswersOr default text (Ok (parsed, sources.Default)) = NamesNoKind text × IsParsedAs default text parsed
+AnswersOr default text (Ok (parsed, sources.Section)) = AnswersItself text (Ok parsed)
+AnswersOr default text (Err faults.OutOfMemory) = Unit {0}
+AnswersOr default text (Err (faults.Errors told)) = AnswersItself text (Err (faults.Errors told))

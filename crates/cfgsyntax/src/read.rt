@@ -5,7 +5,7 @@ ghost use Rattle.cfgast.specs.Items.{Item};
 ghost use Rattle.cfgast.specs.Syntax.{syntax_of};
 ghost use Rattle.cfgtree.specs.TreeView.{syntax};
 ghost use Rattle.cfgsyntax.specs.Reads.{HasOneReading, InFile, Reads, Stop};
-ghost use Rattle.cfgsyntax.specs.Inner.Steps.{IsBehindSection, IsReadBehind, stop_view};
+ghost use Rattle.cfgsyntax.specs.Inner.Steps.{IsReadBehind, IsReadSection, stop_view};
 
 use cfgast::Syntax;
 use cfgbase::Span;
@@ -26,10 +26,9 @@ pub(crate) enum Stopped {
     File(Fault),
 }
 
-/// What is left of a text behind its section, which may be missing.
-fn behind_section(alloc: Global, text: &str) -> Result<&str, HeaderFault>
-    ensures rest { IsBehindSection text.now result }
-    ensures shorter { IfOk result (λ rest. length rest.now ≤ length text.now) }
+/// What is left of a text after its section, which may be missing.
+pub(crate) fn after_section(alloc: Global, text: &str) -> Result<&str, HeaderFault>
+    ensures { IsReadSection text.now result }
 {
     let (_, rest) = section_entries(alloc, text, false)?;
     Ok(rest)
@@ -57,18 +56,20 @@ fn read_behind(
     Ok((tree_of(syntax), stop_in_file(fault)))
 }
 
-/// Reads a text as a grammar file of the kind, behind its section: what was read, and what stopped the reading, if
-/// anything did. Behind a section with errors nothing is read.
+/// Reads a text as a grammar file of the kind, by what is left of it after its section: what was read, and what stopped
+/// the reading, if anything did. After a section with errors nothing is read.
 pub(crate) fn read(
     alloc: Global,
     kind: YaccKind,
     text: &str,
+    rest: Result<&str, HeaderFault>,
 ) -> Result<(GrammarAST, Option<Stopped>), AllocError>
+    requires { IsReadSection text.now rest }
     ensures one { HasOneReading kind text.now }
     ensures read { IfOk result (λ x. (items : List Item) (stop : Option Stop) → Reads kind text.now items stop
         → (syntax x.0 ≡ syntax_of items) × (option_map stop_view x.1 ≡ stop)) }
 {
-    match behind_section(alloc, text) {
+    match rest {
         Ok(rest) => read_behind(alloc, kind, text.len(), rest),
         Err(HeaderFault::Errors(errors)) => {
             let nothing = Syntax::none(alloc);

@@ -42,10 +42,6 @@ pub fn tree_with<T: Drop>(
     both(tree, made)
 }
 
-/// Lets a tree go, for crates above: one that drops a tree has the proof of how for itself. No public path of
-/// `cfgrammar` leads to it.
-pub fn let_go(_tree: GrammarAST) {}
-
 // Of any types: a refusal drops the first one.
 fn both<A: Drop, B: Drop>(a: A, b: Result<B, AllocError>) -> Result<(A, B), AllocError>
     ensures made { IfOk result (λ both. (both.0 ≡ a) × (b ≡ Ok both.1)) }

@@ -5,5 +5,5 @@ pub mod duplicates;
 pub mod unused;
 pub mod writing;
 
-pub use ast::{GrammarAST, let_go, tree_of, tree_with};
+pub use ast::{GrammarAST, tree_of, tree_with};
 pub use writing::clone_with_start;

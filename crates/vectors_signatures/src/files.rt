@@ -1,7 +1,7 @@
 //! The reading of a file, its errors and its warnings.
 
 use cfgrammar::yacc::ast::{
-    ASTModificationError, ASTWithValidityInfo, GrammarAST, Rule, StartFault,
+    ASTModificationError, ASTWithValidityInfo, GrammarAST, KindSource, Rule, StartFault,
 };
 use cfgrammar::yacc::{
     YaccFault, YaccGrammarError, YaccGrammarErrorKind, YaccGrammarResult, YaccGrammarWarning,
@@ -45,6 +45,15 @@ pub fn warnings(alloc: Global, ast: &GrammarAST) -> Result<Vec<YaccGrammarWarnin
 /// A file that names its kind.
 pub fn read_as_named(alloc: Global, text: &str) -> YaccGrammarResult<ASTWithValidityInfo> {
     ASTWithValidityInfo::from_str(alloc, text)
+}
+
+/// A file that is read as one of `default` where it names no kind.
+pub fn read_as_named_or(
+    alloc: Global,
+    default: YaccKind,
+    text: &str,
+) -> YaccGrammarResult<(ASTWithValidityInfo, KindSource)> {
+    ASTWithValidityInfo::from_str_or(alloc, default, text)
 }
 
 /// What was read, with another start rule.

@@ -9,10 +9,8 @@ use Rattle.cfgtree.specs.declared.ast.GrammarAST.{GrammarAST}
 use Rattle.cfgkinds.specs.declared.kind.YaccKind.{YaccKind}
 use Rattle.cfgsection.specs.declared.section.header_fault.HeaderFault.{HeaderFault}
 use Rattle.cfgsection.specs.declared.section.header_fault.HeaderFault.TheVariants as header
-use Rattle.cfgsection.specs.Named.{Naming}
-use Rattle.cfgsection.specs.SectionGrammar.{Entry}
-use Rattle.cfgsection.specs.SectionReads.{section_of, errors_view}
-use Rattle.cfgerrors.specs.Errors.{GrammarError, header_error}
+use Rattle.cfgsection.specs.SectionReads.{IsAfterSection, section_of, errors_view}
+use Rattle.cfgerrors.specs.Errors.{header_error}
 use Rattle.cfgerrors.specs.declared.error.YaccFault.{YaccFault}
 use Rattle.cfgerrors.specs.declared.error.YaccFault.TheVariants as faults
 use Rattle.cfgreader.specs.FileGrammar.{file}
@@ -25,24 +23,19 @@ abbrev pub stop_view : Stopped → Stop
 stop_view (stops.Section errors) = InSection (errors_view errors.items)
 stop_view (stops.File fault) = InFile fault
 
--- what is left behind the section of a text, or the errors of that
-abbrev pub IsBehindSection : List ℕ → Result (Bor (List ℕ)) HeaderFault → Type 0
-IsBehindSection text (Ok rest) = (entries : List Entry) × (section_of false text ≡ Ok (entries, rest.now))
-IsBehindSection text (Err (header.Errors errors)) = section_of false text ≡ Err (errors_view errors.items)
-IsBehindSection text (Err header.OutOfMemory) = Unit {0}
+-- what is left after the section of a text, or the errors of that
+abbrev pub IsReadSection : List ℕ → Result (Bor (List ℕ)) HeaderFault → Type 0
+IsReadSection text (Ok rest) = IsAfterSection text rest.now
+IsReadSection text (Err (header.Errors errors)) = section_of false text ≡ Err (errors_view errors.items)
+IsReadSection text (Err header.OutOfMemory) = Unit {0}
 
 -- the tree of what is left behind it, and what stopped the reading
 abbrev pub IsReadBehind : YaccKind → ℕ → List ℕ → GrammarAST × Option Stopped → Type 0
 IsReadBehind kind len rest (tree, stop) = (syntax tree ≡ syntax_of (computes (file kind len) rest).items)
     × (option_map stop_view stop ≡ option_map InFile (stop_of (computes (file kind len) rest).outcome))
 
--- these are the errors of a text that names no kind
-abbrev pub IsRefusedBy : Naming → List GrammarError → Type 0
-IsRefusedBy (Ok kind) told = ⊥
-IsRefusedBy (Err errors) told = told ≡ map header_error errors
-
--- of a text that names this, where the kind is asked for
-abbrev pub IsKindOf : Naming → Result YaccKind YaccFault → Type 0
-IsKindOf naming (Ok kind) = naming ≡ Ok kind
-IsKindOf naming (Err faults.OutOfMemory) = Unit {0}
-IsKindOf naming (Err (faults.Errors told)) = IsRefusedBy naming told.items
+-- the errors of a section, as those of a grammar
+abbrev pub IsFaultOf : HeaderFault → YaccFault → Type 0
+IsFaultOf fault faults.OutOfMemory = Unit {0}
+IsFaultOf (header.Errors errors) (faults.Errors shown) = shown.items ≡ map header_error (errors_view errors.items)
+IsFaultOf header.OutOfMemory (faults.Errors shown) = ⊥

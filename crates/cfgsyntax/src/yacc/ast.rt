@@ -2,7 +2,7 @@
 
 mod errors;
 mod fault;
-mod named;
+mod source;
 mod start;
 
 ghost use Rattle.std.specs.Prelude.{◌≡◌, ◌↔◌, [], true, List, Option, string_bytes, IsTrue, IfOk, IfErr};
@@ -16,21 +16,24 @@ ghost use Rattle.cfgtree.specs.TreeView.{syntax};
 ghost use Rattle.cfgsection.specs.Named.{HasOneNaming, Names, Naming};
 ghost use Rattle.cfgsyntax.specs.Faults.{errors_of};
 ghost use Rattle.cfgwords.specs.Places.{IsPiece, IsWithin};
-ghost use Rattle.cfgsyntax.specs.OfItself.{AnswersNaming};
+ghost use Rattle.cfgsyntax.specs.Inner.Steps.{IsReadSection};
+ghost use Rattle.cfgsyntax.specs.OfItself.{AnswersNaming, AnswersOr, IsParsedAs};
 ghost use Rattle.cfgsyntax.specs.Reads.{Reads, HasOneReading, Stop};
 ghost use Rattle.cfgtree.specs.Sound.{IsSound};
 ghost use Rattle.cfgsyntax.specs.ErrorSpans.{EachFaultSpan, EachParsedSpan};
 ghost use Rattle.cfgsyntax.specs.Starts.{restarted, IsStartFault};
 
-use crate::read::read;
+use crate::read::{after_section, read};
 use crate::validation::has_rule;
 pub use cfgast::{Production, Rule, Settings, Symbol};
 use cfgerrors::{YaccGrammarError, YaccGrammarErrorKind, YaccGrammarResult};
 use cfgkinds::YaccKind;
+use cfgsection::HeaderFault;
+use cfgsection::named::{kind_if_named, kind_named};
 pub use cfgtree::GrammarAST;
 use cfgtree::{clone_with_start, tree_with};
-use errors::errors_found;
-use named::named_kind;
+use errors::{errors_found, fault_of};
+pub use source::KindSource;
 pub use start::{ASTModificationError, StartFault};
 use std::alloc::{AllocError, Global};
 use std::marker::Model;
@@ -78,10 +81,7 @@ impl ASTWithValidityInfo {
             → parsed.errors ≡ errors_of items stop) }
         ensures places { IfOk result (EachParsedSpan (IsPiece text.now) (IsWithin text.now)) }
     {
-        let (ast, stop) = read(alloc, kind, text)?;
-        let errors = errors_found(alloc, &ast, stop);
-        let (ast, errors) = tree_with(ast, errors)?;
-        Ok(ASTWithValidityInfo { kind, ast, errors })
+        ASTWithValidityInfo::read(alloc, kind, text, after_section(alloc, text))
     }
 
     /// Reads the text as a Yacc file of the kind that its section names, as [`new`](ASTWithValidityInfo::new) does.
@@ -97,8 +97,59 @@ impl ASTWithValidityInfo {
         ensures fault_places { IfErr result (EachFaultSpan (IsPiece text.now)) }
         ensures listed { IfErr result ListsErrors }
     {
-        let kind = named_kind(alloc, text)?;
-        Ok(ASTWithValidityInfo::new(alloc, kind, text)?)
+        let (kind, rest) = match kind_named(alloc, text) {
+            Ok(found) => found,
+            Err(fault) => return Err(fault_of(alloc, fault)),
+        };
+        Ok(ASTWithValidityInfo::read(alloc, kind, text, Ok(rest))?)
+    }
+
+    /// Reads the text as a Yacc file of the kind that its section names. Where it has no section, or one without errors
+    /// that names no kind, it is read as a file of `default`, and the result says so.
+    ///
+    /// # Errors
+    ///
+    /// Those of the section; where it has none, one where it gives `yacckind` what isn't a kind; and running out of
+    /// memory. What is wrong after the section is no error of this call.
+    pub fn from_str_or(
+        alloc: Global,
+        default: YaccKind,
+        text: &str,
+    ) -> YaccGrammarResult<(Self, KindSource)>
+        ensures one { HasOneNaming text.now }
+        ensures answer { AnswersOr default text.now result }
+        ensures places { IfOk result (λ x. EachParsedSpan (IsPiece text.now) (IsWithin text.now) x.0) }
+        ensures fault_places { IfErr result (EachFaultSpan (IsPiece text.now)) }
+        ensures listed { IfErr result ListsErrors }
+    {
+        let (named, rest) = match kind_if_named(alloc, text) {
+            Ok(found) => found,
+            Err(fault) => return Err(fault_of(alloc, fault)),
+        };
+        let (kind, source) = match named {
+            Some(kind) => (kind, KindSource::Section),
+            None => (default, KindSource::Default),
+        };
+        let parsed = ASTWithValidityInfo::read(alloc, kind, text, Ok(rest))?;
+        Ok((parsed, source))
+    }
+
+    /// Reads the text as a Yacc file of the kind, by what is left of it after its section.
+    fn read(
+        alloc: Global,
+        kind: YaccKind,
+        text: &str,
+        rest: Result<&str, HeaderFault>,
+    ) -> Result<Self, AllocError>
+        requires { IsReadSection text.now rest }
+        ensures one { HasOneReading kind text.now }
+        ensures parsed { IfOk result (IsParsedAs kind text.now) }
+        ensures places { IfOk result (EachParsedSpan (IsPiece text.now) (IsWithin text.now)) }
+    {
+        let (ast, stop) = read(alloc, kind, text, rest)?;
+        let errors = errors_found(alloc, &ast, stop);
+        let (ast, errors) = tree_with(ast, errors)?;
+        Ok(ASTWithValidityInfo { kind, ast, errors })
     }
 
     /// What was read of the file. It need not be valid.
@@ -128,11 +179,6 @@ impl ASTWithValidityInfo {
         ensures { result.now ≡ self.now.errors }
     {
         self.errors.as_slice()
-    }
-
-    /// The tree alone.
-    pub(crate) fn into_ast(self) -> GrammarAST {
-        self.ast
     }
 
     /// A copy with another start: the name and the span of the handed rule. The kind and the errors stay as they are,

@@ -7,7 +7,7 @@ ghost use Rattle.cfgtree.specs.TreeView.{syntax};
 ghost use Rattle.cfgsection.specs.SectionReads.{errors_view};
 ghost use Rattle.cfgerrors.specs.Errors.{kind_view, header_error};
 ghost use Rattle.cfgsyntax.specs.Faults.{repeated_kind, duplicate_error, stop_errors, all_errors};
-ghost use Rattle.cfgsyntax.specs.Inner.Steps.{stop_view};
+ghost use Rattle.cfgsyntax.specs.Inner.Steps.{IsFaultOf, stop_view};
 
 use super::fault::error_of;
 use crate::read::Stopped;
@@ -19,7 +19,8 @@ use cfgerrors::YaccGrammarErrorKind::{
     DuplicateExpectDeclaration, DuplicateExpectRRDeclaration, DuplicateImplicitTokensDeclaration,
     DuplicatePrecedence, DuplicateStartDeclaration,
 };
-use cfgerrors::{HeaderError, YaccGrammarError, YaccGrammarErrorKind};
+use cfgerrors::{HeaderError, YaccFault, YaccGrammarError, YaccGrammarErrorKind};
+use cfgsection::HeaderFault;
 use cfgtree::GrammarAST;
 use cfgtree::duplicates::duplicates;
 use std::alloc::{AllocError, Global};
@@ -56,7 +57,7 @@ fn duplicate_errors(
 }
 
 /// The errors of a section.
-pub(super) fn section_errors(
+fn section_errors(
     alloc: Global,
     found: Vec<HeaderError<Span>>,
 ) -> Result<Vec<YaccGrammarError>, AllocError>
@@ -67,6 +68,19 @@ pub(super) fn section_errors(
         errors.push(YaccGrammarError::from(error))?;
     }
     Ok(errors)
+}
+
+/// Why a text names no kind: the errors of its section, or running out of memory.
+pub(super) fn fault_of(alloc: Global, fault: HeaderFault) -> YaccFault
+    ensures { IsFaultOf fault result }
+{
+    match fault {
+        HeaderFault::Errors(found) => match section_errors(alloc, found) {
+            Ok(errors) => YaccFault::Errors(errors),
+            Err(_) => YaccFault::OutOfMemory,
+        },
+        HeaderFault::OutOfMemory => YaccFault::OutOfMemory,
+    }
 }
 
 /// The errors for what stopped a reading.

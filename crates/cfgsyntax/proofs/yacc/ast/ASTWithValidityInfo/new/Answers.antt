@@ -1,51 +1,12 @@
-use Rattle.std.proofs.Common.{◌≡◌, All, option_map, sym, subst, ap, ◌∙◌}
-use Rattle.std.specs.Prelude.{IfOk}
-use Rattle.cfgsyntax.specs.Faults.{all_errors}
-use Rattle.cfgsyntax.specs.Inner.Steps.{stop_view}
-use Rattle.cfgtree.specs.Check.{check_of}
-use Rattle.cfgtree.specs.TreeView.{syntax}
-use Rattle.cfgtree.specs.WellFormed.{IsWellFormed}
-use Rattle.cfgtree.proofs.WellFormedLemmas.{syntax_of-IsWellFormed}
-use Rattle.cfgwords.proofs.NameStarts.{begins_as_name}
-use Rattle.cfgwords.specs.Places.{IsPiece, IsWithin}
-use Rattle.cfgast.specs.Syntax.{EachSpan}
-use Rattle.cfgsyntax.proofs.ErrorPlaces.{IsErrorAt, read_syntax_at, read_names, read_errors_at}
-use Rattle.cfgsyntax.proofs.SoundLemmas.{of_reading, checked, errors_read}
+use Rattle.std.proofs.lemmas.Result.{IfOk-weaker}
+use Rattle.cfgsyntax.specs.OfItself.{IsParsedAs}
 use Rattle.cfgsyntax.proofs.yacc.ast.ASTWithValidityInfo.new.Goals as goal
 
--- the tree is the one that was read
-same_syntax : (c : goal.In_ok-ast-2) → syntax c.in_ok-ast-2.ast ≡ syntax c.in_ok-ast.ast
-same_syntax c = ap syntax c.in_ok-ast-2.ensures.made.0
-
--- the errors are those that were found
-found : (c : goal.In_ok-ast-2) → c.in_ok-ast-2.errors.items ≡ all_errors (syntax c.in_ok-ast.ast) (option_map stop_view c.in_ok-ast.stop)
-found c = subst (λ made. IfOk made (λ errors. errors.items ≡ all_errors (syntax c.in_ok-ast.ast) (option_map stop_view c.in_ok-ast.stop)))
-    c.in_ok-ast-2.ensures.made.1 c.errors_found-errors.ensures
+pub returns-clause-kind : goal.returns-clause-kind
+returns-clause-kind c = IfOk-weaker c.read.result (IsParsedAs c.args.kind c.args.text.now) _ (λ parsed is. is.kind_is) c.read.ensures.parsed
 
 pub returns-clause-syntax : goal.returns-clause-syntax
-returns-clause-syntax c = λ items stop reads. same_syntax c ∙ (c.in_ok-ast.ensures.read items stop reads).0
+returns-clause-syntax c = IfOk-weaker c.read.result (IsParsedAs c.args.kind c.args.text.now) _ (λ parsed is. is.syntax) c.read.ensures.parsed
 
 pub returns-clause-errors : goal.returns-clause-errors
-returns-clause-errors c = λ items stop reads.
-    errors_read c.in_ok-ast-2.errors.items _ (option_map stop_view c.in_ok-ast.stop) items stop (found c) (c.in_ok-ast.ensures.read items stop reads)
-
-pub returns-clause-places : goal.returns-clause-places
-returns-clause-places c =
-    let one = c.in_ok-ast.ensures.one in
-    let errors = returns-clause-errors c one.items one.stop one.reads in
-    record {
-      errors = subst (All (IsErrorAt c.args.text.now)) (sym errors) (read_errors_at c.args.kind c.args.text.now c.utf8.text one.items one.stop one.reads);
-      syntax = of_reading c.args.kind c.args.text.now _ (EachSpan (IsPiece c.args.text.now) (IsWithin c.args.text.now)) one
-          (returns-clause-syntax c) (read_syntax_at c.args.kind c.args.text.now c.utf8.text);
-    }
-
-pub invariant_of-result : goal.invariant_of-result
-invariant_of-result c =
-    let read = of_reading c.args.kind c.args.text.now _ (λ s. IsWellFormed s × All (λ rule. begins_as_name rule.0) s.rules)
-    c.in_ok-ast.ensures.one (returns-clause-syntax c)
-    (λ items stop reads. (syntax_of-IsWellFormed items, read_names c.args.kind c.args.text.now c.utf8.text items stop reads)) in
-    record {
-      well_formed = read.0;
-      rules_are_names = read.1;
-      checked = checked c.in_ok-ast-2.errors.items _ _ (check_of _) (found c ∙ ap (λ s. all_errors s (option_map stop_view c.in_ok-ast.stop)) (sym (same_syntax c)));
-    }
+returns-clause-errors c = IfOk-weaker c.read.result (IsParsedAs c.args.kind c.args.text.now) _ (λ parsed is. is.errors) c.read.ensures.parsed
