@@ -1,9 +1,9 @@
 //! The words that name a kind of Yacc and a command.
 
 ghost use Rattle.std.specs.Prelude.{◌≡◌};
-ghost use Rattle.cfgshell.specs.Words.{asks_lexer, command_named, kind_named};
+ghost use Rattle.cfgshell.specs.Arguments.{asks_lexer, command_named, kind_named};
 
-use cfgkinds::{YaccKind, YaccOriginalActionKind};
+use cfgrammar::yacc::{YaccKind, YaccOriginalActionKind};
 
 /// Which kind of Yacc a text is read as.
 #[derive(Clone, Copy, Debug, PartialEq, Eq)]
