@@ -1,4 +1,4 @@
--- What the words of the program name.
+-- What the arguments of the program name.
 use Rattle.std.specs.Prelude.{ℕ, List, Option, Some, None, if◌then◌else◌, codes, Bool, not, ◌&&◌}
 use Rattle.std.specs.Str.{bytes_eq}
 use Rattle.cfgrammar.specs.YaccKind.TheVariants.{Original, Grmtools, Eco}
