@@ -13,7 +13,7 @@ use Rattle.cfgshell.specs.declared.source.Input.TheVariants as input
 use Rattle.cfgshell.specs.declared.words.Command.{Command}
 use Rattle.cfgshell.specs.declared.words.KindArg.{KindArg}
 use Rattle.cfgshell.specs.Endings.{Ending, NotUtf8, Usage, IsFetched, ending_in, ending_of, ending_with}
-use Rattle.cfgshell.specs.Words.{asks_lexer, kind_named, command_named}
+use Rattle.cfgshell.specs.Arguments.{asks_lexer, kind_named, command_named}
 use Rattle.cfgshell.specs.Run.{EndsReported, EndsUnread, HandlesFirst, HandlesLexer, HandlesNames, HandlesTexts, HandlesWords, WithBytes, WithText}
 
 three_words : (words : List (Bor (List ℕ))) (d : Bor (List ℕ)) → 3 ≤ length words → length words < 4

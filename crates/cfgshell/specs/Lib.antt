@@ -1,3 +1,3 @@
-pub mod Words
+pub mod Arguments
 pub mod Endings
 pub mod Run

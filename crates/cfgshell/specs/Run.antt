@@ -5,7 +5,7 @@ use Rattle.std.specs.Prelude.{◌≡◌, ℕ, List, [], ◌∷◌, Option, Some,
 use Rattle.std.specs.Str.{IsUtf8}
 use Rattle.std.specs.Io.KnownBytes.{Keeps}
 use Rattle.cfgshell.specs.Endings.{Ending, Usage, Unreadable, NotUtf8, NoMemory, ending_of}
-use Rattle.cfgshell.specs.Words.{asks_lexer, command_named, kind_named}
+use Rattle.cfgshell.specs.Arguments.{asks_lexer, command_named, kind_named}
 use Rattle.cfgsink.specs.declared.outcome.Outcome.{Outcome}
 use Rattle.cfgsink.specs.declared.outcome.ReportFault.{ReportFault}
 use Rattle.cfgshell.specs.declared.source.Input.{Input}

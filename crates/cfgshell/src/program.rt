@@ -5,7 +5,7 @@ ghost use Rattle.std.specs.Str.{IsUtf8};
 ghost use Rattle.cfgshell.specs.Endings.{Ending, NotUtf8, IsFetched, ending_in, ending_with, faults_at};
 ghost use Rattle.cfgshell.specs.Endings.{line_of, status_of};
 ghost use Rattle.cfgshell.specs.Run.{HandlesLexer, HandlesNames, HandlesWords};
-ghost use Rattle.cfgshell.specs.Words.{command_named, kind_named};
+ghost use Rattle.cfgshell.specs.Arguments.{command_named, kind_named};
 ghost use Rattle.cfgshell.specs.declared.source.Input.{Input};
 ghost use Rattle.cfgsink.specs.Reports.{faults_met};
 ghost use Rattle.cfgsink.specs.Sinks.{AppendsOrFaults};

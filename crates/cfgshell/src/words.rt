@@ -1,9 +1,9 @@
 //! The words that name a kind of Yacc and a command.
 
 ghost use Rattle.std.specs.Prelude.{◌≡◌};
-ghost use Rattle.cfgshell.specs.Words.{asks_lexer, command_named, kind_named};
+ghost use Rattle.cfgshell.specs.Arguments.{asks_lexer, command_named, kind_named};
 
-use cfgkinds::{YaccKind, YaccOriginalActionKind};
+use cfgrammar::yacc::{YaccKind, YaccOriginalActionKind};
 
 /// Which kind of Yacc a text is read as.
 #[derive(Clone, Copy, Debug, PartialEq, Eq)]
@@ -46,7 +46,7 @@ pub fn kind_of(word: &str) -> Option<KindArg>
 }
 
 /// The command that a word names, byte for byte.
-#[tactic(auto, unfolding(crate::specs::Words::command_named))]
+#[tactic(auto, unfolding(crate::specs::Arguments::command_named))]
 pub fn command_of(word: &str) -> Option<Command>
     ensures { result ≡ command_named word.now }
 {

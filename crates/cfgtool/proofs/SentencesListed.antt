@@ -3,13 +3,13 @@ use Rattle.std.proofs.Common.{◌≡◌, ℕ, ◌+◌, ◌<◌, ◌≤◌, ◌�
 use Rattle.std.specs.List.Sorted.{IsStrictlySortedBy}
 use Rattle.std.proofs.lemmas.Bool.{cases_lt}
 use Rattle.std.proofs.lemmas.List.Elements.{All-nil, Contains-get_or}
-use Rattle.derivation.specs.Grammar.{Sym, Grammar, IsGrammar, HasProduction}
-use Rattle.derivation.specs.Sentence.{cost_of}
-use Rattle.derivation.specs.Costs.{Minimal}
-use Rattle.cfgleast.specs.Generator.{HasNone, IsTooDear}
-use Rattle.cfgchoices.specs.FirstSentence.{dictionary}
-use Rattle.cfgcosts.specs.Sentences.{ListsMinimal}
-use Rattle.cfgchoices.proofs.SentenceTokens.{sentence_tokens}
+use Rattle.cfgrammar.specs.Grammar.{Sym, Grammar, IsGrammar, HasProduction}
+use Rattle.cfgrammar.specs.Sentence.{cost_of}
+use Rattle.cfgrammar.specs.Costs.{Minimal}
+use Rattle.cfgrammar.specs.Generator.{HasNone, IsTooDear}
+use Rattle.cfgrammar.specs.FirstSentence.{dictionary}
+use Rattle.cfgrammar.specs.Sentences.{ListsMinimal}
+use Rattle.cfgrammar.proofs.SentenceTokens.{sentence_tokens}
 
 none_sorted : IsStrictlySortedBy dictionary []
 unfolding IsStrictlySortedBy

@@ -1,9 +1,9 @@
 -- What is told of a production.
 use Rattle.std.proofs.Common.{◌≡◌, ℕ, List, ◌++◌, slice_get, Option, Some, None, option_map, codes}
 use Rattle.std.specs.Fmt.{decimal}
-use Rattle.cfgnumbers.specs.Numbered.{Numbered}
-use Rattle.cfgnumbers.specs.Accessors.{production_part, production_text}
-use Rattle.cfgtool.specs.Lines.{production_line}
+use Rattle.cfgrammar.specs.Numbered.{Numbered}
+use Rattle.cfgrammar.specs.Accessors.{production_part, production_text}
+use Rattle.cfgtool.specs.ReportLines.{production_line}
 
 -- the line of a production
 pub line_shown : (g : Numbered) (n : ℕ) (text : List ℕ) → production_part (production_text g) g n ≡ Some text

@@ -2,14 +2,14 @@
 use Rattle.std.proofs.Common.{List, [], All, map, arith}
 use Rattle.std.specs.List.{zip}
 use Rattle.std.proofs.lemmas.List.Elements.{All-nil, All-cons, All-head, All-tail, All-append, All-map}
-use Rattle.lemmas.proofs.Zips.{All-zip}
-use Rattle.cfgbase.specs.declared.span.Span.{Span}
-use Rattle.cfgast.specs.Syntax.{Syntax, EachSpan}
-use Rattle.cfgtree.specs.Unused.{Name, AreWarnings, Warned, none, taken, left, possible_warnings, rule_warning, token_warning}
-use Rattle.cfgerrors.specs.Warnings.{GrammarWarning, warning_at}
-use Rattle.cfgerrors.specs.declared.warning.YaccGrammarWarningKind.{YaccGrammarWarningKind}
-use Rattle.cfgerrors.specs.declared.warning.YaccGrammarWarningKind.TheVariants.{UnusedRule, UnusedToken}
-use Rattle.cfgtool.specs.Lines.{EachWarningSpan}
+use Rattle.cfgrammar.proofs.Zips.{All-zip}
+use Rattle.cfgrammar.specs.Span.{Span}
+use Rattle.cfgrammar.specs.Syntax.{Syntax, EachSpan}
+use Rattle.cfgrammar.specs.Unused.{Name, AreWarnings, Warned, none, taken, left, possible_warnings, rule_warning, token_warning}
+use Rattle.cfgrammar.specs.Warnings.{GrammarWarning, warning_at}
+use Rattle.cfgrammar.specs.YaccGrammarWarningKind.{YaccGrammarWarningKind}
+use Rattle.cfgrammar.specs.YaccGrammarWarningKind.TheVariants.{UnusedRule, UnusedToken}
+use Rattle.cfgtool.specs.ReportLines.{EachWarningSpan}
 
 module _ (P Q : Span → Type 0) where
   placed : (kind : YaccGrammarWarningKind) (span : Span) → P span → EachWarningSpan P (warning_at kind span)

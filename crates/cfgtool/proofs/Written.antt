@@ -4,7 +4,7 @@ use Rattle.std.specs.List.{flat_map, enumerate_from}
 use Rattle.std.specs.declared.ops.Range.{Range}
 use Rattle.std.proofs.lemmas.List.{take_all}
 use Rattle.std.proofs.lemmas.List.FromFn.{length-enumerate_from}
-use Rattle.lemmas.proofs.Taken.{one_more_shown}
+use Rattle.cfgrammar.proofs.Taken.{one_more_shown}
 use Rattle.cfgtool.specs.TokenSets.{Adds}
 
 -- the indices that are left are those of elements, and the texts of the elements before them stand behind what was there

@@ -1,9 +1,9 @@
 -- The lines that tell FIRST sets.
 use Rattle.std.specs.Prelude.{◌≡◌, ◌↔◌, ℕ, List, [], ◌++◌, Bool, IsTrue, if◌then◌else◌, codes}
 use Rattle.std.specs.List.{flat_map, enumerate_from}
-use Rattle.derivation.specs.Grammar.{HasProduction}
-use Rattle.derivation.specs.First.{First, Empty}
-use Rattle.cfgnumbers.specs.Numbered.{Numbered, NumberedRule, core}
+use Rattle.cfgrammar.specs.Grammar.{HasProduction}
+use Rattle.cfgrammar.specs.First.{First, Empty}
+use Rattle.cfgrammar.specs.Numbered.{Numbered, NumberedRule, core}
 use Rattle.cfgtool.specs.TokenSets.{set_word}
 
 -- `begins` tells of a rule and a token, and `empty` of a rule, exactly what derivations show

@@ -1,8 +1,8 @@
 -- The lines that tell FOLLOW sets.
 use Rattle.std.specs.Prelude.{◌≡◌, ◌↔◌, ℕ, List, ◌++◌, Bool, IsTrue, codes}
 use Rattle.std.specs.List.{flat_map, enumerate_from}
-use Rattle.derivation.specs.Follow.{MayFollow}
-use Rattle.cfgnumbers.specs.Numbered.{Numbered, NumberedRule, core}
+use Rattle.cfgrammar.specs.Follow.{MayFollow}
+use Rattle.cfgrammar.specs.Numbered.{Numbered, NumberedRule, core}
 use Rattle.cfgtool.specs.TokenSets.{set_word}
 
 -- `follows` tells of a rule and a token exactly what derivations show

@@ -3,9 +3,9 @@ use Rattle.std.specs.Prelude.{ℕ, ◌==◌, not, List, [], ◌++◌, length, sl
 use Rattle.std.specs.List.{filter, flat_map}
 use Rattle.std.specs.Option.{option_map_or}
 use Rattle.std.specs.Str.Lines.{lines}
-use Rattle.cfgnumbers.specs.Numbered.{Numbered, NumberedToken}
+use Rattle.cfgrammar.specs.Numbered.{Numbered, NumberedToken}
 use Rattle.lexcheck.specs.LexerNames.{missing_tokens, unknown_places}
-use Rattle.cfgyacc.specs.TokenNames.{token_names}
+use Rattle.cfgrammar.specs.TokenNames.{token_names}
 use Rattle.cfgtool.specs.TokenSets.{quoted}
 
 -- The names that a text lists: its lines but the empty ones. The lines are what stands between LFs, and each that a LF ends

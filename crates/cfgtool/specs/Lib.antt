@@ -1,4 +1,4 @@
-pub mod Lines
+pub mod ReportLines
 pub mod TokenSets
 pub mod FirstLines
 pub mod FollowLines

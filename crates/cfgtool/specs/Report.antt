@@ -1,12 +1,10 @@
 -- What the program writes of a text.
-use Rattle.std.specs.Prelude.{◌≡◌, ℕ, List, [], Option, Result, Ok, Err}
+use Rattle.std.specs.Prelude.{◌≡◌, ℕ, List, Option, Result, Ok, Err, String, string_bytes}
+use Rattle.std.specs.Global.{Global}
 use Rattle.std.specs.Io.KnownBytes.{Appends, Keeps}
-use Rattle.cfgast.specs.Syntax.{Syntax}
-use Rattle.cfgerrors.specs.Errors.{GrammarError}
-use Rattle.cfgyacc.specs.Answer.{Found, Unnamed, WasRead, IsRefused, in_numbers}
-use Rattle.cfgnumbers.specs.Fits.{Fits}
-use Rattle.cfgyacc.specs.GrammarOf.{IsFoundAs, IsFoundItself}
-use Rattle.cfgnumbers.specs.Numbered.{Numbered}
+use Rattle.cfgrammar.specs.Answer.{Found}
+use Rattle.cfgrammar.specs.Numbered.{Numbered}
+use Rattle.cfgrammar.specs.Syntax.{Syntax}
 use Rattle.cfgsink.specs.declared.outcome.Outcome.{Outcome}
 use Rattle.cfgsink.specs.declared.outcome.Outcome.TheVariants.{Done, Refused}
 use Rattle.cfgsink.specs.declared.outcome.ReportFault.{ReportFault}
@@ -14,24 +12,15 @@ use Rattle.cfgsink.specs.declared.outcome.ReportFault.TheVariants as faults
 use Rattle.cfgshell.specs.declared.words.Command.{Command}
 use Rattle.cfgshell.specs.declared.words.Command.TheVariants.{Grammar, Firsts, Follows, Sentences, Warnings}
 use Rattle.cfgshell.specs.declared.words.KindArg.{KindArg}
-use Rattle.cfgshell.specs.declared.words.KindArg.TheVariants.{Named, Section}
+use Rattle.cfgdriver.specs.ReadText.{IsFound, IsMadeOfErrors, IsMadeOfGrammar}
 use Rattle.cfgtool.specs.FirstLines.{AreFirstLines}
 use Rattle.cfgtool.specs.FollowLines.{AreFollowLines}
-use Rattle.cfgtool.specs.Lines.{AreWarningLines, error_lines, production_lines}
+use Rattle.cfgtool.specs.ReportLines.{AreWarningLines, error_lines, production_lines}
 use Rattle.cfgtool.specs.SentenceLines.{AreSentenceLines}
 use Rattle.cfgtool.specs.LexerLines.{lexer_lines, names_in}
 use Rattle.cfgtool.specs.declared.engine.Request.{Request}
 use Rattle.cfgtool.specs.declared.engine.Request.TheVariants as requests
 use Rattle.cfgsink.specs.Sinks.{AppendsBeginning}
-
--- what a text is found to be, as a file of the kind that is asked for, or else of the one that it names itself
-abbrev pub IsFound : KindArg → List ℕ → Found → Type 0
-IsFound (Named kind) text found = IsFoundAs kind text found
-IsFound Section text found = IsFoundItself text found
-
--- the greatest index of the program's grammars
-abbrev pub greatest : ℕ
-greatest = 4294967295
 
 -- the lines that a command tells of a text with this syntax, which is this grammar in numbers
 abbrev pub AreLinesOf : Command → List ℕ → Syntax → Numbered → List ℕ → Type 0
@@ -50,18 +39,17 @@ abbrev pub AreAskedLines : Request → List ℕ → Syntax → Numbered → List
 AreAskedLines (requests.Command command) text s g lines = AreLinesOf command text s g lines
 AreAskedLines (requests.Names names) text s g lines = AreLexerLines names.now s g lines
 
+-- a report ends so, and this holds of its lines
+abbrev pub IsReported : Outcome → (List ℕ → Type 0) → Outcome × String Global → Type 0
+IsReported outcome Holds report = (report.0 ≡ outcome) × Holds (string_bytes report.1)
+
 -- `AreLines` says of a syntax and of that in numbers which lines are told of them.
 module _ (AreLines : Syntax → Numbered → List ℕ → Type 0) where
-  -- the lines of a grammar, which is what was read, where it has no errors and fits
-  abbrev pub AreGrammarLines : Found → List ℕ → Type 0
-  AreGrammarLines (Unnamed errors) lines = ⊥
-  AreGrammarLines (WasRead parsed) lines = (parsed.errors ≡ []) × Fits greatest (in_numbers parsed) × AreLines parsed.syntax (in_numbers parsed) lines
-
   -- How a report of a text that is found to be this ends, and its lines: the text is a grammar, and the lines asked for are
   -- told, or it is refused, and its errors are.
   abbrev pub IsReport : List ℕ → Found → Outcome → List ℕ → Type 0
-  IsReport text found Done lines = AreGrammarLines found lines
-  IsReport text found Refused lines = (told : List GrammarError) × IsRefused greatest found told × (lines ≡ error_lines text told)
+  IsReport text found Done lines = IsMadeOfGrammar AreLines found lines
+  IsReport text found Refused lines = IsMadeOfErrors (λ errors lines. lines ≡ error_lines text errors) found lines
 
   -- What a report adds to the known bytes of its sink: the lines of how it ended; nothing where memory ended; where the
   -- sink counted a fault, a beginning of the lines of how it would have ended.

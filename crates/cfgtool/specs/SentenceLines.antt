@@ -2,13 +2,13 @@
 use Rattle.std.specs.Prelude.{◌≡◌, ℕ, ◌+◌, ◌<◌, List, [], ◌++◌, Option, Some, None, Result, Ok, Err, EachIndex, All, length, map, slice_index_or, codes}
 use Rattle.std.specs.List.{concat}
 use Rattle.std.specs.Fmt.{decimal}
-use Rattle.derivation.specs.Grammar.{Token, HasProduction}
-use Rattle.cfgleast.specs.Generator.{AnswersLeast}
-use Rattle.cfgcosts.specs.Sentences.{AnswersGreatest, ListsMinimal}
-use Rattle.derivation.specs.declared.errors.CostError.{CostError}
-use Rattle.derivation.specs.declared.errors.CostError.TheVariants.{NoSentence, CostTooLarge}
-use Rattle.cfgnumbers.specs.Numbered.{Numbered, core}
-use Rattle.cfgnumbers.specs.Accessors.{rule_part, sym_text}
+use Rattle.cfgrammar.specs.Grammar.{Token, HasProduction}
+use Rattle.cfgrammar.specs.Generator.{AnswersLeast}
+use Rattle.cfgrammar.specs.Sentences.{AnswersGreatest, ListsMinimal}
+use Rattle.cfgrammar.specs.CostError.{CostError}
+use Rattle.cfgrammar.specs.CostError.TheVariants.{NoSentence, CostTooLarge}
+use Rattle.cfgrammar.specs.Numbered.{Numbered, core}
+use Rattle.cfgrammar.specs.Accessors.{rule_part, sym_text}
 
 abbrev pub least_word : Result ℕ CostError → List ℕ
 least_word (Ok c) = decimal c

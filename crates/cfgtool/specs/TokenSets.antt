@@ -1,7 +1,7 @@
 -- The tokens of a rule's set, as they are written.
 use Rattle.std.specs.Prelude.{◌≡◌, ℕ, List, [], ◌++◌, Bool, if◌then◌else◌, Option, Some, codes}
 use Rattle.std.specs.Option.{option_map_or}
-use Rattle.cfgnumbers.specs.Numbered.{NumberedToken}
+use Rattle.cfgrammar.specs.Numbered.{NumberedToken}
 
 -- ` "NAME"`
 abbrev pub quoted : List ℕ → List ℕ

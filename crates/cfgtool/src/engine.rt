@@ -1,17 +1,15 @@
 //! The report of a text.
 
-ghost use Rattle.std.specs.Prelude.{◌≡◌, ◌+◌, ◌-◌, ◌^◌, ◌<◌, Some, Ok, IfOk, IsErr, IsErrOf, OnErr};
-ghost use Rattle.std.specs.Prelude.{string_bytes};
-ghost use Rattle.cfgwords.specs.Places.{IsPiece, IsWithin};
-ghost use Rattle.cfgast.specs.Syntax.{EachSpan};
-ghost use Rattle.cfgtree.specs.TreeView.{syntax};
-ghost use Rattle.cfgsyntax.specs.ErrorSpans.{EachParsedSpan};
-ghost use Rattle.cfgyacc.specs.Answer.{Found, WasRead};
-ghost use Rattle.cfgyacc.specs.GrammarOf.{IsFoundAs, IsFoundItself};
+ghost use Rattle.std.specs.Prelude.{◌≡◌, ◌+◌, ◌-◌, ◌^◌, ◌<◌, Some, IfOk, IsErrOf, string_bytes};
+ghost use Rattle.cfgrammar.specs.Places.{IsPiece, IsWithin};
+ghost use Rattle.cfgrammar.specs.Syntax.{EachSpan};
+ghost use Rattle.cfgrammar.specs.TreeView.{syntax};
+ghost use Rattle.cfgrammar.specs.Answer.{Found};
+ghost use Rattle.cfgdriver.specs.ReadText.{IsFound};
 ghost use Rattle.cfgtool.specs.FirstLines.{AreFirstLines};
 ghost use Rattle.cfgtool.specs.FollowLines.{AreFollowLines};
-ghost use Rattle.cfgtool.specs.Lines.{AreWarningLines};
-ghost use Rattle.cfgtool.specs.Report.{AreAskedLines, AreLinesOf, IsFound, IsReport, Tells};
+ghost use Rattle.cfgtool.specs.ReportLines.{AreWarningLines};
+ghost use Rattle.cfgtool.specs.Report.{AreAskedLines, AreLinesOf, Tells};
 ghost use Rattle.cfgtool.specs.Report.{TellsLexer, TellsText};
 ghost use Rattle.cfgsink.specs.Reports.{faults_met};
 ghost use Rattle.cfgsink.specs.declared.outcome.ReportFault.TheVariants as variants;
@@ -21,15 +19,12 @@ use crate::follow_lines::follow_lines;
 use crate::lexer_lines::lexer_lines;
 use crate::lines::{error_lines, production_lines, warning_lines};
 use crate::sentence_lines::sentence_lines;
-use cfgerrors::YaccFault;
-use cfgkinds::YaccKind;
+use cfgdriver::{TextReader, read_text};
+use cfgrammar::yacc::ast::GrammarAST;
+use cfgrammar::yacc::{YaccGrammar, YaccGrammarError};
 use cfgshell::words::{Command, KindArg};
 pub use cfgsink::{Outcome, ReportFault};
 use cfgsink::{Sink, write_report};
-use cfgsyntax::let_go;
-use cfgsyntax::yacc::ast::ASTWithValidityInfo;
-use cfgtree::GrammarAST;
-use cfgyacc::YaccGrammar;
 use std::alloc::{AllocError, Global};
 
 /// Writes what the command tells of the text's grammar, whose indices have 32 bits, or else the errors of the text,
@@ -83,6 +78,39 @@ pub(crate) enum Request<'a> {
     Names(&'a str),
 }
 
+impl TextReader<(Outcome, String)> for Request<'_> {
+    ghost use Rattle.std.specs.Prelude.{◌≡◌};
+    ghost use Rattle.cfgsink.specs.declared.outcome.Outcome.TheVariants.{Done, Refused};
+    ghost use Rattle.cfgtool.specs.Report.{AreAskedLines, IsReported};
+    ghost use Rattle.cfgtool.specs.ReportLines.{error_lines};
+
+    ghost of_errors = { λ request text errors. IsReported Refused (λ lines. lines ≡ error_lines text errors) };
+
+    ghost of_grammar = { λ request text s g. IsReported Done (AreAskedLines request text s g) };
+
+    fn errors(
+        &self,
+        alloc: Global,
+        text: &str,
+        errors: &[YaccGrammarError],
+    ) -> Result<(Outcome, String), AllocError> {
+        Ok((Outcome::Refused, error_lines(alloc, text, errors)?))
+    }
+
+    fn grammar(
+        &self,
+        alloc: Global,
+        text: &str,
+        ast: &GrammarAST,
+        grammar: &YaccGrammar<u32>,
+    ) -> Result<(Outcome, String), AllocError> {
+        Ok((
+            Outcome::Done,
+            request_lines(alloc, *self, text, ast, grammar)?,
+        ))
+    }
+}
+
 /// Makes the whole report, and then writes it.
 fn write_asked<W: Sink>(
     alloc: Global,
@@ -97,108 +125,8 @@ fn write_asked<W: Sink>(
     ensures faults { W.faults_counted out.new ≡ W.faults_counted out.old + faults_met result }
     ensures untouched { IsErrOf result variants.OutOfMemory → out.new ≡ out.old }
 {
-    let made = report_text(alloc, kind, request, text);
+    let made = read_text(alloc, kind, text, &request);
     write_report(out, made)
-}
-
-/// The whole report, before any of it is written.
-fn report_text(
-    alloc: Global,
-    kind: KindArg,
-    request: Request<'_>,
-    text: &str,
-) -> Result<(Outcome, String), AllocError>
-    ensures { (found : Found) × IsFound kind text.now found × IfOk result (λ told.
-        IsReport (AreAskedLines request.entry text.now) text.now found told.0 (string_bytes told.1)) }
-{
-    match kind {
-        KindArg::Named(kind) => report_as(alloc, kind, request, text),
-        KindArg::Section => report_itself(alloc, request, text),
-    }
-}
-
-/// The report of a text as a file of the kind.
-fn report_as(
-    alloc: Global,
-    kind: YaccKind,
-    request: Request<'_>,
-    text: &str,
-) -> Result<(Outcome, String), AllocError>
-    ensures { (found : Found) × IsFoundAs kind text.now found × IfOk result (λ told.
-        IsReport (AreAskedLines request.entry text.now) text.now found told.0 (string_bytes told.1)) }
-{
-    let parsed = ASTWithValidityInfo::new(alloc, kind, text)?;
-    report_made(alloc, request, text, parsed)
-}
-
-/// The report of a text as a file of the kind that it names.
-fn report_itself(
-    alloc: Global,
-    request: Request<'_>,
-    text: &str,
-) -> Result<(Outcome, String), AllocError>
-    ensures { (found : Found) × IsFoundItself text.now found × IfOk result (λ told.
-        IsReport (AreAskedLines request.entry text.now) text.now found told.0 (string_bytes told.1)) }
-{
-    match ASTWithValidityInfo::from_str(alloc, text) {
-        Ok(parsed) => report_made(alloc, request, text, parsed),
-        Err(YaccFault::Errors(errors)) => {
-            let lines = error_lines(alloc, text, &errors)?;
-            Ok((Outcome::Refused, lines))
-        }
-        Err(YaccFault::OutOfMemory) => Err(AllocError),
-    }
-}
-
-/// The report of a text of which this was made, and is used no more: a function that also makes it drops it on each way
-/// out, which costs its proof many times as much.
-fn report_made(
-    alloc: Global,
-    request: Request<'_>,
-    text: &str,
-    parsed: ASTWithValidityInfo,
-) -> Result<(Outcome, String), AllocError>
-    requires { EachParsedSpan (IsPiece text.now) (IsWithin text.now) parsed }
-    ensures { IfOk result (λ told. IsReport (AreAskedLines request.entry text.now) text.now (WasRead parsed)
-        told.0 (string_bytes told.1)) }
-{
-    let told = report_parsed(alloc, request, text, &parsed);
-    let_go(parsed);
-    told
-}
-
-/// The report of a text that was read.
-fn report_parsed(
-    alloc: Global,
-    request: Request<'_>,
-    text: &str,
-    parsed: &ASTWithValidityInfo,
-) -> Result<(Outcome, String), AllocError>
-    requires { EachParsedSpan (IsPiece text.now) (IsWithin text.now) parsed.now }
-    ensures { IfOk result (λ told. IsReport (AreAskedLines request.entry text.now) text.now (WasRead parsed.now)
-        told.0 (string_bytes told.1)) }
-{
-    match YaccGrammar::new_from_ast_with_validity_info(alloc, parsed) {
-        Ok(grammar) => {
-            let lines = request_lines(alloc, request, text, parsed.ast(), &grammar);
-            ended(Outcome::Done, lines)
-        }
-        Err(YaccFault::Errors(errors)) => {
-            ended(Outcome::Refused, error_lines(alloc, text, &errors))
-        }
-        Err(YaccFault::OutOfMemory) => Err(AllocError),
-    }
-}
-
-/// The report that ends so, if there are lines.
-fn ended(
-    outcome: Outcome,
-    lines: Result<String, AllocError>,
-) -> Result<(Outcome, String), AllocError>
-    ensures told { IfOk result (λ told. (told.0 ≡ outcome) × (lines ≡ Ok told.1)) }
-    ensures refused { OnErr result (IsErr lines) }
-{
-    Ok((outcome, lines?))
 }
 
 /// The lines that are asked of a text that is this tree, and this grammar.

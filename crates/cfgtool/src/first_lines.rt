@@ -1,16 +1,16 @@
 //! The lines that tell FIRST sets.
 
 ghost use Rattle.std.specs.Prelude.{◌≡◌, ◌<◌, length, IfOk, OnOk, string_bytes};
-ghost use Rattle.cfganalysis.specs.Firsts.{epsilon_bit};
-ghost use Rattle.cfganalysis.specs.Table.{bit};
-ghost use Rattle.cfgnumbers.specs.Accessors.{rule_part};
+ghost use Rattle.cfgrammar.specs.Firsts.{epsilon_bit};
+ghost use Rattle.cfgrammar.specs.Table.{bit};
+ghost use Rattle.cfgrammar.specs.Accessors.{rule_part};
 ghost use Rattle.cfgtool.specs.FirstLines.{empty_word, first_line, first_lines};
 ghost use Rattle.cfgtool.specs.TokenSets.{Adds};
 
 use crate::token_sets::write_tokens;
-use cfganalysis::YaccFirsts;
-use cfgindex::RIdx;
-use cfgyacc::YaccGrammar;
+use cfgrammar::RIdx;
+use cfgrammar::yacc::YaccGrammar;
+use cfgrammar::yacc::firsts::YaccFirsts;
 use std::alloc::{AllocError, Global};
 
 /// FIRST sets, as of a grammar's rules, a line for each rule: its name and a colon, the tokens in its set, in double

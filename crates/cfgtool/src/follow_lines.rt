@@ -1,15 +1,15 @@
 //! The lines that tell FOLLOW sets.
 
 ghost use Rattle.std.specs.Prelude.{◌≡◌, ◌<◌, length, IfOk, OnOk, string_bytes};
-ghost use Rattle.cfganalysis.specs.Table.{bit};
-ghost use Rattle.cfgnumbers.specs.Accessors.{rule_part};
+ghost use Rattle.cfgrammar.specs.Table.{bit};
+ghost use Rattle.cfgrammar.specs.Accessors.{rule_part};
 ghost use Rattle.cfgtool.specs.FollowLines.{follow_line, follow_lines};
 ghost use Rattle.cfgtool.specs.TokenSets.{Adds};
 
 use crate::token_sets::write_tokens;
-use cfganalysis::YaccFollows;
-use cfgindex::RIdx;
-use cfgyacc::YaccGrammar;
+use cfgrammar::RIdx;
+use cfgrammar::yacc::YaccGrammar;
+use cfgrammar::yacc::follows::YaccFollows;
 use std::alloc::{AllocError, Global};
 
 /// FOLLOW sets, as of a grammar's rules, a line for each rule: its name and a colon, the tokens in its set, in double

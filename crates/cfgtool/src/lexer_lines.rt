@@ -4,8 +4,8 @@ ghost use Rattle.std.specs.Prelude.{◌≡◌, ◌++◌, ◌<◌, All, length, m
 ghost use Rattle.std.specs.List.{flat_map};
 ghost use Rattle.cfgtool.specs.LexerLines.{lexer_lines, missing_line_of, names_in, unknown_line_at};
 
-use cfgindex::TIdx;
-use cfgyacc::YaccGrammar;
+use cfgrammar::TIdx;
+use cfgrammar::yacc::YaccGrammar;
 use lexcheck::check;
 use std::alloc::{AllocError, Global};
 

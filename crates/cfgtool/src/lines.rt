@@ -1,18 +1,15 @@
 //! The lines of a report.
 
 ghost use Rattle.std.specs.Prelude.{◌≡◌, ◌++◌, ◌<◌, All, length, IfOk, OnOk, string_bytes};
-ghost use Rattle.cfgwords.specs.Places.{IsPiece};
-ghost use Rattle.cfgnumbers.specs.Accessors.{production_part};
-ghost use Rattle.cfgsyntax.specs.ErrorSpans.{EachErrorSpan};
-ghost use Rattle.cfgtool.specs.Lines.{EachWarningSpan, error_line, error_lines, first_place, production_line};
-ghost use Rattle.cfgtool.specs.Lines.{production_lines, warning_line, warning_lines};
+ghost use Rattle.cfgrammar.specs.Places.{IsPiece};
+ghost use Rattle.cfgrammar.specs.Accessors.{production_part};
+ghost use Rattle.cfgrammar.specs.ErrorSpans.{EachErrorSpan};
+ghost use Rattle.cfgtool.specs.ReportLines.{EachWarningSpan, error_line, error_lines, first_place, production_line};
+ghost use Rattle.cfgtool.specs.ReportLines.{production_lines, warning_line, warning_lines};
 ghost use Rattle.cfgtool.specs.TokenSets.{Adds};
 
-use cfgbase::{Span, Spanned};
-use cfgerrors::{YaccGrammarError, YaccGrammarWarning};
-use cfgindex::PIdx;
-use cfglines::Places;
-use cfgyacc::YaccGrammar;
+use cfgrammar::yacc::{YaccGrammar, YaccGrammarError, YaccGrammarWarning};
+use cfgrammar::{PIdx, Places, Span, Spanned};
 use std::alloc::{AllocError, Global};
 
 /// The productions of a grammar, each as a line: its index, a space and its text.

@@ -2,16 +2,16 @@
 
 ghost use Rattle.std.specs.Prelude.{◌≡◌, ◌++◌, ◌<◌, All, length, map, IfOk, OnOk, string_bytes};
 ghost use Rattle.std.specs.List.{concat};
-ghost use Rattle.derivation.specs.Grammar.{HasProduction};
-ghost use Rattle.cfgleast.specs.Generator.{token_cost};
-ghost use Rattle.cfgcosts.specs.Sentences.{ListsMinimal, numbers_of};
-ghost use Rattle.cfgnumbers.specs.Numbered.{core};
+ghost use Rattle.cfgrammar.specs.Grammar.{HasProduction};
+ghost use Rattle.cfgrammar.specs.Generator.{token_cost};
+ghost use Rattle.cfgrammar.specs.Sentences.{ListsMinimal, numbers_of};
+ghost use Rattle.cfgrammar.specs.Numbered.{core};
 ghost use Rattle.cfgtool.specs.SentenceLines.{AreNamed, AreSentenceLines, TellsEach, TellsRule};
 ghost use Rattle.cfgtool.specs.SentenceLines.{cost_line, greatest_word, least_word, sentence_line, token_text};
 
-use cfgcosts::{CostError, SentenceError, SentenceGenerator};
-use cfgindex::{RIdx, TIdx};
-use cfgyacc::YaccGrammar;
+use cfgrammar::yacc::YaccGrammar;
+use cfgrammar::yacc::sentences::{CostError, SentenceError, SentenceGenerator};
+use cfgrammar::{RIdx, TIdx};
 use std::alloc::{AllocError, Global};
 
 /// What the sentences of a grammar's rules cost, where each token costs 1: for each rule a line with its name, its

@@ -3,13 +3,14 @@
 ghost use Rattle.std.specs.Prelude.{◌≡◌, ◌↔◌, ◌++◌, ◌<◌, ℕ, Bool, length, IsTrue, OnOk};
 ghost use Rattle.std.specs.Prelude.{string_bytes};
 ghost use Rattle.std.specs.List.{enumerate_from, flat_map};
-ghost use Rattle.cfganalysis.specs.Table.{bit};
-ghost use Rattle.cfgnumbers.specs.Accessors.{token_part};
+ghost use Rattle.cfgrammar.specs.Table.{bit};
+ghost use Rattle.cfgrammar.specs.Accessors.{token_part};
 ghost use Rattle.cfgtool.specs.TokenSets.{Adds, set_word};
 
-use cfganalysis::{YaccFirsts, YaccFollows};
-use cfgindex::{RIdx, TIdx};
-use cfgyacc::YaccGrammar;
+use cfgrammar::yacc::YaccGrammar;
+use cfgrammar::yacc::firsts::YaccFirsts;
+use cfgrammar::yacc::follows::YaccFollows;
+use cfgrammar::{RIdx, TIdx};
 use std::alloc::AllocError;
 
 /// Sets of tokens, one for each rule.

@@ -2,7 +2,7 @@
 use Rattle.std.specs.Prelude.{ℕ, Bool, true, false, not, ◌&&◌, ◌==◌, List, [], ◌∷◌, ◌++◌, Option, Some, None, codes, if◌then◌else◌}
 use Rattle.std.specs.Option.{option_map_or}
 use Rattle.std.specs.Str.{bytes_eq}
-use Rattle.cfgshell.specs.Words.{kind_named}
+use Rattle.cfgshell.specs.Arguments.{kind_named}
 use Rattle.cfgshell.specs.declared.words.KindArg.{KindArg}
 
 -- that these files are linted, in order, as files of the kind, or each as one of the kind that it names; and whether warnings

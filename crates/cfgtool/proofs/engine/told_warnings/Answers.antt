@@ -1,8 +1,8 @@
 use Rattle.std.proofs.Common.{◌≡◌, All, string_bytes, sym, subst, ap, ◌∙◌}
 use Rattle.std.proofs.lemmas.Result.{IfOk-weaker}
-use Rattle.cfgwords.specs.Places.{IsPiece, IsWithin}
-use Rattle.cfgtree.specs.TreeView.{syntax}
-use Rattle.cfgtool.specs.Lines.{AreWarningLines, EachWarningSpan, warning_lines}
+use Rattle.cfgrammar.specs.Places.{IsPiece, IsWithin}
+use Rattle.cfgrammar.specs.TreeView.{syntax}
+use Rattle.cfgtool.specs.ReportLines.{AreWarningLines, EachWarningSpan, warning_lines}
 use Rattle.cfgtool.proofs.WarningPlaces.{warning_places}
 use Rattle.cfgtool.proofs.engine.told_warnings.Goals as goal
 

@@ -1,6 +1,6 @@
 use Rattle.std.proofs.Common.{[], string_bytes}
-use Rattle.cfganalysis.specs.Firsts.{epsilon_bit}
-use Rattle.cfganalysis.specs.Table.{bit}
+use Rattle.cfgrammar.specs.Firsts.{epsilon_bit}
+use Rattle.cfgrammar.specs.Table.{bit}
 use Rattle.cfgtool.specs.FirstLines.{first_line}
 use Rattle.cfgtool.proofs.Written.{AreWritten}
 use Rattle.cfgtool.proofs.first_lines.first_lines.Given as goal

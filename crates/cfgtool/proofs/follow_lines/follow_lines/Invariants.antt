@@ -1,5 +1,5 @@
 use Rattle.std.proofs.Common.{[], string_bytes}
-use Rattle.cfganalysis.specs.Table.{bit}
+use Rattle.cfgrammar.specs.Table.{bit}
 use Rattle.cfgtool.specs.FollowLines.{follow_line}
 use Rattle.cfgtool.proofs.Written.{AreWritten}
 use Rattle.cfgtool.proofs.follow_lines.follow_lines.Given as goal

@@ -2,13 +2,13 @@ use Rattle.std.proofs.Common.{◌≡◌, ◌<◌, ◌++◌, ℕ, Bool, Bor, List
 use Rattle.std.specs.List.{flat_map}
 use Rattle.std.proofs.lemmas.List.{length-map}
 use Rattle.std.proofs.lemmas.List.Folds.{flat_map-map}
-use Rattle.lemmas.specs.Lists.{places}
-use Rattle.lemmas.proofs.Passing.{places_from-within}
-use Rattle.cfgindex.specs.declared.idxnewtype.TIdx.{TIdx}
-use Rattle.cfgnumbers.specs.Numbered.{NumberedToken}
-use Rattle.cfgnumbers.proofs.Turns.{All-shown}
+use Rattle.cfgrammar.specs.Lists.{places}
+use Rattle.cfgrammar.proofs.Passing.{places_from-within}
+use Rattle.cfgrammar.specs.TIdx.{TIdx}
+use Rattle.cfgrammar.specs.Numbered.{NumberedToken}
+use Rattle.cfgrammar.proofs.Turns.{All-shown}
 use Rattle.lexcheck.specs.LexerNames.{is_missing, is_unknown, missing_tokens, unknown_places}
-use Rattle.cfgyacc.specs.TokenNames.{token_names}
+use Rattle.cfgrammar.specs.TokenNames.{token_names}
 use Rattle.cfgtool.specs.LexerLines.{missing_line_of, unknown_line_at}
 use Rattle.cfgtool.proofs.lexer_lines.lexer_lines.Goals as goal
 

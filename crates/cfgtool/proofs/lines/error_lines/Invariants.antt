@@ -1,5 +1,5 @@
 use Rattle.std.proofs.Common.{◌≡◌, take, string_bytes}
-use Rattle.cfgtool.specs.Lines.{error_lines}
+use Rattle.cfgtool.specs.ReportLines.{error_lines}
 use Rattle.cfgtool.proofs.lines.error_lines.Given as goal
 
 -- the lines of the errors so far

@@ -1,5 +1,5 @@
 use Rattle.std.proofs.Common.{[], string_bytes}
-use Rattle.cfgtool.specs.Lines.{production_line}
+use Rattle.cfgtool.specs.ReportLines.{production_line}
 use Rattle.cfgtool.proofs.Written.{AreWritten}
 use Rattle.cfgtool.proofs.lines.production_lines.Given as goal
 

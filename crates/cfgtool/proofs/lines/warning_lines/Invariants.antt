@@ -1,5 +1,5 @@
 use Rattle.std.proofs.Common.{◌≡◌, take, string_bytes}
-use Rattle.cfgtool.specs.Lines.{warning_lines}
+use Rattle.cfgtool.specs.ReportLines.{warning_lines}
 use Rattle.cfgtool.proofs.lines.warning_lines.Given as goal
 
 -- the lines of the warnings so far

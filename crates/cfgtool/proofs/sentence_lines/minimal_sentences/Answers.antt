@@ -1,9 +1,9 @@
 use Rattle.std.proofs.Common.{◌↔◌, ℕ, List, Contains, Err, map, ap, subst, ◌∙◌}
-use Rattle.derivation.specs.Grammar.{HasProduction}
-use Rattle.derivation.specs.Costs.{Minimal}
-use Rattle.cfgleast.specs.Generator.{token_cost}
-use Rattle.cfgcosts.specs.Sentences.{ListsMinimal, numbers_of}
-use Rattle.cfgnumbers.specs.Numbered.{core}
+use Rattle.cfgrammar.specs.Grammar.{HasProduction}
+use Rattle.cfgrammar.specs.Costs.{Minimal}
+use Rattle.cfgrammar.specs.Generator.{token_cost}
+use Rattle.cfgrammar.specs.Sentences.{ListsMinimal, numbers_of}
+use Rattle.cfgrammar.specs.Numbered.{core}
 use Rattle.cfgtool.specs.SentenceLines.{AreNamed}
 use Rattle.cfgtool.proofs.SentencesListed.{listed, none_there, none_cheap, all_of_none, listed_tokens}
 use Rattle.cfgtool.proofs.sentence_lines.minimal_sentences.Goals as goal

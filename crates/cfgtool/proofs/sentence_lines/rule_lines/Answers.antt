@@ -1,6 +1,6 @@
 use Rattle.std.proofs.Common.{◌≡◌, ℕ, ◌+◌, ◌++◌, length, string_bytes, sym, subst, ap, ◌∙◌, arith}
 use Rattle.std.specs.declared.ops.Range.{Range}
-use Rattle.cfgleast.specs.Generator.{token_cost}
+use Rattle.cfgrammar.specs.Generator.{token_cost}
 use Rattle.cfgtool.specs.SentenceLines.{TellsEach, TellsRule}
 use Rattle.cfgtool.proofs.SentenceTexts.{none_told, one_more_told}
 use Rattle.cfgtool.proofs.sentence_lines.rule_lines.Goals as goal

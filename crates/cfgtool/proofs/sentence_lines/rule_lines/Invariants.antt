@@ -1,5 +1,5 @@
 use Rattle.std.proofs.Common.{◌≡◌, ◌≤◌, length, string_bytes}
-use Rattle.cfgleast.specs.Generator.{token_cost}
+use Rattle.cfgrammar.specs.Generator.{token_cost}
 use Rattle.cfgtool.specs.SentenceLines.{TellsEach, TellsRule}
 use Rattle.cfgtool.proofs.sentence_lines.rule_lines.Given as goal
 

@@ -1,6 +1,6 @@
 use Rattle.std.proofs.Common.{length, string_bytes, rules}
 use Rattle.std.proofs.lemmas.Result.{IfOk-weaker}
-use Rattle.cfgleast.specs.Generator.{token_cost}
+use Rattle.cfgrammar.specs.Generator.{token_cost}
 use Rattle.cfgtool.specs.SentenceLines.{AreSentenceLines, CostsOne, TellsEach, TellsRule}
 use Rattle.cfgtool.proofs.sentence_lines.sentence_lines.Goals as goal
 

@@ -1,9 +1,9 @@
 use Rattle.std.proofs.Common.{ℕ, ◌++◌, map, string_bytes, refl, subst, ap, ◌∙◌, append_assoc}
 use Rattle.std.specs.List.{concat}
 use Rattle.std.proofs.lemmas.Result.{on_ok_weaker}
-use Rattle.derivation.specs.Grammar.{Grammar, HasProduction}
-use Rattle.cfgleast.specs.Generator.{AnswersLeast, token_cost}
-use Rattle.cfgcosts.specs.Sentences.{AnswersGreatest, numbers_of}
+use Rattle.cfgrammar.specs.Grammar.{Grammar, HasProduction}
+use Rattle.cfgrammar.specs.Generator.{AnswersLeast, token_cost}
+use Rattle.cfgrammar.specs.Sentences.{AnswersGreatest, numbers_of}
 use Rattle.cfgtool.specs.SentenceLines.{TellsRule, cost_line, sentence_line}
 use Rattle.cfgtool.proofs.sentence_lines.write_rule.Goals as goal
 

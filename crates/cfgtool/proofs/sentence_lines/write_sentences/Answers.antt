@@ -1,8 +1,8 @@
 use Rattle.std.proofs.Common.{◌≡◌, ℕ, List, ◌++◌, map, take, codes, Vec, Global, string_bytes, sym, subst, ap, ◌∙◌, append_assoc}
 use Rattle.std.specs.List.{concat}
-use Rattle.cfgindex.specs.declared.idxnewtype.TIdx.{TIdx}
-use Rattle.cfgcosts.specs.Sentences.{numbers_of}
-use Rattle.cfgnumbers.proofs.Turns.{All-shown, more_joined}
+use Rattle.cfgrammar.specs.TIdx.{TIdx}
+use Rattle.cfgrammar.specs.Sentences.{numbers_of}
+use Rattle.cfgrammar.proofs.Turns.{All-shown, more_joined}
 use Rattle.cfgtool.specs.SentenceLines.{AreNamed, sentence_line, token_text}
 use Rattle.cfgtool.proofs.sentence_lines.write_sentences.Goals as goal
 

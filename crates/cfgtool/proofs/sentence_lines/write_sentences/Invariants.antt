@@ -1,6 +1,6 @@
 use Rattle.std.proofs.Common.{◌≡◌, ◌++◌, map, take, string_bytes}
 use Rattle.std.specs.List.{concat}
-use Rattle.cfgcosts.specs.Sentences.{numbers_of}
+use Rattle.cfgrammar.specs.Sentences.{numbers_of}
 use Rattle.cfgtool.specs.SentenceLines.{sentence_line}
 use Rattle.cfgtool.proofs.sentence_lines.write_sentences.Given as goal
 

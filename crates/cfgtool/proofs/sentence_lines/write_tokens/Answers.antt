@@ -1,11 +1,11 @@
 use Rattle.std.proofs.Common.{◌≡◌, ℕ, ◌+◌, ◌<◌, List, [], ◌++◌, All, length, map, take, get_or, codes, Bor, Option, option_map, unwrap_or, string_bytes, sym, ap, ◌∙◌, append_assoc, arith}
 use Rattle.std.specs.List.{concat}
 use Rattle.std.proofs.lemmas.List.{get_or_default}
-use Rattle.derivation.specs.Grammar.{Token}
-use Rattle.cfgindex.specs.declared.idxnewtype.TIdx.{TIdx}
-use Rattle.cfgnumbers.specs.Accessors.{sym_name}
-use Rattle.cfgyacc.proofs.Shows.{token_named}
-use Rattle.cfgnumbers.proofs.Turns.{All-shown, more_joined}
+use Rattle.cfgrammar.specs.Grammar.{Token}
+use Rattle.cfgrammar.specs.TIdx.{TIdx}
+use Rattle.cfgrammar.specs.Accessors.{sym_name}
+use Rattle.cfgrammar.proofs.Shows.{token_named}
+use Rattle.cfgrammar.proofs.Turns.{All-shown, more_joined}
 use Rattle.cfgtool.specs.SentenceLines.{token_text}
 use Rattle.cfgtool.proofs.sentence_lines.write_tokens.Goals as goal
 

@@ -1,8 +1,8 @@
--- What the words of the program name.
+-- What the arguments of the program name.
 use Rattle.std.specs.Prelude.{ℕ, List, Option, Some, None, if◌then◌else◌, codes, Bool, not, ◌&&◌}
 use Rattle.std.specs.Str.{bytes_eq}
-use Rattle.cfgkinds.specs.declared.kind.YaccKind.TheVariants.{Original, Grmtools, Eco}
-use Rattle.cfgkinds.specs.declared.kind.YaccOriginalActionKind.TheVariants.{NoAction, UserAction, GenericParseTree}
+use Rattle.cfgrammar.specs.YaccKind.TheVariants.{Original, Grmtools, Eco}
+use Rattle.cfgrammar.specs.YaccOriginalActionKind.TheVariants.{NoAction, UserAction, GenericParseTree}
 use Rattle.cfgshell.specs.declared.words.Command.{Command}
 use Rattle.cfgshell.specs.declared.words.Command.TheVariants.{Grammar, Firsts, Follows, Sentences, Warnings}
 use Rattle.cfgshell.specs.declared.words.KindArg.{KindArg}

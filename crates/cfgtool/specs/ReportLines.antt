@@ -3,16 +3,16 @@ use Rattle.std.specs.Prelude.{◌≡◌, ℕ, ◌<◌, List, [], ◌++◌, All, 
 use Rattle.std.specs.List.{flat_map, enumerate_from}
 use Rattle.std.specs.Option.{option_map_or}
 use Rattle.std.specs.Fmt.{decimal}
-use Rattle.cfgbase.specs.declared.span.Span.{Span}
-use Rattle.cfglines.specs.Lines.{line_number, column}
-use Rattle.cfgast.specs.Syntax.{Syntax}
-use Rattle.cfgtree.specs.Unused.{AreWarnings}
-use Rattle.cfgerrors.specs.Errors.{GrammarError}
-use Rattle.cfgerrors.specs.ErrorTexts.{error_text}
-use Rattle.cfgerrors.specs.WarningTexts.{warning_text}
-use Rattle.cfgerrors.specs.Warnings.{GrammarWarning}
-use Rattle.cfgnumbers.specs.Numbered.{Numbered, NumberedProduction}
-use Rattle.cfgnumbers.specs.Accessors.{production_text}
+use Rattle.cfgrammar.specs.Span.{Span}
+use Rattle.cfgrammar.specs.Lines.{line_number, column}
+use Rattle.cfgrammar.specs.Syntax.{Syntax}
+use Rattle.cfgrammar.specs.Unused.{AreWarnings}
+use Rattle.cfgrammar.specs.Errors.{GrammarError}
+use Rattle.cfgrammar.specs.ErrorTexts.{error_text}
+use Rattle.cfgrammar.specs.WarningTexts.{warning_text}
+use Rattle.cfgrammar.specs.Warnings.{GrammarWarning}
+use Rattle.cfgrammar.specs.Numbered.{Numbered, NumberedProduction}
+use Rattle.cfgrammar.specs.Accessors.{production_text}
 
 -- `LINE:COLUMN: ` of a place in the text
 abbrev pub place_text : List ℕ → ℕ → List ℕ

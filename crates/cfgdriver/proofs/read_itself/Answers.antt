@@ -1,0 +1,39 @@
+use Rattle.std.proofs.Common.{All, inl, refl, sym, subst}
+use Rattle.std.proofs.lemmas.Result.{IfOk-weaker}
+use Rattle.cfgrammar.specs.Answer.{WasRead, Found, IsRefused}
+use Rattle.cfgrammar.specs.ErrorSpans.{EachErrorSpan}
+use Rattle.cfgrammar.specs.Places.{IsPiece}
+use Rattle.cfgrammar.specs.YaccFault.TheVariants as faults
+use Rattle.cfgrammar.proofs.OfItself.{parsed_itself, refused_itself}
+use Rattle.cfgdriver.specs.ReadText.{greatest}
+use Rattle.cfgdriver.proofs.read_itself.Goals as goal
+
+pub errors-requires : goal.errors-requires
+errors-requires g c =
+    let placed = rw c.in-Err-Errors.field-0-is at c.in-Err-Errors.ensures.fault_places in
+    let errors = rw c.in-Err-Errors.errors-is at c.deref.ensures.value in
+    subst (All (EachErrorSpan (IsPiece c.args.text.now))) (sym errors) placed
+
+pub returns-in-Ok : goal.returns-in-Ok
+returns-in-Ok g c =
+    let parsed = c.in-Ok.ensures in
+    (WasRead c.in-Ok.parsed, parsed_itself c.args.text.now parsed.one c.in-Ok.parsed parsed.answer, c.made_of.ensures)
+
+pub returns-in-Err-Errors : goal.returns-in-Err-Errors
+returns-in-Err-Errors g c =
+    let answer = rw c.in-Err-Errors.field-0-is at c.in-Err-Errors.ensures.answer in
+    let errors = rw c.in-Err-Errors.errors-is at c.deref.ensures.value in
+    let it = refused_itself c.args.text.now c.in-Err-Errors.ensures.one (faults.Errors c.in-Err-Errors.errors) answer in
+    let told = c.in-Err-Errors.errors.items in (
+      it.0,
+      it.1,
+      IfOk-weaker c.errors.result _ _
+          (λ made of. inl (told, subst (λ (found : Found). IsRefused greatest found told) (sym it.2) refl, subst (λ errors. g.T.TextReader.of_errors c.args.reader.now c.args.text.now errors made) errors of))
+          c.errors.ensures,
+    )
+
+pub returns-in-Err-OutOfMemory : goal.returns-in-Err-OutOfMemory
+returns-in-Err-OutOfMemory g c =
+    let answer = rw c.in-Err-OutOfMemory.field-0-is at c.in-Err-OutOfMemory.ensures.answer in
+    let it = refused_itself c.args.text.now c.in-Err-OutOfMemory.ensures.one faults.OutOfMemory answer in
+    (it.0, it.1, tt)

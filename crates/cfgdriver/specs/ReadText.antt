@@ -1,0 +1,33 @@
+-- What is made of a text: of the errors for which it is refused, or of the grammar that it is.
+use Rattle.std.specs.Prelude.{◌≡◌, ℕ, ◌⊎◌, List, []}
+use Rattle.cfgrammar.specs.Answer.{Found, Unnamed, WasRead, IsRefused, in_numbers}
+use Rattle.cfgrammar.specs.Errors.{GrammarError}
+use Rattle.cfgrammar.specs.Fits.{Fits}
+use Rattle.cfgrammar.specs.GrammarOf.{IsFoundAs, IsFoundItself}
+use Rattle.cfgrammar.specs.Numbered.{Numbered}
+use Rattle.cfgrammar.specs.Syntax.{Syntax}
+use Rattle.cfgshell.specs.declared.words.KindArg.{KindArg}
+use Rattle.cfgshell.specs.declared.words.KindArg.TheVariants.{Named, Section}
+
+-- what a text is found to be, as a file of the kind that is asked for, or else of the one that it names itself
+abbrev pub IsFound : KindArg → List ℕ → Found → Type 0
+IsFound (Named kind) text found = IsFoundAs kind text found
+IsFound Section text found = IsFoundItself text found
+
+-- the greatest index of the grammars
+abbrev pub greatest : ℕ
+greatest = 4294967295
+
+-- A text that is found to be this is refused, and this is made of the errors.
+abbrev pub IsMadeOfErrors : {Made : Type 0} → (List GrammarError → Made → Type 0) → Found → Made → Type 0
+IsMadeOfErrors OfErrors found made = (errors : List GrammarError) × IsRefused greatest found errors × OfErrors errors made
+
+-- It is a grammar, which is what was read, where it has no errors and fits; and this is made of its syntax, and of that in numbers.
+abbrev pub IsMadeOfGrammar : {Made : Type 0} → (Syntax → Numbered → Made → Type 0) → Found → Made → Type 0
+IsMadeOfGrammar OfGrammar (Unnamed errors) made = ⊥
+IsMadeOfGrammar OfGrammar (WasRead parsed) made =
+    (parsed.errors ≡ []) × Fits greatest (in_numbers parsed) × OfGrammar parsed.syntax (in_numbers parsed) made
+
+-- one of the two
+abbrev pub IsMadeOf : {Made : Type 0} → (List GrammarError → Made → Type 0) → (Syntax → Numbered → Made → Type 0) → Found → Made → Type 0
+IsMadeOf OfErrors OfGrammar found made = IsMadeOfErrors OfErrors found made ⊎ IsMadeOfGrammar OfGrammar found made

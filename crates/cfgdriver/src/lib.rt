@@ -1,0 +1,147 @@
+//! From a text to what a program makes of it: the text is read as a Yacc file, and a reader makes something of its
+//! errors, or of its grammar.
+#![tactic(auto)]
+
+ghost use Rattle.std.specs.Prelude.{All, IfOk};
+ghost use Rattle.std.specs.Fn.{FnOnceReturnsAt, FnOnceTakesAt};
+ghost use Rattle.cfgrammar.specs.Answer.{Found, WasRead};
+ghost use Rattle.cfgrammar.specs.ErrorSpans.{EachErrorSpan, EachParsedSpan};
+ghost use Rattle.cfgrammar.specs.GrammarOf.{IsFoundAs, IsFoundItself};
+ghost use Rattle.cfgrammar.specs.Places.{IsPiece, IsWithin};
+ghost use Rattle.cfgrammar.specs.Syntax.{EachSpan};
+ghost use Rattle.cfgrammar.specs.TreeView.{syntax};
+ghost use Rattle.cfgdriver.specs.ReadText.{IsFound, IsMadeOf};
+
+use cfgrammar::yacc::ast::{ASTWithValidityInfo, GrammarAST};
+use cfgrammar::yacc::{YaccFault, YaccGrammar, YaccGrammarError, YaccKind};
+use cfgshell::KindArg;
+use std::alloc::{AllocError, Global};
+
+/// What makes something of a text: of its errors, or of its grammar.
+pub trait TextReader<R> {
+    ghost use Rattle.std.specs.Prelude.{ℕ, List};
+    ghost use Rattle.cfgrammar.specs.Errors.{GrammarError};
+    ghost use Rattle.cfgrammar.specs.Numbered.{Numbered};
+    ghost use Rattle.cfgrammar.specs.Syntax.{Syntax};
+
+    // What may be made of a text that has these errors.
+    ghost of_errors: { Self → List ℕ → List GrammarError → R → Type 0 };
+
+    // What may be made of a text that has this syntax, which is this grammar in numbers.
+    ghost of_grammar: { Self → List ℕ → Syntax → Numbered → R → Type 0 };
+
+    /// Makes what it makes of a text that has these errors.
+    ///
+    /// # Errors
+    ///
+    /// Running out of memory.
+    fn errors(
+        &self,
+        alloc: Global,
+        text: &str,
+        errors: &[YaccGrammarError],
+    ) -> Result<R, AllocError>
+        requires { All (EachErrorSpan (IsPiece text.now)) errors.now }
+        ensures { IfOk result (of_errors self.now text.now errors.now) };
+
+    /// Makes what it makes of a text that is this tree, and this grammar.
+    ///
+    /// # Errors
+    ///
+    /// Running out of memory.
+    fn grammar(
+        &self,
+        alloc: Global,
+        text: &str,
+        ast: &GrammarAST,
+        grammar: &YaccGrammar<u32>,
+    ) -> Result<R, AllocError>
+        requires { EachSpan (IsPiece text.now) (IsWithin text.now) (syntax ast.now) }
+        ensures { IfOk result (of_grammar self.now text.now (syntax ast.now) grammar.now) };
+}
+
+/// Reads a text as a file of the kind that is asked for, and returns what the reader makes of it.
+///
+/// # Errors
+///
+/// Running out of memory.
+pub fn read_text<R, T: TextReader<R>>(
+    alloc: Global,
+    kind: KindArg,
+    text: &str,
+    reader: &T,
+) -> Result<R, AllocError>
+    ensures { (found : Found) × IsFound kind text.now found
+        × IfOk result (IsMadeOf (T.of_errors reader.now text.now) (T.of_grammar reader.now text.now) found) }
+{
+    match kind {
+        KindArg::Named(kind) => read_as(alloc, kind, text, reader),
+        KindArg::Section => read_itself(alloc, text, reader),
+    }
+}
+
+/// What is made of a text as a file of the kind.
+fn read_as<R, T: TextReader<R>>(
+    alloc: Global,
+    kind: YaccKind,
+    text: &str,
+    reader: &T,
+) -> Result<R, AllocError>
+    ensures { (found : Found) × IsFoundAs kind text.now found
+        × IfOk result (IsMadeOf (T.of_errors reader.now text.now) (T.of_grammar reader.now text.now) found) }
+{
+    let parsed = ASTWithValidityInfo::new(alloc, kind, text)?;
+    made_of(alloc, text, parsed, reader)
+}
+
+/// What is made of a text as a file of the kind that it names.
+fn read_itself<R, T: TextReader<R>>(alloc: Global, text: &str, reader: &T) -> Result<R, AllocError>
+    ensures { (found : Found) × IsFoundItself text.now found
+        × IfOk result (IsMadeOf (T.of_errors reader.now text.now) (T.of_grammar reader.now text.now) found) }
+{
+    match ASTWithValidityInfo::from_str(alloc, text) {
+        Ok(parsed) => made_of(alloc, text, parsed, reader),
+        Err(YaccFault::Errors(errors)) => reader.errors(alloc, text, &errors),
+        Err(YaccFault::OutOfMemory) => Err(AllocError),
+    }
+}
+
+/// What is made of a text of which this was read.
+fn made_of<R, T: TextReader<R>>(
+    alloc: Global,
+    text: &str,
+    parsed: ASTWithValidityInfo,
+    reader: &T,
+) -> Result<R, AllocError>
+    requires { EachParsedSpan (IsPiece text.now) (IsWithin text.now) parsed }
+    ensures { IfOk result (IsMadeOf (T.of_errors reader.now text.now) (T.of_grammar reader.now text.now)
+        (WasRead parsed)) }
+{
+    lend(parsed, |parsed| made_of_parsed(alloc, text, parsed, reader))
+}
+
+/// What is made of a text of which this was read.
+fn made_of_parsed<R, T: TextReader<R>>(
+    alloc: Global,
+    text: &str,
+    parsed: &ASTWithValidityInfo,
+    reader: &T,
+) -> Result<R, AllocError>
+    requires { EachParsedSpan (IsPiece text.now) (IsWithin text.now) parsed.now }
+    ensures { IfOk result (IsMadeOf (T.of_errors reader.now text.now) (T.of_grammar reader.now text.now)
+        (WasRead parsed.now)) }
+{
+    match YaccGrammar::new_from_ast_with_validity_info(alloc, parsed) {
+        Ok(grammar) => reader.grammar(alloc, text, parsed.ast(), &grammar),
+        Err(YaccFault::Errors(errors)) => reader.errors(alloc, text, &errors),
+        Err(YaccFault::OutOfMemory) => Err(AllocError),
+    }
+}
+
+/// What `next` returns for a value that is owned here alone, since a function that drops a tree proves how.
+fn lend<V: Drop, R, F: FnOnce(&V) -> R>(value: V, next: F) -> R
+    requires { FnOnceTakesAt F.FnOnce next value }
+    ensures { FnOnceReturnsAt F.FnOnce next value result }
+{
+    next(&value)
+}
