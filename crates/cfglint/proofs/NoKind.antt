@@ -3,15 +3,15 @@ use Rattle.std.proofs.Common.{◌≡◌, ◌↔◌, ℕ, Bool, true, false, not,
 use Rattle.std.proofs.lemmas.Bool.{false≢true}
 use Rattle.std.specs.Prelude.{Vec, is_some}
 use Rattle.std.specs.declared.alloc.Global.{Global}
-use Rattle.cfgbase.specs.declared.span.Span.{Span}
-use Rattle.cfgerrors.specs.HeaderErrors.{ShownError}
-use Rattle.cfgerrors.specs.declared.header.HeaderError.{HeaderError}
-use Rattle.cfgkinds.specs.Values.{ShownHeaderValue}
-use Rattle.cfgsection.specs.SectionErrors.{section_errors}
-use Rattle.cfgsection.specs.SectionGrammar.{Entry, Fault}
-use Rattle.cfgsection.specs.SectionReads.{IsSection, IsSectionRead, entry_view, errors_view, given, given_by, section_answer, section_of, unless_errors}
+use Rattle.cfgrammar.specs.Span.{Span}
+use Rattle.cfgrammar.specs.HeaderErrors.{ShownError}
+use Rattle.cfgrammar.specs.HeaderError.{HeaderError}
+use Rattle.cfgrammar.specs.Values.{ShownHeaderValue}
+use Rattle.cfgrammar.specs.SectionErrors.{section_errors}
+use Rattle.cfgrammar.specs.SectionGrammar.{Entry, Fault}
+use Rattle.cfgrammar.specs.SectionReads.{IsSection, IsSectionRead, entry_view, errors_view, given, given_by, section_answer, section_of, unless_errors}
 use Rattle.cfgsection.specs.declared.section.entry.Entry.{Entry as CodeEntry}
-use Rattle.cfgsection.specs.declared.section.header_fault.HeaderFault.TheVariants as faults
+use Rattle.cfgrammar.specs.HeaderFault.TheVariants as faults
 use Rattle.cfgsection.proofs.SectionOne.{one_section, section_answered}
 use Rattle.cfglint.specs.Told.{NamesNoKind}
 

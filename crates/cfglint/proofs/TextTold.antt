@@ -1,13 +1,13 @@
 -- What is told of a text, by what it was found to be, and as what it was read.
 use Rattle.std.proofs.Common.{◌≡◌, ℕ, true, false, List, [], Option, Some, None, length, inl, inr, refl, sym, subst, ap}
-use Rattle.cfgast.specs.Syntax.{Syntax}
-use Rattle.cfgerrors.specs.Errors.{GrammarError}
-use Rattle.cfgkinds.specs.declared.kind.YaccKind.TheVariants.{Original}
-use Rattle.cfgkinds.specs.declared.kind.YaccOriginalActionKind.TheVariants.{NoAction}
-use Rattle.cfgnumbers.specs.Fits.{Fits}
-use Rattle.cfgnumbers.specs.Numbered.{Numbered}
-use Rattle.cfgsyntax.specs.Parsed.{Parsed}
-use Rattle.cfgyacc.specs.Answer.{Found, Unnamed, WasRead, IsRefused, in_numbers}
+use Rattle.cfgrammar.specs.Syntax.{Syntax}
+use Rattle.cfgrammar.specs.Errors.{GrammarError}
+use Rattle.cfgrammar.specs.YaccKind.TheVariants.{Original}
+use Rattle.cfgrammar.specs.YaccOriginalActionKind.TheVariants.{NoAction}
+use Rattle.cfgrammar.specs.Fits.{Fits}
+use Rattle.cfgrammar.specs.Numbered.{Numbered}
+use Rattle.cfgrammar.specs.Parsed.{Parsed}
+use Rattle.cfgrammar.specs.Answer.{Found, Unnamed, WasRead, IsRefused, in_numbers}
 use Rattle.cfgshell.specs.declared.words.KindArg.{KindArg}
 use Rattle.cfgshell.specs.declared.words.KindArg.TheVariants.{Named, Section}
 use Rattle.lintshell.specs.Tally.{Told}

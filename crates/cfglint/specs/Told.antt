@@ -1,18 +1,18 @@
 -- What is told of a text: its errors, or the findings of its grammar.
 use Rattle.std.specs.Prelude.{◌≡◌, ℕ, ◌⊎◌, Bool, true, false, List, [], Option, Some, None, Ok, length, codes}
 use Rattle.std.specs.List.{flat_map}
-use Rattle.cfgkinds.specs.declared.kind.YaccKind.TheVariants.{Original}
-use Rattle.cfgkinds.specs.declared.kind.YaccOriginalActionKind.TheVariants.{NoAction}
-use Rattle.cfgsection.specs.SectionGrammar.{Entry}
-use Rattle.cfgsection.specs.SectionReads.{IsSection, given, section_answer}
-use Rattle.cfgerrors.specs.Errors.{GrammarError}
-use Rattle.cfgerrors.specs.Errors as errors
-use Rattle.cfgerrors.specs.ErrorTexts.{error_text}
-use Rattle.cfgrender.specs.Render.{rendered}
-use Rattle.cfgyacc.specs.Answer.{Found, Unnamed, WasRead, IsRefused, in_numbers}
-use Rattle.cfgsyntax.specs.Parsed.{Parsed}
-use Rattle.cfgyacc.specs.GrammarOf.{IsFoundAs, IsFoundItself}
-use Rattle.cfgnumbers.specs.Fits.{Fits}
+use Rattle.cfgrammar.specs.YaccKind.TheVariants.{Original}
+use Rattle.cfgrammar.specs.YaccOriginalActionKind.TheVariants.{NoAction}
+use Rattle.cfgrammar.specs.SectionGrammar.{Entry}
+use Rattle.cfgrammar.specs.SectionReads.{IsSection, given, section_answer}
+use Rattle.cfgrammar.specs.Errors.{GrammarError}
+use Rattle.cfgrammar.specs.Errors as errors
+use Rattle.cfgrammar.specs.ErrorTexts.{error_text}
+use Rattle.cfgrammar.specs.Render.{rendered}
+use Rattle.cfgrammar.specs.Answer.{Found, Unnamed, WasRead, IsRefused, in_numbers}
+use Rattle.cfgrammar.specs.Parsed.{Parsed}
+use Rattle.cfgrammar.specs.GrammarOf.{IsFoundAs, IsFoundItself}
+use Rattle.cfgrammar.specs.Fits.{Fits}
 use Rattle.cfgshell.specs.declared.words.KindArg.{KindArg}
 use Rattle.cfgshell.specs.declared.words.KindArg.TheVariants.{Named, Section}
 use Rattle.lintshell.specs.Tally.{Told}

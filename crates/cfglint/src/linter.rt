@@ -1,24 +1,21 @@
 //! What is told of a text.
 
 ghost use Rattle.std.specs.Prelude.{◌≡◌, ◌↔◌, List, None, false, length, IfOk, IsTrue};
-ghost use Rattle.cfgyacc.specs.Answer.{Found, WasRead};
-ghost use Rattle.cfgyacc.specs.GrammarOf.{IsFoundAs, IsFoundItself};
-ghost use Rattle.cfgtree.specs.TreeView.{syntax};
+ghost use Rattle.cfgrammar.specs.Answer.{Found, WasRead};
+ghost use Rattle.cfgrammar.specs.GrammarOf.{IsFoundAs, IsFoundItself};
+ghost use Rattle.cfgrammar.specs.TreeView.{syntax};
 ghost use Rattle.cfglint.specs.Findings.{AreFindings};
 ghost use Rattle.cfglint.specs.Shown.{ShownFinding};
 ghost use Rattle.cfglint.specs.Told.{IsFound, NamesNoKind, TellsFound, TellsText, error_lines, finding_lines};
 
 use crate::finding::Finding;
 use crate::found::findings;
-use cfgerrors::{YaccFault, YaccGrammarError};
-use cfgkinds::{YaccKind, YaccOriginalActionKind};
-use cfgrender::render_all;
+use cfgrammar::render_all;
+use cfgrammar::yacc::ast::{ASTWithValidityInfo, GrammarAST};
+use cfgrammar::yacc::{YaccFault, YaccGrammar, YaccGrammarError, YaccKind, YaccOriginalActionKind};
 use cfgsection::{HeaderFault, entry_of, section_entries};
 use cfgshell::KindArg;
 use cfgsyntax::let_go;
-use cfgsyntax::yacc::ast::ASTWithValidityInfo;
-use cfgtree::GrammarAST;
-use cfgyacc::YaccGrammar;
 use lintshell::{Linter, Report};
 use std::alloc::{AllocError, Global};
 

@@ -1,5 +1,5 @@
 use Rattle.std.proofs.Common.{false, Err, map, codes, ap, subst, ◌∙◌}
-use Rattle.cfgsection.specs.SectionReads.{IsSectionRead, entry_view, given, section_of}
+use Rattle.cfgrammar.specs.SectionReads.{IsSectionRead, entry_view, given, section_of}
 use Rattle.cfglint.proofs.NoKind.{by_entries, by_errors}
 use Rattle.cfglint.proofs.linter.names_no_kind.Goals as goal
 

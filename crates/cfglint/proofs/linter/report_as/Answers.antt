@@ -1,7 +1,7 @@
 use Rattle.std.proofs.Common.{◌≡◌, false}
 use Rattle.std.proofs.lemmas.Result.{IfOk-weaker}
-use Rattle.cfgyacc.specs.Answer.{Found, WasRead}
-use Rattle.cfgyacc.specs.GrammarOf.{IsFoundAs}
+use Rattle.cfgrammar.specs.Answer.{Found, WasRead}
+use Rattle.cfgrammar.specs.GrammarOf.{IsFoundAs}
 use Rattle.cfglint.specs.Told.{TellsFound}
 use Rattle.cfglint.proofs.linter.report_as.Goals as goal
 

@@ -1,7 +1,7 @@
 use Rattle.std.proofs.Common.{false, length}
-use Rattle.cfgerrors.specs.Errors.{GrammarError}
-use Rattle.cfgerrors.specs.Errors as errors
-use Rattle.cfgerrors.specs.ErrorTexts.{error_text}
+use Rattle.cfgrammar.specs.Errors.{GrammarError}
+use Rattle.cfgrammar.specs.Errors as errors
+use Rattle.cfgrammar.specs.ErrorTexts.{error_text}
 use Rattle.cfglint.proofs.Rendered.{each_rendered}
 use Rattle.cfglint.proofs.linter.report_errors.Goals as goal
 

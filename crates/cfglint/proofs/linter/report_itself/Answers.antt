@@ -1,9 +1,9 @@
 use Rattle.std.proofs.Common.{◌≡◌, false, length, ap, subst}
 use Rattle.std.proofs.lemmas.Result.{IfOk-weaker}
-use Rattle.cfgerrors.specs.declared.error.YaccFault.TheVariants as faults
-use Rattle.cfgyacc.specs.Answer.{Found, WasRead}
-use Rattle.cfgyacc.specs.GrammarOf.{IsFoundItself}
-use Rattle.cfgyacc.proofs.OfItself.{parsed_itself, refused_itself}
+use Rattle.cfgrammar.specs.YaccFault.TheVariants as faults
+use Rattle.cfgrammar.specs.Answer.{Found, WasRead}
+use Rattle.cfgrammar.specs.GrammarOf.{IsFoundItself}
+use Rattle.cfgrammar.proofs.OfItself.{parsed_itself, refused_itself}
 use Rattle.lintshell.specs.Tally.{Told}
 use Rattle.cfglint.specs.Told.{TellsFound, error_lines}
 use Rattle.cfglint.proofs.TextTold.{unnamed_told}

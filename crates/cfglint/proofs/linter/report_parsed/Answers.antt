@@ -1,7 +1,7 @@
 use Rattle.std.proofs.Common.{◌≡◌, List, false, length, ap}
 use Rattle.std.proofs.lemmas.Result.{IfOk-weaker}
-use Rattle.cfgtree.specs.TreeView.{syntax}
-use Rattle.cfgyacc.specs.Answer.{WasRead}
+use Rattle.cfgrammar.specs.TreeView.{syntax}
+use Rattle.cfgrammar.specs.Answer.{WasRead}
 use Rattle.lintshell.specs.Tally.{Told}
 use Rattle.cfglint.specs.Findings.{AreFindings}
 use Rattle.cfglint.specs.Shown.{ShownFinding}
