@@ -15,7 +15,7 @@ use Rattle.std.proofs.lemmas.List.Quantifiers.{position-Some}
 use Rattle.std.proofs.lemmas.Map.Lookups.{exact_unsigned}
 use Rattle.std.proofs.lemmas.Option.{get_or_from_slice_get, same_Some, slice_get-get_or, slice_get_within}
 use Rattle.cfgrammar.proofs.Contained.{contains_mapped, contains_none, contains_source}
-use Rattle.cfgrammar.proofs.Places.{first_place, position-distinct}
+use Rattle.cfgrammar.proofs.ListPlaces.{first_place, position-distinct}
 use Rattle.cfgrammar.proofs.Taken.{contains_taken}
 use Rattle.cfgrammar.specs.Span.{Span}
 use Rattle.cfgrammar.specs.Syntax.{Production, Syntax}

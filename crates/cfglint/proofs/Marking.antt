@@ -15,7 +15,7 @@ use Rattle.std.proofs.lemmas.Option.{same_Some, slice_get-get_or, slice_get-map}
 use Rattle.std.proofs.lemmas.Simd.{map-map}
 use Rattle.cfgrammar.proofs.Contained.{contains_first, contains_mapped, contains_none, contains_one, contains_source}
 use Rattle.cfgrammar.proofs.Elements.{get_or-replicate_default}
-use Rattle.cfgrammar.proofs.Places.{position-distinct, position-map}
+use Rattle.cfgrammar.proofs.ListPlaces.{position-distinct, position-map}
 use Rattle.cfgrammar.specs.Span.{Span}
 use Rattle.cfgrammar.specs.Building.{has_name}
 use Rattle.cfgrammar.specs.Syntax.{RuleSymbol, Symbol, Syntax, TokenSymbol, entry_name}

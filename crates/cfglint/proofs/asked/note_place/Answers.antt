@@ -4,7 +4,7 @@ use Rattle.std.specs.BTreeSet.{contains}
 use Rattle.std.specs.List.{IsDistinct}
 use Rattle.std.specs.Str.{bytes_eq}
 use Rattle.std.proofs.lemmas.Option.{slice_get_past, slice_get_read}
-use Rattle.cfgrammar.proofs.Places.{position-map}
+use Rattle.cfgrammar.proofs.ListPlaces.{position-map}
 use Rattle.cfgrammar.specs.Span.{Span}
 use Rattle.cfgrammar.specs.TreeView.{syntax}
 use Rattle.cfgrammar.proofs.Found.{names_differ}
