@@ -46,7 +46,7 @@ pub fn kind_of(word: &str) -> Option<KindArg>
 }
 
 /// The command that a word names, byte for byte.
-#[tactic(auto, unfolding(crate::specs::Words::command_named))]
+#[tactic(auto, unfolding(crate::specs::Arguments::command_named))]
 pub fn command_of(word: &str) -> Option<Command>
     ensures { result ≡ command_named word.now }
 {
