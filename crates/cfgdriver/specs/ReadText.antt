@@ -1,11 +1,13 @@
 -- What is made of a text: of the errors for which it is refused, or of the grammar that it is.
-use Rattle.std.specs.Prelude.{◌≡◌, ℕ, ◌⊎◌, List, []}
+use Rattle.std.specs.Prelude.{◌≡◌, ℕ, ◌⊎◌, Bool, true, false, List, [], Option, Some, None}
 use Rattle.cfgrammar.specs.Answer.{Found, Unnamed, WasRead, IsRefused, in_numbers}
 use Rattle.cfgrammar.specs.Errors.{GrammarError}
 use Rattle.cfgrammar.specs.Fits.{Fits}
 use Rattle.cfgrammar.specs.GrammarOf.{IsFoundAs, IsFoundItself}
+use Rattle.cfgrammar.specs.Named.{NamesNoKind}
 use Rattle.cfgrammar.specs.Numbered.{Numbered}
 use Rattle.cfgrammar.specs.Syntax.{Syntax}
+use Rattle.cfgrammar.specs.YaccKind.{YaccKind}
 use Rattle.cfgshell.specs.declared.words.KindArg.{KindArg}
 use Rattle.cfgshell.specs.declared.words.KindArg.TheVariants.{Named, Section}
 
@@ -17,6 +19,13 @@ IsFound Section text found = IsFoundItself text found
 -- the greatest index of the grammars
 abbrev pub greatest : ℕ
 greatest = 4294967295
+
+-- As what a text is read where this kind is asked for, if one is: as a file of the kind that is asked for; where none is, as one of
+-- the kind that it names, and where it names none, as one of the default kind. The last part says whether that was so.
+pub data IsReadAs (default : YaccKind) (text : List ℕ) : Option KindArg → KindArg → Bool → Type 0 where
+  asked : {kind : KindArg} → IsReadAs default text (Some kind) kind false
+  itself : (NamesNoKind text → ⊥) → IsReadAs default text None Section false
+  taken : NamesNoKind text → IsReadAs default text None (Named default) true
 
 -- A text that is found to be this is refused, and this is made of the errors.
 abbrev pub IsMadeOfErrors : {Made : Type 0} → (List GrammarError → Made → Type 0) → Found → Made → Type 0

@@ -2,7 +2,7 @@
 //! errors, or of its grammar.
 #![tactic(auto)]
 
-ghost use Rattle.std.specs.Prelude.{All, IfOk};
+ghost use Rattle.std.specs.Prelude.{All, IfOk, None};
 ghost use Rattle.std.specs.Fn.{FnOnceReturnsAt, FnOnceTakesAt};
 ghost use Rattle.cfgrammar.specs.Answer.{Found, WasRead};
 ghost use Rattle.cfgrammar.specs.ErrorSpans.{EachErrorSpan, EachParsedSpan};
@@ -10,9 +10,10 @@ ghost use Rattle.cfgrammar.specs.GrammarOf.{IsFoundAs, IsFoundItself};
 ghost use Rattle.cfgrammar.specs.Places.{IsPiece, IsWithin};
 ghost use Rattle.cfgrammar.specs.Syntax.{EachSpan};
 ghost use Rattle.cfgrammar.specs.TreeView.{syntax};
-ghost use Rattle.cfgdriver.specs.ReadText.{IsFound, IsMadeOf};
+ghost use Rattle.cfgshell.specs.declared.words.KindArg.{KindArg};
+ghost use Rattle.cfgdriver.specs.ReadText.{IsFound, IsMadeOf, IsReadAs};
 
-use cfgrammar::yacc::ast::{ASTWithValidityInfo, GrammarAST};
+use cfgrammar::yacc::ast::{ASTWithValidityInfo, GrammarAST, KindSource};
 use cfgrammar::yacc::{YaccFault, YaccGrammar, YaccGrammarError, YaccKind};
 use cfgshell::KindArg;
 use std::alloc::{AllocError, Global};
@@ -77,6 +78,48 @@ pub fn read_text<R, T: TextReader<R>>(
     match kind {
         KindArg::Named(kind) => read_as(alloc, kind, text, reader),
         KindArg::Section => read_itself(alloc, text, reader),
+    }
+}
+
+/// Reads a text as [`read_text`] does, where a kind need not be asked for: a text that then names none is read as a file
+/// of the default kind. The second part of the result says whether it was.
+///
+/// # Errors
+///
+/// Running out of memory.
+pub fn read_text_or<R, T: TextReader<R>>(
+    alloc: Global,
+    kind: Option<KindArg>,
+    default: YaccKind,
+    text: &str,
+    reader: &T,
+) -> Result<(R, bool), AllocError>
+    ensures { IfOk result (λ made. (read_kind : KindArg) × (found : Found)
+        × IsReadAs default text.now kind read_kind made.1 × IsFound read_kind text.now found
+        × IsMadeOf (T.of_errors reader.now text.now) (T.of_grammar reader.now text.now) found made.0) }
+{
+    match kind {
+        Some(kind) => Ok((read_text(alloc, kind, text, reader)?, false)),
+        None => read_unasked(alloc, default, text, reader),
+    }
+}
+
+/// What is made of a text for which no kind is asked, and whether it was read as a file of the default kind.
+fn read_unasked<R, T: TextReader<R>>(
+    alloc: Global,
+    default: YaccKind,
+    text: &str,
+    reader: &T,
+) -> Result<(R, bool), AllocError>
+    ensures { IfOk result (λ made. (read_kind : KindArg) × (found : Found)
+        × IsReadAs default text.now None read_kind made.1 × IsFound read_kind text.now found
+        × IsMadeOf (T.of_errors reader.now text.now) (T.of_grammar reader.now text.now) found made.0) }
+{
+    match ASTWithValidityInfo::from_str_or(alloc, default, text) {
+        Ok((parsed, KindSource::Section)) => Ok((made_of(alloc, text, parsed, reader)?, false)),
+        Ok((parsed, KindSource::Default)) => Ok((made_of(alloc, text, parsed, reader)?, true)),
+        Err(YaccFault::Errors(errors)) => Ok((reader.errors(alloc, text, &errors)?, false)),
+        Err(YaccFault::OutOfMemory) => Err(AllocError),
     }
 }
 

@@ -14,13 +14,13 @@ use Rattle.std.proofs.lemmas.List.Folds.{list_any_at}
 use Rattle.std.proofs.lemmas.List.Quantifiers.{position-Some}
 use Rattle.std.proofs.lemmas.Map.Lookups.{exact_unsigned}
 use Rattle.std.proofs.lemmas.Option.{get_or_from_slice_get, same_Some, slice_get-get_or, slice_get_within}
-use Rattle.lemmas.proofs.Contained.{contains_mapped, contains_none, contains_source}
-use Rattle.lemmas.proofs.Places.{first_place, position-distinct}
-use Rattle.lemmas.proofs.Taken.{contains_taken}
-use Rattle.cfgbase.specs.declared.span.Span.{Span}
-use Rattle.cfgast.specs.Syntax.{Production, Syntax}
-use Rattle.cfgast.specs.SyntaxView.{production_view}
-use Rattle.cfgast.specs.declared.production.Production as source
+use Rattle.cfgrammar.proofs.Contained.{contains_mapped, contains_none, contains_source}
+use Rattle.cfgrammar.proofs.ListPlaces.{first_place, position-distinct}
+use Rattle.cfgrammar.proofs.Taken.{contains_taken}
+use Rattle.cfgrammar.specs.Span.{Span}
+use Rattle.cfgrammar.specs.Syntax.{Production, Syntax}
+use Rattle.cfgrammar.specs.SyntaxView.{production_view}
+use Rattle.cfgrammar.specs.AstProduction as source
 use Rattle.cfglint.specs.Inner.Asked.{AreAskedBy, IsAskedBy, IsPlaceOf, Notes, has_span, place_cmp}
 
 abbrev pub place_at : Span → ℕ × ℕ

@@ -11,14 +11,14 @@ use Rattle.std.proofs.lemmas.Bool.{cases_lt}
 use Rattle.std.proofs.lemmas.Map.Lookups.{exact_unsigned}
 use Rattle.std.proofs.lemmas.List.{get_or_append_left, get_or_push, length_push}
 use Rattle.std.proofs.lemmas.Option.{get_or_from_slice_get, same_Some, slice_get-map}
-use Rattle.derivation.specs.Grammar.{Grammar, Production, Rule, Token}
-use Rattle.cfgindex.specs.declared.idxnewtype.Symbol.{Symbol}
-use Rattle.cfgindex.specs.declared.idxnewtype.Symbol.TheVariants as code
-use Rattle.cfgnumbers.specs.Numbered.{Numbered, NumberedProduction, core, production_core}
-use Rattle.cfgnumbers.specs.Accessors.{production_part}
-use Rattle.cfgtables.specs.Openings.{nth_production}
-use Rattle.cfgtables.specs.NumberedSymbols.{sym_of}
-use Rattle.cfglint.specs.Inner.Firsts.{AreFirsts, IsFirst, ordered_symbol, production_of, sym_of_ordered}
+use Rattle.cfgrammar.specs.Grammar.{Grammar, Production, Rule, Token}
+use Rattle.cfgrammar.specs.Symbol.{Symbol}
+use Rattle.cfgrammar.specs.Symbol.TheVariants as code
+use Rattle.cfgrammar.specs.Numbered.{Numbered, NumberedProduction, core, production_core}
+use Rattle.cfgrammar.specs.Accessors.{production_part}
+use Rattle.cfgrammar.specs.Openings.{nth_production}
+use Rattle.cfgrammar.specs.NumberedSymbols.{sym_of}
+use Rattle.cfglint.specs.Inner.FirstProductions.{AreFirsts, IsFirst, ordered_symbol, production_of, sym_of_ordered}
 use Rattle.cfglint.specs.contracts.repeats.OrderedSymbolOrd.TheImpl.{ghosts as order}
 use Rattle.cfglint.specs.declared.repeats.OrderedSymbol.{OrderedSymbol}
 use Rattle.cfglint.specs.declared.repeats.OrderedSymbol.TheVariants as ordered

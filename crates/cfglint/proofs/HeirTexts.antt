@@ -3,17 +3,17 @@ use Rattle.std.proofs.Common.{◌≡◌, ℕ, ◌+◌, ◌-◌, ◌<◌, ◌≤�
 use Rattle.std.proofs.lemmas.List.{drop-drop, drop-map, length-drop, length-map, take-map, take_all}
 use Rattle.std.proofs.lemmas.Option.{get_or_from_slice_get, same_Some, slice_get-map, slice_get_within}
 use Rattle.std.specs.List.{flat_map}
-use Rattle.derivation.specs.Grammar.{Rule, Sym, Token}
-use Rattle.cfgbase.specs.declared.span.Span.{Span}
-use Rattle.cfgtree.specs.Check.{nowhere}
-use Rattle.cfgindex.specs.declared.idxnewtype.Symbol.{Symbol}
-use Rattle.cfgindex.specs.declared.idxnewtype.Symbol.TheVariants as symbols
-use Rattle.cfgtables.specs.Openings.{nth_production}
-use Rattle.cfgtables.specs.NumberedSymbols.{sym_of}
-use Rattle.cfgnumbers.specs.Numbered.{Numbered, core, production_core}
-use Rattle.cfgnumbers.specs.Accessors.{IsSymbolWithin, production_part, rule_part}
-use Rattle.cfgyacc.proofs.Shows.{rule_named}
-use Rattle.loops.specs.declared.rows.Step.{Step}
+use Rattle.cfgrammar.specs.Grammar.{Rule, Sym, Token}
+use Rattle.cfgrammar.specs.Span.{Span}
+use Rattle.cfgrammar.specs.Check.{nowhere}
+use Rattle.cfgrammar.specs.Symbol.{Symbol}
+use Rattle.cfgrammar.specs.Symbol.TheVariants as symbols
+use Rattle.cfgrammar.specs.Openings.{nth_production}
+use Rattle.cfgrammar.specs.NumberedSymbols.{sym_of}
+use Rattle.cfgrammar.specs.Numbered.{Numbered, core, production_core}
+use Rattle.cfgrammar.specs.Accessors.{IsSymbolWithin, production_part, rule_part}
+use Rattle.cfgrammar.proofs.Shows.{rule_named}
+use Rattle.cfgrammar.specs.Step.{Step}
 use Rattle.cfglint.specs.Shown.{ShownFinding, derives_itself, rule_name, rule_span, step_text, vanishing}
 use Rattle.cfglint.proofs.Read.{production_there, symbols_read}
 use Rattle.cfglint.specs.declared.finding.FindingKind.TheVariants.{DerivesItself}

@@ -2,9 +2,9 @@
 use Rattle.std.proofs.Common.{◌≡◌, ℕ, ◌+◌, ◌<◌, List, [], ◌∷◌, ◌++◌, Contains, length, get_or, map, take, drop, inl, inr, sym, subst, ap, ◌∙◌}
 use Rattle.std.proofs.lemmas.List.{drop_more, map-append, take-append-drop}
 use Rattle.std.proofs.lemmas.List.Elements.{Contains-append_cases}
-use Rattle.lemmas.proofs.Contained.{contains_one}
-use Rattle.derivation.specs.Grammar.{Sym, Rule}
-use Rattle.cfgnumbers.proofs.Turns.{more_taken}
+use Rattle.cfgrammar.proofs.Contained.{contains_one}
+use Rattle.cfgrammar.specs.Grammar.{Sym, Rule}
+use Rattle.cfgrammar.proofs.Turns.{more_taken}
 
 module _ {A : Type 0} (f : A → Sym) (xs : List A) (n : ℕ) (x : A) (within : n < length xs) (is : x ≡ get_or xs n x) where
   -- what holds of each rule among the first symbols, and of the next one if it is a rule

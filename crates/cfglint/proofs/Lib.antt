@@ -3,11 +3,9 @@ pub mod FirstAlike
 pub mod HeirTexts
 pub mod Lacking
 pub mod Marking
-pub mod NoKind
 pub mod OwnLoops
 pub mod Read
 pub mod Rendered
 pub mod Telling
-pub mod TextTold
 pub mod Texts
 pub mod Unusable

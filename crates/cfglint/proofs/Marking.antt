@@ -13,18 +13,17 @@ use Rattle.std.proofs.lemmas.List.Quantifiers.{position-Some}
 use Rattle.std.proofs.lemmas.Map.Views.{Contains-from_any, list_any-from_Contains}
 use Rattle.std.proofs.lemmas.Option.{same_Some, slice_get-get_or, slice_get-map}
 use Rattle.std.proofs.lemmas.Simd.{map-map}
-use Rattle.lemmas.proofs.Contained.{contains_first, contains_mapped, contains_none, contains_one, contains_source}
-use Rattle.lemmas.proofs.Elements.{get_or-replicate_default}
-use Rattle.lemmas.proofs.Places.{position-distinct, position-map}
-use Rattle.cfgbase.specs.declared.span.Span.{Span}
-use Rattle.cfgast.specs.Building.{has_name}
-use Rattle.cfgast.specs.Syntax.{RuleSymbol, Symbol, Syntax, TokenSymbol, entry_name}
-use Rattle.cfgast.specs.SyntaxView.{precedence_entry}
-use Rattle.cfgast.specs.declared.precedence.Precedence.{Precedence}
-use Rattle.cfgast.proofs.Views.{is_key}
-use Rattle.cfgtree.specs.Unused.{TokenName, entry_token, name_of}
-use Rattle.cfgtree.proofs.Found.{names_differ}
-use Rattle.cfgcosts.proofs.Joins.{flat_contains, flat_source}
+use Rattle.cfgrammar.proofs.Contained.{contains_first, contains_mapped, contains_none, contains_one, contains_source}
+use Rattle.cfgrammar.proofs.Elements.{get_or-replicate_default}
+use Rattle.cfgrammar.proofs.ListPlaces.{position-distinct, position-map}
+use Rattle.cfgrammar.specs.Span.{Span}
+use Rattle.cfgrammar.specs.Building.{has_name}
+use Rattle.cfgrammar.specs.Syntax.{RuleSymbol, Symbol, Syntax, TokenSymbol, entry_name}
+use Rattle.cfgrammar.specs.SyntaxView.{precedence_entry}
+use Rattle.cfgrammar.specs.Precedence.{Precedence}
+use Rattle.cfgrammar.specs.Unused.{TokenName, entry_token, name_of}
+use Rattle.cfgrammar.proofs.Found.{names_differ}
+use Rattle.cfgrammar.proofs.Joins.{flat_contains, flat_source}
 use Rattle.cfglint.specs.Findings.{TakesPart, asked, held, implicit}
 use Rattle.cfglint.specs.Inner.Taking.{AreMarked, Marks, production_names, symbol_names}
 
@@ -49,7 +48,7 @@ precedence_names : (es : List (String Global × (Precedence × Span))) → map e
 precedence_names es = map-map entry_name precedence_entry es ∙ sym (map-map string_bytes (λ (e : String Global × (Precedence × Span)). e.0) es)
 
 pub precedence_position : (name : List ℕ) (es : List (String Global × (Precedence × Span)))
-    → position (bytes_eq name) (map entry_name (map precedence_entry es)) ≡ position (is_key name) (keys_of es)
+    → position (bytes_eq name) (map entry_name (map precedence_entry es)) ≡ position (λ key. bytes_eq name (string_bytes key)) (keys_of es)
 precedence_position name es = ap (position (bytes_eq name)) (precedence_names es) ∙ position-map (bytes_eq name) string_bytes (keys_of es)
 
 pub precedences_differ : (es : List (String Global × (Precedence × Span))) → IsDistinct string_eq (keys_of es)

@@ -2,13 +2,13 @@
 use Rattle.std.proofs.Common.{◌≡◌, ℕ, ◌<◌, ◌≤◌, ◌↔◌, List, [], ◌∷◌, All, Option, None, Some, Result, Ok, Err, IfOk, Vec, Global, get_or, length, sym, subst, ◌∙◌}
 use Rattle.std.proofs.lemmas.List.{get_or_default}
 use Rattle.std.proofs.lemmas.List.Elements.{All-cons, All-nil}
-use Rattle.derivation.specs.Grammar.{Grammar, HasProduction}
-use Rattle.cfgnumbers.specs.Numbered.{Numbered, core}
-use Rattle.loops.specs.Alone.{DerivesItself}
-use Rattle.loops.specs.StepLists.{HasStep}
-use Rattle.loops.specs.Rows.{IsLoop, IsShortestLoop, IsShortestOf, Leads}
-use Rattle.loops.specs.UnitSteps.{AreSteps, IsStep}
-use Rattle.loops.specs.declared.rows.Step.{Step}
+use Rattle.cfgrammar.specs.Grammar.{Grammar, HasProduction}
+use Rattle.cfgrammar.specs.Numbered.{Numbered, core}
+use Rattle.cfgrammar.specs.Alone.{DerivesItself}
+use Rattle.cfgrammar.specs.StepLists.{HasStep}
+use Rattle.cfgrammar.specs.Rows.{IsLoop, IsShortestLoop, IsShortestOf, Leads}
+use Rattle.cfgrammar.specs.UnitSteps.{AreSteps, IsStep}
+use Rattle.cfgrammar.specs.Step.{Step}
 use Rattle.cfglint.specs.Findings.{TellsLoop, rules_added}
 use Rattle.cfglint.specs.Shown.{ShownFinding, derives_itself}
 use Rattle.cfglint.specs.Inner.OwnHeirs.{AreLoops, IsSomeStep}

@@ -3,11 +3,11 @@ use Rattle.std.proofs.Common.{◌≡◌, ℕ, ◌<◌, ◌≤◌, List, Option, 
 use Rattle.std.proofs.lemmas.List.{get_or-map, length-map}
 use Rattle.std.proofs.lemmas.List.Elements.{Contains-get_or}
 use Rattle.std.proofs.lemmas.Option.{get_or_from_slice_get}
-use Rattle.derivation.specs.Grammar.{HasProduction, Production, Sym}
-use Rattle.cfgtables.specs.Openings.{nth_production}
-use Rattle.cfgnumbers.specs.Numbered.{Numbered, NumberedProduction, NumberedRule, core, production_core}
-use Rattle.cfgnumbers.specs.Accessors.{production_part, rule_part}
-use Rattle.cfgnumbers.specs.WellNumbered.{IsWellNumbered}
+use Rattle.cfgrammar.specs.Grammar.{HasProduction, Production, Sym}
+use Rattle.cfgrammar.specs.Openings.{nth_production}
+use Rattle.cfgrammar.specs.Numbered.{Numbered, NumberedProduction, NumberedRule, core, production_core}
+use Rattle.cfgrammar.specs.Accessors.{production_part, rule_part}
+use Rattle.cfgrammar.specs.WellNumbered.{IsWellNumbered}
 
 -- a grammar that is seen as this one, and a number as this one
 module _ (g h : Numbered) (view : h ≡ g) (n k : ℕ) (same : k ≡ n) {A : Type 0} (x : A) where

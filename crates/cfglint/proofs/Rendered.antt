@@ -2,9 +2,9 @@
 use Rattle.std.proofs.Common.{◌≡◌, ℕ, List, [], ◌++◌, refl, ap, ◌∙◌}
 use Rattle.std.proofs.lemmas.List.{flat_map_more}
 use Rattle.std.specs.List.{flat_map}
-use Rattle.cfgbase.specs.declared.span.Span.{Span}
-use Rattle.cfgbase.specs.declared.span.SpansKind.{SpansKind}
-use Rattle.cfgrender.specs.Render.{RendersEach, none, more, rendered}
+use Rattle.cfgrammar.specs.Span.{Span}
+use Rattle.cfgrammar.specs.SpansKind.{SpansKind}
+use Rattle.cfgrammar.specs.Render.{RendersEach, none, more, rendered}
 
 module _ {A : Type 0} (text_of : A → List ℕ) (spans : A → List Span) (kind : A → SpansKind) (name text : List ℕ) where
   pub each_rendered : {all : List A} {out : List ℕ} → RendersEach (λ x message. message ≡ text_of x) spans kind name text all out

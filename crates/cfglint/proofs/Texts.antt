@@ -1,10 +1,10 @@
 -- The texts of findings, as they are written.
 use Rattle.std.proofs.Common.{◌≡◌, ℕ, List, [], ◌∷◌, ◌++◌, Some, codes, unwrap_or, sym, ap, ◌∙◌, append_assoc}
-use Rattle.cfgbase.specs.declared.span.Span.{Span}
-use Rattle.cfgtree.specs.Check.{nowhere}
-use Rattle.cfgnumbers.specs.Numbered.{Numbered}
-use Rattle.cfgnumbers.specs.Accessors.{production_part, rule_part}
-use Rattle.cfgyacc.proofs.Shows.{rule_named}
+use Rattle.cfgrammar.specs.Span.{Span}
+use Rattle.cfgrammar.specs.Check.{nowhere}
+use Rattle.cfgrammar.specs.Numbered.{Numbered}
+use Rattle.cfgrammar.specs.Accessors.{production_part, rule_part}
+use Rattle.cfgrammar.proofs.Shows.{rule_named}
 use Rattle.cfglint.specs.Shown.{ShownFinding, no_sentence, production_span, quoted, rule_name, rule_span, unusable}
 use Rattle.cfglint.specs.declared.finding.FindingKind.{FindingKind}
 use Rattle.cfglint.specs.declared.finding.FindingKind.TheVariants.{NoSentence, UnusableProduction}

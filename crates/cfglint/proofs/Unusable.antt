@@ -1,13 +1,13 @@
 -- Productions that no sentence of their rule uses, where it is known which productions are used.
 use Rattle.std.proofs.Common.{◌≡◌, ◌↔◌, ℕ, ◌<◌, false, List, ◌∷◌, Some, Contains, length, sym, subst}
 use Rattle.std.proofs.lemmas.List.Elements.{Contains-append_right}
-use Rattle.lemmas.proofs.Contained.{contains_first}
-use Rattle.derivation.specs.Grammar.{HasProduction, Rule, Sym}
-use Rattle.derivation.specs.Sentence.{Sentence}
-use Rattle.loops.specs.Uses.{IsUsable}
-use Rattle.cfgtables.specs.Openings.{nth_production}
-use Rattle.cfgnumbers.specs.Numbered.{Numbered, core}
-use Rattle.cfgnumbers.specs.Accessors.{production_part}
+use Rattle.cfgrammar.proofs.Contained.{contains_first}
+use Rattle.cfgrammar.specs.Grammar.{HasProduction, Rule, Sym}
+use Rattle.cfgrammar.specs.Sentence.{Sentence}
+use Rattle.cfgrammar.specs.Uses.{IsUsable}
+use Rattle.cfgrammar.specs.Openings.{nth_production}
+use Rattle.cfgrammar.specs.Numbered.{Numbered, core}
+use Rattle.cfgrammar.specs.Accessors.{production_part}
 use Rattle.cfglint.specs.Findings.{IsFirstWithout, IsUnusable}
 use Rattle.cfglint.specs.Inner.Lacks.{LacksOrHas}
 use Rattle.cfglint.proofs.Read.{has_read, rule_read, symbols_read}

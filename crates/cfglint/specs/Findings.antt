@@ -3,22 +3,22 @@
 use Rattle.std.specs.Prelude.{◌≡◌, ℕ, ◌+◌, ◌<◌, ◌≤◌, List, [], ◌∷◌, ◌++◌, Contains, Option, Some, None, if◌then◌else◌, is_some, length, map, slice_get}
 use Rattle.std.specs.List.Sorted.{IsPermutation, IsSortedByKey, IsStableByKey}
 use Rattle.std.specs.Ordering.{nat_cmp}
-use Rattle.derivation.specs.Grammar.{Sym, Rule, HasProduction}
-use Rattle.derivation.specs.Sentence.{Sentence}
-use Rattle.loops.specs.Alone.{DerivesItself}
-use Rattle.loops.specs.Rows.{IsShortestLoop}
-use Rattle.loops.specs.UnitSteps.{IsStep}
-use Rattle.loops.specs.Uses.{IsUsable}
-use Rattle.loops.specs.declared.rows.Step.{Step}
-use Rattle.cfgbase.specs.declared.span.Span.{Span}
-use Rattle.cfgleast.specs.Generator.{HasNone}
-use Rattle.cfgast.specs.Syntax.{Production, Syntax}
-use Rattle.cfgast.specs.declared.precedence.Precedence.{Precedence}
-use Rattle.cfgtree.specs.Unused.{AreWarnings, TokenName, entry_token, name_of}
-use Rattle.cfgerrors.specs.Warnings.{GrammarWarning}
-use Rattle.cfgerrors.specs.declared.warning.YaccGrammarWarningKind.TheVariants.{UnusedToken}
-use Rattle.cfgtables.specs.Openings.{nth_production}
-use Rattle.cfgnumbers.specs.Numbered.{Numbered, core}
+use Rattle.cfgrammar.specs.Grammar.{Sym, Rule, HasProduction}
+use Rattle.cfgrammar.specs.Sentence.{Sentence}
+use Rattle.cfgrammar.specs.Alone.{DerivesItself}
+use Rattle.cfgrammar.specs.Rows.{IsShortestLoop}
+use Rattle.cfgrammar.specs.UnitSteps.{IsStep}
+use Rattle.cfgrammar.specs.Uses.{IsUsable}
+use Rattle.cfgrammar.specs.Step.{Step}
+use Rattle.cfgrammar.specs.Span.{Span}
+use Rattle.cfgrammar.specs.Generator.{HasNone}
+use Rattle.cfgrammar.specs.Syntax.{Production, Syntax}
+use Rattle.cfgrammar.specs.Precedence.{Precedence}
+use Rattle.cfgrammar.specs.Unused.{AreWarnings, TokenName, entry_token, name_of}
+use Rattle.cfgrammar.specs.Warnings.{GrammarWarning}
+use Rattle.cfgrammar.specs.YaccGrammarWarningKind.TheVariants.{UnusedToken}
+use Rattle.cfgrammar.specs.Openings.{nth_production}
+use Rattle.cfgrammar.specs.Numbered.{Numbered, core}
 use Rattle.cfglint.specs.Shown.{ShownFinding, derives_itself, no_sentence, place_of, repeated, unusable, unused_precedence, warned}
 
 -- Of each number below this one in order, what is told: `Tells n (Some finding)` says that this is told of n, and `Tells n None` that

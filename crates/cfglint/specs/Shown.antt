@@ -2,19 +2,19 @@
 use Rattle.std.specs.Prelude.{ℕ, ◌+◌, List, [], ◌∷◌, ◌++◌, drop, take, codes, slice_get, unwrap_or}
 use Rattle.std.specs.List.{flat_map}
 use Rattle.std.specs.Option.{option_map_or}
-use Rattle.derivation.specs.Grammar.{Sym, Rule}
-use Rattle.loops.specs.declared.rows.Step.{Step}
-use Rattle.cfgbase.specs.declared.span.Span.{Span}
-use Rattle.cfgbase.specs.declared.span.SpansKind.{SpansKind}
-use Rattle.cfgbase.specs.declared.span.SpansKind.TheVariants.{DuplicationError, Error}
-use Rattle.cfgtree.specs.Check.{nowhere}
-use Rattle.cfgerrors.specs.WarningTexts.{warning_text}
-use Rattle.cfgerrors.specs.Warnings.{GrammarWarning}
-use Rattle.cfgerrors.specs.declared.warning.YaccGrammarWarningKind.{YaccGrammarWarningKind}
-use Rattle.cfgerrors.specs.declared.warning.YaccGrammarWarningKind.TheVariants as warnings
-use Rattle.cfgnumbers.specs.Numbered.{Numbered, core}
-use Rattle.cfgnumbers.specs.Accessors.{production_part, rule_part, sym_name}
-use Rattle.cfgtables.specs.Openings.{nth_production}
+use Rattle.cfgrammar.specs.Grammar.{Sym, Rule}
+use Rattle.cfgrammar.specs.Step.{Step}
+use Rattle.cfgrammar.specs.Span.{Span}
+use Rattle.cfgrammar.specs.SpansKind.{SpansKind}
+use Rattle.cfgrammar.specs.SpansKind.TheVariants.{DuplicationError, Error}
+use Rattle.cfgrammar.specs.Check.{nowhere}
+use Rattle.cfgrammar.specs.WarningTexts.{warning_text}
+use Rattle.cfgrammar.specs.Warnings.{GrammarWarning}
+use Rattle.cfgrammar.specs.YaccGrammarWarningKind.{YaccGrammarWarningKind}
+use Rattle.cfgrammar.specs.YaccGrammarWarningKind.TheVariants as warnings
+use Rattle.cfgrammar.specs.Numbered.{Numbered, core}
+use Rattle.cfgrammar.specs.Accessors.{production_part, rule_part, sym_name}
+use Rattle.cfgrammar.specs.Openings.{nth_production}
 use Rattle.cfglint.specs.declared.finding.FindingKind.{FindingKind}
 use Rattle.cfglint.specs.declared.finding.FindingKind.TheVariants.{DerivesItself, NoSentence, RepeatedProduction, UnusableProduction, UnusedPrecedence, UnusedRule, UnusedToken}
 

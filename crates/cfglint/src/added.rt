@@ -3,7 +3,7 @@
 ghost use Rattle.std.specs.Prelude.{◌≡◌};
 ghost use Rattle.cfglint.specs.Findings.{rules_added as added};
 
-use cfgyacc::YaccGrammar;
+use cfgrammar::yacc::YaccGrammar;
 
 /// How many rules stand before those of the file.
 pub(crate) fn rules_added(grammar: &YaccGrammar<u32>) -> usize

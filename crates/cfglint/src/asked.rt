@@ -1,11 +1,11 @@
 //! The places of tokens that a production's `%prec` names.
 
 ghost use Rattle.std.specs.Prelude.{◌≡◌, IfOk, OnOk};
-ghost use Rattle.cfgtree.specs.TreeView.{syntax};
+ghost use Rattle.cfgrammar.specs.TreeView.{syntax};
 ghost use Rattle.cfglint.specs.Inner.Asked.{AreAskedBy, Notes, has_span};
 
-use cfgbase::Span;
-use cfgtree::GrammarAST;
+use cfgrammar::Span;
+use cfgrammar::yacc::ast::GrammarAST;
 use std::alloc::{AllocError, Global};
 use std::collections::BTreeSet;
 

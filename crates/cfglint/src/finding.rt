@@ -3,7 +3,7 @@
 ghost use Rattle.std.specs.Prelude.{◌≡◌, [], ◌∷◌, IfOk, Some, string_bytes};
 ghost use Rattle.cfglint.specs.Shown.{place_of};
 
-use cfgbase::{Span, Spanned, SpansKind};
+use cfgrammar::{Span, Spanned, SpansKind};
 use std::alloc::{AllocError, Global};
 use std::fmt;
 use std::marker::Model;

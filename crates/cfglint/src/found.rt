@@ -1,7 +1,7 @@
 //! All that is odd about a grammar.
 
 ghost use Rattle.std.specs.Prelude.{◌≡◌, IfOk};
-ghost use Rattle.cfgtree.specs.TreeView.{syntax};
+ghost use Rattle.cfgrammar.specs.TreeView.{syntax};
 ghost use Rattle.cfglint.specs.Findings.{AreFindings};
 
 use crate::finding::Finding;
@@ -10,8 +10,8 @@ use crate::precedences::push_precedences;
 use crate::repeats::push_repeats;
 use crate::sentences::push_sentences;
 use crate::warned::push_warnings;
-use cfgtree::GrammarAST;
-use cfgyacc::YaccGrammar;
+use cfgrammar::yacc::YaccGrammar;
+use cfgrammar::yacc::ast::GrammarAST;
 use std::alloc::{AllocError, Global};
 
 /// What is odd about a grammar without errors, in the order of places; what stands at one place in the order of

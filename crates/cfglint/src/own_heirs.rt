@@ -2,8 +2,8 @@
 
 ghost use Rattle.std.specs.Prelude.{◌≡◌, ◌++◌, ◌<◌, All, IfOk, OnOk, length, map, string_bytes};
 ghost use Rattle.std.specs.List.{flat_map};
-ghost use Rattle.cfgnumbers.specs.Accessors.{IsSymbolWithin, sym_name};
-ghost use Rattle.cfgtables.specs.NumberedSymbols.{sym_of};
+ghost use Rattle.cfgrammar.specs.Accessors.{IsSymbolWithin, sym_name};
+ghost use Rattle.cfgrammar.specs.NumberedSymbols.{sym_of};
 ghost use Rattle.cfglint.specs.Findings.{TellsBelow, TellsLoop};
 ghost use Rattle.cfglint.specs.Inner.OwnHeirs.{AreLoops, IsSomeStep};
 ghost use Rattle.cfglint.specs.Shown.{derives_itself, step_text, vanishing};
@@ -11,10 +11,11 @@ ghost use Rattle.cfglint.specs.Shown.{derives_itself, step_text, vanishing};
 use crate::added::rules_added;
 use crate::finding::{Finding, FindingKind};
 use crate::teller::{Teller, push_told};
-use cfgindex::{PIdx, RIdx, Symbol, to_storage};
-use cfgyacc::YaccGrammar;
-use loops::laws::loops_are_derivations;
-use loops::{Step, alone_steps, shortest_loops};
+use cfgrammar::laws::loops_are_derivations;
+use cfgrammar::storage::to_storage;
+use cfgrammar::yacc::YaccGrammar;
+use cfgrammar::yacc::cycles::{Step, alone_steps, shortest_loops};
+use cfgrammar::{PIdx, RIdx, Symbol};
 use std::alloc::{AllocError, Global};
 use std::marker::Model;
 
@@ -40,7 +41,7 @@ struct OwnHeirs<'a> {
 }
 
 impl<'a> Model for OwnHeirs<'a> {
-    ghost use Rattle.cfgnumbers.specs.Numbered.{Numbered};
+    ghost use Rattle.cfgrammar.specs.Numbered.{Numbered};
     ghost use Rattle.cfglint.specs.Inner.OwnHeirs.{AreLoops};
 
     ghost Value = { Numbered };

@@ -2,19 +2,17 @@
 
 ghost use Rattle.std.specs.Prelude.{◌≡◌, [], ◌∷◌, ◌++◌, length, map, IfOk, OnOk};
 ghost use Rattle.std.specs.List.{flat_map};
-ghost use Rattle.cfgast.specs.Syntax.{entry_name};
-ghost use Rattle.cfgast.specs.SyntaxView.{production_view, span_entry, symbol_view};
-ghost use Rattle.cfgtree.specs.TreeView.{syntax};
+ghost use Rattle.cfgrammar.specs.Syntax.{entry_name};
+ghost use Rattle.cfgrammar.specs.SyntaxView.{production_view, span_entry, symbol_view};
+ghost use Rattle.cfgrammar.specs.TreeView.{syntax};
 ghost use Rattle.cfglint.specs.Findings.{TellsBelow, TellsPrecedence};
 ghost use Rattle.cfglint.specs.Inner.Taking.{AreMarked, Marks, production_names, symbol_names};
 ghost use Rattle.cfglint.specs.Shown.{unused_precedence};
 
 use crate::finding::{Finding, FindingKind};
 use crate::teller::{Teller, push_told};
-use cfgast::{Production, Symbol};
-use cfgbase::Span;
-use cfgindex::Vob;
-use cfgtree::GrammarAST;
+use cfgrammar::yacc::ast::{GrammarAST, Production, Symbol};
+use cfgrammar::{Span, Vob};
 use indexmap::IndexMap;
 use std::alloc::{AllocError, Global};
 
@@ -46,7 +44,7 @@ struct Idle<'a> {
 
 impl Teller for Idle<'_> {
     ghost use Rattle.std.specs.Prelude.{length};
-    ghost use Rattle.cfgtree.specs.TreeView.{syntax};
+    ghost use Rattle.cfgrammar.specs.TreeView.{syntax};
     ghost use Rattle.cfglint.specs.Findings.{TellsPrecedence};
     ghost use Rattle.cfglint.specs.Inner.Taking.{AreMarked};
 

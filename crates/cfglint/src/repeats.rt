@@ -2,16 +2,17 @@
 
 ghost use Rattle.std.specs.Prelude.{◌≡◌, ◌++◌, ◌<◌, Some, length, map, IfOk, MatchOption, OnOk, unwrap_or};
 ghost use Rattle.std.specs.BTreeMap.{IsUnchanged, Updates, get};
-ghost use Rattle.cfgnumbers.specs.Numbered.{core};
-ghost use Rattle.cfgtables.specs.Openings.{nth_production};
+ghost use Rattle.cfgrammar.specs.Numbered.{core};
+ghost use Rattle.cfgrammar.specs.Openings.{nth_production};
 ghost use Rattle.cfglint.specs.Findings.{TellsBelow, TellsRepeated};
-ghost use Rattle.cfglint.specs.Inner.Firsts.{AreFirsts, ordered_symbol, production_of};
+ghost use Rattle.cfglint.specs.Inner.FirstProductions.{AreFirsts, ordered_symbol, production_of};
 ghost use Rattle.cfglint.specs.Shown.{repeated};
 
 use crate::finding::{Finding, FindingKind};
 use crate::teller::{Teller, push_told};
-use cfgindex::{PIdx, Symbol, to_storage};
-use cfgyacc::YaccGrammar;
+use cfgrammar::storage::to_storage;
+use cfgrammar::yacc::YaccGrammar;
+use cfgrammar::{PIdx, Symbol};
 use std::alloc::{AllocError, Global};
 use std::collections::BTreeMap;
 
@@ -42,9 +43,9 @@ struct Repeats<'a> {
 }
 
 impl Teller for Repeats<'_> {
-    ghost use Rattle.cfgnumbers.specs.Numbered.{core};
+    ghost use Rattle.cfgrammar.specs.Numbered.{core};
     ghost use Rattle.cfglint.specs.Findings.{TellsRepeated};
-    ghost use Rattle.cfglint.specs.Inner.Firsts.{AreFirsts};
+    ghost use Rattle.cfglint.specs.Inner.FirstProductions.{AreFirsts};
 
     ghost count = { λ x. x.grammar.now.start_production };
 

@@ -2,10 +2,10 @@
 
 ghost use Rattle.std.specs.Prelude.{◌≡◌, ◌++◌, ◌<◌, ℕ, false, List, All, Contains, length, map};
 ghost use Rattle.std.specs.Prelude.{IfOk, IfSome, MatchOption, OnOk};
-ghost use Rattle.derivation.specs.Grammar.{Rule};
-ghost use Rattle.cfgnumbers.specs.Numbered.{core};
-ghost use Rattle.cfgnumbers.specs.Accessors.{IsSymbolWithin};
-ghost use Rattle.cfgtables.specs.NumberedSymbols.{sym_of};
+ghost use Rattle.cfgrammar.specs.Grammar.{Rule};
+ghost use Rattle.cfgrammar.specs.Numbered.{core};
+ghost use Rattle.cfgrammar.specs.Accessors.{IsSymbolWithin};
+ghost use Rattle.cfgrammar.specs.NumberedSymbols.{sym_of};
 ghost use Rattle.cfglint.specs.Findings.{IsFirstWithout, TellsBelow, TellsNoSentence, TellsUnusable};
 ghost use Rattle.cfglint.specs.Inner.Lacks.{AreLacks, LacksOrHas};
 ghost use Rattle.cfglint.specs.Shown.{ShownFinding};
@@ -13,10 +13,11 @@ ghost use Rattle.cfglint.specs.Shown.{ShownFinding};
 use crate::added::rules_added;
 use crate::finding::{Finding, FindingKind};
 use crate::teller::{Teller, push_told};
-use cfgcosts::{CostError, SentenceGenerator};
-use cfgindex::{PIdx, RIdx, Symbol, to_storage};
-use cfgyacc::YaccGrammar;
-use loops::laws::usable_productions_hold_sentences;
+use cfgrammar::laws::usable_productions_hold_sentences;
+use cfgrammar::storage::to_storage;
+use cfgrammar::yacc::YaccGrammar;
+use cfgrammar::yacc::sentences::{CostError, SentenceGenerator};
+use cfgrammar::{PIdx, RIdx, Symbol};
 use std::alloc::{AllocError, Global};
 use std::marker::Model;
 
@@ -49,7 +50,7 @@ struct Lacks<'a> {
 }
 
 impl<'a> Model for Lacks<'a> {
-    ghost use Rattle.cfgnumbers.specs.Numbered.{Numbered};
+    ghost use Rattle.cfgrammar.specs.Numbered.{Numbered};
     ghost use Rattle.cfglint.specs.Inner.Lacks.{AreLacks};
 
     ghost Value = { Numbered };
@@ -145,7 +146,7 @@ fn rules_without(alloc: Global, grammar: &YaccGrammar<u32>) -> Result<Vec<bool>,
 fn without_of(
     alloc: Global,
     grammar: &YaccGrammar<u32>,
-    generator: &SentenceGenerator<'_, u32, YaccGrammar<u32>>,
+    generator: &SentenceGenerator<'_, u32>,
 ) -> Result<Vec<bool>, AllocError>
     requires { generator.now.grammar ≡ core grammar.now }
     ensures { IfOk result (λ lacks. AreLacks grammar.now lacks.items) }
@@ -160,7 +161,7 @@ fn without_of(
 /// Whether the rule has no sentence, by the generator.
 fn has_none(
     grammar: &YaccGrammar<u32>,
-    generator: &SentenceGenerator<'_, u32, YaccGrammar<u32>>,
+    generator: &SentenceGenerator<'_, u32>,
     rule: RIdx<u32>,
 ) -> bool
     requires within { rule.0 < length grammar.now.rules }

@@ -1,10 +1,10 @@
 //! The warnings of a tree, as findings.
 
 ghost use Rattle.std.specs.Prelude.{◌≡◌, ◌++◌, List, length, IfOk, MatchBool, OnOk};
-ghost use Rattle.cfgast.specs.Syntax.{Syntax};
-ghost use Rattle.cfgtree.specs.Unused.{AreWarnings};
-ghost use Rattle.cfgtree.specs.TreeView.{syntax};
-ghost use Rattle.cfgerrors.specs.Warnings.{GrammarWarning};
+ghost use Rattle.cfgrammar.specs.Syntax.{Syntax};
+ghost use Rattle.cfgrammar.specs.Unused.{AreWarnings};
+ghost use Rattle.cfgrammar.specs.TreeView.{syntax};
+ghost use Rattle.cfgrammar.specs.Warnings.{GrammarWarning};
 ghost use Rattle.cfglint.specs.Findings.{IsAskedFor, TellsBelow, TellsWarning};
 ghost use Rattle.cfglint.specs.Inner.Asked.{AreAskedBy};
 ghost use Rattle.cfglint.specs.Shown.{kind_of_warning, warned};
@@ -12,9 +12,9 @@ ghost use Rattle.cfglint.specs.Shown.{kind_of_warning, warned};
 use crate::asked::{Places, has_span, places_asked};
 use crate::finding::{Finding, FindingKind};
 use crate::teller::{Teller, push_told};
-use cfgbase::Spanned;
-use cfgerrors::{YaccGrammarWarning, YaccGrammarWarningKind};
-use cfgtree::GrammarAST;
+use cfgrammar::Spanned;
+use cfgrammar::yacc::ast::GrammarAST;
+use cfgrammar::yacc::{YaccGrammarWarning, YaccGrammarWarningKind};
 use std::alloc::{AllocError, Global};
 
 /// Puts behind the findings the warnings of the tree, but for unused tokens that a production's `%prec` names.
@@ -60,7 +60,7 @@ struct Unasked<'a> {
 
 impl Teller for Unasked<'_> {
     ghost use Rattle.std.specs.Prelude.{length};
-    ghost use Rattle.cfgast.specs.Syntax.{Syntax};
+    ghost use Rattle.cfgrammar.specs.Syntax.{Syntax};
     ghost use Rattle.cfglint.specs.Findings.{TellsWarning};
     ghost use Rattle.cfglint.specs.Inner.Asked.{AreAskedBy};
 

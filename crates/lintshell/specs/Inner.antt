@@ -6,7 +6,7 @@ use Rattle.lintshell.specs.declared.words.Asked as asked_code
 use Rattle.lintshell.specs.declared.words.Asked.TheVariants as variants
 use Rattle.lintshell.specs.declared.words.Wanted as wanted_code
 use Rattle.lintshell.specs.Run.{Answer, Answered, Ending, NoMemory, Unwritten}
-use Rattle.lintshell.specs.Words.{Asked, Help, Lint, Version, Wanted, Wrong}
+use Rattle.lintshell.specs.Requests.{Asked, Help, Lint, Version, Wanted, Wrong}
 
 -- what the code's words ask for
 abbrev pub wanted_view : wanted_code.Wanted → Wanted

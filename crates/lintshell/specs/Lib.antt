@@ -1,4 +1,4 @@
-pub mod Words
+pub mod Requests
 pub mod Tally
 pub mod Files
 pub mod Run

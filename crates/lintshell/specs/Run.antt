@@ -8,7 +8,7 @@ use Rattle.cfgshell.specs.declared.source.Input.{Input}
 use Rattle.cfgshell.specs.declared.words.KindArg.{KindArg}
 use Rattle.lintshell.specs.Files.{AsksFirst, Lints}
 use Rattle.lintshell.specs.Tally.{Tally, Told, no_files, status_of, summary}
-use Rattle.lintshell.specs.Words.{Asked, Help, Lint, Version, Wrong, asked, files_asked, help, usage, version}
+use Rattle.lintshell.specs.Requests.{Asked, Help, Lint, Version, Wrong, asked, files_asked, help, usage, version}
 
 -- what a run has to write to its output and to its errors, and the status that it then ends with
 pub record Answer : Type 0 where

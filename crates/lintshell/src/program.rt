@@ -5,8 +5,8 @@ ghost use Rattle.cfgsink.specs.Sinks.{AppendsOrFaults};
 ghost use Rattle.lintshell.specs.Files.{AsksFirst};
 ghost use Rattle.lintshell.specs.Inner.{wanted_view};
 ghost use Rattle.lintshell.specs.Run.{Answers, Ending, Handles, ending_errors, ending_faults, ending_status};
-ghost use Rattle.lintshell.specs.Words.{asked, files_asked};
-ghost use Rattle.lintshell.specs.Words as words;
+ghost use Rattle.lintshell.specs.Requests.{asked, files_asked};
+ghost use Rattle.lintshell.specs.Requests as requests;
 
 use crate::answer::{Answer, tell};
 use crate::files::lint_files;
@@ -83,7 +83,7 @@ fn linted<L: Linter, S: Source>(
     source: &mut S,
 ) -> Result<Answer, AllocError>
     ensures ok { IfOk result (λ answer. Answers L.tells S.fetches source.old source.new
-        (words.Lint (wanted_view wanted.now)) answer) }
+        (requests.Lint (wanted_view wanted.now)) answer) }
     ensures err { OnErr result (AsksFirst S.fetches source.old source.new (wanted_view wanted.now).files) }
 {
     let tally = lint_files(alloc, linter, wanted.kind, &wanted.files, source)?;

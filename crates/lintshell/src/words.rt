@@ -2,7 +2,7 @@
 
 ghost use Rattle.std.specs.Prelude.{◌≡◌, IfOk, map};
 ghost use Rattle.lintshell.specs.Inner.{asked_view};
-ghost use Rattle.lintshell.specs.Words.{asked, is_option};
+ghost use Rattle.lintshell.specs.Requests.{asked, is_option};
 
 use cfgshell::KindArg;
 use cfgshell::words::kind_of;

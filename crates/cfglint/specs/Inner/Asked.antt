@@ -3,8 +3,8 @@ use Rattle.std.specs.Prelude.{◌≡◌, ℕ, ◌⊎◌, false, List, Contains, 
 use Rattle.std.specs.BTreeSet.{BTreeSet, contains}
 use Rattle.std.specs.Ordering.{nat_cmp, ordering_then}
 use Rattle.std.specs.declared.cmp.Ordering.{Ordering}
-use Rattle.cfgbase.specs.declared.span.Span.{Span}
-use Rattle.cfgast.specs.Syntax.{Production, Syntax}
+use Rattle.cfgrammar.specs.Span.{Span}
+use Rattle.cfgrammar.specs.Syntax.{Production, Syntax}
 
 -- an order of places
 abbrev pub place_cmp : ℕ × ℕ → ℕ × ℕ → Ordering

@@ -1,9 +1,9 @@
 -- Which rules have no sentence.
 use Rattle.std.specs.Prelude.{◌≡◌, ℕ, ◌<◌, Bool, false, List, MatchBool, length, slice_index_or}
-use Rattle.derivation.specs.Grammar.{HasProduction}
-use Rattle.derivation.specs.Sentence.{Sentence}
-use Rattle.cfgleast.specs.Generator.{HasNone}
-use Rattle.cfgnumbers.specs.Numbered.{Numbered, core}
+use Rattle.cfgrammar.specs.Grammar.{HasProduction}
+use Rattle.cfgrammar.specs.Sentence.{Sentence}
+use Rattle.cfgrammar.specs.Generator.{HasNone}
+use Rattle.cfgrammar.specs.Numbered.{Numbered, core}
 
 -- what is said of a rule: `true` that it has no sentence, and `false` that it has one
 abbrev pub LacksOrHas : Numbered → ℕ → Bool → Type 0

@@ -1,10 +1,10 @@
 -- Rules that derive themselves, and their loops.
 use Rattle.std.specs.Prelude.{◌≡◌, ℕ, ◌<◌, List, Option, None, Vec, get_or, length}
 use Rattle.std.specs.Global.{Global}
-use Rattle.cfgnumbers.specs.Numbered.{Numbered, core}
-use Rattle.loops.specs.Rows.{IsShortestOf}
-use Rattle.loops.specs.UnitSteps.{IsStep}
-use Rattle.loops.specs.declared.rows.Step.{Step}
+use Rattle.cfgrammar.specs.Numbered.{Numbered, core}
+use Rattle.cfgrammar.specs.Rows.{IsShortestOf}
+use Rattle.cfgrammar.specs.UnitSteps.{IsStep}
+use Rattle.cfgrammar.specs.Step.{Step}
 
 -- for each rule a shortest loop, or none where it has no loop
 pub record AreLoops (g : Numbered) (found : List (Option (Vec Step Global))) : Type 0 where

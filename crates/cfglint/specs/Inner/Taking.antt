@@ -2,10 +2,10 @@
 use Rattle.std.specs.Prelude.{◌≡◌, ℕ, Bool, false, List, [], ◌∷◌, ◌++◌, ◌||◌, Some, length, slice_get, slice_index_or, MatchBool}
 use Rattle.std.specs.List.{flat_map}
 use Rattle.std.specs.Option.{option_to_list}
-use Rattle.cfgbase.specs.declared.span.Span.{Span}
-use Rattle.cfgast.specs.Building.{has_name}
-use Rattle.cfgast.specs.Syntax.{Production, RuleSymbol, Symbol, Syntax, TokenSymbol}
-use Rattle.cfgast.specs.declared.precedence.Precedence.{Precedence}
+use Rattle.cfgrammar.specs.Span.{Span}
+use Rattle.cfgrammar.specs.Building.{has_name}
+use Rattle.cfgrammar.specs.Syntax.{Production, RuleSymbol, Symbol, Syntax, TokenSymbol}
+use Rattle.cfgrammar.specs.Precedence.{Precedence}
 use Rattle.cfglint.specs.Findings.{TakesPart}
 
 abbrev pub symbol_names : Symbol → List (List ℕ)

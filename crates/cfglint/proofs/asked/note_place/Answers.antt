@@ -4,10 +4,10 @@ use Rattle.std.specs.BTreeSet.{contains}
 use Rattle.std.specs.List.{IsDistinct}
 use Rattle.std.specs.Str.{bytes_eq}
 use Rattle.std.proofs.lemmas.Option.{slice_get_past, slice_get_read}
-use Rattle.lemmas.proofs.Places.{position-map}
-use Rattle.cfgbase.specs.declared.span.Span.{Span}
-use Rattle.cfgtree.specs.TreeView.{syntax}
-use Rattle.cfgtree.proofs.Found.{names_differ}
+use Rattle.cfgrammar.proofs.ListPlaces.{position-map}
+use Rattle.cfgrammar.specs.Span.{Span}
+use Rattle.cfgrammar.specs.TreeView.{syntax}
+use Rattle.cfgrammar.proofs.Found.{names_differ}
 use Rattle.cfglint.proofs.AskedPlaces.{no_span, no_token, noted}
 use Rattle.cfglint.specs.Inner.Asked.{place_cmp}
 use Rattle.cfglint.proofs.asked.note_place.Goals as goal

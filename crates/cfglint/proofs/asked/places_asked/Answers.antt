@@ -1,6 +1,6 @@
 use Rattle.std.proofs.Common.{◌<◌, ◌≤◌, List, arith, length, option_map, string_bytes, sym, ap, subst}
-use Rattle.cfgast.specs.Syntax.{Production}
-use Rattle.cfgtree.specs.TreeView.{syntax}
+use Rattle.cfgrammar.specs.Syntax.{Production}
+use Rattle.cfgrammar.specs.TreeView.{syntax}
 use Rattle.cfglint.specs.Inner.Asked.{AreAskedBy, Notes}
 use Rattle.cfglint.proofs.AskedPlaces.{asked_all, asked_none, asks_more, asks_nothing}
 use Rattle.cfglint.proofs.asked.places_asked.Goals as goal

@@ -1,6 +1,6 @@
 use Rattle.std.proofs.Common.{map, take}
-use Rattle.cfgast.specs.SyntaxView.{production_view}
-use Rattle.cfgtree.specs.TreeView.{syntax}
+use Rattle.cfgrammar.specs.SyntaxView.{production_view}
+use Rattle.cfgrammar.specs.TreeView.{syntax}
 use Rattle.cfglint.specs.Inner.Asked.{AreAskedBy}
 use Rattle.cfglint.proofs.asked.places_asked.Given as goal
 

@@ -1,7 +1,7 @@
 use Rattle.std.proofs.Common.{ℕ, ◌+◌, ◌<◌, arith, ap, sym, subst, ◌∙◌}
-use Rattle.cfgnumbers.specs.Accessors.{IsSymbolWithin, sym_name}
-use Rattle.cfgtables.specs.NumberedSymbols.{sym_of}
-use Rattle.cfgyacc.proofs.Shows.{rule_named}
+use Rattle.cfgrammar.specs.Accessors.{IsSymbolWithin, sym_name}
+use Rattle.cfgrammar.specs.NumberedSymbols.{sym_of}
+use Rattle.cfgrammar.proofs.Shows.{rule_named}
 use Rattle.cfglint.proofs.own_heirs.symbol_name.Goals as goal
 
 before : (i n : ℕ) → i + 1 < n → i < n

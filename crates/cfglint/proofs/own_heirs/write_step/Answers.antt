@@ -1,8 +1,8 @@
 use Rattle.std.proofs.Common.{◌<◌, All, length, ap, sym, subst, ◌∙◌}
 use Rattle.std.proofs.lemmas.List.Elements.{All-drop, All-take}
 use Rattle.std.proofs.lemmas.Result.{on_ok_weaker}
-use Rattle.cfgnumbers.specs.Accessors.{IsSymbolWithin}
-use Rattle.cfgyacc.proofs.Shows.{rule_named}
+use Rattle.cfgrammar.specs.Accessors.{IsSymbolWithin}
+use Rattle.cfgrammar.proofs.Shows.{rule_named}
 use Rattle.cfglint.specs.Shown.{rule_name}
 use Rattle.cfglint.proofs.HeirTexts.{back_shown, front_shown, place_there, rule_there, some_behind, step_written}
 use Rattle.cfglint.proofs.Read.{production_fits, production_there, rule_fits}

@@ -1,5 +1,5 @@
 use Rattle.std.proofs.Common.{◌≡◌, ◌++◌, map, take, string_bytes}
-use Rattle.cfgtables.specs.NumberedSymbols.{sym_of}
+use Rattle.cfgrammar.specs.NumberedSymbols.{sym_of}
 use Rattle.cfglint.specs.Shown.{vanishing}
 use Rattle.cfglint.proofs.own_heirs.write_vanishing.Given as goal
 

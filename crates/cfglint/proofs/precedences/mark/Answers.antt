@@ -1,11 +1,11 @@
 use Rattle.std.proofs.Common.{◌≡◌, ◌<◌, List, [], ◌∷◌, ℕ, map, ap, sym, subst, ◌∙◌, position, bytes_eq, Some, length, arith}
 use Rattle.std.specs.List.{IsDistinct}
 use Rattle.std.proofs.lemmas.List.{length-map}
-use Rattle.cfgbase.specs.declared.span.Span.{Span}
-use Rattle.cfgast.specs.declared.precedence.Precedence.{Precedence}
-use Rattle.cfgast.specs.Syntax.{entry_name}
-use Rattle.cfgast.specs.SyntaxView.{precedence_entry}
-use Rattle.cfgtree.specs.TreeView.{syntax}
+use Rattle.cfgrammar.specs.Span.{Span}
+use Rattle.cfgrammar.specs.Precedence.{Precedence}
+use Rattle.cfgrammar.specs.Syntax.{entry_name}
+use Rattle.cfgrammar.specs.SyntaxView.{precedence_entry}
+use Rattle.cfgrammar.specs.TreeView.{syntax}
 use Rattle.cfglint.specs.Inner.Taking.{Marks}
 use Rattle.cfglint.proofs.Marking.{marks_nothing, marks_one, precedence_position, precedences_differ}
 use Rattle.cfglint.proofs.precedences.mark.Goals as goal

@@ -1,9 +1,9 @@
 use Rattle.std.proofs.Common.{List, [], ◌∷◌, Option, String, Global, map, option_map, string_bytes, sym, subst}
 use Rattle.std.specs.List.{flat_map}
 use Rattle.std.specs.Option.{option_to_list}
-use Rattle.cfgast.specs.SyntaxView.{symbol_view}
-use Rattle.cfgast.specs.declared.symbol.Symbol.{Symbol}
-use Rattle.cfgtree.specs.TreeView.{syntax}
+use Rattle.cfgrammar.specs.SyntaxView.{symbol_view}
+use Rattle.cfgrammar.specs.AstSymbol.{Symbol}
+use Rattle.cfgrammar.specs.TreeView.{syntax}
 use Rattle.cfglint.specs.Inner.Taking.{Marks, symbol_names}
 use Rattle.cfglint.proofs.Marking.{marks_none, marks_then}
 use Rattle.cfglint.proofs.precedences.mark_production.Goals as goal

@@ -1,7 +1,7 @@
 use Rattle.std.proofs.Common.{take}
 use Rattle.std.specs.List.{flat_map}
-use Rattle.cfgast.specs.SyntaxView.{production_view}
-use Rattle.cfgtree.specs.TreeView.{syntax}
+use Rattle.cfgrammar.specs.SyntaxView.{production_view}
+use Rattle.cfgrammar.specs.TreeView.{syntax}
 use Rattle.cfglint.specs.Inner.Taking.{Marks, production_names}
 use Rattle.cfglint.proofs.precedences.mark_productions.Given as goal
 

@@ -1,8 +1,8 @@
 use Rattle.std.proofs.Common.{◌<◌, ◌≤◌, arith, length, subst, sym, ◌∙◌}
 use Rattle.std.proofs.lemmas.List.Folds.{flat_map-map}
-use Rattle.cfgast.specs.SyntaxView.{symbol_view}
-use Rattle.cfgast.specs.declared.symbol.Symbol.{Symbol}
-use Rattle.cfgtree.specs.TreeView.{syntax}
+use Rattle.cfgrammar.specs.SyntaxView.{symbol_view}
+use Rattle.cfgrammar.specs.AstSymbol.{Symbol}
+use Rattle.cfgrammar.specs.TreeView.{syntax}
 use Rattle.cfglint.specs.Inner.Taking.{Marks, symbol_names}
 use Rattle.cfglint.proofs.Marking.{marks_all, marks_more, marks_none}
 use Rattle.cfglint.proofs.precedences.mark_symbols.Goals as goal

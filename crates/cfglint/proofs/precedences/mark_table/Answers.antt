@@ -3,11 +3,11 @@ use Rattle.std.specs.List.{flat_map}
 use Rattle.std.proofs.lemmas.List.Concat.{flat_map_single}
 use Rattle.std.proofs.lemmas.Option.{get_or_from_slice_get}
 use Rattle.std.proofs.lemmas.Simd.{map-map}
-use Rattle.lemmas.proofs.Elements.{element_at}
-use Rattle.cfgbase.specs.declared.span.Span.{Span}
-use Rattle.cfgast.specs.Syntax.{entry_name}
-use Rattle.cfgast.specs.SyntaxView.{span_entry}
-use Rattle.cfgtree.specs.TreeView.{syntax}
+use Rattle.cfgrammar.proofs.Elements.{element_at}
+use Rattle.cfgrammar.specs.Span.{Span}
+use Rattle.cfgrammar.specs.Syntax.{entry_name}
+use Rattle.cfgrammar.specs.SyntaxView.{span_entry}
+use Rattle.cfgrammar.specs.TreeView.{syntax}
 use Rattle.cfglint.specs.Inner.Taking.{Marks}
 use Rattle.cfglint.proofs.Marking.{marks_all, marks_more, marks_none}
 use Rattle.cfglint.proofs.precedences.mark_table.Goals as goal

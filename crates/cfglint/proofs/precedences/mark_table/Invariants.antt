@@ -1,8 +1,8 @@
 use Rattle.std.proofs.Common.{[], ◌∷◌, take}
 use Rattle.std.specs.List.{flat_map}
-use Rattle.cfgast.specs.Syntax.{entry_name}
-use Rattle.cfgast.specs.SyntaxView.{span_entry}
-use Rattle.cfgtree.specs.TreeView.{syntax}
+use Rattle.cfgrammar.specs.Syntax.{entry_name}
+use Rattle.cfgrammar.specs.SyntaxView.{span_entry}
+use Rattle.cfgrammar.specs.TreeView.{syntax}
 use Rattle.cfglint.specs.Inner.Taking.{Marks}
 use Rattle.cfglint.proofs.precedences.mark_table.Given as goal
 

@@ -1,8 +1,8 @@
 use Rattle.std.proofs.Common.{◌≡◌, length, sym, ap, subst, ◌∙◌, arith}
 use Rattle.std.proofs.lemmas.List.{length-map}
 use Rattle.std.proofs.lemmas.Result.{on_ok_weaker}
-use Rattle.cfgast.specs.SyntaxView.{precedence_entry}
-use Rattle.cfgtree.specs.TreeView.{syntax}
+use Rattle.cfgrammar.specs.SyntaxView.{precedence_entry}
+use Rattle.cfgrammar.specs.TreeView.{syntax}
 use Rattle.cfglint.specs.Findings.{TellsBelow, TellsPrecedence}
 use Rattle.cfglint.proofs.Telling.{tells_as}
 use Rattle.cfglint.proofs.precedences.push_precedences.Goals as goal

@@ -1,9 +1,9 @@
 use Rattle.std.proofs.Common.{List, Bool, Option, ℕ, false, replicate, map, sym, subst}
 use Rattle.std.specs.List.{flat_map}
-use Rattle.cfgbase.specs.declared.span.Span.{Span}
-use Rattle.cfgast.specs.Syntax.{Production}
-use Rattle.cfgast.specs.SyntaxView.{production_view}
-use Rattle.cfgtree.specs.TreeView.{syntax}
+use Rattle.cfgrammar.specs.Span.{Span}
+use Rattle.cfgrammar.specs.Syntax.{Production}
+use Rattle.cfgrammar.specs.SyntaxView.{production_view}
+use Rattle.cfgrammar.specs.TreeView.{syntax}
 use Rattle.cfglint.specs.Inner.Taking.{Marks, production_names}
 use Rattle.cfglint.proofs.Marking.{are_marked, marks_none, marks_then, table_names}
 use Rattle.cfglint.proofs.precedences.taking_part.Goals as goal

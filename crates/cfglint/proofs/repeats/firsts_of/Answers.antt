@@ -1,6 +1,6 @@
 use Rattle.std.proofs.Common.{length, arith, ap, subst, sym}
-use Rattle.cfgnumbers.specs.Numbered.{core}
-use Rattle.cfglint.specs.Inner.Firsts.{IsFirst}
+use Rattle.cfgrammar.specs.Numbered.{core}
+use Rattle.cfglint.specs.Inner.FirstProductions.{IsFirst}
 use Rattle.cfglint.proofs.FirstAlike.{first_is, firsts_more, known_more, known_none}
 use Rattle.cfglint.proofs.repeats.firsts_of.Goals as goal
 

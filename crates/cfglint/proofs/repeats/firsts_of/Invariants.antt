@@ -1,5 +1,5 @@
-use Rattle.cfgnumbers.specs.Numbered.{core}
-use Rattle.cfglint.specs.Inner.Firsts.{AreFirsts}
+use Rattle.cfgrammar.specs.Numbered.{core}
+use Rattle.cfglint.specs.Inner.FirstProductions.{AreFirsts}
 use Rattle.cfglint.proofs.FirstAlike.{AreKnown}
 use Rattle.cfglint.proofs.repeats.firsts_of.Given as goal
 

@@ -1,6 +1,6 @@
 use Rattle.std.proofs.Common.{◌≡◌, Some, map, ap, subst, sym, ◌∙◌}
-use Rattle.cfgnumbers.specs.Accessors.{production_part}
-use Rattle.cfgtables.specs.NumberedSymbols.{sym_of}
+use Rattle.cfgrammar.specs.Accessors.{production_part}
+use Rattle.cfgrammar.specs.NumberedSymbols.{sym_of}
 use Rattle.cfglint.proofs.FirstAlike.{shape_is}
 use Rattle.cfglint.proofs.repeats.shape_of.Goals as goal
 

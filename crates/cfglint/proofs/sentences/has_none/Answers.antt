@@ -1,7 +1,7 @@
 use Rattle.std.proofs.Common.{◌<◌, ℕ, List, Err, ap, sym, subst, ◌∙◌}
-use Rattle.derivation.specs.Grammar.{Grammar, HasProduction}
-use Rattle.derivation.specs.Sentence.{Sentence}
-use Rattle.cfgleast.specs.Generator.{HasNone}
+use Rattle.cfgrammar.specs.Grammar.{Grammar, HasProduction}
+use Rattle.cfgrammar.specs.Sentence.{Sentence}
+use Rattle.cfgrammar.specs.Generator.{HasNone}
 use Rattle.cfglint.proofs.sentences.has_none.Goals as goal
 
 pub min_sentence_cost-requires : goal.min_sentence_cost-requires

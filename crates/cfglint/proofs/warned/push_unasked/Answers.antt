@@ -1,5 +1,5 @@
 use Rattle.std.proofs.lemmas.Result.{on_ok_weaker}
-use Rattle.cfgtree.specs.TreeView.{syntax}
+use Rattle.cfgrammar.specs.TreeView.{syntax}
 use Rattle.cfglint.specs.Findings.{TellsWarning}
 use Rattle.cfglint.proofs.Telling.{tells_as}
 use Rattle.cfglint.proofs.warned.push_unasked.Goals as goal

@@ -3,7 +3,7 @@ use Rattle.std.specs.Prelude.{IfOk}
 use Rattle.std.proofs.lemmas.Result.{IfOk-weaker}
 use Rattle.lintshell.specs.Inner.{asked_view}
 use Rattle.lintshell.specs.Run.{Answers}
-use Rattle.lintshell.specs.Words.{Asked, Help, asked}
+use Rattle.lintshell.specs.Requests.{Asked, Help, asked}
 use Rattle.lintshell.proofs.FilesInTurn.{none_asked, on_err}
 use Rattle.lintshell.proofs.program.answered.Goals as goal
 

@@ -1,7 +1,7 @@
 -- What is left of the words asks, behind what was wanted so far, for what all of them ask.
 use Rattle.std.proofs.Common.{◌≡◌, drop, map}
 use Rattle.lintshell.specs.Inner.{wanted_view}
-use Rattle.lintshell.specs.Words.{asked, words_ask}
+use Rattle.lintshell.specs.Requests.{asked, words_ask}
 use Rattle.lintshell.proofs.words.asked_by.Given as goal
 
 abbrev pub invariant-loop-word : goal.invariant-loop-word

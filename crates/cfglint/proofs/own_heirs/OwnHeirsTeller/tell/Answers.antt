@@ -1,7 +1,7 @@
 use Rattle.std.proofs.Common.{◌≤◌, All, None, Some, sym, subst}
-use Rattle.cfgnumbers.specs.Numbered.{core}
-use Rattle.loops.specs.Rows.{IsShortestLoop}
-use Rattle.loops.specs.UnitSteps.{IsStep}
+use Rattle.cfgrammar.specs.Numbered.{core}
+use Rattle.cfgrammar.specs.Rows.{IsShortestLoop}
+use Rattle.cfgrammar.specs.UnitSteps.{IsStep}
 use Rattle.cfglint.specs.Findings.{TellsLoop}
 use Rattle.cfglint.specs.Inner.OwnHeirs.{IsSomeStep}
 use Rattle.cfglint.proofs.OwnLoops.{found_at, steps_of_row, tells_loop, tells_none}

@@ -1,9 +1,9 @@
 use Rattle.std.proofs.Common.{◌≡◌, ℕ, List, Some, true, false, MatchBool, get_or, slice_get, option_map, string_bytes, unwrap_or, ap, sym, subst, ◌∙◌}
 use Rattle.std.proofs.lemmas.Option.{slice_get-map, unwrap_or-slice_get}
-use Rattle.cfgbase.specs.declared.span.Span.{Span}
-use Rattle.cfgast.specs.SyntaxView.{precedence_entry}
-use Rattle.cfgast.specs.declared.precedence.Precedence.{Precedence}
-use Rattle.cfgtree.specs.TreeView.{syntax}
+use Rattle.cfgrammar.specs.Span.{Span}
+use Rattle.cfgrammar.specs.SyntaxView.{precedence_entry}
+use Rattle.cfgrammar.specs.Precedence.{Precedence}
+use Rattle.cfgrammar.specs.TreeView.{syntax}
 use Rattle.cfglint.specs.Findings.{TakesPart}
 use Rattle.cfglint.specs.Shown.{unused_precedence}
 use Rattle.cfglint.proofs.precedences.IdleTeller.tell.Goals as goal

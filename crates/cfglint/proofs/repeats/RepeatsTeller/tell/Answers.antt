@@ -1,7 +1,7 @@
 use Rattle.std.proofs.Common.{◌≡◌, ℕ, List, get_or, ap, sym, subst, ◌∙◌}
-use Rattle.derivation.specs.Grammar.{Production}
-use Rattle.cfgnumbers.specs.Numbered.{core}
-use Rattle.cfglint.specs.Inner.Firsts.{IsFirst}
+use Rattle.cfgrammar.specs.Grammar.{Production}
+use Rattle.cfgrammar.specs.Numbered.{core}
+use Rattle.cfglint.specs.Inner.FirstProductions.{IsFirst}
 use Rattle.cfglint.proofs.repeats.RepeatsTeller.tell.Goals as goal
 
 pub returns-in_ok-repeated-in-Some : goal.returns-in_ok-repeated-in-Some

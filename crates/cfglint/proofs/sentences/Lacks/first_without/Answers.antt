@@ -1,10 +1,10 @@
 use Rattle.std.proofs.Common.{◌≡◌, ℕ, ◌+◌, false, map, take, drop, sym, ◌∙◌, subst}
 use Rattle.std.proofs.lemmas.List.{get_or_default}
-use Rattle.derivation.specs.Grammar.{Rule, Token}
-use Rattle.cfgindex.specs.declared.idxnewtype.Symbol.{Symbol}
-use Rattle.cfgindex.specs.declared.idxnewtype.Symbol.TheVariants as symbols
-use Rattle.cfgnumbers.specs.Accessors.{IsSymbolWithin}
-use Rattle.cfgtables.specs.NumberedSymbols.{sym_of}
+use Rattle.cfgrammar.specs.Grammar.{Rule, Token}
+use Rattle.cfgrammar.specs.Symbol.{Symbol}
+use Rattle.cfgrammar.specs.Symbol.TheVariants as symbols
+use Rattle.cfgrammar.specs.Accessors.{IsSymbolWithin}
+use Rattle.cfgrammar.specs.NumberedSymbols.{sym_of}
 use Rattle.cfglint.specs.Inner.Lacks.{LacksOrHas}
 use Rattle.cfglint.proofs.Lacking.{around, one_more_rule}
 use Rattle.cfglint.proofs.sentences.Lacks.first_without.Goals as goal

@@ -1,6 +1,6 @@
 use Rattle.std.proofs.Common.{ℕ, Contains, false, map, take}
-use Rattle.derivation.specs.Grammar.{Rule}
-use Rattle.cfgtables.specs.NumberedSymbols.{sym_of}
+use Rattle.cfgrammar.specs.Grammar.{Rule}
+use Rattle.cfgrammar.specs.NumberedSymbols.{sym_of}
 use Rattle.cfglint.specs.Inner.Lacks.{LacksOrHas}
 use Rattle.cfglint.proofs.sentences.Lacks.first_without.Given as goal
 

@@ -1,6 +1,6 @@
 use Rattle.std.proofs.Common.{◌<◌, false, get_or, length, sym, subst, ap, ◌∙◌, arith}
 use Rattle.std.proofs.lemmas.List.{get_or_read}
-use Rattle.cfgnumbers.specs.Numbered.{Numbered}
+use Rattle.cfgrammar.specs.Numbered.{Numbered}
 use Rattle.cfglint.specs.Inner.Lacks.{AreLacks, LacksOrHas}
 use Rattle.cfglint.proofs.sentences.Lacks.lacks.Goals as goal
 

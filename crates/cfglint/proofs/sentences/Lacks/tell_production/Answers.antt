@@ -1,7 +1,7 @@
 use Rattle.std.proofs.Common.{◌≡◌, ◌<◌, ◌++◌, ℕ, All, codes, length, map, string_bytes, refl, sym, subst, ap, ◌∙◌, arith}
-use Rattle.cfgtables.specs.NumberedSymbols.{sym_of}
-use Rattle.cfgnumbers.specs.Numbered.{Numbered, core}
-use Rattle.cfgnumbers.specs.Accessors.{IsSymbolWithin}
+use Rattle.cfgrammar.specs.NumberedSymbols.{sym_of}
+use Rattle.cfgrammar.specs.Numbered.{Numbered, core}
+use Rattle.cfgrammar.specs.Accessors.{IsSymbolWithin}
 use Rattle.cfglint.specs.declared.finding.FindingKind.TheVariants.{UnusableProduction}
 use Rattle.cfglint.proofs.Read.{production_seen, rule_seen}
 use Rattle.cfglint.proofs.Texts.{shown_at, unusable_told}

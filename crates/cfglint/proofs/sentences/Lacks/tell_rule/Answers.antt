@@ -1,7 +1,7 @@
 use Rattle.std.proofs.Common.{◌≡◌, ℕ, ◌<◌, ◌++◌, codes, length, string_bytes, refl, sym, subst, ap, ◌∙◌, arith}
-use Rattle.derivation.specs.Grammar.{HasProduction}
-use Rattle.cfgleast.specs.Generator.{HasNone}
-use Rattle.cfgnumbers.specs.Numbered.{Numbered, core}
+use Rattle.cfgrammar.specs.Grammar.{HasProduction}
+use Rattle.cfgrammar.specs.Generator.{HasNone}
+use Rattle.cfgrammar.specs.Numbered.{Numbered, core}
 use Rattle.cfglint.specs.Findings.{rules_added}
 use Rattle.cfglint.specs.declared.finding.FindingKind.TheVariants.{NoSentence}
 use Rattle.cfglint.proofs.Read.{rule_fits, rule_seen}

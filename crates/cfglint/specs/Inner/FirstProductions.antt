@@ -1,10 +1,10 @@
 -- The first production of a rule with the same symbols, of each production.
 use Rattle.std.specs.Prelude.{◌≡◌, ℕ, ◌<◌, ◌≤◌, List, length, map, slice_index_or, Vec}
 use Rattle.std.specs.declared.alloc.Global.{Global}
-use Rattle.derivation.specs.Grammar.{Grammar, Production, Rule, Sym, Token}
-use Rattle.cfgindex.specs.declared.idxnewtype.Symbol.{Symbol}
-use Rattle.cfgindex.specs.declared.idxnewtype.Symbol.TheVariants as symbols
-use Rattle.cfgtables.specs.Openings.{nth_production}
+use Rattle.cfgrammar.specs.Grammar.{Grammar, Production, Rule, Sym, Token}
+use Rattle.cfgrammar.specs.Symbol.{Symbol}
+use Rattle.cfgrammar.specs.Symbol.TheVariants as symbols
+use Rattle.cfgrammar.specs.Openings.{nth_production}
 use Rattle.cfglint.specs.declared.repeats.OrderedSymbol.{OrderedSymbol}
 use Rattle.cfglint.specs.declared.repeats.OrderedSymbol.TheVariants as ordered
 
