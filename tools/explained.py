@@ -34,13 +34,16 @@ def row_of(spelled):
     row = rows.Row(*lines[0].split(' ', 1))
     for line in lines[1:]:
         word, _, rest = line[2:].partition(' ')
-        row.add(word, rest, None)
+        if row.type not in ('lines', 'marks') or word in rows.TEXT:
+            row.add(word, rest, None)
     return row
 
 
 def normal(row, told):
     """What the program of rows wrote, without what the crate doesn't show."""
     lines = [line for line in told if not line.startswith('    |')]
+    if row.type == 'lines':                        # only of a text that is fed whole
+        return [line for line in lines if not line.startswith(('fed in ', 'of its lines'))]
     if row.type != 'generator':
         return lines
     lines[0] = head_of_costs(row)
@@ -154,7 +157,8 @@ def sentence_text(found, rule, least):
     if isinstance(found.least_there, str):
         return found.least_there
     if 'first-sentence' in found.names and not isinstance(found.least_by_rounds(), str):
-        return costs.tokens_text(found.first_there(rule))
+        sentences = found.all_first_there()
+        return 'no end' if sentences is None else costs.tokens_text(sentences[rule])
     return costs.tokens_text(first_sentences(found)[rule]) if found.is_told(rule) else least
 
 
@@ -180,6 +184,43 @@ def all_text(found, rule, told):
     return str(len(listed)) if len(listed) > costs.LISTED else ' '.join(texts)
 
 
+# ---------------------------------------------------------------- lines, columns and marked maps
+
+def of_lines(row, crate, port):
+    """Why a line of the answers on lines and columns differs."""
+    t, byte, span = row.text(), re.match(r'    (\d+): ', crate), re.match(r'    lines of \(\d+,\d+\): ', crate)
+    if span and port.startswith(span[0]):
+        ends = [re.fullmatch(r'\((\d+),(\d+)\)', line[span.end():]) for line in (crate, port)]
+        runs_on = ends[0] and ends[0][1] == ends[1][1] and int(ends[0][2]) > int(ends[1][2])
+        return 'span-lines' if runs_on or crate.endswith('panics') else None
+    if byte and int(byte[1]) not in rows.character_ends(t) and port == re.sub(r', at \d+:\d+$', ', no column', crate):
+        begin = t.rfind(b'\n', 0, int(byte[1])) + 1
+        column = len(t[begin:].decode().replace('\r\n', '\n'))
+        return 'column-inside' if crate.endswith(':%d' % column) else None
+    return None
+
+
+def of_marks(_, crate, port):
+    """Why a line of the answers on marked maps differs: the entries end at a key that is only marked, or a key has lost its value, which
+    stays marked."""
+    lists = [re.fullmatch(r'        keys(.*); entries(.*); unused(.*); missing(.*)', line) for line in (crate, port)]
+    if all(lists):
+        entries = [it[2] for it in lists]
+        ends_early = entries[0] != entries[1] and entries[1].startswith(entries[0])
+        if ends_early and lists[0][1] == lists[1][1]:
+            return 'marked-iteration'
+        return 'merge-theirs' if len(lists[0][1]) < len(lists[1][1]) else None
+    keys = zip(*(line.split(' [') for line in (crate, port)), strict=True)
+    lost = [re.sub(r' \d+( used)?( required)?, mark \d+\]', r' -\1\2]', there) == here for here, there in keys if here != there]
+    return 'merge-theirs' if all(lost) else None
+
+
+def by_pairs(why, row, crate, port):
+    """The names by which pairs of lines differ, or None."""
+    names = [why(row, *pair) for pair in zip(crate, port) if pair[0] != pair[1]]
+    return None if len(crate) != len(port) or None in names else sorted(set(names))
+
+
 # ---------------------------------------------------------------- why the two differ
 
 def explained(row, crate, port):
@@ -187,6 +228,8 @@ def explained(row, crate, port):
     these don't say so. None of them can be left out."""
     if crate == port:
         return []
+    if row.type in ('lines', 'marks'):
+        return by_pairs(of_lines if row.type == 'lines' else of_marks, row, crate, port)
     if row.type == 'row' and with_panics(port) == crate:
         return ['added-productions']
     told = Told(crate)

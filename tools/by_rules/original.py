@@ -17,7 +17,8 @@ IN_READING = ('comment-closed-by-line-end', 'array-item', 'digits', 'nesting', '
 IN_ANSWERS = ('added-productions', 'index-type', 'hashed-order', 'follow', 'least-costs', 'first-sentence', 'all-sentences',
               'greatest-costs')
 DIFFERENCES = IN_READING + IN_ANSWERS
-LIMIT = 65535
+OF_VALUES = ('span-lines', 'column-inside', 'merge-theirs', 'marked-iteration')    # of lines and maps, by explained.py
+LIMIT, STEPS = 65535, 500_000
 KNOWN = {}                                          # the least costs that were found last, which may take 65535 rounds
 
 
@@ -193,10 +194,25 @@ class OriginalCosts(Costs):
             return max(known), True
         return (max(open_ones) if open_ones else costs[rule]), False
 
+    def all_first_there(self):
+        """The first sentence of each rule, or None where that of one takes too long: the crate is asked for all at once."""
+        if not hasattr(self, 'firsts_there'):
+            self.firsts_there = []
+            for rule in range(len(self.grammar.rules)):
+                self.firsts_there.append(self.first_there(rule))
+                if self.firsts_there[-1] is None:
+                    self.firsts_there = None
+                    break
+        return self.firsts_there
+
     def first_there(self, rule):
-        """What goes on behind a rule before it is replaced, and then again."""
-        found, stack = [], [(self.cheapest[rule][0], 0)]
+        """What goes on behind a rule before it is replaced, and then again: of a production of n rules 2 to the n times. None where
+        that doesn't end in any time."""
+        found, stack, left = [], [(self.cheapest[rule][0], 0)], STEPS
         while stack:
+            left -= 1
+            if not left:
+                return None
             p, begin = stack.pop()
             for at, (what, index) in enumerate(self.grammar.productions[p].symbols[begin:], begin):
                 if what == 'token':

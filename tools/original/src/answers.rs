@@ -2,7 +2,7 @@
 
 use crate::limit::{PANICS, within};
 use crate::row::{Row, rows};
-use crate::{costs, grammar, section, syntax};
+use crate::{costs, grammar, lines, marks, section, syntax};
 use cfgrammar::yacc::ast::ASTWithValidityInfo;
 use cfgrammar::yacc::{YaccGrammar, YaccGrammarError};
 use std::io::{self, Write};
@@ -39,19 +39,21 @@ pub fn write_row(row: &Row, limit: Duration) {
     let spelled = row.spelled.clone();
     let answered = match row.tries.as_str() {
         "generator" => costs_of(row, limit),
-        _ => within(limit, move || lines(&spelled)),
+        _ => within(limit, move || spelled_lines(&spelled)),
     };
     let lines = answered.unwrap_or_else(|why| vec![why.to_string()]);
     println!("{}", lines.join("\n"));
 }
 
-fn lines(spelled: &str) -> Vec<String> {
+fn spelled_lines(spelled: &str) -> Vec<String> {
     rows(spelled).unwrap_or_default().iter().flat_map(lines_of).collect()
 }
 
 fn lines_of(row: &Row) -> Vec<String> {
     match row.tries.as_str() {
         "section" => section::lines(row),
+        "lines" => lines::lines(row),
+        "marks" => marks::lines(row),
         _ => grammar_lines(row),
     }
 }

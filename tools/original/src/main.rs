@@ -4,13 +4,15 @@
 //!     original answers MILLISECONDS FILE..   what it answers of each row in these files of rows, each in a process of its
 //!                                            own, which is given up after so many milliseconds without an end
 //!     original row MILLISECONDS              the same of the one row on standard input
-//!     original time RUNS FILE [every]        how many microseconds each phase takes on this grammar, the least of so many
-//!                                            runs; with `every` the last phase finds the minimal sentences of every rule
+//!     original time FILE PHASE..             how many microseconds each of these phases takes on this grammar, read as
+//!                                            `original-noaction`
 
 mod answers;
 mod costs;
 mod grammar;
 mod limit;
+mod lines;
+mod marks;
 mod row;
 mod section;
 mod syntax;
@@ -27,8 +29,7 @@ fn main() -> ExitCode {
     let done = match arguments.as_slice() {
         ["answers", limit, files @ ..] => answers::write_files(limit, files),
         ["row", limit] => answer(limit),
-        ["time", runs, file] => time::run(runs, file, false),
-        ["time", runs, file, "every"] => time::run(runs, file, true),
+        ["time", file, phases @ ..] => time::run(file, phases),
         _ => Err(io::Error::other("usage: original answers|row|time ..")),
     };
     match done {

@@ -33,6 +33,7 @@ impl Row {
         match word {
             "text" => self.add_text(if self.has_text { "\n" } else { "" }, rest),
             "then" => self.add_text("", rest),
+            "times" => self.add_times(rest),
             _ => self.lines.push((word.to_string(), rest.to_string())),
         }
     }
@@ -46,6 +47,14 @@ impl Row {
             other => other,
         }));
         self.has_text = true;
+    }
+
+    /// Adds a line so many times, with the turn's number for each `#`.
+    fn add_times(&mut self, rest: &str) {
+        let (count, line) = rest.split_once(' ').unwrap_or((rest, ""));
+        for turn in 0..count.parse().unwrap_or(0) {
+            self.add_text("", &line.replace('#', &turn.to_string()));
+        }
     }
 
     /// What is behind the first line of this word.

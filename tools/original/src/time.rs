@@ -2,74 +2,85 @@
 
 use cfgrammar::RIdx;
 use cfgrammar::yacc::ast::ASTWithValidityInfo;
-use cfgrammar::yacc::{YaccGrammar, YaccKind, YaccOriginalActionKind};
+use cfgrammar::yacc::{SentenceGenerator, YaccGrammar, YaccKind, YaccOriginalActionKind};
 use std::hint::black_box;
 use std::io;
 use std::time::Instant;
 
-/// Writes a line for each phase, once it has ended in all runs: its name, how much it found, and the microseconds that it
-/// took at least. Phases that are one call here and two in the port, or the other way round, are taken together.
-pub fn run(runs: &str, file: &str, asks_every: bool) -> io::Result<()> {
-    let runs: usize = runs.parse().map_err(io::Error::other)?;
+/// A text that is read before the clock starts, so that no phase compiles the crate's patterns.
+const SMALL: &str = "%token a %% A: 'b' a;";
+
+/// Goes through these phases on a grammar, and through those that they need, and writes a line for each of them: its
+/// name, how much it found, and how many microseconds it took.
+pub fn run(file: &str, phases: &[&str]) -> io::Result<()> {
     let text = std::fs::read_to_string(file)?;
+    let watch = Watch { phases };
     let kind = YaccKind::Original(YaccOriginalActionKind::NoAction);
-    let parsed = phase("reading", runs, || ASTWithValidityInfo::new(kind, &text), |it| it.errors().len());
-    if !parsed.is_valid() {
-        return Ok(());
+    println!("begun {}", ASTWithValidityInfo::new(kind, SMALL).errors().len());
+    let parsed = watch.time("reading", || ASTWithValidityInfo::new(kind, &text), |it| it.errors().len());
+    if parsed.is_valid() {
+        let make = || YaccGrammar::<u32>::new_from_ast_with_validity_info(&parsed);
+        let count = |made: &Result<YaccGrammar, _>| made.as_ref().map_or(0, |it| usize::from(it.prods_len()));
+        if let Ok(grammar) = watch.time("tables", make, count) {
+            analyse(&watch, &grammar);
+            generate(&watch, &grammar);
+        }
     }
-    let tables = || YaccGrammar::<u32>::new_from_ast_with_validity_info(&parsed).ok();
-    let Some(grammar) = phase("tables", runs, tables, |it| it.as_ref().map_or(0, |it| usize::from(it.prods_len())))
-    else {
-        return Ok(());
-    };
-    analyse(runs, &grammar);
-    generate(runs, &grammar, asks_every);
     Ok(())
 }
 
-/// Writes what a phase took, and what its last run answered.
-fn phase<T>(name: &str, runs: usize, mut call: impl FnMut() -> T, found: impl Fn(&T) -> usize) -> T {
-    let mut least = u128::MAX;
-    for _ in 1..runs {
-        least = least.min(timed(&mut call).1);
+/// Which phases are told.
+struct Watch<'a> {
+    phases: &'a [&'a str],
+}
+
+impl Watch<'_> {
+    fn asks(&self, phase: &str) -> bool {
+        self.phases.contains(&phase)
     }
-    let (answer, took) = timed(&mut call);
-    println!("{name} {} {}", found(&answer), least.min(took));
-    answer
+
+    /// Makes a call, and writes how long it took where that is asked for.
+    fn time<T>(&self, phase: &str, call: impl FnOnce() -> T, found: impl FnOnce(&T) -> usize) -> T {
+        let began = Instant::now();
+        let answer = black_box(call());
+        let took = began.elapsed().as_micros();
+        if self.asks(phase) {
+            println!("{phase} {} {took}", found(&answer));
+        }
+        answer
+    }
+
+    /// Makes a call on which nothing else rests, where it is asked for.
+    fn time_if_asked<T>(&self, phase: &str, call: impl FnOnce() -> T, found: impl FnOnce(&T) -> usize) {
+        if self.asks(phase) {
+            self.time(phase, call, found);
+        }
+    }
 }
 
-fn timed<T>(call: &mut impl FnMut() -> T) -> (T, u128) {
-    let began = Instant::now();
-    let answer = black_box(call());
-    (answer, began.elapsed().as_micros())
-}
-
-fn analyse(runs: usize, grammar: &YaccGrammar<u32>) {
+fn analyse(watch: &Watch<'_>, grammar: &YaccGrammar<u32>) {
     let (start, end) = (grammar.start_rule_idx(), grammar.eof_token_idx());
-    phase("firsts", runs, || grammar.firsts(), |it| usize::from(it.is_epsilon_set(start)));
-    phase("follows", runs, || grammar.follows(), |it| usize::from(it.is_set(start, end)));
-    phase("path", runs, || grammar.has_path(start, start), |it| usize::from(*it));
+    watch.time_if_asked("firsts", || grammar.firsts(), |it| usize::from(it.is_epsilon_set(start)));
+    watch.time_if_asked("follows", || grammar.follows(), |it| usize::from(it.is_set(start, end)));
+    watch.time_if_asked("path", || grammar.has_path(start, start), |it| usize::from(*it));
 }
 
-fn generate(runs: usize, grammar: &YaccGrammar<u32>, asks_every: bool) {
-    let start = grammar.start_rule_idx();
+/// Costs are found when the first of them is asked for.
+fn generate(watch: &Watch<'_>, grammar: &YaccGrammar<u32>) {
     let rules: Vec<RIdx<u32>> = grammar.iter_rules().collect();
-    let make = || {
-        let generator = grammar.sentence_generator(|_| 1);
-        generator.min_sentence_cost(start);
-        generator
-    };
-    phase("least", runs, || make().min_sentence_cost(start), |_| rules.len());
-    let greatest = || {
-        let generator = grammar.sentence_generator(|_| 1);
-        rules.iter().filter(|rule| generator.max_sentence_cost(**rule).is_some()).count()
-    };
-    phase("greatest", runs, greatest, |count| *count);
-    let generator = make();
-    phase("min_sentence", runs, || generator.min_sentence(start), Vec::len);
-    phase("min_sentences", runs, || generator.min_sentences(start), Vec::len);
-    if asks_every {
-        let every = || rules.iter().map(|rule| generator.min_sentences(*rule).len()).sum::<usize>();
-        phase("every", runs, every, |count| *count);
+    let generator = grammar.sentence_generator(|_| 1);
+    let greatest = || rules.iter().filter(|rule| generator.max_sentence_cost(**rule).is_some()).count();
+    watch.time_if_asked("greatest", greatest, |count| *count);
+    if ["least", "min_sentence", "min_sentences", "every"].iter().any(|phase| watch.asks(phase)) {
+        let start = grammar.start_rule_idx();
+        watch.time("least", || generator.min_sentence_cost(start), |_| rules.len());
+        find_sentences(watch, &generator, start, &rules);
     }
+}
+
+fn find_sentences(watch: &Watch<'_>, generator: &SentenceGenerator<'_, u32>, start: RIdx<u32>, rules: &[RIdx<u32>]) {
+    watch.time_if_asked("min_sentence", || generator.min_sentence(start), Vec::len);
+    watch.time_if_asked("min_sentences", || generator.min_sentences(start), Vec::len);
+    let every = || rules.iter().map(|rule| generator.min_sentences(*rule).len()).sum::<usize>();
+    watch.time_if_asked("every", every, |count| *count);
 }
