@@ -18,6 +18,12 @@ def line_comment(t, p):
     return p
 
 
+def comment_end(t, p):
+    """The place behind the block comment at p, or None if it never closes."""
+    close = t.find(b'*/', p + 2)
+    return None if close < 0 else close + 2
+
+
 def blank(t, p):
     while True:
         if p < len(t) and t[p] in b' \t\r\n':
@@ -25,10 +31,10 @@ def blank(t, p):
         elif t.startswith(b'//', p):
             p = line_comment(t, p)
         elif t.startswith(b'/*', p):
-            close = t.find(b'*/', p + 2)
-            if close < 0:
+            end = comment_end(t, p)
+            if end is None:
                 raise at('IncompleteComment', p)
-            p = close + 2
+            p = end
         else:
             return p
 
@@ -42,13 +48,13 @@ def same_line_blank(t, p):
         elif t.startswith(b'//', p):
             p = line_comment(t, p)
         elif t.startswith(b'/*', p):
-            close = t.find(b'*/', p + 2)
-            held = t[p:] if close < 0 else t[p:close]
+            end = comment_end(t, p)
+            held = t[p:end]
             if b'\r' in held or b'\n' in held:
                 raise at('ReachedEOL', p)
-            if close < 0:
+            if end is None:
                 raise at('IncompleteComment', p)
-            p = close + 2
+            p = end
         else:
             return p
 

@@ -1,0 +1,158 @@
+"""The tables of tools/bench --beside: how long the phases take here and in the Rust crate, side by side.
+
+Both programs go through the phases in a process for each run, and the least time counts. Where a phase takes the crate too long, a
+further run goes on behind it."""
+import itertools
+import os
+import re
+import subprocess
+import sys
+import tempfile
+import time
+
+from beside_crate import ROOT, build
+from explained import rows as rows_by_rules
+
+PAGE = f"{ROOT}/docs/PERFORMANCE.md"
+BEGIN, END = "<!-- tools/bench --beside -->\n", "<!-- end of tools/bench --beside -->\n"
+THERE = ["reading", "tables", "firsts", "follows", "path", "greatest", "least", "min_sentence", "min_sentences", "every"]
+NEED_LEAST = {"min_sentence", "min_sentences", "every"}
+# the phases that a column takes together, here and there, where costs are found when they are asked for
+COLUMNS = {
+    "reading": (["reading"], ["reading"]), "tables": (["tables"], ["tables"]), "FIRST": (["firsts"], ["firsts"]),
+    "FOLLOW": (["follows"], ["follows"]), "path": (["path"], ["path"]),
+    "costs": (["generator", "max_sentence_cost"], ["least", "greatest"]), "sentence": (["min_sentence"], ["min_sentence"]),
+    "sentences": (["min_sentences"], ["min_sentences"]), "every": (["every"], ["every"]),
+}
+TURN = 1                                           # which size of a shape is taken, from 0
+SHORTEST = 0.02                                    # what both programs do in less than that has no ratio
+
+
+class Crate:
+    """The crate's phases, in milliseconds."""
+
+    def __init__(self, program, seconds, before):
+        self.program, self.seconds, self.before = program, seconds, before
+
+    def run(self, words):
+        """What a run wrote, line by line, and why it ended, unless it ended well."""
+        with tempfile.TemporaryFile("w+") as out:
+            try:
+                ran = subprocess.run(words, stdout=out, stderr=subprocess.DEVNULL, timeout=self.seconds, preexec_fn=self.before, check=False)
+                why = {0: "", 101: "panics"}.get(ran.returncode, "no memory or stack")
+            except subprocess.TimeoutExpired:
+                why = f"over {self.seconds} s"
+            out.seek(0)
+            return out.read().splitlines(), why
+
+    def once(self, file, phases):
+        """What one run told of these phases, and why it ended before the last."""
+        lines, why = self.run([self.program, "time", file, *phases])
+        return {it[0]: int(it[2]) / 1000 for it in map(str.split, lines[1:])}, why
+
+    def least(self, file, phases, runs):
+        """The least of some runs for each phase, or why there is none."""
+        least, asked = {}, list(phases)
+        for _ in range(runs):
+            left = list(asked)
+            while left:
+                told, why = self.once(file, left)
+                least.update({phase: min(it, least.get(phase, it)) for phase, it in told.items()})
+                if not why:
+                    break
+                stopped = next(it for it in left if it not in told)
+                gone = {stopped, *(NEED_LEAST if stopped == "least" else ())}
+                least.update({it: why if it == stopped else "-" for it in asked if it in gone})
+                left, asked = ([it for it in those if it not in gone] for those in (left[left.index(stopped):], asked))
+        return least
+
+
+class CountedCrate(Crate):
+    """The same in millions of instructions, as valgrind counts them between what the program writes."""
+
+    def once(self, file, phases):
+        with tempfile.TemporaryDirectory() as room:
+            lines, why = self.run(["valgrind", "--tool=callgrind", "--dump-before=write", f"--callgrind-out-file={room}/part", self.program,
+                                   "time", file, *phases])
+            told = {}
+            for number, line in enumerate(lines[1:], 2):
+                with open(f"{room}/part.{number}", encoding="utf-8") as part:
+                    total = next(it for it in part if it.startswith("totals:"))
+                told[line.split()[0]] = int(total.split()[1]) / 1_000_000
+            return told, why
+
+
+def together(times, phases):
+    """What these phases take together, or why that isn't known."""
+    found = [times.get(phase) for phase in phases]
+    words = [it for it in found if isinstance(it, str)]
+    return words[0] if words else None if None in found else sum(found)
+
+
+def cell(here, there, number):
+    """Both, and how many times as much the crate takes."""
+    both = [it if isinstance(it, str) else "-" if it is None else number(it) for it in (here, there)]
+    if both == ["-", "-"]:
+        return "-"
+    is_told = all(isinstance(it, float) and it > 0 for it in (here, there)) and max(here, there) >= SHORTEST
+    return " / ".join(both) + (f" ×{ratio(there / here)}" if is_told else "")
+
+
+def ratio(times):
+    return f"{times:.0f}" if times >= 10 else f"{times:.1f}" if times >= 1 else f"{times:.2f}"
+
+
+def texts(bench, shapes, turn):
+    """The texts of these shapes: the shape, what it is called, and the text."""
+    for name in shapes:
+        make, smallest, unit = bench.SHAPES[name]
+        if name == "languages":
+            read = ((name, file, text) for file, text in make(None) if not rows_by_rules.errors_of("Original", text.encode())[1])
+            yield from itertools.islice(read, smallest)
+        else:
+            yield name, f"{name}, {smallest << turn:,} {unit}", make(smallest << turn)
+
+
+def table(bench, crate, given, measured):
+    """A row for each text, with a cell for each column."""
+    rows = [["grammar", "KB", *COLUMNS]]
+    for shape, title, text in measured:
+        print(f"bench: {title}", file=sys.stderr, flush=True)
+        here = dict(zip(bench.PHASES, bench.measure(shape, text, given)[0]))
+        asked = [it for it in THERE if it != "every" or shape in bench.ASKED_EVERY and not given.instructions]
+        with tempfile.NamedTemporaryFile("w", suffix=".y", encoding="utf-8") as it:
+            it.write(text)
+            it.flush()
+            there = crate.least(it.name, asked, given.runs)
+        both = ((together(here, ours), together(there, theirs)) for ours, theirs in COLUMNS.values())
+        rows.append([title, f"{len(text.encode()) / 1000:.0f}", *(cell(*it, bench.number) for it in both)])
+    return rows
+
+
+def slower(rows):
+    """Where the crate is quicker."""
+    found = [f"{row[0]} ({column})" for row in rows[1:] for column, it in zip(rows[0], row) if re.search(r"×0\.", it)]
+    return f"Slower than in the crate: {'; '.join(found)}." if found else "Nothing here is slower than in the crate."
+
+
+def page(bench, given):
+    """The tables, with the machine, as they stand in docs/PERFORMANCE.md."""
+    program, load = build(given.beside) if not given.driver else given.driver, os.getloadavg()[0]
+    before = lambda: bench.limit(given.gigabytes)
+    rows = table(bench, Crate(program, given.seconds, before), given, texts(bench, given.shapes or bench.SHAPES, TURN))
+    counting = bench.argparse.Namespace(**{**vars(given), "instructions": True, "runs": 1})
+    counts = table(bench, CountedCrate(program, 10 * given.seconds, None), counting, texts(bench, bench.COUNTED, 0))
+    counts = [row[:-1] for row in counts]
+    about = (f"Measured on {time.strftime('%Y-%m-%d')} at the commit {bench.commit()}: {bench.machine()}; load {load:.1f} at the start and "
+             f"{os.getloadavg()[0]:.1f} at the end.")
+    return "\n\n".join([about, f"Milliseconds here / in the crate, the least of {given.runs} runs, and how many times as long the crate takes where one of "
+                        f"them takes {SHORTEST} or more:",
+                        bench.markdown(rows), slower(rows), "Millions of instructions, likewise:", bench.markdown(counts), slower(counts), ""])
+
+
+def write(text):
+    """Puts the tables into docs/PERFORMANCE.md, in place of those that stood there."""
+    with open(PAGE, encoding="utf-8") as it:
+        before, _, rest = it.read().partition(BEGIN)
+    with open(PAGE, "w", encoding="utf-8") as out:
+        out.write(f"{before}{BEGIN}\n{text}{END}{rest.partition(END)[2]}")

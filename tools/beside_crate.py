@@ -1,0 +1,106 @@
+"""The Rust crate cfgrammar 0.15.0 and the program of rows, side by side: for tools/beside, tools/original_rows and tools/bench.
+
+tools/original is a cargo project over the crate. ORIGINAL is the crate's folder, or a folder that has it as `cfgrammar`, or the word
+`registry`, for which cargo downloads it."""
+import os
+import re
+import shutil
+import subprocess
+import sys
+import tempfile
+
+from explained import explained, normal, row_of
+
+ROOT = os.path.dirname(os.path.dirname(os.path.realpath(__file__)))
+COPY = f'{tempfile.gettempdir()}/cfgrammar-original-{os.getuid()}'
+PROGRAM = f'{ROOT}/crates/vectors/out/vectors'
+GENERATOR_KINDS = ('original-noaction', 'original-useraction', 'original-genericparsetree', 'grmtools', 'eco')
+
+
+def build(original):
+    """Builds tools/original over the crate, and returns the program's path."""
+    shutil.rmtree(f'{COPY}/project', ignore_errors=True)
+    shutil.copytree(f'{ROOT}/tools/original', f'{COPY}/project', ignore=shutil.ignore_patterns('answers'))
+    words, folder = ['cargo', 'build', '--release', '--quiet', '--target-dir', f'{COPY}/target'], ROOT
+    if original != 'registry':
+        folder = os.path.realpath(original)
+        crate = folder if is_crate(folder) else f'{folder}/cfgrammar'
+        if not is_crate(crate):
+            sys.exit(f'{original} has no cfgrammar 0.15.0')
+        with open(f'{COPY}/project/Cargo.toml', 'a', encoding='utf-8') as it:
+            it.write(f'\n[patch.crates-io]\ncfgrammar = {{ path = "{crate}" }}\n')
+        words.append('--offline')
+    # cargo reads the configuration of the folder that it is run in
+    ran = subprocess.run([*words, '--manifest-path', f'{COPY}/project/Cargo.toml'], cwd=folder, capture_output=True, text=True)
+    if ran.returncode:
+        sys.exit(f'{ran.stderr}tools/original is not built')
+    return f'{COPY}/target/release/original'
+
+
+def is_crate(folder):
+    try:
+        with open(f'{folder}/Cargo.toml', encoding='utf-8') as it:
+            text = it.read()
+    except OSError:
+        return False
+    return bool(re.search(r'^name = "cfgrammar"$', text, re.M) and re.search(r'^version = "0\.15\.0"$', text, re.M))
+
+
+def parts(written, count):
+    """What was written of each of so many rows, line by line."""
+    found = re.split(r'(?:\A|\n)== \S+\n', written)[1:]
+    return [part.rstrip('\n').split('\n') for part in found] if len(found) == count else None
+
+
+def written(words, rows):
+    """What a program writes of each row. Where it ends in another way, the rows are halved, down to the one."""
+    with tempfile.NamedTemporaryFile('w', suffix='.rows', encoding='utf-8', newline='') as file:
+        file.writelines(rows)
+        file.flush()
+        os.chmod(file.name, 0o644)
+        ran = subprocess.run([*words, file.name], capture_output=True, check=False)
+    found = parts(ran.stdout.decode(), len(rows)) if ran.returncode == 0 else None
+    if found is not None:
+        return found
+    if len(rows) == 1:
+        return [[f'status {ran.returncode}: {ran.stderr.decode()[-300:]}']]
+    half = len(rows) // 2
+    return written(words, rows[:half]) + written(words, rows[half:])
+
+
+class Both:
+    """The two programs."""
+
+    def __init__(self, original, program=PROGRAM, milliseconds=200):
+        self.original, self.program, self.milliseconds = original, program, milliseconds
+
+    def of_crate(self, rows, milliseconds=None):
+        return written([self.original, 'answers', str(milliseconds or self.milliseconds)], rows)
+
+    def of_port(self, rows):
+        return [normal(row_of(spelled), told) for spelled, told in zip(rows, written([self.program], rows))]
+
+    def answers(self, rows, milliseconds=None):
+        """Each row, as it was asked, with what the crate and what the port answer of it. Of a rule's minimal sentences the port is
+        only asked where the crate lists them."""
+        by_crate = self.of_crate(rows, milliseconds)
+        asked = [spelled + listed(told) if spelled.startswith('generator ') else spelled for spelled, told in zip(rows, by_crate)]
+        return list(zip(asked, by_crate, self.of_port(asked)))
+
+    def explained(self, rows):
+        """The same, each with the names of the differences, or None. What isn't explained is asked again with ten times the time,
+        since a busy machine makes a call look as if it had no end."""
+        found = []
+        for spelled, (asked, crate, port) in zip(rows, self.answers(rows)):
+            names = explained(row_of(asked), crate, port)
+            if names is None:
+                asked, crate, port = self.answers([spelled], 10 * self.milliseconds)[0]
+                names = explained(row_of(asked), crate, port)
+            found.append((asked, crate, port, names))
+        return found
+
+
+def listed(told):
+    """The line that asks a row for the minimal sentences of the rules whose the crate listed."""
+    names = [line.split(' ')[6].rstrip(':') for line in told if line.startswith('    rule ') and '; all ' in line]
+    return f'  sentences {" ".join(names) or "-"}\n'

@@ -1,0 +1,243 @@
+"""By which lines of docs/DIFFERENCES.md the Rust crate answers a row as it does: for tools/beside and tools/original_rows.
+
+Answers are lists of lines, as the program of rows writes them, but for the row's text, and of costs but for the productions that are
+chosen, which the crate doesn't show."""
+import os
+import re
+import sys
+from contextlib import ExitStack
+from importlib.machinery import SourceFileLoader
+from types import ModuleType
+from unittest import mock
+
+from by_rules.original import DIFFERENCES, NeverEnds, OriginalCosts, OriginalGrammar, Panics, Told, answering_as
+
+sys.setrecursionlimit(20000)
+HERE = os.path.dirname(os.path.realpath(__file__))
+
+
+def load(name):
+    loader = SourceFileLoader(name, f'{HERE}/{name}')
+    module = ModuleType(name)
+    module.__file__ = loader.path
+    loader.exec_module(module)
+    return module
+
+
+costs = load('costs_by_rules')
+rows = costs.rows
+
+
+def row_of(spelled):
+    """The row that a text spells."""
+    lines = spelled.rstrip('\n').split('\n')
+    row = rows.Row(*lines[0].split(' ', 1))
+    for line in lines[1:]:
+        word, _, rest = line[2:].partition(' ')
+        if row.type not in ('lines', 'marks') or word in rows.TEXT:
+            row.add(word, rest, None)
+    return row
+
+
+def normal(row, told):
+    """What the program of rows wrote, without what the crate doesn't show."""
+    lines = [line for line in told if not line.startswith('    |')]
+    if row.type == 'lines':                        # only of a text that is fed whole
+        return [line for line in lines if not line.startswith(('fed in ', 'of its lines'))]
+    if row.type != 'generator':
+        return lines
+    lines[0] = head_of_costs(row)
+    return [re.sub(r'; production (?:none|\d+ at \d+); sentence ', '; sentence ', line) for line in lines]
+
+
+def head_of_costs(row):
+    return 'costs of %d bytes' % len(row.text())
+
+
+# ---------------------------------------------------------------- what the rules answer with some of the differences
+
+def by_rules(row, names=(), told=Told()):
+    """What the rules answer of a row with these differences."""
+    answer = costs_answer if row.type == 'generator' else row_answer
+    try:
+        with answering_as(names, told):
+            return answer(row, names, told)
+    except Panics:
+        return ['panics']
+    except NeverEnds:
+        return ['no end']
+
+
+def row_answer(row, names, told):
+    with ExitStack() as stack:
+        stack.enter_context(mock.patch.object(rows, 'Grammar', lambda tree: OriginalGrammar(tree, names, told)))
+        lines = rows.transcript(row)[1 + len(row.notes):]
+    lines = [line for line in lines if not line.startswith('    |')]
+    if row.type == 'section':
+        return lines
+    if 'added-productions' in names:
+        lines = with_panics(lines)
+    return with_other_types(row, lines, told) if 'index-type' in names else lines
+
+
+ADDED = re.compile(r'    production (\d+) \(0,0\)( of rule .*)')
+
+
+def with_panics(lines):
+    """The lines of tables in which the crate's calls on added productions panic, but for the first one's action."""
+    start, out = None, []
+    for line in lines:
+        lengths = re.match(r'    rules \d+, start \d+; productions \d+, start (\d+);', line)
+        start = int(lengths[1]) if lengths else start
+        added = ADDED.fullmatch(line)
+        if added and start is not None and int(added[1]) >= start:
+            action = 'none' if int(added[1]) == start else 'panics'
+            line = '    production %s panics%s, action %s, action_span panics' % (*added.groups(), action)
+        out.append(line)
+    return out
+
+
+def with_other_types(row, lines, told):
+    """The lines in which an index type that is too small isn't refused: the crate panics where what the file has isn't counted by it,
+    and answers anything where only what is added isn't."""
+    named = rows.KINDS[row.kind] or rows.named_kind(row.text())[0]
+    out = []
+    for at, line in enumerate(lines):
+        over = re.fullmatch(r'grammar over (u\d+): refused', line)
+        if over and lines[at + 1:at + 2] and 'StorageTooSmall' in lines[at + 1]:
+            tree, _ = rows.errors_of(rows.family(named), row.text())
+            out += other_type(over[1], tree, told)
+        elif not line.startswith('    StorageTooSmall'):
+            out.append(line)
+    return out
+
+
+def other_type(over, tree, told):
+    limit = dict(rows.LIMITS)[over]
+    counts = [len(tree.rules), len(tree.tokens), len(tree.productions), *(len(it.symbols) for it in tree.productions)]
+    title = 'grammar over ' + over
+    if max(counts) > limit:
+        return [title + ': panics']
+    begin = next((at for at, line in enumerate(told.lines) if re.match(title + r'(:|$)', line)), None)
+    if begin is None:
+        return [title + ': anything']
+    end = next((at for at in range(begin + 1, len(told.lines)) if not told.lines[at].startswith('    ')), len(told.lines))
+    return told.lines[begin:end]
+
+
+def costs_answer(row, names, told):
+    t, kind = row.text(), rows.family(rows.KINDS[row.kind])
+    tree, errors = costs.errors_of(kind, t)
+    if errors:
+        return [head_of_costs(row), 'no grammar']
+    grammar = OriginalGrammar(tree, names, told)
+    listed = dict(row.asked).get('costs', ())
+    each = ([int(it) for it in listed] + [1] * (len(grammar.tokens) + 1))[:len(grammar.tokens) + 1]
+    found = OriginalCosts(grammar, each, names)
+    tokens = [' %s %d' % (rows.quoted_debug(name), cost) for (name, _), cost in zip(grammar.tokens, each)]
+    return [head_of_costs(row), '    tokens:%s end %d' % (''.join(tokens), each[-1]),
+            *(rule_line(row, found, rule, told) for rule in range(len(grammar.rules)))]
+
+
+def rule_line(row, found, rule, told):
+    least, greatest = (cost_word(table if isinstance(table, str) else table[rule], refused) for table, refused in (
+        (found.least if found.least_there is None else found.least_there, 'too large'),
+        (found.greatest if found.greatest_there is None else found.greatest_there, 'too large')))
+    name = found.grammar.rules[rule].name
+    asked = dict(row.asked).get('sentences')
+    line = '    rule %d %s: least %s, greatest %s; sentence %s' % (rule, name, least, greatest, sentence_text(found, rule, least))
+    return line + ('; all ' + all_text(found, rule, told) if asked is None or name in asked else '')
+
+
+def cost_word(cost, refused):
+    return cost if isinstance(cost, str) else costs.word(cost, refused)
+
+
+def sentence_text(found, rule, least):
+    if isinstance(found.least_there, str):
+        return found.least_there
+    if 'first-sentence' in found.names and not isinstance(found.least_by_rounds(), str):
+        sentences = found.all_first_there()
+        return 'no end' if sentences is None else costs.tokens_text(sentences[rule])
+    return costs.tokens_text(first_sentences(found)[rule]) if found.is_told(rule) else least
+
+
+def first_sentences(found):
+    if not hasattr(found, 'first'):
+        found.first = found.first_sentences()
+    return found.first
+
+
+def all_text(found, rule, told):
+    """The minimal sentences; or as they were told, where these are the same but for their order and repeats."""
+    if not found.is_told(rule):
+        return costs.word(found.least[rule])
+    listed = found.minimal_sentences(rule)
+    texts = [costs.tokens_text(it) for it in listed]
+    there = told.sentences(rule) if 'all-sentences' in found.names else None
+    if there is not None:
+        counted = re.fullmatch(r'(\d+), (\d+) of them different', there)
+        if counted and int(counted[2]) == len(listed) or there == str(len(listed)):
+            return there
+        if set(re.findall(r'\[.*?\]|\d+ tokens', there)) == set(texts):
+            return there
+    return str(len(listed)) if len(listed) > costs.LISTED else ' '.join(texts)
+
+
+# ---------------------------------------------------------------- lines, columns and marked maps
+
+def of_lines(row, crate, port):
+    """Why a line of the answers on lines and columns differs."""
+    t, byte, span = row.text(), re.match(r'    (\d+): ', crate), re.match(r'    lines of \(\d+,\d+\): ', crate)
+    if span and port.startswith(span[0]):
+        ends = [re.fullmatch(r'\((\d+),(\d+)\)', line[span.end():]) for line in (crate, port)]
+        runs_on = ends[0] and ends[0][1] == ends[1][1] and int(ends[0][2]) > int(ends[1][2])
+        return 'span-lines' if runs_on or crate.endswith('panics') else None
+    if byte and int(byte[1]) not in rows.character_ends(t) and port == re.sub(r', at \d+:\d+$', ', no column', crate):
+        begin = t.rfind(b'\n', 0, int(byte[1])) + 1
+        column = len(t[begin:].decode().replace('\r\n', '\n'))
+        return 'column-inside' if crate.endswith(':%d' % column) else None
+    return None
+
+
+def of_marks(_, crate, port):
+    """Why a line of the answers on marked maps differs: the entries end at a key that is only marked, or a key has lost its value, which
+    stays marked."""
+    lists = [re.fullmatch(r'        keys(.*); entries(.*); unused(.*); missing(.*)', line) for line in (crate, port)]
+    if all(lists):
+        entries = [it[2] for it in lists]
+        ends_early = entries[0] != entries[1] and entries[1].startswith(entries[0])
+        if ends_early and lists[0][1] == lists[1][1]:
+            return 'marked-iteration'
+        return 'merge-theirs' if len(lists[0][1]) < len(lists[1][1]) else None
+    keys = zip(*(line.split(' [') for line in (crate, port)), strict=True)
+    lost = [re.sub(r' \d+( used)?( required)?, mark \d+\]', r' -\1\2]', there) == here for here, there in keys if here != there]
+    return 'merge-theirs' if all(lost) else None
+
+
+def by_pairs(why, row, crate, port):
+    """The names by which pairs of lines differ, or None."""
+    names = [why(row, *pair) for pair in zip(crate, port) if pair[0] != pair[1]]
+    return None if len(crate) != len(port) or None in names else sorted(set(names))
+
+
+# ---------------------------------------------------------------- why the two differ
+
+def explained(row, crate, port):
+    """The names of the differences by which the crate answers as it does where the port answers as it does, or None where the rules and
+    these don't say so. None of them can be left out."""
+    if crate == port:
+        return []
+    if row.type in ('lines', 'marks'):
+        return by_pairs(of_lines if row.type == 'lines' else of_marks, row, crate, port)
+    if row.type == 'row' and with_panics(port) == crate:
+        return ['added-productions']
+    told = Told(crate)
+    if by_rules(row) != port or by_rules(row, DIFFERENCES, told) != crate:
+        return None
+    names = list(DIFFERENCES)
+    for name in DIFFERENCES:
+        fewer = [it for it in names if it != name]
+        if by_rules(row, fewer, told) == crate:
+            names = fewer
+    return names
