@@ -175,7 +175,7 @@ fn made_of_parsed<R, T: TextReader<R>>(
         (WasRead parsed.now)) }
 {
     match YaccGrammar::new_from_ast_with_validity_info(alloc, parsed) {
-        Ok(grammar) => reader.grammar(alloc, text, parsed.ast(), &grammar),
+        Ok(tables) => reader.grammar(alloc, text, parsed.ast(), &tables),
         Err(YaccFault::Errors(errors)) => reader.errors(alloc, text, &errors),
         Err(YaccFault::OutOfMemory) => Err(AllocError),
     }
