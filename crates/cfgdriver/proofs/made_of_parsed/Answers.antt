@@ -1,10 +1,12 @@
 use Rattle.std.proofs.Common.{All, inl, inr, sym, subst}
 use Rattle.std.proofs.lemmas.Result.{IfOk-weaker}
+use Rattle.cfgrammar.specs.Answer.{WasRead, in_numbers}
 use Rattle.cfgrammar.specs.ErrorSpans.{EachErrorSpan}
 use Rattle.cfgrammar.specs.Numbered.{Numbered}
 use Rattle.cfgrammar.specs.Places.{IsPiece, IsWithin}
 use Rattle.cfgrammar.specs.Syntax.{Syntax, EachSpan}
 use Rattle.cfgrammar.specs.TreeView.{syntax}
+use Rattle.cfgdriver.specs.ReadText.{IsMadeOf}
 use Rattle.cfgdriver.proofs.made_of_parsed.Goals as goal
 
 pub grammar-requires : goal.grammar-requires
@@ -19,16 +21,22 @@ errors-requires g c =
 pub returns-in-Ok : goal.returns-in-Ok
 returns-in-Ok g c =
     let answer = c.in-Ok.ensures.answer in
-    let text = c.args.text.now in
-    let OfGrammar = g.T.TextReader.of_grammar c.args.reader.now text in
-    IfOk-weaker c.grammar.result _ _
-    (λ made of. inr (answer.0, answer.1, subst (λ (s : Syntax). OfGrammar s _ made) c.ast.ensures.value (subst (λ (n : Numbered). OfGrammar (syntax c.ast.result.now) n made) answer.2 of)))
-    c.grammar.ensures
+    let OfErrors = g.T.TextReader.of_errors c.args.reader.now c.args.text.now in
+    let OfGrammar = g.T.TextReader.of_grammar c.args.reader.now c.args.text.now in
+    let parsed = c.args.parsed.now in
+    IfOk-weaker c.grammar.result (OfGrammar (syntax c.ast.result.now) c.in-Ok.tables) (IsMadeOf OfErrors OfGrammar (WasRead parsed))
+    (λ made of. inr (
+      answer.0,
+      answer.1,
+      subst (λ (s : Syntax). OfGrammar s (in_numbers parsed) made) c.ast.ensures.value
+          (subst (λ (n : Numbered). OfGrammar (syntax c.ast.result.now) n made) answer.2 of),
+    )) c.grammar.ensures
 
 pub returns-in-Err-Errors : goal.returns-in-Err-Errors
 returns-in-Err-Errors g c =
     let refused = rw c.in-Err-Errors.field-0-is at c.in-Err-Errors.ensures.answer in
     let errors = rw c.in-Err-Errors.errors-is at c.deref.ensures.value in
-    let text = c.args.text.now in
-    IfOk-weaker c.errors.result _ _
-    (λ made of. inl (c.in-Err-Errors.errors.items, refused, subst (λ errors. g.T.TextReader.of_errors c.args.reader.now text errors made) errors of)) c.errors.ensures
+    let OfErrors = g.T.TextReader.of_errors c.args.reader.now c.args.text.now in
+    let OfGrammar = g.T.TextReader.of_grammar c.args.reader.now c.args.text.now in
+    IfOk-weaker c.errors.result (OfErrors c.deref.result.now) (IsMadeOf OfErrors OfGrammar (WasRead c.args.parsed.now))
+    (λ made of. inl (c.in-Err-Errors.errors.items, refused, subst (λ errors. OfErrors errors made) errors of)) c.errors.ensures

@@ -5,7 +5,7 @@ use Rattle.cfgrammar.specs.ErrorSpans.{EachErrorSpan}
 use Rattle.cfgrammar.specs.Places.{IsPiece}
 use Rattle.cfgrammar.specs.YaccFault.TheVariants as faults
 use Rattle.cfgrammar.proofs.OfItself.{parsed_itself, refused_itself}
-use Rattle.cfgdriver.specs.ReadText.{greatest}
+use Rattle.cfgdriver.specs.ReadText.{IsMadeOf, greatest}
 use Rattle.cfgdriver.proofs.read_itself.Goals as goal
 
 pub errors-requires : goal.errors-requires
@@ -24,12 +24,13 @@ returns-in-Err-Errors g c =
     let answer = rw c.in-Err-Errors.field-0-is at c.in-Err-Errors.ensures.answer in
     let errors = rw c.in-Err-Errors.errors-is at c.deref.ensures.value in
     let it = refused_itself c.args.text.now c.in-Err-Errors.ensures.one (faults.Errors c.in-Err-Errors.errors) answer in
-    let told = c.in-Err-Errors.errors.items in (
+    let told = c.in-Err-Errors.errors.items in
+    let OfErrors = g.T.TextReader.of_errors c.args.reader.now c.args.text.now in
+    let OfGrammar = g.T.TextReader.of_grammar c.args.reader.now c.args.text.now in (
       it.0,
       it.1,
-      IfOk-weaker c.errors.result _ _
-          (λ made of. inl (told, subst (λ (found : Found). IsRefused greatest found told) (sym it.2) refl, subst (λ errors. g.T.TextReader.of_errors c.args.reader.now c.args.text.now errors made) errors of))
-          c.errors.ensures,
+      IfOk-weaker c.errors.result (OfErrors c.deref.result.now) (IsMadeOf OfErrors OfGrammar it.0)
+          (λ made of. inl (told, subst (λ (found : Found). IsRefused greatest found told) (sym it.2) refl, subst (λ errors. OfErrors errors made) errors of)) c.errors.ensures,
     )
 
 pub returns-in-Err-OutOfMemory : goal.returns-in-Err-OutOfMemory
