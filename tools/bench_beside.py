@@ -13,7 +13,7 @@ import time
 from beside_crate import ROOT, build
 from explained import rows as rows_by_rules
 
-PAGE = f"{ROOT}/docs/PERFORMANCE.md"
+PAGE, README = f"{ROOT}/docs/PERFORMANCE.md", f"{ROOT}/README.md"
 BEGIN, END = "<!-- tools/bench --beside -->\n", "<!-- end of tools/bench --beside -->\n"
 THERE = ["reading", "tables", "firsts", "follows", "path", "greatest", "least", "min_sentence", "min_sentences", "every"]
 NEED_LEAST = {"min_sentence", "min_sentences", "every"}
@@ -25,6 +25,7 @@ COLUMNS = {
     "sentences": (["min_sentences"], ["min_sentences"]), "every": (["every"], ["every"]),
 }
 TURN = 1                                           # which size of a shape is taken, from 0
+TO_ANALYSE = ["reading", "tables", "FIRST", "FOLLOW", "costs"]
 SHORTEST = 0.02                                    # what both programs do in less than that has no ratio
 
 
@@ -113,10 +114,9 @@ def texts(bench, shapes, turn):
             yield name, f"{name}, {smallest << turn:,} {unit}", make(smallest << turn)
 
 
-def table(bench, crate, given, measured):
-    """A row for each text, with a cell for each column."""
-    rows = [["grammar", "KB", *COLUMNS]]
-    for shape, title, text in measured:
+def measured(bench, crate, given, found):
+    """Of each text the shape, what it is called, how many bytes it has, and for each column what it takes here and in the crate."""
+    for shape, title, text in found:
         print(f"bench: {title}", file=sys.stderr, flush=True)
         here = dict(zip(bench.PHASES, bench.measure(shape, text, given)[0]))
         asked = [it for it in THERE if it != "every" or shape in bench.ASKED_EVERY and not given.instructions]
@@ -124,9 +124,13 @@ def table(bench, crate, given, measured):
             it.write(text)
             it.flush()
             there = crate.least(it.name, asked, given.runs)
-        both = ((together(here, ours), together(there, theirs)) for ours, theirs in COLUMNS.values())
-        rows.append([title, f"{len(text.encode()) / 1000:.0f}", *(cell(*it, bench.number) for it in both)])
-    return rows
+        both = {column: (together(here, ours), together(there, theirs)) for column, (ours, theirs) in COLUMNS.items()}
+        yield shape, title, len(text.encode()), both
+
+
+def table(bench, told, columns):
+    rows = [[title, f"{size / 1000:.0f}", *(cell(*both[it], bench.number) for it in columns)] for _, title, size, both in told]
+    return [["grammar", "KB", *columns], *rows]
 
 
 def slower(rows):
@@ -135,24 +139,39 @@ def slower(rows):
     return f"Slower than in the crate: {'; '.join(found)}." if found else "Nothing here is slower than in the crate."
 
 
+def headline(told):
+    """How many times as long the crate takes for whole grammars that people wrote."""
+    pairs = [[both[it] for it in TO_ANALYSE] for shape, _, _, both in told if shape == "languages"]
+    if not pairs or not all(isinstance(it, float) for of_one in pairs for pair in of_one for it in pair):
+        return ""
+    times = sorted(sum(there for _, there in of_one) / sum(here for here, _ in of_one) for of_one in pairs)
+    return (f"To read, number and analyse a grammar, the Rust crate takes {ratio(times[0])} to {ratio(times[-1])} times as long, by ten "
+            "grammars of real languages.")
+
+
 def page(bench, given):
-    """The tables, with the machine, as they stand in docs/PERFORMANCE.md."""
-    program, load = build(given.beside) if not given.driver else given.driver, os.getloadavg()[0]
-    before = lambda: bench.limit(given.gigabytes)
-    rows = table(bench, Crate(program, given.seconds, before), given, texts(bench, given.shapes or bench.SHAPES, TURN))
+    """The tables, with the machine, as docs/PERFORMANCE.md has them, and the headline."""
+    program, load = given.driver or build(given.beside), os.getloadavg()[0]
+    crate = Crate(program, given.seconds, lambda: bench.limit(given.gigabytes))
+    told = list(measured(bench, crate, given, texts(bench, given.shapes or bench.SHAPES, TURN)))
     counting = bench.argparse.Namespace(**{**vars(given), "instructions": True, "runs": 1})
-    counts = table(bench, CountedCrate(program, 10 * given.seconds, None), counting, texts(bench, bench.COUNTED, 0))
-    counts = [row[:-1] for row in counts]
+    counted = list(measured(bench, CountedCrate(program, 10 * given.seconds, None), counting, texts(bench, bench.COUNTED, 0)))
+    times, counts = table(bench, told, list(COLUMNS)), table(bench, counted, list(COLUMNS)[:-1])
     about = (f"Measured on {time.strftime('%Y-%m-%d')} at the commit {bench.commit()}: {bench.machine()}; load {load:.1f} at the start and "
-             f"{os.getloadavg()[0]:.1f} at the end.")
-    return "\n\n".join([about, f"Milliseconds here / in the crate, the least of {given.runs} runs, and how many times as long the crate takes where one of "
-                        f"them takes {SHORTEST} or more:",
-                        bench.markdown(rows), slower(rows), "Millions of instructions, likewise:", bench.markdown(counts), slower(counts), ""])
+             f"{os.getloadavg()[0]:.1f} at the end. Milliseconds here / in the crate, the least of {given.runs} runs, and how many times as "
+             f"long the crate takes, where one of them takes {SHORTEST} or more:")
+    return [headline(told), about, bench.markdown(times), slower(times), "Millions of instructions, likewise:", bench.markdown(counts), slower(counts)]
 
 
-def write(text):
-    """Puts the tables into docs/PERFORMANCE.md, in place of those that stood there."""
-    with open(PAGE, encoding="utf-8") as it:
+def put(file, text):
+    """Puts a text between the marks in a file, in place of what is there."""
+    with open(file, encoding="utf-8") as it:
         before, _, rest = it.read().partition(BEGIN)
-    with open(PAGE, "w", encoding="utf-8") as out:
-        out.write(f"{before}{BEGIN}\n{text}{END}{rest.partition(END)[2]}")
+    with open(file, "w", encoding="utf-8") as out:
+        out.write(f"{before}{BEGIN}{text}{END}{rest.partition(END)[2]}")
+
+
+def write(paragraphs):
+    """Puts the tables into docs/PERFORMANCE.md, and the headline into README.md."""
+    put(PAGE, "".join(f"\n{it}\n" for it in paragraphs if it) + "\n")
+    put(README, f"{paragraphs[0]}\n" if paragraphs[0] else "")
