@@ -1,7 +1,7 @@
 """The tables of tools/bench --beside: how long the phases take here and in the Rust crate, side by side.
 
 Both programs go through the phases in a process for each run, and the least time counts. Where a phase takes the crate too long, a
-further run goes on behind it."""
+further run goes on after it."""
 import itertools
 import os
 import re
@@ -17,7 +17,7 @@ PAGE, README = f"{ROOT}/docs/PERFORMANCE.md", f"{ROOT}/README.md"
 BEGIN, END = "<!-- tools/bench --beside -->\n", "<!-- end of tools/bench --beside -->\n"
 THERE = ["reading", "tables", "firsts", "follows", "path", "greatest", "least", "min_sentence", "min_sentences", "every"]
 NEED_LEAST = {"min_sentence", "min_sentences", "every"}
-# the phases that a column takes together, here and there, where costs are found when they are asked for
+# the phases that a column takes together, here and in the crate, which finds costs when they are asked for
 COLUMNS = {
     "reading": (["reading"], ["reading"]), "tables": (["tables"], ["tables"]), "FIRST": (["firsts"], ["firsts"]),
     "FOLLOW": (["follows"], ["follows"]), "path": (["path"], ["path"]),
@@ -39,7 +39,7 @@ class Crate:
         """What a run wrote, line by line, and why it ended, unless it ended well."""
         with tempfile.TemporaryFile("w+") as out:
             try:
-                ran = subprocess.run(words, stdout=out, stderr=subprocess.DEVNULL, timeout=self.seconds, preexec_fn=self.before, check=False)
+                ran = subprocess.run(words, stdout=out, stderr=subprocess.DEVNULL, timeout=self.seconds, preexec_fn=self.before)
                 why = {0: "", 101: "panics"}.get(ran.returncode, "no memory or stack")
             except subprocess.TimeoutExpired:
                 why = f"over {self.seconds} s"
@@ -47,7 +47,7 @@ class Crate:
             return out.read().splitlines(), why
 
     def once(self, file, phases):
-        """What one run told of these phases, and why it ended before the last."""
+        """What one run wrote of these phases, and why it ended before the last."""
         lines, why = self.run([self.program, "time", file, *phases])
         return {it[0]: int(it[2]) / 1000 for it in map(str.split, lines[1:])}, why
 
@@ -57,11 +57,11 @@ class Crate:
         for _ in range(runs):
             left = list(asked)
             while left:
-                told, why = self.once(file, left)
-                least.update({phase: min(it, least.get(phase, it)) for phase, it in told.items()})
+                found, why = self.once(file, left)
+                least.update({phase: min(it, least.get(phase, it)) for phase, it in found.items()})
                 if not why:
                     break
-                stopped = next(it for it in left if it not in told)
+                stopped = next(it for it in left if it not in found)
                 gone = {stopped, *(NEED_LEAST if stopped == "least" else ())}
                 least.update({it: why if it == stopped else "-" for it in asked if it in gone})
                 left, asked = ([it for it in those if it not in gone] for those in (left[left.index(stopped):], asked))
@@ -75,12 +75,12 @@ class CountedCrate(Crate):
         with tempfile.TemporaryDirectory() as room:
             lines, why = self.run(["valgrind", "--tool=callgrind", "--dump-before=write", f"--callgrind-out-file={room}/part", self.program,
                                    "time", file, *phases])
-            told = {}
+            found = {}
             for number, line in enumerate(lines[1:], 2):
                 with open(f"{room}/part.{number}", encoding="utf-8") as part:
                     total = next(it for it in part if it.startswith("totals:"))
-                told[line.split()[0]] = int(total.split()[1]) / 1_000_000
-            return told, why
+                found[line.split()[0]] = int(total.split()[1]) / 1_000_000
+            return found, why
 
 
 def together(times, phases):
@@ -90,13 +90,13 @@ def together(times, phases):
     return words[0] if words else None if None in found else sum(found)
 
 
-def cell(here, there, number):
+def cell(ours, theirs, number):
     """Both, and how many times as much the crate takes."""
-    both = [it if isinstance(it, str) else "-" if it is None else number(it) for it in (here, there)]
+    both = [it if isinstance(it, str) else "-" if it is None else number(it) for it in (ours, theirs)]
     if both == ["-", "-"]:
         return "-"
-    is_told = all(isinstance(it, float) and it > 0 for it in (here, there)) and max(here, there) >= SHORTEST
-    return " / ".join(both) + (f" ×{ratio(there / here)}" if is_told else "")
+    has_ratio = all(isinstance(it, float) and it > 0 for it in (ours, theirs)) and max(ours, theirs) >= SHORTEST
+    return " / ".join(both) + (f" ×{ratio(theirs / ours)}" if has_ratio else "")
 
 
 def ratio(times):
@@ -114,22 +114,22 @@ def texts(bench, shapes, turn):
             yield name, f"{name}, {smallest << turn:,} {unit}", make(smallest << turn)
 
 
-def measured(bench, crate, given, found):
+def measured(bench, crate, given, grammars):
     """Of each text the shape, what it is called, how many bytes it has, and for each column what it takes here and in the crate."""
-    for shape, title, text in found:
+    for shape, title, text in grammars:
         print(f"bench: {title}", file=sys.stderr, flush=True)
-        here = dict(zip(bench.PHASES, bench.measure(shape, text, given)[0]))
+        mine = dict(zip(bench.PHASES, bench.measure(shape, text, given)[0]))
         asked = [it for it in THERE if it != "every" or shape in bench.ASKED_EVERY and not given.instructions]
         with tempfile.NamedTemporaryFile("w", suffix=".y", encoding="utf-8") as it:
             it.write(text)
             it.flush()
-            there = crate.least(it.name, asked, given.runs)
-        both = {column: (together(here, ours), together(there, theirs)) for column, (ours, theirs) in COLUMNS.items()}
+            crates = crate.least(it.name, asked, given.runs)
+        both = {column: (together(mine, ours), together(crates, theirs)) for column, (ours, theirs) in COLUMNS.items()}
         yield shape, title, len(text.encode()), both
 
 
-def table(bench, told, columns):
-    rows = [[title, f"{size / 1000:.0f}", *(cell(*both[it], bench.number) for it in columns)] for _, title, size, both in told]
+def table(bench, found, columns):
+    rows = [[title, f"{size / 1000:.0f}", *(cell(*both[it], bench.number) for it in columns)] for _, title, size, both in found]
     return [["grammar", "KB", *columns], *rows]
 
 
@@ -139,12 +139,12 @@ def slower(rows):
     return f"Slower than in the crate: {'; '.join(found)}." if found else "Nothing here is slower than in the crate."
 
 
-def headline(told):
+def headline(found):
     """How many times as long the crate takes for whole grammars that people wrote."""
-    pairs = [[both[it] for it in TO_ANALYSE] for shape, _, _, both in told if shape == "languages"]
+    pairs = [[both[it] for it in TO_ANALYSE] for shape, _, _, both in found if shape == "languages"]
     if not pairs or not all(isinstance(it, float) for of_one in pairs for pair in of_one for it in pair):
         return ""
-    times = sorted(sum(there for _, there in of_one) / sum(here for here, _ in of_one) for of_one in pairs)
+    times = sorted(sum(theirs for _, theirs in of_one) / sum(ours for ours, _ in of_one) for of_one in pairs)
     return (f"To read, number and analyse a grammar, the Rust crate takes {ratio(times[0])} to {ratio(times[-1])} times as long, by ten "
             "grammars of real languages.")
 
@@ -153,18 +153,19 @@ def page(bench, given):
     """The tables, with the machine, as docs/PERFORMANCE.md has them, and the headline."""
     program, load = given.driver or build(given.beside), os.getloadavg()[0]
     crate = Crate(program, given.seconds, lambda: bench.limit(given.gigabytes))
-    told = list(measured(bench, crate, given, texts(bench, given.shapes or bench.SHAPES, TURN)))
+    found = list(measured(bench, crate, given, texts(bench, given.shapes or bench.SHAPES, TURN)))
     counting = bench.argparse.Namespace(**{**vars(given), "instructions": True, "runs": 1})
     counted = list(measured(bench, CountedCrate(program, 10 * given.seconds, None), counting, texts(bench, bench.COUNTED, 0)))
-    times, counts = table(bench, told, list(COLUMNS)), table(bench, counted, list(COLUMNS)[:-1])
+    times, counts = table(bench, found, list(COLUMNS)), table(bench, counted, list(COLUMNS)[:-1])
     about = (f"Measured on {time.strftime('%Y-%m-%d')} at the commit {bench.commit()}: {bench.machine()}; load {load:.1f} at the start and "
              f"{os.getloadavg()[0]:.1f} at the end. Milliseconds here / in the crate, the least of {given.runs} runs, and how many times as "
              f"long the crate takes, where one of them takes {SHORTEST} or more:")
-    return [headline(told), about, bench.markdown(times), slower(times), "Millions of instructions, likewise:", bench.markdown(counts), slower(counts)]
+    return [headline(found), about, bench.markdown(times), slower(times), "Millions of instructions, likewise:", bench.markdown(counts),
+            slower(counts)]
 
 
 def put(file, text):
-    """Puts a text between the marks in a file, in place of what is there."""
+    """Puts a text between the marks in a file."""
     with open(file, encoding="utf-8") as it:
         before, _, rest = it.read().partition(BEGIN)
     with open(file, "w", encoding="utf-8") as out:

@@ -78,13 +78,13 @@ class Both:
         return written([self.original, 'answers', str(milliseconds or self.milliseconds)], rows)
 
     def of_port(self, rows):
-        return [normal(row_of(spelled), told) for spelled, told in zip(rows, written([self.program], rows))]
+        return [normal(row_of(spelled), answered) for spelled, answered in zip(rows, written([self.program], rows))]
 
     def answers(self, rows, milliseconds=None):
         """Each row, as it was asked, with what the crate and what the port answer of it. Of a rule's minimal sentences the port is
         only asked where the crate lists them."""
         by_crate = self.of_crate(rows, milliseconds)
-        asked = [spelled + listed(told) if spelled.startswith('generator ') else spelled for spelled, told in zip(rows, by_crate)]
+        asked = [spelled + listed(answered) if spelled.startswith('generator ') else spelled for spelled, answered in zip(rows, by_crate)]
         return list(zip(asked, by_crate, self.of_port(asked)))
 
     def explained(self, rows):
@@ -100,7 +100,7 @@ class Both:
         return found
 
 
-def listed(told):
+def listed(answered):
     """The line that asks a row for the minimal sentences of the rules whose the crate listed."""
-    names = [line.split(' ')[6].rstrip(':') for line in told if line.startswith('    rule ') and '; all ' in line]
+    names = [line.split(' ')[6].rstrip(':') for line in answered if line.startswith('    rule ') and '; all ' in line]
     return f'  sentences {" ".join(names) or "-"}\n'

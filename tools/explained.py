@@ -10,7 +10,7 @@ from importlib.machinery import SourceFileLoader
 from types import ModuleType
 from unittest import mock
 
-from by_rules.original import DIFFERENCES, NeverEnds, OriginalCosts, OriginalGrammar, Panics, Told, answering_as
+from by_rules.original import DIFFERENCES, NeverEnds, OriginalCosts, OriginalGrammar, Panics, Answered, answering_as
 
 sys.setrecursionlimit(20000)
 HERE = os.path.dirname(os.path.realpath(__file__))
@@ -39,9 +39,9 @@ def row_of(spelled):
     return row
 
 
-def normal(row, told):
+def normal(row, answered):
     """What the program of rows wrote, without what the crate doesn't show."""
-    lines = [line for line in told if not line.startswith('    |')]
+    lines = [line for line in answered if not line.startswith('    |')]
     if row.type == 'lines':                        # only of a text that is fed whole
         return [line for line in lines if not line.startswith(('fed in ', 'of its lines'))]
     if row.type != 'generator':
@@ -56,28 +56,28 @@ def head_of_costs(row):
 
 # ---------------------------------------------------------------- what the rules answer with some of the differences
 
-def by_rules(row, names=(), told=Told()):
+def by_rules(row, names=(), answered=Answered()):
     """What the rules answer of a row with these differences."""
     answer = costs_answer if row.type == 'generator' else row_answer
     try:
-        with answering_as(names, told):
-            return answer(row, names, told)
+        with answering_as(names, answered):
+            return answer(row, names, answered)
     except Panics:
         return ['panics']
     except NeverEnds:
         return ['no end']
 
 
-def row_answer(row, names, told):
+def row_answer(row, names, answered):
     with ExitStack() as stack:
-        stack.enter_context(mock.patch.object(rows, 'Grammar', lambda tree: OriginalGrammar(tree, names, told)))
+        stack.enter_context(mock.patch.object(rows, 'Grammar', lambda tree: OriginalGrammar(tree, names, answered)))
         lines = rows.transcript(row)[1 + len(row.notes):]
     lines = [line for line in lines if not line.startswith('    |')]
     if row.type == 'section':
         return lines
     if 'added-productions' in names:
         lines = with_panics(lines)
-    return with_other_types(row, lines, told) if 'index-type' in names else lines
+    return with_other_types(row, lines, answered) if 'index-type' in names else lines
 
 
 ADDED = re.compile(r'    production (\d+) \(0,0\)( of rule .*)')
@@ -97,7 +97,7 @@ def with_panics(lines):
     return out
 
 
-def with_other_types(row, lines, told):
+def with_other_types(row, lines, answered):
     """The lines in which an index type that is too small isn't refused: the crate panics where what the file has isn't counted by it,
     and answers anything where only what is added isn't."""
     named = rows.KINDS[row.kind] or rows.named_kind(row.text())[0]
@@ -106,47 +106,47 @@ def with_other_types(row, lines, told):
         over = re.fullmatch(r'grammar over (u\d+): refused', line)
         if over and lines[at + 1:at + 2] and 'StorageTooSmall' in lines[at + 1]:
             tree, _ = rows.errors_of(rows.family(named), row.text())
-            out += other_type(over[1], tree, told)
+            out += other_type(over[1], tree, answered)
         elif not line.startswith('    StorageTooSmall'):
             out.append(line)
     return out
 
 
-def other_type(over, tree, told):
+def other_type(over, tree, answered):
     limit = dict(rows.LIMITS)[over]
     counts = [len(tree.rules), len(tree.tokens), len(tree.productions), *(len(it.symbols) for it in tree.productions)]
     title = 'grammar over ' + over
     if max(counts) > limit:
         return [title + ': panics']
-    begin = next((at for at, line in enumerate(told.lines) if re.match(title + r'(:|$)', line)), None)
+    begin = next((at for at, line in enumerate(answered.lines) if re.match(title + r'(:|$)', line)), None)
     if begin is None:
         return [title + ': anything']
-    end = next((at for at in range(begin + 1, len(told.lines)) if not told.lines[at].startswith('    ')), len(told.lines))
-    return told.lines[begin:end]
+    end = next((at for at in range(begin + 1, len(answered.lines)) if not answered.lines[at].startswith('    ')), len(answered.lines))
+    return answered.lines[begin:end]
 
 
-def costs_answer(row, names, told):
+def costs_answer(row, names, answered):
     t, kind = row.text(), rows.family(rows.KINDS[row.kind])
     tree, errors = costs.errors_of(kind, t)
     if errors:
         return [head_of_costs(row), 'no grammar']
-    grammar = OriginalGrammar(tree, names, told)
+    grammar = OriginalGrammar(tree, names, answered)
     listed = dict(row.asked).get('costs', ())
     each = ([int(it) for it in listed] + [1] * (len(grammar.tokens) + 1))[:len(grammar.tokens) + 1]
     found = OriginalCosts(grammar, each, names)
     tokens = [' %s %d' % (rows.quoted_debug(name), cost) for (name, _), cost in zip(grammar.tokens, each)]
     return [head_of_costs(row), '    tokens:%s end %d' % (''.join(tokens), each[-1]),
-            *(rule_line(row, found, rule, told) for rule in range(len(grammar.rules)))]
+            *(rule_line(row, found, rule, answered) for rule in range(len(grammar.rules)))]
 
 
-def rule_line(row, found, rule, told):
+def rule_line(row, found, rule, answered):
     least, greatest = (cost_word(table if isinstance(table, str) else table[rule], refused) for table, refused in (
         (found.least if found.least_there is None else found.least_there, 'too large'),
         (found.greatest if found.greatest_there is None else found.greatest_there, 'too large')))
     name = found.grammar.rules[rule].name
     asked = dict(row.asked).get('sentences')
     line = '    rule %d %s: least %s, greatest %s; sentence %s' % (rule, name, least, greatest, sentence_text(found, rule, least))
-    return line + ('; all ' + all_text(found, rule, told) if asked is None or name in asked else '')
+    return line + ('; all ' + all_text(found, rule, answered) if asked is None or name in asked else '')
 
 
 def cost_word(cost, refused):
@@ -168,13 +168,13 @@ def first_sentences(found):
     return found.first
 
 
-def all_text(found, rule, told):
-    """The minimal sentences; or as they were told, where these are the same but for their order and repeats."""
+def all_text(found, rule, answered):
+    """The minimal sentences; or as the crate answered, if those differ in nothing but order and repeats."""
     if not found.is_told(rule):
         return costs.word(found.least[rule])
     listed = found.minimal_sentences(rule)
     texts = [costs.tokens_text(it) for it in listed]
-    there = told.sentences(rule) if 'all-sentences' in found.names else None
+    there = answered.sentences(rule) if 'all-sentences' in found.names else None
     if there is not None:
         counted = re.fullmatch(r'(\d+), (\d+) of them different', there)
         if counted and int(counted[2]) == len(listed) or there == str(len(listed)):
@@ -201,8 +201,8 @@ def of_lines(row, crate, port):
 
 
 def of_marks(_, crate, port):
-    """Why a line of the answers on marked maps differs: the entries end at a key that is only marked, or a key has lost its value, which
-    stays marked."""
+    """Why a line of the answers on marked maps differs: the entries end at a key that is only marked, or a key has lost its value and
+    keeps its marks."""
     lists = [re.fullmatch(r'        keys(.*); entries(.*); unused(.*); missing(.*)', line) for line in (crate, port)]
     if all(lists):
         entries = [it[2] for it in lists]
@@ -232,12 +232,12 @@ def explained(row, crate, port):
         return by_pairs(of_lines if row.type == 'lines' else of_marks, row, crate, port)
     if row.type == 'row' and with_panics(port) == crate:
         return ['added-productions']
-    told = Told(crate)
-    if by_rules(row) != port or by_rules(row, DIFFERENCES, told) != crate:
+    answered = Answered(crate)
+    if by_rules(row) != port or by_rules(row, DIFFERENCES, answered) != crate:
         return None
     names = list(DIFFERENCES)
     for name in DIFFERENCES:
         fewer = [it for it in names if it != name]
-        if by_rules(row, fewer, told) == crate:
+        if by_rules(row, fewer, answered) == crate:
             names = fewer
     return names

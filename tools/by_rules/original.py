@@ -1,8 +1,7 @@
 """What the Rust crate answers: the rules of docs/BEHAVIOUR.md, but for the lines of docs/DIFFERENCES.md that an answer on a text shows.
 
-Each of these lines has a name here, as there. `answering_as` changes the rules by the lines of some names, for as long as a block
-runs. Two things differ there from run to run, the order in which hashed maps are gone through: these are read from what the crate
-answered ("told"), where that may be an answer.
+Each of these lines has a name here, the same as on that page. `answering_as` changes the rules by the lines of some names, for as long as a block
+runs. Hashed maps have another order in each run of the crate: that order is read from what the crate answered, if it may be one.
 """
 import re
 from contextlib import ExitStack, contextmanager
@@ -13,7 +12,7 @@ from .costs import UNBOUNDED, Costs
 from .faults import Fault, HeaderFault
 from .grammar import Grammar, reached
 
-IN_READING = ('comment-closed-by-line-end', 'array-item', 'digits', 'nesting', 'space-behind-bracket', 'letters')
+IN_READING = ('comment-closed-by-line-end', 'array-item', 'digits', 'nesting', 'space-after-bracket', 'letters')
 IN_ANSWERS = ('added-productions', 'index-type', 'hashed-order', 'follow', 'least-costs', 'first-sentence', 'all-sentences',
               'greatest-costs')
 DIFFERENCES = IN_READING + IN_ANSWERS
@@ -60,7 +59,7 @@ def array(t, p, brackets, read=section.array):
 
 
 def entry(t, p, read=section.entry):
-    """White space behind an array isn't passed."""
+    """White space after an array isn't passed."""
     (key, value), end = read(t, p)
     if value[0] == 'array':
         end = value[3][1]
@@ -85,25 +84,24 @@ def entries(t, opening, found, read=section.entries):
 # ---------------------------------------------------------------- in what is answered
 
 class OriginalGrammar(Grammar):
-    """The tables, with the productions of `~` in the order that was told, and with FOLLOW sets that miss tokens."""
+    """The tables, with the productions of `~` in the order of the crate's answer, and with FOLLOW sets that miss tokens."""
 
-    def __init__(self, tree, names, told):
-        self.names, self.told = names, told
+    def __init__(self, tree, names, answered):
+        self.names, self.answered = names, answered
         Grammar.__init__(self, tree)
 
     def added(self):
         rows = Grammar.added(self)
         implicit = rows[1:-2]
         if 'hashed-order' in self.names and implicit:
-            order = self.told.implicit_tokens()
+            order = self.answered.implicit_tokens()
             if sorted(order) == sorted(index for (_, index), _ in implicit):
                 tilde = implicit[0][1]
                 rows[1:-2] = [[('token', index), tilde] for index in order]
         return rows
 
     def follows(self):
-        """What begins the symbol right behind a rule follows it; and what follows a production's rule, where all that stands
-        behind it may be empty."""
+        """FIRST of the symbol right after a rule; and FOLLOW of the production's own rule, where all after it may be empty."""
         if 'follow' not in self.names:
             return Grammar.follows(self)
         sets, empty = self.firsts()
@@ -195,7 +193,7 @@ class OriginalCosts(Costs):
         return (max(open_ones) if open_ones else costs[rule]), False
 
     def all_first_there(self):
-        """The first sentence of each rule, or None where that of one takes too long: the crate is asked for all at once."""
+        """The first sentence of each rule, or None where one takes too long: the crate is asked for all at once."""
         if not hasattr(self, 'firsts_there'):
             self.firsts_there = []
             for rule in range(len(self.grammar.rules)):
@@ -206,8 +204,8 @@ class OriginalCosts(Costs):
         return self.firsts_there
 
     def first_there(self, rule):
-        """What goes on behind a rule before it is replaced, and then again: of a production of n rules 2 to the n times. None where
-        that doesn't end in any time."""
+        """A walk that goes on after a rule before it is replaced, and then again: over a production of n rules 2 to the n times.
+        None where that takes too long."""
         found, stack, left = [], [(self.cheapest[rule][0], 0)], STEPS
         while stack:
             left -= 1
@@ -222,8 +220,8 @@ class OriginalCosts(Costs):
         return found
 
 
-class Told:
-    """What the crate answered, line by line, for what differs from run to run."""
+class Answered:
+    """What the crate answered, line by line: what differs from run to run is read from it."""
 
     def __init__(self, lines=()):
         self.lines = list(lines)
@@ -237,7 +235,7 @@ class Told:
         return [int(it[1]) for it in found if it]
 
     def unknown_form(self):
-        """Where the printed form stands that is told to be of no token."""
+        """The place of the printed form that is said to have no token."""
         found = (re.match(r'    UnknownEPP\(.*\) \((\d+),(\d+)\) \d', line) for line in self.lines)
         return next(((int(it[1]), int(it[2])) for it in found if it), None)
 
@@ -246,27 +244,27 @@ class Told:
         return next((it[1] for it in found if it), None)
 
 
-def validated(tree, told, validate=validation.validate):
-    """Of several printed forms without a token that which was told."""
+def validated(tree, answered, validate=validation.validate):
+    """Of several printed forms without a token the one that the crate named."""
     fault = validate(tree)
     if fault is not None and fault.kind == 'UnknownEPP':
         for n, (key, _, _) in tree.printed.items():
-            if n not in tree.tokens and key == told.unknown_form():
+            if n not in tree.tokens and key == answered.unknown_form():
                 return Fault('UnknownEPP', key, n)
     return fault
 
 
 @contextmanager
-def answering_as(names, told):
+def answering_as(names, answered):
     """For a block, the rules of reading with these differences."""
     changed = {
         'comment-closed-by-line-end': [(words, 'comment_end', comment_end)],
         'array-item': [(section, 'array', array)],
         'digits': [(section, 'number', number)],
         'nesting': [(section, 'MOST_BRACKETS', None)],
-        'space-behind-bracket': [(section, 'entry', entry), (section, 'entries', entries)],
+        'space-after-bracket': [(section, 'entry', entry), (section, 'entries', entries)],
         'letters': [(section, 'NAME', SECTION_NAME)],
-        'hashed-order': [(validation, 'validate', lambda tree: validated(tree, told))],
+        'hashed-order': [(validation, 'validate', lambda tree: validated(tree, answered))],
     }
     with ExitStack() as stack:
         for name in names:

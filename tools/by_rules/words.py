@@ -19,7 +19,7 @@ def line_comment(t, p):
 
 
 def comment_end(t, p):
-    """The place behind the block comment at p, or None if it never closes."""
+    """The offset after the block comment at p, or None if it never closes."""
     close = t.find(b'*/', p + 2)
     return None if close < 0 else close + 2
 

@@ -57,7 +57,7 @@ impl Row {
         }
     }
 
-    /// What is behind the first line of this word.
+    /// What the first line with this word says.
     pub fn first(&self, word: &str) -> Option<&str> {
         let (_, rest) = self.lines.iter().find(|(first, _)| first == word)?;
         Some(rest)

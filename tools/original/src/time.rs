@@ -29,7 +29,7 @@ pub fn run(file: &str, phases: &[&str]) -> io::Result<()> {
     Ok(())
 }
 
-/// Which phases are told.
+/// The phases that are written.
 struct Watch<'a> {
     phases: &'a [&'a str],
 }
