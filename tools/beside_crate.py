@@ -14,7 +14,6 @@ from explained import explained, normal, row_of
 ROOT = os.path.dirname(os.path.dirname(os.path.realpath(__file__)))
 COPY = f'{tempfile.gettempdir()}/cfgrammar-original-{os.getuid()}'
 PROGRAM = f'{ROOT}/crates/vectors/out/vectors'
-GENERATOR_KINDS = ('original-noaction', 'original-useraction', 'original-genericparsetree', 'grmtools', 'eco')
 
 
 def build(original):
