@@ -19,7 +19,7 @@ PROGRAM = f'{ROOT}/crates/vectors/out/vectors'
 def build(original):
     """Builds tools/original over the crate, and returns the program's path."""
     shutil.rmtree(f'{COPY}/project', ignore_errors=True)
-    shutil.copytree(f'{ROOT}/tools/original', f'{COPY}/project', ignore=shutil.ignore_patterns('answers'))
+    shutil.copytree(f'{ROOT}/tools/original', f'{COPY}/project')
     words, folder = ['cargo', 'build', '--release', '--quiet', '--target-dir', f'{COPY}/target'], ROOT
     if original != 'registry':
         folder = os.path.realpath(original)
