@@ -118,7 +118,7 @@ def measured(bench, crate, given, grammars):
     """Of each text the shape, what it is called, how many bytes it has, and for each column what it takes here and in the crate."""
     for shape, title, text in grammars:
         print(f"bench: {title}", file=sys.stderr, flush=True)
-        mine = dict(zip(bench.PHASES, bench.measure(shape, text, given)[0]))
+        mine = {phase: it for phase, it in zip(bench.PHASES, bench.measure(shape, text, given)[0]) if it != "no answer"}
         asked = [it for it in THERE if it != "every" or shape in bench.ASKED_EVERY and not given.instructions]
         with tempfile.NamedTemporaryFile("w", suffix=".y", encoding="utf-8") as it:
             it.write(text)

@@ -14,13 +14,12 @@ from explained import explained, normal, row_of
 ROOT = os.path.dirname(os.path.dirname(os.path.realpath(__file__)))
 COPY = f'{tempfile.gettempdir()}/cfgrammar-original-{os.getuid()}'
 PROGRAM = f'{ROOT}/crates/vectors/out/vectors'
-GENERATOR_KINDS = ('original-noaction', 'original-useraction', 'original-genericparsetree', 'grmtools', 'eco')
 
 
 def build(original):
     """Builds tools/original over the crate, and returns the program's path."""
     shutil.rmtree(f'{COPY}/project', ignore_errors=True)
-    shutil.copytree(f'{ROOT}/tools/original', f'{COPY}/project', ignore=shutil.ignore_patterns('answers'))
+    shutil.copytree(f'{ROOT}/tools/original', f'{COPY}/project')
     words, folder = ['cargo', 'build', '--release', '--quiet', '--target-dir', f'{COPY}/target'], ROOT
     if original != 'registry':
         folder = os.path.realpath(original)

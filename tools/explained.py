@@ -140,17 +140,17 @@ def costs_answer(row, names, answered):
 
 
 def rule_line(row, found, rule, answered):
-    least, greatest = (cost_word(table if isinstance(table, str) else table[rule], refused) for table, refused in (
-        (found.least if found.least_there is None else found.least_there, 'too large'),
-        (found.greatest if found.greatest_there is None else found.greatest_there, 'too large')))
-    name = found.grammar.rules[rule].name
-    asked = dict(row.asked).get('sentences')
+    name, asked = found.grammar.rules[rule].name, dict(row.asked).get('sentences')
+    least, greatest = cost_text(found.least, found.least_there, rule), cost_text(found.greatest, found.greatest_there, rule)
     line = '    rule %d %s: least %s, greatest %s; sentence %s' % (rule, name, least, greatest, sentence_text(found, rule, least))
     return line + ('; all ' + all_text(found, rule, answered) if asked is None or name in asked else '')
 
 
-def cost_word(cost, refused):
-    return cost if isinstance(cost, str) else costs.word(cost, refused)
+def cost_text(by_rules, there, rule):
+    """A rule's cost: in the crate, if it has its own ways, or else by the rules."""
+    if isinstance(there, str):
+        return there
+    return costs.word((by_rules if there is None else there)[rule])
 
 
 def sentence_text(found, rule, least):
