@@ -81,8 +81,8 @@ pub fn read_text<R, T: TextReader<R>>(
     }
 }
 
-/// Reads a text as [`read_text`] does, where a kind need not be asked for: a text that then names none is read as a file
-/// of the default kind. The second part of the result says whether it was.
+/// Reads a text as [`read_text`] does, where a kind need not be asked for: a text that then names none is read as a
+/// file of the default kind. The second part of the result says whether it was.
 ///
 /// # Errors
 ///
