@@ -10,7 +10,7 @@ use Rattle.cfgrammar.specs.Symbol.{Symbol}
 use Rattle.cfgrammar.specs.Symbol.TheVariants as symbols
 use Rattle.cfgrammar.specs.Openings.{nth_production}
 use Rattle.cfgrammar.specs.NumberedSymbols.{sym_of}
-use Rattle.cfgrammar.specs.Numbered.{Numbered, core, production_core}
+use Rattle.cfgrammar.specs.Numbered.{Numbered, core}
 use Rattle.cfgrammar.specs.Accessors.{IsSymbolWithin, production_part, rule_part}
 use Rattle.cfgrammar.proofs.Shows.{rule_named}
 use Rattle.cfgrammar.specs.Step.{Step}
