@@ -32,7 +32,8 @@ pub struct AstBuilder {
 
 #[tactic(auto, unfolding(crate::specs::SyntaxView::syntax_built, crate::specs::SyntaxView::syntax_view, crate::specs::Building::add))]
 impl AstBuilder {
-    ghost use Rattle.cfgast.specs.SyntaxView.{syntax_view, syntax_built, production_view, rule_view, symbol_view, word_view};
+    ghost use Rattle.cfgast.specs.SyntaxView.{syntax_view, syntax_built, production_view, rule_view, symbol_view};
+    ghost use Rattle.cfgast.specs.SyntaxView.{word_view};
     ghost use Rattle.cfgast.specs.SyntaxView.{token_view, head_view, body_view};
 
     /// A builder that no item was added to.

@@ -2,7 +2,8 @@
 //! any other. So its greatest cost is the greatest of these sums, unless a rule of the group stands beside what costs
 //! something, and the costs grow.
 
-ghost use Rattle.std.specs.Prelude.{◌≡◌, ℕ, ◌+◌, ◌<◌, ◌≤◌, All, IfErr, MatchBool, MatchResult, OnOk, false, length, map, min};
+ghost use Rattle.std.specs.Prelude.{◌≡◌, ℕ, ◌+◌, ◌<◌, ◌≤◌, All, IfErr, MatchBool, MatchResult, OnOk, false, length};
+ghost use Rattle.std.specs.Prelude.{map, min};
 ghost use Rattle.std.specs.Prelude.{slice_index};
 ghost use Rattle.derivation.specs.Grammar.{HasProduction};
 ghost use Rattle.cfgtables.specs.NumberedSymbols.{sym_of};

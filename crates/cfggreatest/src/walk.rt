@@ -2,7 +2,8 @@
 //! is left by an edge, joined to one before it, or told (Gabow, Path-based depth-first search for strong and
 //! biconnected components, 2000).
 
-ghost use Rattle.std.specs.Prelude.{◌≡◌, ℕ, ◌<◌, ◌≤◌, [], ◌∷◌, All, IfOk, IfSome, MatchOption, OnOk, Option, Result, false, true};
+ghost use Rattle.std.specs.Prelude.{◌≡◌, ℕ, ◌<◌, ◌≤◌, [], ◌∷◌, All, IfOk, IfSome, MatchOption, OnOk, Option};
+ghost use Rattle.std.specs.Prelude.{Result, false, true};
 ghost use Rattle.std.specs.Prelude.{length, map, slice_index};
 ghost use Rattle.derivation.specs.Grammar.{Grammar, HasProduction, IsGrammar, Rule};
 ghost use Rattle.cfgtables.specs.NumberedSymbols.{sym_of};

@@ -43,8 +43,8 @@ fn kind_given(alloc: Global, given: Option<&Entry>) -> Result<YaccKind, HeaderFa
     Err(HeaderFault::Errors(errors))
 }
 
-/// The kind that the section of a text names, and what is left of the text after that. A text names one kind, or has one
-/// list of errors, each at places of the text.
+/// The kind that the section of a text names, and what is left of the text after that. A text names one kind, or has
+/// one list of errors, each at places of the text.
 ///
 /// # Errors
 ///
@@ -62,13 +62,13 @@ pub fn kind_named(alloc: Global, text: &str) -> Result<(YaccKind, &str), HeaderF
     Ok((kind, rest))
 }
 
-/// The kind that the section of a text names, and what is left of the text after that. Where the text has no section, or
-/// one without errors that has no key `yacckind`, there is no kind.
+/// The kind that the section of a text names, and what is left of the text after that. Where the text has no section,
+/// or one without errors that has no key `yacckind`, there is no kind.
 ///
 /// # Errors
 ///
-/// The errors of the section; where there are none, one error where it gives `yacckind` what is no kind; and running out
-/// of memory.
+/// The errors of the section; where there are none, one error where it gives `yacckind` what is no kind; and running
+/// out of memory.
 pub fn kind_if_named(alloc: Global, text: &str) -> Result<(Option<YaccKind>, &str), HeaderFault>
     ensures naming { IsKindIfNamed text.now (first_part result) }
     ensures rest { IfOk result (λ x. IsAfterSection text.now x.1.now) }

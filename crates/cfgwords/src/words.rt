@@ -3,7 +3,8 @@
 ghost use Rattle.std.specs.Prelude.{◌≡◌, ◌+◌, ◌≤◌, length, None, IfSome, MatchOption, option_map};
 ghost use Rattle.std.specs.Prelude.{if◌then◌else◌};
 ghost use Rattle.std.specs.List.{prefix_len};
-ghost use Rattle.cfgwords.specs.FileWords.{name_of, identifier_of, quoted_of, token_of, integer_of, run_from, is_inside};
+ghost use Rattle.cfgwords.specs.FileWords.{name_of, identifier_of, quoted_of, token_of, integer_of, run_from};
+ghost use Rattle.cfgwords.specs.FileWords.{is_inside};
 ghost use Rattle.cfgwords.specs.Inner.Ends.{IsQuotedLen};
 
 use crate::bytes::ByteClass;

@@ -1,6 +1,7 @@
 //! Shortest loops, by layers of rules.
 
-ghost use Rattle.std.specs.Prelude.{◌≡◌, ℕ, ◌<◌, List, [], None, Some, Contains, get_or, is_some, length, replicate, IfOk, MatchOption, OnOk};
+ghost use Rattle.std.specs.Prelude.{◌≡◌, ℕ, ◌<◌, List, [], None, Some, Contains, get_or, is_some, length};
+ghost use Rattle.std.specs.Prelude.{replicate, IfOk, MatchOption, OnOk};
 ghost use Rattle.loops.specs.StepLists.{AreWithin, HasStep};
 ghost use Rattle.loops.specs.Inner.Layers.{Finds, HaveLayers, IsRowTo, noted};
 ghost use Rattle.loops.specs.Rows.{IsShortestOf};

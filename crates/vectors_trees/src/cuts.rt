@@ -59,8 +59,8 @@ pub fn write_cuts(out: &mut Page, kind: Option<YaccKind>, text: &str) {
     write_counted(out, &Counts::new(), kind, text, (0, text.len()));
 }
 
-/// Writes a line for each beginning of the text of so many bytes at least and at most that ends where a character begins or
-/// the text ends, and counts it.
+/// Writes a line for each beginning of the text of so many bytes at least and at most that ends where a character
+/// begins or the text ends, and counts it.
 pub(crate) fn write_counted(
     out: &mut Page,
     counts: &Counts,

@@ -21,8 +21,8 @@ const KINDS: [Option<YaccKind>; 6] = [
     None,
 ];
 
-/// Writes a digest of what is answered of each beginning of each text that the rows in a file spell, as each kind, and as
-/// the one that it names; and how many beginnings were grammars, and how many were refused. Texts without a byte and
+/// Writes a digest of what is answered of each beginning of each text that the rows in a file spell, as each kind, and
+/// as the one that it names; and how many beginnings were grammars, and how many were refused. Texts without a byte and
 /// large ones are passed over, unless the row asks for one.
 pub fn tell(out: &mut Page, rt: &HostRuntime, row: &Row<'_>, file: &str) {
     let mut whole = Page::new(out.alloc);

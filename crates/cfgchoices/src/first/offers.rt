@@ -1,9 +1,11 @@
 //! Productions of one cost that are offered to their rules: each rule's choice is the one that makes the first word.
 
-ghost use Rattle.std.specs.Prelude.{◌≡◌, ℕ, ◌<◌, ◌≤◌, IfOk, MatchBool, MatchOption, OnOk, false, length, slice_index_or, true};
+ghost use Rattle.std.specs.Prelude.{◌≡◌, ℕ, ◌<◌, ◌≤◌, IfOk, MatchBool, MatchOption, OnOk, false, length};
+ghost use Rattle.std.specs.Prelude.{slice_index_or, true};
 ghost use Rattle.cfgchoices.specs.Inner.Kinds.{IsHeir};
 ghost use Rattle.cfgchoices.specs.Inner.Lists.{IsIn};
-ghost use Rattle.cfgchoices.specs.Inner.Offers.{Adds, Going, HasList, IsDrained, IsHandled, IsKnown, IsOffered, Known, Level, NotAfter, Offering};
+ghost use Rattle.cfgchoices.specs.Inner.Offers.{Adds, Going, HasList, IsDrained, IsHandled, IsKnown, IsOffered};
+ghost use Rattle.cfgchoices.specs.Inner.Offers.{Known, Level, NotAfter, Offering};
 ghost use Rattle.cfgchoices.specs.Inner.Offers.{Takes, is_alone, left_to_choose, offers_of, owner, row, waiting};
 
 use crate::first::lists::Listed;

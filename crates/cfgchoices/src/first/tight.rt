@@ -1,6 +1,7 @@
 //! What is known of the productions that cost just what their rules do.
 
-ghost use Rattle.std.specs.Prelude.{◌≡◌, ℕ, ◌+◌, ◌^◌, ◌<◌, All, Contains, IfOk, false, length, map, slice_index_or, true};
+ghost use Rattle.std.specs.Prelude.{◌≡◌, ℕ, ◌+◌, ◌^◌, ◌<◌, All, Contains, IfOk, false, length, map, slice_index_or};
+ghost use Rattle.std.specs.Prelude.{true};
 ghost use Rattle.cfgtables.specs.Openings.{nth_production};
 ghost use Rattle.cfgtables.specs.NumberedSymbols.{sym_of};
 ghost use Rattle.cfgleast.specs.Generator.{IsGeneratorOf, settled_tables};
