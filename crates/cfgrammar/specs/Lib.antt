@@ -8,7 +8,6 @@ pub use Rattle.cfglines.specs.Characters
 pub use Rattle.cfglines.specs.FeedTexts
 pub use Rattle.cfglines.specs.Lines
 pub use Rattle.cfgrender.specs.Render
-
 -- Indices, and the marked map.
 pub use Rattle.cfgindex.specs.SymbolCopies
 pub use Rattle.cfgindex.specs.BitWords
@@ -20,7 +19,6 @@ pub use Rattle.cfgmarks.specs.MarkWord
 pub use Rattle.cfgmarks.specs.Marks
 pub use Rattle.cfgmarks.specs.MergeFaults
 pub use Rattle.cfgmarks.specs.Merging
-
 -- Grammars, what they derive, and what that costs.
 pub use Rattle.derivation.specs.Grammar
 pub use Rattle.derivation.specs.Derivation
@@ -55,7 +53,6 @@ pub use Rattle.cfgchoices.specs.Levels
 pub use Rattle.cfgchoices.specs.FirstSentence
 pub use Rattle.cfgcosts.specs.Sentences
 pub use Rattle.cfgcosts.specs.DerivedBy
-
 -- What reading a text is, and the words, sections and declarations of a Yacc file.
 pub use Rattle.reading.specs.Construct
 pub use Rattle.reading.specs.Graph
@@ -102,7 +99,6 @@ pub use Rattle.cfgreader.specs.Here
 pub use Rattle.cfgreader.specs.Keywords
 pub use Rattle.cfgreader.specs.FileWordKinds
 pub use Rattle.cfgreader.specs.Rules
-
 -- The syntax of a file, the tree that holds it, and the tables made of it.
 pub use Rattle.cfgast.specs.Items
 pub use Rattle.cfgast.specs.Occurrences
@@ -132,10 +128,8 @@ pub use Rattle.cfgyacc.specs.Counting
 pub use Rattle.cfgyacc.specs.GrammarOf
 pub use Rattle.cfgyacc.specs.TokenNames
 pub use Rattle.cfgyacc.specs.GrammarSpans
-
 -- Lists.
 pub use Rattle.lemmas.specs.Lists
-
 -- Types.
 pub use Rattle.cfgbase.specs.declared.span.Span
 pub use Rattle.cfgbase.specs.declared.span.Location
