@@ -1,4 +1,4 @@
--- `action_of` finds the actions, and nothing else; each leaves less.
+-- `action_of` finds the actions, and nothing else; each leaves a shorter rest.
 use Rattle.std.proofs.Common.{◌≡◌, ℕ, List, ◌∷◌, ◌++◌, length, Option, Some, None, codes, refl, sym, ap, ap₂, ◌∙◌, arith, length-append, length-drop, take, drop, get_or, add-one, add-zero}
 use Rattle.std.specs.Option.{option_and_then}
 use Rattle.std.specs.Str.{trim, IsUtf8, IsCharBoundary}
@@ -13,7 +13,7 @@ use Rattle.cfgwords.specs.Inner.Ends.{IsClosedAt}
 use Rattle.cfgwords.proofs.Boundaries.{behind_byte}
 use Rattle.cfgwords.proofs.Balance.{behind, split_behind, split_ends, split_sound, Splits}
 
--- what is found in a text behind its first brace
+-- what is found in a text after its first brace
 opened_sound : (text opened word rest : List ℕ) → text ≡ 123 ∷ opened → (o : Option (List ℕ × List ℕ)) → Splits 0 opened o
     → trimmed_inside o ≡ Some (word, rest) → IsAction text word rest
 opened_sound text opened word rest e None s h = cc
@@ -43,7 +43,7 @@ pub action_finder : IsFinder IsAction action_of
 unfolding action_of
 action_finder = record { sound = λ text word rest e. action_sound text word rest (strip (codes "{") text) refl e; only = action_only }
 
--- an action leaves less
+-- an action leaves a shorter rest
 pub action_shorter : IsShorter action_of
 action_shorter = record {
   less = λ text word rest e.
@@ -51,7 +51,7 @@ action_shorter = record {
       omega (arith, ap length is.whole, length-append is.inside (125 ∷ rest));
 }
 
--- What the code finds behind the brace, where the one that balances it stands behind n bytes.
+-- What the code finds after the opening brace, if n bytes precede the brace that balances it.
 pub behind_brace : (opened closed : List ℕ) (n : ℕ) → IsUtf8 opened → IsClosedAt opened n → closed ≡ drop n opened → IsCharBoundary closed 1
 behind_brace opened closed n utf8 h e =
     let brace : get_or (drop n opened) 0 0 ≡ 125 = rw get_or-drop (rw add-zero h.closes) in

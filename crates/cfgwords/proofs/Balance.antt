@@ -6,7 +6,7 @@ use Rattle.reading.specs.Pieces.{with_first}
 use Rattle.cfgwords.specs.Actions.{is_brace, Balanced, empty, other, braces, split_balanced}
 use Rattle.cfgwords.specs.Inner.Ends.{IsClosedAt}
 
--- what is found behind a front
+-- what is found after a prefix
 abbrev pub behind : List ℕ → Option (List ℕ × List ℕ) → Option (List ℕ × List ℕ)
 behind front None = None
 behind front (Some (inside, rest)) = Some (front ++ inside, rest)
@@ -27,7 +27,7 @@ behind_one : (b : ℕ) (o : Option (List ℕ × List ℕ)) → with_first b o �
 behind_one b None = refl
 behind_one b (Some parts) = refl
 
--- `split_balanced` by the first byte
+-- `split_balanced`, by the text's first byte
 pub split_open : (depth : ℕ) (text : List ℕ) → split_balanced depth (123 ∷ text) ≡ behind (123 ∷ []) (split_balanced (suc depth) text)
 unfolding split_balanced
 split_open zero text = behind_one 123 (split_balanced 1 text)
@@ -50,11 +50,11 @@ pub split_end : (depth : ℕ) → split_balanced depth [] ≡ None
 unfolding split_balanced
 split_end depth = refl
 
--- a byte that is no brace
+-- a byte other than a brace
 no_brace : (b : ℕ) → is_brace b ≡ false → (eqb b 123 ≡ false) × (eqb b 125 ≡ false)
 no_brace b h = or_parts (eqb b 123) (eqb b 125) h
 
--- behind a balanced text as before it
+-- a balanced text doesn't change what is found after it
 pub split_behind : (depth : ℕ) (inside text : List ℕ) → Balanced inside → split_balanced depth (inside ++ text) ≡ behind inside (split_balanced depth text)
 split_behind depth inside text empty = sym (behind_nil (split_balanced depth text))
 split_behind depth inside text (other b rest h more) =
@@ -70,7 +70,7 @@ split_behind depth whole text (braces inside rest first second) =
     ∙ ap (behind (123 ∷ [])) (behind_twice inside (125 ∷ rest) (split_balanced depth text))
     ∙ behind_twice (123 ∷ []) (inside ++ 125 ∷ rest) (split_balanced depth text)
 
--- a balanced text, behind depth others that are each closed
+-- a balanced text, after depth others that each have their closing brace
 abbrev pub Closes : ℕ → List ℕ → Type 0
 Closes zero text = Balanced text
 Closes (suc depth) text = (inside : List ℕ) × (rest : List ℕ) × Balanced inside × Closes depth rest × (text ≡ inside ++ 125 ∷ rest)
@@ -89,7 +89,7 @@ closes_open (suc depth) inside rest first (second, last, balanced, further, e) =
   ap (λ x. 123 ∷ (inside ++ 125 ∷ x)) e ∙ ap (λ x. 123 ∷ x) (sym (append_assoc inside (125 ∷ second) (125 ∷ last))),
 )
 
--- what is found closes the braces, and the next one stands behind it
+-- what is found closes the open braces, and the next closing brace follows
 abbrev pub Splits : ℕ → List ℕ → Option (List ℕ × List ℕ) → Type 0
 Splits depth text None = Unit {0}
 Splits depth text (Some (inside, rest)) = Closes depth inside × (text ≡ inside ++ 125 ∷ rest)
@@ -107,7 +107,7 @@ splits_close : (depth : ℕ) (text : List ℕ) (o : Option (List ℕ × List ℕ
 splits_close depth text None s = tt
 splits_close depth text (Some (inside, rest)) s = (([], inside, empty, s.0, refl), ap (λ x. 125 ∷ x) s.1)
 
--- at the brace that closes
+-- at a closing brace
 split_sound_close : (depth : ℕ) (text : List ℕ) → ((depth : ℕ) → Splits depth text (split_balanced depth text))
     → Splits depth (125 ∷ text) (split_balanced depth (125 ∷ text))
 split_sound_close zero text further = subst (Splits zero (125 ∷ text)) (sym (split_ends text)) (empty, refl)
@@ -128,7 +128,7 @@ split_sound depth (b ∷ text) = go (λ depth. split_sound depth text) (eqb b 12
     go further false h false h' = subst (Splits depth (b ∷ text)) (sym (split_other depth b text h h'))
         (splits_other depth b text (split_balanced depth text) (ap₂ (λ t u. t || u) h h') (further depth))
 
--- What a depth counter knows behind i bytes: what is split in the text is what is split in its rest, behind those bytes.
+-- What a depth counter knows after i bytes: splitting the text is splitting its rest, from those bytes on.
 pub record IsAtDepth (text : List ℕ) (i depth : ℕ) : Type 0 where
   pub bounded : depth ≤ i
   pub found : split_balanced 0 text ≡ behind (take i text) (split_balanced depth (drop i text))

@@ -1,4 +1,4 @@
--- Behind a part of a blank a text may be cut.
+-- A text may be cut after each part of a blank.
 use Rattle.std.proofs.Common.{◌≡◌, ◌||◌, ℕ, ◌<◌, Bool, true, false, cond, not, List, [], ◌∷◌, ◌++◌, drop, Option, Some, None, Result, Ok, Err, codes, refl, sym, subst, ◌∙◌, arith, append_assoc}
 use Rattle.std.specs.List.{list_any}
 use Rattle.std.proofs.lemmas.Bool.Decides.{nat_tests}
@@ -15,11 +15,11 @@ use Rattle.cfgwords.specs.Blank.{Front, Gap, LineComment, BlockComment, OpenComm
 use Rattle.cfgwords.proofs.Cuts.{IsCut, cut_on, cut_same, cut_byte, cut_before}
 use Rattle.cfgwords.proofs.Blanks.{passed}
 
--- behind two ASCII bytes
+-- after two ASCII bytes
 cut_two : (b c : ℕ) (rest : List ℕ) → b < 128 → c < 128 → IsCut (b ∷ c ∷ rest) rest
 cut_two b c rest first second = cut_on (b ∷ c ∷ rest) (c ∷ rest) rest (cut_byte b (c ∷ rest) first) (cut_byte c rest second)
 
--- behind the byte that ends a line
+-- after the byte that ends a line
 line_cut : (line tail : List ℕ) → starts (holds bytes.Line) tail ≡ false → IsCut (line ++ tail) (drop 1 tail)
 line_cut line [] ends = record { piece = line; whole = refl; utf8 = λ u. IsUtf8-nil }
 line_cut line (b ∷ tail) ends =
@@ -52,7 +52,7 @@ front_cut lines text (OpenComment inside) (e, lacks) rest e' = absurd (stops (li
     stops false h = cc
 front_cut lines text Bare h rest e' = cc
 
--- A blank ends where a text may be cut, or at a fault there. T is what is kept at such places.
+-- A blank ends where a text may be cut, or stops with a fault at such an offset. T is what holds at such offsets.
 pub blank_ends_at : (T : List ℕ → Type 0) (S : Fault → Type 0) (len : ℕ) (lines : Bool)
     → ((text rest : List ℕ) → T text → IsCut text rest → T rest) → ((kind : FaultKind) (text : List ℕ) → T text → S (fault_at len kind text))
     → (text : List ℕ) (o : Result (Unit {0} × List ℕ) Fault) → T text → Blank len lines text o → EndsIn T S (λ _. Unit {0}) o

@@ -1,4 +1,4 @@
--- A blank is read in one way, and each of its parts leaves less.
+-- A blank is read in one way, and each of its parts leaves a shorter rest.
 use Rattle.std.proofs.Common.{◌≡◌, ℕ, zero, suc, ◌<◌, ◌≤◌, Bool, true, false, cond, List, [], length, Option, Some, None, Result, Ok, Err, not, ◌||◌, refl, ap, ◌∙◌, arith, length-append, length-drop}
 use Rattle.std.specs.List.{list_any}
 use Rattle.reading.specs.Graph.{IsGraph}
@@ -14,7 +14,7 @@ use Rattle.cfgwords.specs.Text.{fault_at}
 use Rattle.cfgwords.specs.Blank.{Front, Gap, LineComment, BlockComment, OpenComment, Bare, IsFront, part_of, turn_of, IsPart, Blank, front_of, blank_step, blank}
 pub use Rattle.cfgwords.proofs.Fronts.{front_graph}
 
--- a step of a blank is one thing
+-- a step of a blank is unique
 pub blank_step_graph : (len : ℕ) (lines : Bool) → IsGraph (IsPart len lines) (blank_step len lines)
 unfolding blank_step
 blank_step_graph len lines = record {
@@ -22,12 +22,12 @@ blank_step_graph len lines = record {
   only = λ text turn p. ap (λ front. turn_of len text (part_of lines front)) (front_graph.only text p.front p.here) ∙ p.turns_to;
 }
 
--- what stands behind a part, whichever test let it pass
+-- what follows a part, whichever test let it pass
 pub passed : (t : Bool) (kind : FaultKind) (mid rest : List ℕ) → cond t (Ok (Some mid)) (Err kind) ≡ Ok (Some rest) → mid ≡ rest
 passed true kind mid rest e = cc
 passed false kind mid rest e = cc
 
--- what stands behind a part is shorter
+-- what follows a part is shorter
 front_shorter : (lines : Bool) (text : List ℕ) (front : Front) → IsFront text front
     → (rest : List ℕ) → part_of lines front ≡ Ok (Some rest) → length rest < length text
 front_shorter lines text (Gap b mid) (e, h) rest e' =
@@ -45,11 +45,11 @@ front_shorter lines text (OpenComment inside) (e, lacks) rest e' = absurd (stops
     stops false h = cc
 front_shorter lines text Bare h rest e' = cc
 
--- each part of a blank leaves less
+-- each part of a blank leaves a shorter rest
 pub part_shorter : (lines : Bool) (text rest : List ℕ) → part_of lines (front_of text) ≡ Ok (Some rest) → length rest < length text
 part_shorter lines text rest e = front_shorter lines text (front_of text) (front_graph.sound text) rest e
 
--- where a turn goes on, a part stands there
+-- where a turn continues, there is a part
 turn_again : (len : ℕ) (text rest : List ℕ) (complete : Result (Unit {0} × List ℕ) Fault → Result (Unit {0} × List ℕ) Fault)
     → (o : Result (Option (List ℕ)) FaultKind) → turn_of len text o ≡ again complete rest → o ≡ Ok (Some rest)
 turn_again len text rest complete (Ok (Some mid)) e = let same : mid ≡ rest = cc in ap (λ x. Ok (Some x)) same
@@ -67,19 +67,19 @@ pub blank_graph : (len : ℕ) (lines : Bool) → IsGraph (Blank len lines) (blan
 unfolding blank
 blank_graph len lines = turns_graph (blank_step_graph len lines) (blank_step_shrinks len lines) (Ok (tt, []))
 
--- one step of a blank, by what its front is
+-- one step of a blank, by how the text begins
 blank_by_part : (len : ℕ) (lines : Bool) (text : List ℕ) (o : Result (Option (List ℕ)) FaultKind) → part_of lines (front_of text) ≡ o
     → blank len lines text ≡ after (blank len lines) (turn_of len text o)
 unfolding blank blank_step
 blank_by_part len lines text o e = turns_next (blank_step_shrinks len lines) (Ok (tt, [])) text
     ∙ ap (λ o. after (all_turns (blank_step len lines) (Ok (tt, []))) (turn_of len text o)) e
 
--- a blank goes on behind its part
+-- a blank continues after each of its parts,
 pub blank_next : (len : ℕ) (lines : Bool) (text rest : List ℕ) → part_of lines (front_of text) ≡ Ok (Some rest)
     → blank len lines text ≡ blank len lines rest
 blank_next len lines text rest e = blank_by_part len lines text (Ok (Some rest)) e
 
--- ends before what is no part of it
+-- ends before anything else,
 pub blank_ends : (len : ℕ) (lines : Bool) (text : List ℕ) → part_of lines (front_of text) ≡ Ok None → blank len lines text ≡ Ok (tt, text)
 blank_ends len lines text e = blank_by_part len lines text (Ok None) e
 
@@ -88,7 +88,7 @@ pub blank_stops : (len : ℕ) (lines : Bool) (text : List ℕ) (kind : FaultKind
     → blank len lines text ≡ Err (fault_at len kind text)
 blank_stops len lines text kind e = blank_by_part len lines text (Err kind) e
 
--- at any number of steps
+-- after any number of steps
 blank_less : (len : ℕ) (lines : Bool) (n : ℕ) (text rest : List ℕ) (u : Unit {0})
     → turns (blank_step len lines) (Ok (tt, [])) n text ≡ Ok (u, rest) → length rest ≤ length text
 unfolding turns blank_step
@@ -102,7 +102,7 @@ blank_less len lines (suc n) text rest u e = go (λ mid. blank_less len lines n 
     go ih (Ok None) e1 e2 = omega (arith, ap (λ (x : Unit {0} × List ℕ). length x.1) (left_same e2))
     go ih (Err kind) e1 e2 = cc
 
--- a blank leaves no more
+-- a blank's rest is no longer than the text
 pub blank_no_longer : (len : ℕ) (lines : Bool) (text : List ℕ) (u : Unit {0}) (rest : List ℕ) → blank len lines text ≡ Ok (u, rest) → length rest ≤ length text
 unfolding blank
 blank_no_longer len lines text u rest e = blank_less len lines (suc (length text)) text rest u e

@@ -1,4 +1,4 @@
--- Where a run of one class ends, a text may be cut.
+-- A text may be cut where a run of one class ends.
 use Rattle.std.proofs.Common.{◌≡◌, ◌==◌, ℕ, zero, suc, ◌+◌, ◌<◌, ◌≤◌, ◌⊎◌, inl, inr, Bool, true, false, List, [], ◌∷◌, length, get_or, refl, subst, arith, drop}
 use Rattle.std.specs.List.{prefix_len}
 use Rattle.std.specs.Str.{IsUtf8, IsCharBoundary}
@@ -12,7 +12,7 @@ use Rattle.cfgwords.specs.declared.bytes.ByteClass.{ByteClass}
 use Rattle.cfgwords.specs.declared.bytes.ByteClass.TheVariants.{Blank, LineEnd, Line, Quote, Letter, NameStart, NameByte, IdentifierStart, IdentifierByte, Digit}
 use Rattle.cfgwords.specs.Bytes.{holds}
 
--- behind the last byte that passes, where only ASCII passes
+-- after the last byte that passes, if only ASCII passes
 behind_passing : (test : ℕ → Bool) (text : List ℕ) → IsUtf8 text → ((b : ℕ) → test b ≡ true → b < 128)
     → (n : ℕ) → prefix_len test text ≡ n → IsCharBoundary text n
 behind_passing test text utf8 ascii zero e = IsCharBoundary-start text utf8
@@ -28,7 +28,7 @@ pub boundary_run : (test : ℕ → Bool) (text : List ℕ) → IsUtf8 text → (
     → IsCharBoundary text (prefix_len test text)
 boundary_run test text utf8 ascii = behind_passing test text utf8 ascii (prefix_len test text) refl
 
--- before the first byte that doesn't pass, where only ASCII doesn't
+-- before the first byte that doesn't pass, if only ASCII bytes don't
 before_failing : (test : ℕ → Bool) (text : List ℕ) → ((b : ℕ) → test b ≡ false → b < 128)
     → (prefix_len test text < length text) ⊎ (length text ≤ prefix_len test text) → IsCharBoundary text (prefix_len test text)
 before_failing test text ascii (inl within) =
@@ -54,11 +54,11 @@ run_boundary IdentifierStart text utf8 = boundary_run (holds IdentifierStart) te
 run_boundary IdentifierByte text utf8 = boundary_run (holds IdentifierByte) text utf8 (λ b h. grind (arith, nat_tests))
 run_boundary Digit text utf8 = boundary_run (holds Digit) text utf8 (λ b h. grind (arith, nat_tests))
 
--- what is left behind a run begins otherwise
+-- the rest after a run begins with another byte, if with any
 pub run_stops : (class : ByteClass) (text : List ℕ) → starts (holds class) (drop (prefix_len (holds class) text) text) ≡ false
 run_stops class text = (IsRun-run (holds class) text).longest
 
--- A text may be cut behind the CR or LF, or behind the byte of a blank, that it begins with.
+-- A text may be cut after a CR, an LF or a blank's byte that it begins with,
 pub behind_line_end : (text : List ℕ) → IsUtf8 text → starts (holds Line) text ≡ false → (length text == 0) ≡ false → IsCharBoundary text 1
 behind_line_end [] utf8 h some = let no : true ≡ false = some in absurd (cc)
 behind_line_end (b ∷ text) utf8 h some =
@@ -70,7 +70,7 @@ behind_blank text utf8 h some =
     let ascii : get_or text 0 0 < 128 = grind (arith, nat_tests, h) in
     IsCharBoundary-after_ascii text 0 utf8 (omega arith) ascii
 
--- or behind a quote, the one that a string is closed by, or a brace
+-- and after a quote, a string's closing quote or a brace
 pub behind_byte : (text : List ℕ) → IsUtf8 text → get_or text 0 0 < 128 → 1 ≤ length text → IsCharBoundary text 1
 behind_byte text utf8 ascii some = IsCharBoundary-after_ascii text 0 utf8 (omega arith) ascii
 

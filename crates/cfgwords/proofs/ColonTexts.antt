@@ -1,4 +1,4 @@
--- The text up to a single colon is one thing, and leaves no more than there was.
+-- The text up to a single colon is unique, and its rest is no longer than the text.
 use Rattle.std.proofs.Common.{◌≡◌, ℕ, ◌≤◌, Bool, true, false, cond, List, [], ◌∷◌, ◌++◌, length, eqb, Result, Ok, Err, not, refl, sym, ap, subst, ◌∙◌, arith, length-append, eqb-true}
 use Rattle.std.specs.Str.{trim}
 use Rattle.std.proofs.lemmas.Bool.Decides.{nat_tests}
@@ -14,7 +14,7 @@ use Rattle.cfgwords.specs.Text.{fault_at}
 use Rattle.cfgwords.specs.ColonText.{is_colon, ColonText, single, missing, colon_parts, before_colon, colon_outcome, colon_text}
 use Rattle.cfgwords.proofs.PassedLemmas.{stop_one, stop_two, IsStopped, passed_stopped, passed_only}
 
--- it stops before a single colon
+-- passing stops before a single colon
 stop_single : (tail : List ℕ) → starts is_colon tail ≡ false → stops BeforeColon (58 ∷ tail) ≡ true
 stop_single [] alone = refl
 stop_single (c ∷ tail) alone = ap (λ t. eqb (cond t 2 0) 0) alone

@@ -1,4 +1,4 @@
--- Behind each word and each part of a blank, what is left of a text in UTF-8 is in UTF-8 too.
+-- After each word and each part of a blank, the rest of a text in UTF-8 is in UTF-8 too.
 use Rattle.std.proofs.Common.{◌≡◌, ℕ, ◌+◌, ◌<◌, Bool, true, List, [], ◌∷◌, ◌++◌, length, refl, sym, ap, subst, ◌∙◌, arith, append_assoc, length-append, take_at, drop_at}
 use Rattle.std.specs.List.{list_all}
 use Rattle.std.specs.Str.{IsUtf8, IsCharBoundary}
@@ -17,7 +17,7 @@ use Rattle.cfgwords.specs.Text.{place}
 use Rattle.cfgwords.specs.FileWords.{IsName, IsIdentifier, IsQuoted, IsInteger}
 use Rattle.cfgwords.proofs.PassedLemmas.{stop_ascii}
 
--- A text that may be cut where rest is left.
+-- A text that may be cut where rest begins.
 pub record IsCut (text rest : List ℕ) : Type 0 where
   pub piece : List ℕ
   pub whole : text ≡ piece ++ rest
@@ -36,7 +36,7 @@ cut_on text mid rest a b = record {
 pub cut_same : (text same rest : List ℕ) → text ≡ same → IsCut same rest → IsCut text rest
 cut_same text same rest e = subst (λ t. IsCut t rest) (sym e)
 
--- behind an ASCII byte, and behind a word of such bytes
+-- after an ASCII byte, and after a word of such bytes
 pub cut_byte : (b : ℕ) (rest : List ℕ) → b < 128 → IsCut (b ∷ rest) rest
 cut_byte b rest ascii = record {
   piece = b ∷ [];
@@ -50,7 +50,7 @@ cut_word test ascii (b ∷ word) rest passes =
     let parts = and_parts (test b) (list_all test word) passes in
     cut_on (b ∷ (word ++ rest)) (word ++ rest) rest (cut_byte b (word ++ rest) (ascii b parts.0)) (cut_word test ascii word rest parts.1)
 
--- before an ASCII byte, whatever stands before it
+-- before an ASCII byte, whatever precedes it
 pub cut_before : (front : List ℕ) (b : ℕ) (rest : List ℕ) → b < 128 → IsCut (front ++ b ∷ rest) (b ∷ rest)
 cut_before front b rest ascii = record {
   piece = front;
@@ -62,7 +62,7 @@ cut_before front b rest ascii = record {
       (IsUtf8-drop (front ++ b ∷ rest) (length front) u (IsCharBoundary-before_ascii (front ++ b ∷ rest) (length front) (omega arith) (omega arith)));
 }
 
--- at the end, and what stands before an ASCII byte
+-- at the end, and what precedes an ASCII byte
 pub cut_end : (text : List ℕ) → IsCut text []
 cut_end text = record { piece = text; whole = sym (append-nil text); utf8 = λ u. IsUtf8-nil }
 
@@ -73,7 +73,7 @@ front_utf8 front b rest ascii u =
     subst IsUtf8 (take_at front (b ∷ rest) (length front) refl)
     (IsUtf8-take (front ++ b ∷ rest) (length front) u (IsCharBoundary-before_ascii (front ++ b ∷ rest) (length front) (omega arith) (omega arith)))
 
--- behind a name, an identifier, an integer and a quoted token
+-- after a name, an identifier, an integer and a quoted token
 run_cut : (test : ℕ → Bool) → ((b : ℕ) → test b ≡ true → b < 128) → (text word rest : List ℕ) → IsRun test text word rest → IsCut text rest
 run_cut test ascii text word rest run = cut_same text (word ++ rest) rest run.whole (cut_word test ascii word rest run.passes)
 
@@ -93,7 +93,7 @@ line_rest_cut text word (b ∷ rest) is =
     let ascii : b < 128 = grind (arith, nat_tests, is.longest) in
     cut_same text (word ++ b ∷ rest) (b ∷ rest) is.whole (cut_before word b rest ascii)
 
--- behind the quote that opens, before the one that closes, and behind that
+-- after the opening quote, before the closing one, and after that
 quote_ascii : (b : ℕ) → holds bytes.Quote b ≡ true → b < 128
 quote_ascii b h = grind (arith, nat_tests)
 
@@ -108,7 +108,7 @@ inside_cut text word rest is = cut_before word is.quote rest (quote_ascii is.quo
 pub closed_cut : (text word rest : List ℕ) (is : IsQuoted text word rest) → IsCut (is.quote ∷ rest) rest
 closed_cut text word rest is = cut_byte is.quote rest (quote_ascii is.quote is.is_quote)
 
--- where it stops that something is passed, behind a string and before one that is broken, and behind an action
+-- where passing stops: after a string and before a broken one, and after an action
 pub stopped_cut : (kind : Passed) (inside left : List ℕ) → EndsInAscii kind → stops kind left ≡ true → IsCut (inside ++ left) left
 stopped_cut kind inside [] ascii ends = record { piece = inside; whole = refl; utf8 = λ u. IsUtf8-nil }
 stopped_cut kind inside (b ∷ rest) ascii ends = cut_before inside b rest (stop_ascii kind b rest ascii ends)
@@ -129,7 +129,7 @@ action_cut inside rest =
     cut_on (123 ∷ (inside ++ 125 ∷ rest)) (inside ++ 125 ∷ rest) rest (cut_byte 123 (inside ++ 125 ∷ rest) (omega arith))
     (cut_on (inside ++ 125 ∷ rest) (125 ∷ rest) rest (cut_before inside 125 rest (omega arith)) (cut_byte 125 rest (omega arith)))
 
--- the offset of what is left
+-- the offset of the rest
 pub place_cut : (text rest : List ℕ) → IsCut text rest → place (length text) rest + length rest ≡ length text
 place_cut text rest cut = omega (arith, ap length cut.whole, length-append cut.piece rest)
 

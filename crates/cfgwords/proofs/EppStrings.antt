@@ -1,4 +1,4 @@
--- The string of `%epp` is one thing, and leaves no more than there was.
+-- The string of `%epp` is unique, and its rest is no longer than the text.
 use Rattle.std.proofs.Common.{◌≡◌, ℕ, ◌≤◌, Bool, true, false, cond, List, [], ◌∷◌, ◌++◌, length, eqb, Result, Ok, Err, refl, ap, ◌∙◌, arith, length-append, eqb-true, eq-eqb}
 use Rattle.std.proofs.lemmas.Bool.Decides.{nat_tests}
 use Rattle.reading.specs.Graph.{IsGraph}
@@ -14,12 +14,12 @@ use Rattle.cfgwords.specs.Text.{fault_at}
 use Rattle.cfgwords.specs.Strings.{EppString, closed, unopened, broken, closed_by, raw_string, string_value, epp_string}
 use Rattle.cfgwords.proofs.PassedLemmas.{IsStopped, passed_stopped, passed_only}
 
--- a string stops before the quote that closes it
+-- a string stops before its closing quote
 quote_stops : (quote : ℕ) (rest : List ℕ) → holds bytes.Quote quote ≡ true → stops (InString quote) (quote ∷ rest) ≡ true
 quote_stops quote [] h = grind (arith, nat_tests)
 quote_stops quote (c ∷ rest) h = grind (arith, nat_tests)
 
--- what stands behind the quote that opens
+-- what follows the opening quote
 opened_sound : (len quote : ℕ) (text : List ℕ) → holds bytes.Quote quote ≡ true → (parts : List ℕ × List ℕ) → IsStopped (InString quote) text parts
     → EppString len (quote ∷ text) (string_value len (closed_by quote parts))
 opened_sound len quote text q (inside, []) s = broken quote inside [] q s.passes (ap (λ x. quote ∷ x) s.whole) refl refl
@@ -39,7 +39,7 @@ string_sound len (quote ∷ text) = go (holds bytes.Quote quote) refl
     go true q = opened_sound len quote text q (passed (InString quote) text) (passed_stopped (InString quote) text)
     go false q = unopened q
 
--- what is found behind a quote
+-- what is found after a quote
 opened_is : (len quote : ℕ) (text : List ℕ) → holds bytes.Quote quote ≡ true
     → epp_string len (quote ∷ text) ≡ string_value len (closed_by quote (passed (InString quote) text))
 unfolding epp_string raw_string
@@ -50,7 +50,7 @@ unfolding epp_string raw_string
 unopened_is len [] h = refl
 unopened_is len (quote ∷ text) h = ap (λ t. string_value len (cond t (closed_by quote (passed (InString quote) text)) (Err (quote ∷ text)))) h
 
--- where the quote doesn't follow, the string is broken
+-- without the closing quote, the string is broken
 broken_is : (quote : ℕ) (inside left : List ℕ) → starts (λ b. eqb b quote) left ≡ false → closed_by quote (inside, left) ≡ Err left
 broken_is quote inside [] h = refl
 broken_is quote inside (b ∷ rest) h = ap (λ t. cond t (Ok (inside, rest)) (Err (b ∷ rest))) h

@@ -1,4 +1,4 @@
--- `integer_of` finds the integers, and nothing else; each leaves less. `parse` reads the digits of one.
+-- `integer_of` finds the integers, and nothing else; each leaves a shorter rest. `parse` reads the digits of one.
 use Rattle.std.proofs.Common.{◌≡◌, ℕ, ◌<◌, ◌^◌, nat_lt, Bool, true, false, cond, List, length, Option, Some, None, Result, Ok, Err, refl, sym, ap, subst, ◌∙◌, arith, rules, length-append, ltb-true, lt-ltb}
 use Rattle.std.specs.List.{list_all}
 use Rattle.std.specs.Option.{option_and_then}
@@ -43,7 +43,7 @@ integer_shorter = record {
       (run_from_shorter bytes.Digit bytes.Digit (λ b h. h)).less text is.digits rest ((run_from_finder bytes.Digit bytes.Digit).only text is.digits rest is.run);
 }
 
--- digits, as `parse` knows them
+-- digits, as `parse` accepts them
 pub digits_model : IsNumeralModel (λ ds. list_all (holds bytes.Digit) ds ≡ true) (digits_value 10)
 digits_model = numerals_by_value _ (search rules)
 

@@ -1,4 +1,4 @@
--- The rest of a line is one thing, and leaves no more than there was.
+-- The rest of a line is unique, and what it leaves is no longer than the text.
 use Rattle.std.proofs.Common.{◌≡◌, ℕ, ◌≤◌, List, length, Result, Ok, Err, ap, subst, arith, length-append}
 use Rattle.reading.specs.Graph.{IsGraph}
 use Rattle.reading.proofs.PiecesLemmas.{IsRun-run, run_only}

@@ -1,4 +1,4 @@
--- `name_of` and `identifier_of` find the names and the identifiers, and nothing else; each leaves less.
+-- `name_of` and `identifier_of` find the names and the identifiers, and nothing else; each leaves a shorter rest.
 use Rattle.std.proofs.Common.{◌≡◌, ℕ, ◌+◌, true, cond, List, [], ◌∷◌, length, Some, None, ap, subst, ◌∙◌, arith, length-append}
 use Rattle.std.proofs.lemmas.Bool.Decides.{nat_tests}
 use Rattle.std.proofs.lemmas.Option.{some_pair_parts}
@@ -23,7 +23,7 @@ run_from_finder first others = record {
       ap (λ t. cond t (Some (run (holds others) text)) None) r.begins ∙ ap Some (run_only (holds others) text word rest r.run);
 }
 
--- it leaves less where the first byte is also one of the others
+-- it leaves a shorter rest if the first byte is also one of the others
 pub run_from_shorter : (first others : ByteClass) → ((b : ℕ) → holds first b ≡ true → holds others b ≡ true) → IsShorter (run_from first others)
 unfolding run_from
 run_from_shorter first others part = record {
@@ -51,7 +51,7 @@ identifier_finder = run_from_finder bytes.IdentifierStart bytes.IdentifierByte
 pub identifier_shorter : IsShorter identifier_of
 identifier_shorter = run_from_shorter bytes.IdentifierStart bytes.IdentifierByte (λ b h. grind (arith, nat_tests))
 
--- what a run and what is left behind it make of the text
+-- a run and its rest make up the text
 run_from_length : (first others : ByteClass) (text word rest : List ℕ) → run_from first others text ≡ Some (word, rest)
     → length text ≡ length word + length rest
 run_from_length first others text word rest e =

@@ -1,4 +1,4 @@
--- Names begin as names do.
+-- A name's first byte is one that names begin with.
 use Rattle.std.proofs.Common.{◌≡◌, ℕ, true, List, [], ◌∷◌, sym, ap, ◌∙◌, true≢false}
 use Rattle.std.proofs.lemmas.Bool.{or_left}
 use Rattle.reading.specs.Pieces.{starts}
@@ -9,7 +9,7 @@ use Rattle.cfgwords.specs.FileWords.{IsName}
 abbrev pub begins_as_name : List ℕ → Type 0
 begins_as_name name = starts (holds bytes.NameStart) name ≡ true
 
--- what a name begins with, it goes on with
+-- a name may continue with what it may begin with
 goes_on : (text : List ℕ) → starts (holds bytes.NameStart) text ≡ true → starts (holds bytes.NameByte) text ≡ true
 goes_on [] h = h
 goes_on (b ∷ text) h = or_left _ _ h

@@ -1,4 +1,4 @@
--- What `passed` gives is passed, and there it stops; it counts that step by step.
+-- What `passed` gives is passed, and passing stops after it; the counter counts it step by step.
 use Rattle.std.proofs.Common.{◌≡◌, ℕ, suc, ◌+◌, ◌<◌, ◌≤◌, Bool, true, false, cond, List, [], ◌∷◌, ◌++◌, length, take, drop, get_or, eqb, refl, sym, ap, subst, ◌∙◌, arith, drop-cons, ◌-◌, length-drop, eq-eqb, ◌⊎◌, inl, inr}
 use Rattle.std.specs.Str.{IsCharBoundary}
 use Rattle.std.proofs.lemmas.Bool.{cases_lt}
@@ -9,13 +9,13 @@ use Rattle.cfgwords.specs.declared.passed.Passed.{Passed as Kind}
 use Rattle.cfgwords.specs.declared.passed.Passed.TheVariants.{InString, BeforeColon, InQuotes}
 use Rattle.cfgwords.specs.Passed.{passes_one, passes_two, IsPassed, nothing, one, two, step_len, stops, EndsInAscii, passed_len, passed}
 
--- what is passed two at a time isn't passed alone
+-- bytes that are passed in pairs aren't passed one by one
 two_apart : (kind : Kind) (b c : ℕ) → passes_two kind b c ≡ true → passes_one kind b ≡ false
 two_apart (InString quote) b c h = grind (arith, nat_tests)
 two_apart BeforeColon b c h = grind (arith, nat_tests)
 two_apart InQuotes b c h = grind (arith, nat_tests)
 
--- where it stops, one byte isn't passed, nor are two
+-- where passing stops, neither one byte nor two are passed
 pub stop_one : (kind : Kind) (b : ℕ) (rest : List ℕ) → stops kind (b ∷ rest) ≡ true → passes_one kind b ≡ false
 stop_one kind b [] h = go (passes_one kind b) h
   where
@@ -36,7 +36,7 @@ stop_two kind b c rest h = go (passes_one kind b) (passes_two kind b c) h
     go t false h = refl
     go false true h = cc
 
--- how much is passed, by what stands at the front
+-- how much is passed, by the bytes at the start
 len_one : (kind : Kind) (b : ℕ) (rest : List ℕ) → passes_one kind b ≡ true → passed_len kind (b ∷ rest) ≡ suc (passed_len kind rest)
 unfolding passed_len
 len_one kind b [] h = ap (λ t. cond t 1 0) h
@@ -107,7 +107,7 @@ step_within kind (b ∷ c ∷ rest) = go (passes_one kind b) (passes_two kind b 
     go false true = omega arith
     go false false = omega arith
 
--- What a counter knows behind i bytes, where step more are passed next: what it counted and what is passed of the rest make the whole.
+-- What a counter knows after i bytes, if step more are passed next: its count and what is passed of the rest make up the whole.
 pub record IsCounted (kind : Kind) (text : List ℕ) (i step : ℕ) : Type 0 where
   pub within : i ≤ length text
   pub next : step ≡ step_len kind (drop i text)
@@ -136,13 +136,13 @@ counted_end kind text i step c none =
     let ended : step_len kind (drop i text) ≡ 0 = omega (arith, c.next) in
     omega (arith, c.counted, len_stop kind (drop i text) (eq-eqb _ _ ended))
 
--- what is passed, and what is left where it stops
+-- what is passed, and the rest where passing stops
 pub record IsStopped (kind : Kind) (text : List ℕ) (parts : List ℕ × List ℕ) : Type 0 where
   pub whole : text ≡ parts.0 ++ parts.1
   pub passes : IsPassed kind parts.0
   pub ends : stops kind parts.1 ≡ true
 
--- `passed`, by what stands at the front
+-- `passed`, by the bytes at the start
 passed_one : (kind : Kind) (b : ℕ) (rest : List ℕ) → passes_one kind b ≡ true → passed kind (b ∷ rest) ≡ (b ∷ (passed kind rest).0, (passed kind rest).1)
 passed_one kind b rest h = ap (λ n. (take n (b ∷ rest), drop n (b ∷ rest))) (len_one kind b rest h)
 
@@ -190,7 +190,7 @@ passed_only kind inside left (one b rest h more) ends =
 passed_only kind inside left (two b c rest h more) ends =
     passed_two kind b c (rest ++ left) h ∙ ap (λ (x : List ℕ × List ℕ). (b ∷ c ∷ x.0, x.1)) (passed_only kind rest left more ends)
 
--- it stops at the end, or before an ASCII byte
+-- passing stops at the end, or before an ASCII byte,
 pub stop_ascii : (kind : Kind) (b : ℕ) (rest : List ℕ) → EndsInAscii kind → stops kind (b ∷ rest) ≡ true → b < 128
 stop_ascii (InString quote) b rest ascii h = let refused = stop_one (InString quote) b rest h in grind (arith, nat_tests, refused)
 stop_ascii BeforeColon b rest ascii h = let refused = stop_one BeforeColon b rest h in grind (arith, nat_tests, refused)

@@ -55,7 +55,7 @@ quoted_open text two quote line n e over =
     quoted_opened text two ∙ opened_with (get_or text 0 0) (get_or text 1 0) (drop 2 text) quote line
     ∙ closed_at_end (get_or text 0 0) (get_or text 1 0) _ _ (drop_all _ (drop 2 text) (omega (arith, length-drop 2 text)))
 
--- the byte behind those inside
+-- the byte after the name
 at_inside : (text : List ℕ) (n : ℕ) → 2 + n < length text → drop n (drop 2 text) ≡ get_or text (2 + n) 0 ∷ drop (3 + n) text
 at_inside text n within = grind (arith, drop-drop n 2 text, drop-cons text (2 + n) 0, add-one)
 
@@ -91,7 +91,7 @@ quoted_found (a ∷ b ∷ text) two quote line n e within same =
       within = omega arith;
     }
 
--- A text may be cut behind the opening quote, before the closing one and behind that.
+-- A text may be cut after the opening quote, before the closing one and after that.
 pub cut_opened : (text : List ℕ) (n : ℕ) → IsUtf8 text → IsQuotedLen text n → IsCharBoundary text 1
 cut_opened text n utf8 h = IsCharBoundary-after_ascii text 0 utf8 (omega (arith, h.within)) h.opens
 

@@ -10,7 +10,7 @@ use Rattle.cfgwords.specs.declared.bytes.ByteClass.TheVariants as bytes
 use Rattle.cfgwords.specs.Bytes.{holds}
 use Rattle.cfgwords.specs.FileWords.{is_inside, IsQuoted, closed, quoted_of}
 
--- the parts of a quoted token, where the closing quote stands
+-- the parts of a quoted token, where the closing quote is
 closed_parts : (quote first : ℕ) (others tail word rest : List ℕ) → closed quote first (others, tail) ≡ Some (word, rest)
     → (word ≡ first ∷ others) × (tail ≡ quote ∷ rest)
 closed_parts quote first others [] word rest e = cc
@@ -61,7 +61,7 @@ quoted_only text word rest q =
 pub quoted_finder : IsFinder IsQuoted quoted_of
 quoted_finder = record { sound = quoted_sound; only = quoted_only }
 
--- the two quotes and the name
+-- the length of two quotes and the name
 pub quoted_length : (text word rest : List ℕ) → quoted_of text ≡ Some (word, rest) → length text ≡ 2 + length word + length rest
 quoted_length text word rest e = let q = quoted_sound text word rest e in
     omega (arith, simp length-append at (ap length q.whole), ap length q.word_is)

@@ -1,4 +1,4 @@
--- `name_of` and `text_of` of a section find its names and its texts, and nothing else; each leaves less.
+-- `name_of` and `text_of` of a section find its names and its texts, and nothing else; each leaves a shorter rest.
 use Rattle.std.proofs.Common.{◌≡◌, ℕ, true, List, [], ◌∷◌, ◌++◌, length, Option, Some, None, option_map, refl, ap, ◌∙◌, arith, length-append, codes}
 use Rattle.std.specs.Option.{option_and_then}
 use Rattle.std.proofs.lemmas.Bool.Decides.{nat_tests}
@@ -19,12 +19,12 @@ name_finder = run_from_finder bytes.Letter bytes.IdentifierStart
 pub name_shorter : IsShorter name_of
 name_shorter = run_from_shorter bytes.Letter bytes.IdentifierStart (λ b h. grind (arith, nat_tests))
 
--- a text stops before the quote that closes it
+-- a text stops before its closing quote
 quote_stops : (rest : List ℕ) → stops InQuotes (34 ∷ rest) ≡ true
 quote_stops [] = refl
 quote_stops (c ∷ rest) = refl
 
--- what stands behind the quote that opens
+-- what follows the opening quote
 opened_sound : (opened : List ℕ) (inside left : List ℕ) → IsStopped InQuotes opened (inside, left) → (o : Option (List ℕ)) → strip (codes "\"") left ≡ o
     → (word rest : List ℕ) → option_map {U = List ℕ × List ℕ} (λ rest. (inside, rest)) o ≡ Some (word, rest) → IsText (34 ∷ opened) word rest
 opened_sound opened inside left s None is word rest e = cc

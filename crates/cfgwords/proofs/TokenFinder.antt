@@ -11,7 +11,7 @@ use Rattle.cfgwords.specs.FileWords.{TokenText, IsToken, identifier_of, quoted_o
 use Rattle.cfgwords.proofs.NameFinders.{identifier_finder, identifier_length, identifier_shorter}
 use Rattle.cfgwords.proofs.QuotedFinder.{quoted_finder, quoted_length, quoted_shorter}
 
--- a token's text and what is left come from a name
+-- a token's text and the rest come from a name
 token_parts : (quoted : Bool) (o : Option (List ℕ × List ℕ)) (token : TokenText) (rest : List ℕ) → token_text quoted o ≡ Some (token, rest)
     → (token.quoted ≡ quoted) × (o ≡ Some (token.name, rest))
 token_parts quoted None token rest e = cc
@@ -19,7 +19,7 @@ token_parts quoted (Some (name, mid)) token rest e =
     let same = some_pair_parts _ _ _ _ e in
     (sym (ap (λ (x : TokenText). x.quoted) same.0), ap₂ (λ x y. Some (x, y)) (ap (λ (x : TokenText). x.name) same.0) same.1)
 
--- what a quote opens begins with no letter
+-- what begins with a quote doesn't begin with a letter
 quote_is_no_letter : (text : List ℕ) → starts (holds bytes.IdentifierStart) text ≡ true → starts (holds bytes.Quote) text ≡ false
 quote_is_no_letter [] e = refl
 quote_is_no_letter (b ∷ text) e = grind (arith, nat_tests)
@@ -33,7 +33,7 @@ token_bare : (text : List ℕ) → starts (holds bytes.Quote) text ≡ false →
 unfolding token_of
 token_bare text e = ap (λ t. cond t (token_text true (quoted_of text)) (token_text false (identifier_of text))) e
 
--- where a token is found, its kind tells which it is
+-- if a token is found, whether it is quoted says which kind it is
 found_quoted : (text name rest : List ℕ) → token_of text ≡ Some (record { name = name; quoted = true }, rest) → quoted_of text ≡ Some (name, rest)
 found_quoted text name rest e = go (starts (holds bytes.Quote) text) refl
   where
@@ -70,7 +70,7 @@ token_finder = record {
   only = λ text token rest h. token_only text token.name token.quoted rest h;
 }
 
--- the length of a token's text, quotes and all
+-- the length of a token's text, with its quotes
 found_length : (text name : List ℕ) (quoted : Bool) (rest : List ℕ) → token_of text ≡ Some (record { name = name; quoted = quoted }, rest)
     → length text ≡ (if quoted then 2 else 0) + length name + length rest
 found_length text name true rest e = quoted_length text name rest (found_quoted text name rest e)
@@ -85,6 +85,6 @@ found_shorter : (text name : List ℕ) (quoted : Bool) (rest : List ℕ) → tok
 found_shorter text name true rest e = quoted_shorter.less text name rest (found_quoted text name rest e)
 found_shorter text name false rest e = identifier_shorter.less text name rest (found_bare text name rest e)
 
--- a token leaves less
+-- a token leaves a shorter rest
 pub token_shorter : IsShorter token_of
 token_shorter = record { less = λ text token rest e. found_shorter text token.name token.quoted rest e }

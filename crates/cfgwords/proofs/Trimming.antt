@@ -1,4 +1,4 @@
--- A trimmed text is no longer than it was.
+-- Trimming makes no text longer.
 use Rattle.std.proofs.Common.{◌≡◌, ℕ, ◌≤◌, Bool, true, false, cond, ◌&&◌, ◌==◌, List, [], ◌∷◌, length, ap, arith, length-append}
 use Rattle.std.proofs.Math.Utf8.{encode, encodes, scalar, scalars}
 use Rattle.std.specs.Char.{is_whitespace}
@@ -24,7 +24,7 @@ dropped_shorter (c ∷ cs) = go (is_whitespace c && length (drop_trailing_whites
     go true ih = omega arith
     go false ih = omega (arith, ih, length-append (encode c) (encodes cs), length-append (encode c) (encodes (drop_trailing_whitespace cs)))
 
--- what is left at the front is made of characters
+-- what trimming leaves consists of characters
 skipped_scalars : (cs : List ℕ) → scalars cs ≡ true → scalars (skip_leading_whitespace cs) ≡ true
 skipped_scalars [] h = h
 skipped_scalars (c ∷ cs) h = go (is_whitespace c) (skipped_scalars cs (and_parts (scalar c) (scalars cs) h).1)

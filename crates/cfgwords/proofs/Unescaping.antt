@@ -1,4 +1,4 @@
--- A text without its backslashes, up to the first one and behind it.
+-- A text without its backslashes: up to the first one, and after it.
 use Rattle.std.proofs.Common.{◌≡◌, ℕ, Bool, true, false, cond, List, [], ◌∷◌, ◌++◌, eqb, not, Option, Some, None, refl, sym, ap, ap₂, ◌∙◌, eqb-true, append_assoc}
 use Rattle.std.proofs.lemmas.Bool.{ne_eqb, eqb-false}
 use Rattle.std.proofs.lemmas.Option.{some_pair_parts}
@@ -12,7 +12,7 @@ dropped b text h = ap (λ x. unescaped (x ∷ text)) (sym (eqb-true 92 b h))
 stays : (b : ℕ) (text : List ℕ) → eqb 92 b ≡ false → unescaped (b ∷ text) ≡ b ∷ unescaped text
 stays b text h = ap (λ t. cond (not t) (b ∷ unescaped text) (unescaped text)) (ne_eqb b 92 (λ e. eqb-false 92 b h (sym e)))
 
--- what stands before the first backslash stays, and that one is dropped
+-- what precedes the first backslash stays, and that one is dropped
 pub unescaped_split : (text front behind : List ℕ) → split_first (92 ∷ []) text ≡ Some (front, behind) → unescaped text ≡ front ++ unescaped behind
 unfolding split_first
 unescaped_split [] front behind e = cc
@@ -28,7 +28,7 @@ unescaped_split (b ∷ text) front behind e = go (unescaped_split text) (split_f
         let same = some_pair_parts _ _ _ _ e in
         stays b text h ∙ ap (λ x. b ∷ x) (further body rest f) ∙ ap₂ (λ x y. x ++ unescaped y) same.0 same.1
 
--- with no backslash all stays
+-- a text with no backslash stays as it is
 pub unescaped_plain : (text : List ℕ) → split_first (92 ∷ []) text ≡ None → unescaped text ≡ text
 unfolding split_first
 unescaped_plain [] e = refl
@@ -40,7 +40,7 @@ unescaped_plain (b ∷ text) e = go (unescaped_plain text) (split_first (92 ∷ 
     go further None f false h e = stays b text h ∙ ap (λ x. b ∷ x) (further f)
     go further (Some parts) f false h e = cc
 
--- one more piece gathered, up to the next backslash or to the end
+-- gathering one more piece, up to the next backslash or the end
 pub gathered_on : (text value more rest front behind : List ℕ) → value ++ unescaped rest ≡ unescaped text → split_first (92 ∷ []) rest ≡ Some (front, behind)
     → more ≡ value ++ front → more ++ unescaped behind ≡ unescaped text
 gathered_on text value more rest front behind so_far split e =

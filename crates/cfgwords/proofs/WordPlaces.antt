@@ -1,4 +1,4 @@
--- Words stand between places of the text.
+-- Words lie between two offsets of the text.
 use Rattle.std.proofs.Common.{◌≡◌, ℕ, ◌+◌, ◌≤◌, Bool, true, false, List, [], ◌∷◌, ◌++◌, length, Result, Ok, Err, refl, ap, subst, arith, length-append, ltb-true, MatchBool, if◌then◌else◌}
 use Rattle.std.specs.List.{list_all}
 use Rattle.std.specs.Prelude.{nat_lt}
@@ -24,12 +24,12 @@ is_ascii_word word = list_all (λ b. nat_lt b 128) word
 abbrev pub IsWordAt : List ℕ → Word → Type 0
 IsWordAt text word = IsPiece text word.span
 
--- two places of the text, one behind the other
+-- two offsets of the text, one not before the other
 pub record StandsBehind (whole from text : List ℕ) : Type 0 where
   pub origin : IsCut whole from
   pub further : IsCut from text
 
--- a token that ends behind a place
+-- a token that ends after an offset
 pub record IsTokenBehind (whole from : List ℕ) (token : Token) : Type 0 where
   pub piece : IsWordAt whole (word_of token)
   pub behind : place (length whole) from ≤ token.end
@@ -42,7 +42,7 @@ module _ (whole : List ℕ) (utf8 : IsUtf8 whole) where
   goes_on : (from text rest : List ℕ) → StandsBehind whole from text → IsCut text rest → StandsBehind whole from rest
   goes_on from text rest t cut = record { origin = t.origin; further = cut_on from text rest t.further cut }
 
-  -- what stands between two places
+  -- what lies between two offsets
   between : (text word rest : List ℕ) → IsCut whole text → text ≡ word ++ rest → IsCut text rest → IsPiece whole (span_of (place (length whole) text) word)
   between text word rest cut e further = record {
     ordered = omega arith;
@@ -72,7 +72,7 @@ module _ (whole : List ℕ) (utf8 : IsUtf8 whole) where
         },
       )
 
-  -- a token whose name is a piece, and that leaves rest
+  -- a token whose name is a piece of the text, with the rest after it
   token_behind : (from text : List ℕ) (token : TokenText) (rest : List ℕ) → StandsBehind whole from text → IsCut text rest
       → IsPiece whole (span_of (if token.quoted then place (length whole) text + 1 else place (length whole) text) token.name)
       → StandsBehind whole from rest × IsTokenBehind whole from (token_at (length whole) text token rest)
@@ -164,7 +164,7 @@ module _ (whole : List ℕ) (utf8 : IsUtf8 whole) where
       (goes_on from text (58 ∷ tail) t (cut_same text (inside ++ 58 ∷ tail) (58 ∷ tail) e (cut_before inside 58 tail (omega arith))), tt)
   colon_text_is_at from text o t (missing passes) = fault_is_at ReachedEOL from [] (goes_on from text [] t (cut_end text))
 
-  -- what stands from a place to a later one
+  -- what lies between an offset and a later one
   pub piece_behind : (from text : List ℕ) → StandsBehind whole from text
       → IsPiece whole (record { start = place (length whole) from; end = place (length whole) text })
   piece_behind from text t = record {

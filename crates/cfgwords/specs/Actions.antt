@@ -1,4 +1,4 @@
--- Actions: what stands between a brace and the one that balances it, whatever stands in strings and comments there.
+-- Actions: what is between a brace and the one that balances it. Braces in strings and comments count too.
 use Rattle.std.specs.Prelude.{◌≡◌, ℕ, zero, suc, Bool, false, List, [], ◌∷◌, ◌++◌, ◌+◌, ◌==◌, ◌||◌, Option, Some, None, if◌then◌else◌, codes}
 use Rattle.std.specs.Option.{option_and_then}
 use Rattle.std.specs.Str.{trim}
@@ -9,26 +9,26 @@ use Rattle.cfgwords.specs.Text.{place, span_of}
 abbrev pub is_brace : ℕ → Bool
 is_brace b = b == 123 || b == 125
 
--- a text whose braces are balanced: each that opens is closed behind it, and no other closes
+-- a text with balanced braces: each opening brace is closed later, and there is no other closing one
 pub data Balanced : List ℕ → Type 0 where
   empty : Balanced []
   other : (b : ℕ) (rest : List ℕ) → is_brace b ≡ false → Balanced rest → Balanced (b ∷ rest)
   braces : (inside rest : List ℕ) → Balanced inside → Balanced rest → Balanced (123 ∷ (inside ++ 125 ∷ rest))
 
--- an action: its word is what stands between the braces, trimmed
+-- an action: its word is what is between the braces, trimmed
 pub record IsAction (text word rest : List ℕ) : Type 0 where
   pub inside : List ℕ
   pub balanced : Balanced inside
   pub whole : text ≡ 123 ∷ (inside ++ 125 ∷ rest)
   pub trimmed : trim inside ≡ word
 
--- an action with its span, which begins right behind the brace and has the word's length
+-- an action with its span, which begins right after the opening brace and is as long as the trimmed text
 abbrev pub action_at : ℕ → List ℕ → List ℕ → List ℕ → List ℕ × Span
 action_at len text word rest = (word, span_of (place len text + 1) word)
 
--- The same by functions.
+-- The same as functions.
 
--- what stands before the brace that closes one more than depth open ones, and what is left behind it
+-- what precedes the brace that closes one more than depth open ones, and the rest after it
 unfoldable pub split_balanced : ℕ → List ℕ → Option (List ℕ × List ℕ)
 split_balanced depth [] = None
 split_balanced zero (b ∷ text) =

@@ -1,4 +1,4 @@
--- Blanks: spaces, tabs, CRs, LFs, line comments and block comments, in a row as long as possible.
+-- Blanks: the longest sequence of spaces, tabs, CRs, LFs, line comments and block comments.
 use Rattle.std.specs.Prelude.{◌≡◌, ◌≢◌, ℕ, Bool, true, false, List, [], ◌∷◌, ◌++◌, length, ◌-◌, take, drop, Option, Some, None, Result, Ok, Err, ◌||◌, not, codes, if◌then◌else◌}
 use Rattle.std.specs.List.{list_any}
 use Rattle.reading.specs.Pieces.{starts, IsRun, run, strip, IsFirst, split_first}
@@ -13,13 +13,13 @@ use Rattle.cfgwords.specs.declared.blank.Front.TheVariants as fronts
 use Rattle.cfgwords.specs.Bytes.{holds}
 use Rattle.cfgwords.specs.Text.{fault_at}
 
--- what stands at the front of a blank, and what is left behind it
+-- how a blank begins, and the rest after that
 pub data Front : Type 0 where
   Gap : ℕ → List ℕ → Front  -- a space, a tab, a CR or an LF
-  LineComment : List ℕ → Front  -- from `//` up to and with the next CR or LF, or to the end
-  BlockComment : List ℕ → List ℕ → Front  -- from `/*` to the first `*/` behind it: what stands between, and what is left
-  OpenComment : List ℕ → Front  -- a `/*` with no `*/` behind it, and what stands behind it
-  Bare : Front  -- no part of a blank
+  LineComment : List ℕ → Front  -- from `//` to the end of the line, its CR or LF included, or to the end of the text
+  BlockComment : List ℕ → List ℕ → Front  -- from `/*` to the next `*/`: what is between them, and the rest
+  OpenComment : List ℕ → Front  -- a `/*` with no `*/` after it: what follows the `/*`
+  Bare : Front  -- not part of a blank
 
 abbrev pub IsFront : List ℕ → Front → Type 0
 IsFront text (Gap b rest) = (text ≡ b ∷ rest) × (holds bytes.Blank b ≡ true)
@@ -28,8 +28,8 @@ IsFront text (BlockComment body rest) = (inside : List ℕ) × (text ≡ codes "
 IsFront text (OpenComment inside) = (text ≡ codes "/*" ++ inside) × ((x y : List ℕ) → inside ≢ x ++ codes "*/" ++ y)
 IsFront text Bare = (starts (holds bytes.Blank) text ≡ false) × ((x : List ℕ) → text ≢ codes "//" ++ x) × ((x : List ℕ) → text ≢ codes "/*" ++ x)
 
--- Whether the front is part of a blank: what is left behind it, or None where the blank ends, or the fault. A
--- blank within one line refuses a line's end, but for the one that ends a line comment.
+-- Whether the text begins with a part of a blank: the rest after it, or None if the blank ends, or the fault. A blank within one line
+-- refuses a line's end, except for the one that ends a line comment.
 abbrev pub part_of : Bool → Front → Result (Option (List ℕ)) FaultKind
 part_of lines (Gap b rest) = if lines || not (holds bytes.LineEnd b) then Ok (Some rest) else Err ReachedEOL
 part_of lines (LineComment rest) = Ok (Some rest)
@@ -37,7 +37,7 @@ part_of lines (BlockComment body rest) = if lines || not (list_any (holds bytes.
 part_of lines (OpenComment inside) = if lines || not (list_any (holds bytes.LineEnd) inside) then Err IncompleteComment else Err ReachedEOL
 part_of lines Bare = Ok None
 
--- the blank goes on behind its part, ends, or stops with a fault at the front
+-- the blank continues after a part, ends, or stops with a fault here
 abbrev pub turn_of : ℕ → List ℕ → Result (Option (List ℕ)) FaultKind → Turn (Result (Unit {0} × List ℕ) Fault)
 turn_of len text (Ok (Some rest)) = again (λ r. r) rest
 turn_of len text (Ok None) = ends (Ok (tt, text))
@@ -48,11 +48,11 @@ pub record IsPart (len : ℕ) (lines : Bool) (text : List ℕ) (turn : Turn (Res
   pub here : IsFront text front
   pub turns_to : turn_of len text (part_of lines front) ≡ turn
 
--- a blank in a text of len bytes; lines tells whether it may pass a line's end
+-- a blank in a text of len bytes; lines says whether it may pass a line's end
 abbrev pub Blank : ℕ → Bool → List ℕ → Result (Unit {0} × List ℕ) Fault → Type 0
 Blank len lines = Turns (IsPart len lines)
 
--- The same by functions.
+-- The same as functions.
 
 abbrev pub comment_front : List ℕ → Option (List ℕ × List ℕ) → Front
 comment_front inside (Some (body, rest)) = BlockComment body rest
@@ -79,11 +79,11 @@ blank_step len lines text = turn_of len text (part_of lines (front_of text))
 unfoldable pub blank : ℕ → Bool → List ℕ → Result (Unit {0} × List ℕ) Fault
 blank len lines text = all_turns (blank_step len lines) (Ok (tt, [])) text
 
--- whether a CR or an LF stands between the place where text is left of a file and a later one, where rest is left
+-- whether there is a CR or an LF between the offset where text begins and the later one where rest does
 unfoldable pub passes_line_end : List ℕ → List ℕ → Bool
 passes_line_end text rest = list_any (holds bytes.LineEnd) (take (length text - length rest) text)
 
--- what the code's front stands for
+-- what the code's value represents
 abbrev pub front_view : CodeFront → Front
 front_view (fronts.Gap b rest) = Gap b rest.now
 front_view (fronts.LineComment rest) = LineComment rest.now

@@ -1,5 +1,5 @@
--- The classes of bytes that blanks and words are made of. Each is told by its ASCII bytes, so that a text may be
--- cut wherever a class begins or ends.
+-- The classes of bytes that blanks and words are made of. ASCII bytes decide each class, so a text may be cut wherever a run of a class
+-- begins or ends.
 use Rattle.std.specs.Prelude.{ℕ, Bool, ◌==◌, ◌||◌, ◌&&◌, not, nat_le}
 use Rattle.cfgwords.specs.declared.bytes.ByteClass.{ByteClass}
 use Rattle.cfgwords.specs.declared.bytes.ByteClass.TheVariants.{Blank, LineEnd, Line, Quote, Letter, NameStart, NameByte, IdentifierStart, IdentifierByte, Digit}
@@ -22,8 +22,8 @@ is_identifier_start b = is_letter b || b == 95
 abbrev pub is_name_start : ℕ → Bool
 is_name_start b = is_identifier_start b || b == 46
 
--- a space, a tab, a CR or an LF; an LF or a CR; any other byte; `"` or `'`; a letter; what a name and an identifier begin
--- with and go on with; a decimal digit
+-- a space, a tab, a CR or an LF; an LF or a CR; any other byte; `"` or `'`; a letter; the first and the further bytes of a name and of an
+-- identifier; a decimal digit
 abbrev pub holds : ByteClass → ℕ → Bool
 holds Blank b = is_blank b
 holds LineEnd b = is_line_end b

@@ -1,4 +1,4 @@
--- Text up to a single colon. From its front on, two colons that stand together are passed as one, and so are ends of lines.
+-- Text up to a single colon. From the start on, two adjacent colons are passed as a pair; line ends are passed too.
 use Rattle.std.specs.Prelude.{◌≡◌, ℕ, Bool, false, List, [], ◌∷◌, ◌++◌, ◌==◌, Option, Some, None, Result, Ok, Err}
 use Rattle.std.specs.Str.{trim}
 use Rattle.reading.specs.Pieces.{starts}
@@ -11,13 +11,13 @@ use Rattle.cfgwords.specs.Text.{fault_at}
 abbrev pub is_colon : ℕ → Bool
 is_colon b = b == 58
 
--- what stands before the first single colon, trimmed, and that colon with what stands behind it; or the fault, at the end
+-- what precedes the first single colon, trimmed, and the rest from that colon on; or the fault, at the end
 pub data ColonText (len : ℕ) (text : List ℕ) : Result (List ℕ × List ℕ) Fault → Type 0 where
   single : (inside tail : List ℕ) → IsPassed BeforeColon inside → text ≡ inside ++ 58 ∷ tail → starts is_colon tail ≡ false
       → ColonText len text (Ok (trim inside, 58 ∷ tail))
   missing : IsPassed BeforeColon text → ColonText len text (Err (fault_at len ReachedEOL []))
 
--- The same by functions.
+-- The same as functions.
 
 abbrev pub colon_parts : List ℕ × List ℕ → Option (List ℕ × List ℕ)
 colon_parts (inside, []) = None

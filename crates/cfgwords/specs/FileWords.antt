@@ -1,5 +1,5 @@
--- Words of a grammar file: names, identifiers, quoted tokens, tokens, integers and rests of lines. `P text word rest` says that the text
--- begins with the word and that rest is left.
+-- Words of a grammar file: names, identifiers, quoted tokens, tokens, integers and the rests of lines. `P text word rest` says that the
+-- text is the word followed by the rest.
 use Rattle.std.specs.Prelude.{◌≡◌, ℕ, Bool, true, false, List, [], ◌∷◌, ◌++◌, ◌+◌, ◌^◌, ◌==◌, ◌&&◌, not, ◌<◌, nat_lt, Option, Some, None, Result, Ok, Err, MatchBool, if◌then◌else◌}
 use Rattle.std.specs.List.{list_all}
 use Rattle.std.specs.Option.{option_and_then}
@@ -25,12 +25,12 @@ IsName = IsRunFrom bytes.NameStart bytes.NameByte
 abbrev pub IsIdentifier : List ℕ → List ℕ → List ℕ → Type 0
 IsIdentifier = IsRunFrom bytes.IdentifierStart bytes.IdentifierByte
 
--- what may stand inside the quotes: anything but the quote itself and an LF
+-- what may be inside the quotes: anything but the same quote and an LF
 abbrev pub is_inside : ℕ → ℕ → Bool
 is_inside quote b = not (b == quote) && not (b == 10)
 
--- A quote, at least one character, and the next same quote, within one line. The first character may be that
--- quote. The word is what stands between the quotes.
+-- A quote, at least one character, and the next quote of the same kind, within one line. The first character may be that quote. The word is
+-- what is between the quotes.
 pub record IsQuoted (text word rest : List ℕ) : Type 0 where
   pub quote : ℕ
   pub first : ℕ
@@ -41,7 +41,7 @@ pub record IsQuoted (text word rest : List ℕ) : Type 0 where
   pub word_is : word ≡ first ∷ others
   pub whole : text ≡ quote ∷ first ∷ (others ++ quote ∷ rest)
 
--- a token's text, and whether quotes stand round it
+-- a token's text, and whether it is in quotes
 pub record TokenText : Type 0 where
   pub name : List ℕ
   pub quoted : Bool
@@ -50,24 +50,24 @@ pub record TokenText : Type 0 where
 abbrev pub IsToken : List ℕ → TokenText → List ℕ → Type 0
 IsToken text token rest = MatchBool token.quoted (IsQuoted text token.name rest) (IsIdentifier text token.name rest)
 
--- an integer: a longest run of digits, at least one, that write in decimal a number which a usize holds
+-- an integer: the longest run of digits, at least one, whose decimal value fits in a usize
 pub record IsInteger (text : List ℕ) (number : ℕ) (rest : List ℕ) : Type 0 where
   pub digits : List ℕ
   pub run : IsRunFrom bytes.Digit bytes.Digit text digits rest
   pub writes : digits_value 10 digits ≡ number
   pub fits : number < 2 ^ 64
 
--- the rest of a line: what stands before the next CR or LF, or before the end. It may be empty, so it is always there.
+-- the rest of a line: what precedes the next CR or LF, or the end. It may be empty, so there always is one.
 abbrev pub LineRest : List ℕ → Result (List ℕ × List ℕ) Fault → Type 0
 LineRest text (Ok (word, rest)) = IsRun (holds bytes.Line) text word rest
 LineRest text (Err fault) = ⊥
 
--- a name with the span of its bytes
+-- a name with its span
 pub record Word : Type 0 where
   pub name : List ℕ
   pub span : Span
 
--- a token with the span of its name (without the quotes), and the offset where it ends (behind a closing quote)
+-- a token with the span of its name (without the quotes), and the offset where it ends (after a closing quote)
 pub record Token : Type 0 where
   pub name : List ℕ
   pub span : Span
@@ -93,7 +93,7 @@ integer_at len text number rest = (number, record { start = place len text; end 
 abbrev pub word_of : Token → Word
 word_of token = record { name = token.name; span = token.span }
 
--- The same by functions.
+-- The same as functions.
 
 unfoldable pub run_from : ByteClass → ByteClass → List ℕ → Option (List ℕ × List ℕ)
 run_from first others text = if starts (holds first) text then Some (run (holds others) text) else None
@@ -124,7 +124,7 @@ token_text quoted (Some (name, rest)) = Some (record { name = name; quoted = quo
 unfoldable pub token_of : List ℕ → Option (TokenText × List ℕ)
 token_of text = if starts (holds bytes.Quote) text then token_text true (quoted_of text) else token_text false (identifier_of text)
 
--- the number that digits write, and what is left, where a usize holds the number
+-- the number that the digits write, and the rest, if it fits in a usize
 abbrev pub number_of : List ℕ × List ℕ → Option (ℕ × List ℕ)
 number_of (digits, rest) = if nat_lt (digits_value 10 digits) (2 ^ 64) then Some (digits_value 10 digits, rest) else None
 

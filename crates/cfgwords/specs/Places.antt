@@ -1,6 +1,6 @@
--- Places of a text: where a character begins, and the text's end. A span goes from a place to another that isn't
--- before it, so what it names is a piece of the text. The span of what was trimmed has its length, but begins where
--- the trimming began, so it may end inside a character: it lies within the text.
+-- Character boundaries of a text: where a character begins, and the text's end. A span goes from one boundary to the same or a later one,
+-- so what it names is a piece of the text. The span of a trimmed text has the trimmed length, but begins where the untrimmed text does, so
+-- it may end inside a character: it only lies within the text.
 use Rattle.std.specs.Prelude.{ℕ, ◌≤◌, List, length}
 use Rattle.std.specs.Str.{IsCharBoundary}
 use Rattle.cfgbase.specs.declared.span.Span.{Span}

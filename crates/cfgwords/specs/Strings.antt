@@ -1,5 +1,5 @@
--- The strings of `%epp`: a quote, what may stand in a string, and the same quote, within one line. Inside, a backslash
--- must stand before a quote, `"` or `'`; the string's value is what stands inside without the backslashes.
+-- The strings of `%epp`: a quote, any characters of a string, and the same quote, within one line. Inside, a backslash must precede a
+-- quote, `"` or `'`; the string's value is what is inside, without the backslashes.
 use Rattle.std.specs.Prelude.{◌≡◌, ℕ, true, false, List, [], ◌∷◌, ◌++◌, ◌==◌, not, Result, Ok, Err, if◌then◌else◌}
 use Rattle.std.specs.List.{filter}
 use denote.Ref.{Bor}
@@ -16,18 +16,18 @@ use Rattle.cfgwords.specs.Text.{fault_at}
 abbrev pub unescaped : List ℕ → List ℕ
 unescaped = filter (λ b. not (b == 92))
 
--- the string at the front of a text and what is left behind it, or the fault
+-- the string at the start of a text and the rest after it, or the fault
 pub data EppString (len : ℕ) (text : List ℕ) : Result (List ℕ × List ℕ) Fault → Type 0 where
   closed : (quote : ℕ) (inside rest : List ℕ) → holds bytes.Quote quote ≡ true → IsPassed (InString quote) inside
       → text ≡ quote ∷ (inside ++ quote ∷ rest) → EppString len text (Ok (unescaped inside, rest))
-  -- another thing stands here than a quote
+  -- the text doesn't begin with a quote
   unopened : starts (holds bytes.Quote) text ≡ false → EppString len text (Err (fault_at len InvalidString text))
-  -- behind the quote a place is reached where the string neither goes on nor is closed
+  -- at some offset after the quote the string neither continues nor is closed
   broken : (quote : ℕ) (inside left : List ℕ) → holds bytes.Quote quote ≡ true → IsPassed (InString quote) inside
       → text ≡ quote ∷ (inside ++ left) → stops (InString quote) left ≡ true → starts (λ b. b == quote) left ≡ false
       → EppString len text (Err (fault_at len InvalidString left))
 
--- The same by functions: what stands between the quotes and behind them, or what is left where the fault is.
+-- The same as functions: what is between the quotes and after them, or the rest where the fault is.
 
 abbrev pub closed_by : ℕ → List ℕ × List ℕ → Result (List ℕ × List ℕ) (List ℕ)
 closed_by quote (inside, []) = Err []
@@ -45,7 +45,7 @@ string_value len (Err left) = Err (fault_at len InvalidString left)
 unfoldable pub epp_string : ℕ → List ℕ → Result (List ℕ × List ℕ) Fault
 epp_string len text = string_value len (raw_string text)
 
--- what the code's answer stands for
+-- what the code's result represents
 abbrev pub raw_view : Result (Bor (List ℕ) × Bor (List ℕ)) (Bor (List ℕ)) → Result (List ℕ × List ℕ) (List ℕ)
 raw_view (Ok (inside, rest)) = Ok (inside.now, rest.now)
 raw_view (Err left) = Err left.now

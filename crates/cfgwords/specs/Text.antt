@@ -1,11 +1,10 @@
--- A text is a list of bytes in UTF-8. A place in it is named by what is left of it there; its offset in bytes
--- is counted from the whole text's length.
+-- A text is a list of bytes in UTF-8. What is left of it names an offset; the offset in bytes is counted from the whole text's length.
 use Rattle.std.specs.Prelude.{ℕ, List, length, ◌+◌, ◌-◌}
 use Rattle.cfgbase.specs.declared.span.Span.{Span}
 use Rattle.cfgwords.specs.declared.fault.Fault.{Fault}
 use Rattle.cfgwords.specs.declared.fault.FaultKind.{FaultKind}
 
--- the offset of the place where left is left of a text of len bytes
+-- the offset where left begins in a text of len bytes
 abbrev pub place : ℕ → List ℕ → ℕ
 place len left = len - length left
 
@@ -13,6 +12,6 @@ place len left = len - length left
 abbrev pub span_of : ℕ → List ℕ → Span
 span_of start piece = record { start = start; end = start + length piece }
 
--- a fault of this kind, right at the place
+-- a fault of this kind, right where the text is left
 abbrev pub fault_at : ℕ → FaultKind → List ℕ → Fault
 fault_at len kind left = record { kind = kind; span = record { start = place len left; end = place len left } }

@@ -7,7 +7,7 @@ ghost use Rattle.cfgwords.specs.Inner.Ends.{IsClosedAt};
 
 use reading::after_word;
 
-/// How many bytes stand before the brace that closes one more than those that open.
+/// How many bytes precede the brace that closes one more than are opened.
 fn balanced_len(bytes: &[u8]) -> Option<usize>
     ensures { MatchOption result (split_balanced 0 bytes.now ≡ None) (λ n. IsClosedAt bytes.now n) }
 {
@@ -25,8 +25,8 @@ fn balanced_len(bytes: &[u8]) -> Option<usize>
     None
 }
 
-/// The action at the front of the text, trimmed, and what is left behind its closing brace: what stands between a
-/// brace and the one that balances it, whatever stands in strings and comments there.
+/// The action at the start of the text, trimmed, and the rest after its closing brace: what is between a brace and the
+/// one that balances it. Braces in strings and comments count too.
 #[tactic(auto, unfolding(crate::specs::Actions::action_of))]
 pub fn leading_action(text: &str) -> Option<(&str, &str)>
     ensures exact { option_map (λ x. (x.0.now, x.1.now)) result ≡ action_of text.now }

@@ -11,22 +11,22 @@ use crate::fault::FaultKind;
 use crate::run::run;
 use reading::{after_word, split_at_first};
 
-/// What stands at the front of a blank, and what is left behind it.
+/// How a blank begins, and the rest after that.
 #[derive(Clone, Copy, Debug)]
 pub enum Front<'a> {
     /// A space, a tab, a CR or an LF.
     Gap(u8, &'a str),
-    /// A line comment, with the line's end.
+    /// A line comment, its line end included: the rest.
     LineComment(&'a str),
-    /// A closed block comment: what stands between `/*` and `*/`, and what is left.
+    /// A closed block comment: what is between `/*` and `*/`, and the rest.
     BlockComment(&'a str, &'a str),
-    /// A block comment that no `*/` closes: what stands behind its `/*`.
+    /// A block comment without a closing `*/`: what follows its `/*`.
     OpenComment(&'a str),
-    /// No part of a blank.
+    /// Not part of a blank.
     Bare,
 }
 
-/// What is left behind the CR or LF at the front of a text, or behind nothing where the text is empty.
+/// The rest after the CR or LF that a text begins with; an empty text is its own rest.
 fn behind_line_end(text: &str) -> &str
     requires { starts (holds ByteClass.Line) text.now ≡ false }
     ensures { result.now ≡ drop 1 text.now }
@@ -37,15 +37,14 @@ fn behind_line_end(text: &str) -> &str
     text.split_at(1).1
 }
 
-/// Whether a CR or an LF stands in the text.
+/// Whether the text contains a CR or an LF.
 fn has_line_end(text: &str) -> bool
     ensures { result ≡ list_any (holds ByteClass.LineEnd) text.now }
 {
     text.as_bytes().iter().any(|b| ByteClass::LineEnd.holds(*b))
 }
 
-/// Whether a CR or an LF was passed on the way from the place where `text` is left to a later one, where `rest` is
-/// left.
+/// Whether there is a CR or an LF between the offset where `text` begins and the later one where `rest` does.
 #[tactic(auto, unfolding(crate::specs::Blank::passes_line_end))]
 pub fn passes_line_end(text: &str, rest: &str) -> bool
     ensures { result ≡ passes_line_end text.now rest.now }
@@ -59,7 +58,7 @@ pub fn passes_line_end(text: &str, rest: &str) -> bool
 impl<'a> Front<'a> {
     ghost use Rattle.cfgwords.specs.Blank.{front_of, front_view, other_front, part_of, part_view};
 
-    /// The front of a text that opens no comment.
+    /// How a text begins that opens no comment.
     fn without_comment(text: &'a str) -> Front<'a>
         ensures { front_view result ≡ other_front text.now }
     {
@@ -69,7 +68,7 @@ impl<'a> Front<'a> {
         }
     }
 
-    /// What the text begins with.
+    /// How the text begins.
     #[tactic(auto, unfolding(crate::specs::Blank::front_of))]
     pub fn of(text: &'a str) -> Front<'a>
         ensures { front_view result ≡ front_of text.now }
@@ -87,9 +86,9 @@ impl<'a> Front<'a> {
         Front::without_comment(text)
     }
 
-    /// What is left behind the front where it is part of a blank; `None` where the blank ends before it. A blank
-    /// within one line (`lines` is false) refuses a CR or LF with `ReachedEOL`, but for the one that ends a line
-    /// comment; any other unclosed block comment is `IncompleteComment`.
+    /// The rest after a part of a blank; `None` if the blank ends before it. A blank within one line (`lines` is false)
+    /// refuses a CR or LF with `ReachedEOL`, except for the one that ends a line comment; any other unclosed block
+    /// comment is `IncompleteComment`.
     pub fn part(self, lines: bool) -> Result<Option<&'a str>, FaultKind>
         ensures { part_view result ≡ part_of lines (front_view self.entry) }
     {

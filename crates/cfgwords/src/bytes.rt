@@ -1,13 +1,13 @@
 ghost use Rattle.std.specs.Prelude.{◌≡◌};
 
-/// A class of bytes, each told by its ASCII bytes.
+/// A class of bytes, decided by ASCII bytes.
 #[derive(Clone, Copy, Debug, PartialEq, Eq)]
 pub enum ByteClass {
     /// A space, a tab, a CR or an LF.
     Blank,
     /// A CR or an LF.
     LineEnd,
-    /// Any byte but a CR and an LF.
+    /// Any byte but a CR or an LF.
     Line,
     /// A double or a single quote.
     Quote,
@@ -15,11 +15,11 @@ pub enum ByteClass {
     Letter,
     /// What a name begins with: a letter, `_` or `.`.
     NameStart,
-    /// What a name goes on with: also a digit.
+    /// What a name continues with: the same, or a digit.
     NameByte,
     /// What an identifier begins with: a letter or `_`.
     IdentifierStart,
-    /// What an identifier goes on with: also a digit.
+    /// What an identifier continues with: the same, or a digit.
     IdentifierByte,
     /// A decimal digit.
     Digit,
@@ -28,7 +28,7 @@ pub enum ByteClass {
 impl ByteClass {
     ghost use Rattle.cfgwords.specs.Bytes.{holds};
 
-    /// Whether the byte is of this class.
+    /// Whether the byte is in this class.
     pub fn holds(self, b: u8) -> bool
         ensures { result ≡ holds self b }
     {

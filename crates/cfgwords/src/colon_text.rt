@@ -6,8 +6,8 @@ ghost use Rattle.cfgwords.specs.ColonText.{before_colon};
 
 use crate::passed::{Passed, pass};
 
-/// What stands before the first single colon, trimmed, and what is left from that colon on; `None` where there is none.
-/// From the front on, two colons that stand together are passed as one, and so are ends of lines.
+/// What precedes the first single colon, trimmed, and the rest from that colon on; `None` if there is none. From the
+/// start on, two adjacent colons are passed as a pair; line ends are passed too.
 #[tactic(auto, unfolding(crate::specs::ColonText::before_colon))]
 pub fn text_to_colon(text: &str) -> Option<(&str, &str)>
     ensures exact { option_map (λ x. (x.0.now, x.1.now)) result ≡ before_colon text.now }

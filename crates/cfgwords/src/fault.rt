@@ -1,6 +1,6 @@
 use cfgbase::Span;
 
-/// What stops the reading of a grammar file. The names are those of the errors that a reader answers for them.
+/// What stops the reading of a grammar file, named like the error that a reader returns for it.
 #[derive(Clone, Copy, Debug, PartialEq, Eq)]
 pub enum FaultKind {
     IllegalInteger,

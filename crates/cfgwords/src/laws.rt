@@ -1,5 +1,5 @@
-//! Laws of blanks and words: what the functions of specs/ find is just what its relations say; and what `==` and
-//! `clone` of this crate's types compare and copy.
+//! Laws of blanks and words: the functions of specs/ find exactly what its relations say; and what `==` and `clone` of
+//! this crate's types compare and copy.
 
 ghost use Rattle.std.specs.Prelude.{◌≡◌, ◌↔◌, ℕ, Bool, List, IsTrue};
 ghost use Rattle.reading.specs.Graph.{IsGraph};
@@ -25,7 +25,7 @@ use crate::fault::{Fault, FaultKind};
 use crate::passed::Passed;
 use crate::words::{Token, Word};
 
-/// What stands at the front of a text is one thing, the one that `Front::of` tells.
+/// How a text begins is unique, and `Front::of` returns it.
 #[tactic(auto, using(crate::proofs::Blanks::front_graph))]
 pub fn front_is_graph()
     ensures { IsGraph IsFront front_of }
@@ -78,19 +78,19 @@ pub fn integers_found()
         → integer_of text ≡ Some (number, rest) }
 {}
 
-/// The rest of a line is one thing, whatever the text.
+/// The rest of a line is unique, whatever the text.
 #[tactic(auto, using(crate::proofs::LineRests::line_rest_graph))]
 pub fn line_rest_is_graph()
     ensures { IsGraph LineRest line_rest }
 {}
 
-/// The string of an `%epp` is one thing, whatever the text.
+/// The string of an `%epp` is unique, whatever the text.
 #[tactic(auto, using(crate::proofs::EppStrings::epp_string_graph))]
 pub fn epp_string_is_graph()
     ensures { (len : ℕ) → IsGraph (EppString len) (epp_string len) }
 {}
 
-/// The text up to a single colon is one thing, whatever the text.
+/// The text up to a single colon is unique, whatever the text.
 #[tactic(auto, using(crate::proofs::ColonTexts::colon_text_graph))]
 pub fn colon_text_is_graph()
     ensures { (len : ℕ) → IsGraph (ColonText len) (colon_text len) }
@@ -103,7 +103,7 @@ pub fn actions_found()
     ensures only { (text word rest : List ℕ) → IsAction text word rest → action_of text ≡ Some (word, rest) }
 {}
 
-/// Every name of a section is found, and only these names are.
+/// Every name of a section is found, and only such names are.
 pub fn section_names_found()
     ensures sound { (text word rest : List ℕ) → section_name_of text ≡ Some (word, rest)
         → IsSectionName text word rest }
@@ -111,54 +111,54 @@ pub fn section_names_found()
         → section_name_of text ≡ Some (word, rest) }
 {}
 
-/// Every text between double quotes is found, and only these are.
+/// Every text between double quotes is found, and only such texts are.
 pub fn texts_found()
     ensures sound { (text word rest : List ℕ) → text_of text ≡ Some (word, rest) → IsText text word rest }
     ensures only { (text word rest : List ℕ) → IsText text word rest → text_of text ≡ Some (word, rest) }
 {}
 
-/// Classes of bytes are equal exactly where they are the same. A clone is its source, and takes no memory.
+/// Two classes of bytes are equal exactly if they are the same. A clone equals its source and allocates nothing.
 pub fn byte_classes_are_told_apart()
     ensures equal { (a b : ByteClass) → IsTrue (⟦<ByteClass as PartialEq>⟧.eq a b) ↔ (a ≡ b) }
     ensures clone { (a b : ByteClass) → ⟦<ByteClass as Clone>⟧.is_clone a b → b ≡ a }
     ensures cloned { (a : ByteClass) → ⟦<ByteClass as Clone>⟧.is_infallible a }
 {}
 
-/// What is passed is equal exactly where it is the same, up to the same quote in a string. A clone is its source, and
-/// takes no memory.
+/// Two kinds of passed bytes are equal exactly if they are the same, for strings with the same quote. A clone equals
+/// its source and allocates nothing.
 pub fn passed_are_told_apart()
     ensures equal { (a b : Passed) → IsTrue (⟦<Passed as PartialEq>⟧.eq a b) ↔ (a ≡ b) }
     ensures clone { (a b : Passed) → ⟦<Passed as Clone>⟧.is_clone a b → b ≡ a }
     ensures cloned { (a : Passed) → ⟦<Passed as Clone>⟧.is_infallible a }
 {}
 
-/// Kinds of faults are equal exactly where they are the same. A clone is its source, and takes no memory.
+/// Two kinds of faults are equal exactly if they are the same. A clone equals its source and allocates nothing.
 pub fn fault_kinds_are_told_apart()
     ensures equal { (a b : FaultKind) → IsTrue (⟦<FaultKind as PartialEq>⟧.eq a b) ↔ (a ≡ b) }
     ensures clone { (a b : FaultKind) → ⟦<FaultKind as Clone>⟧.is_clone a b → b ≡ a }
     ensures cloned { (a : FaultKind) → ⟦<FaultKind as Clone>⟧.is_infallible a }
 {}
 
-/// Faults are equal exactly where kind and span are the same. A clone is its source, and takes no memory.
+/// Two faults are equal exactly if their kinds and spans are. A clone equals its source and allocates nothing.
 pub fn faults_are_told_apart()
     ensures equal { (a b : Fault) → IsTrue (⟦<Fault as PartialEq>⟧.eq a b) ↔ (a ≡ b) }
     ensures clone { (a b : Fault) → ⟦<Fault as Clone>⟧.is_clone a b → b ≡ a }
     ensures cloned { (a : Fault) → ⟦<Fault as Clone>⟧.is_infallible a }
 {}
 
-/// A clone of a name in a text is its source, and takes no memory.
+/// A clone of a name in a text equals its source and allocates nothing.
 pub fn words_are_cloned<'a>()
     ensures clone { (a b : Word) → ⟦<Word<'a> as Clone>⟧.is_clone a b → b ≡ a }
     ensures cloned { (a : Word) → ⟦<Word<'a> as Clone>⟧.is_infallible a }
 {}
 
-/// A clone of a token in a text is its source, and takes no memory.
+/// A clone of a token in a text equals its source and allocates nothing.
 pub fn tokens_are_cloned<'a>()
     ensures clone { (a b : Token) → ⟦<Token<'a> as Clone>⟧.is_clone a b → b ≡ a }
     ensures cloned { (a : Token) → ⟦<Token<'a> as Clone>⟧.is_infallible a }
 {}
 
-/// A clone of what stands at the front of a blank is its source, and takes no memory.
+/// A clone of how a blank begins equals its source and allocates nothing.
 pub fn fronts_are_cloned<'a>()
     ensures clone { (a b : Front) → ⟦<Front<'a> as Clone>⟧.is_clone a b → b ≡ a }
     ensures cloned { (a : Front) → ⟦<Front<'a> as Clone>⟧.is_infallible a }

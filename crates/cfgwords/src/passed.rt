@@ -5,16 +5,16 @@ ghost use Rattle.cfgwords.specs.Passed.{passes_one, passes_two, step_len, EndsIn
 
 use crate::bytes::ByteClass;
 
-/// Single bytes, and bytes two at a time, that are passed on the way to the byte that ends a word.
+/// Single bytes, and pairs of bytes, that are passed on the way to the byte that ends a word.
 #[derive(Clone, Copy, Debug, PartialEq, Eq)]
 pub enum Passed {
-    /// In a string, up to this quote: a backslash with a quote behind it (`"` or `'`), and any other byte but a
+    /// In a string, up to this quote: a backslash followed by a quote (`"` or `'`), and any byte but this quote, a
     /// backslash, a CR and an LF.
     InString(u8),
     /// Before a single colon: two colons, and any other byte.
     BeforeColon,
-    /// Between double quotes: a backslash with any byte but an LF behind it, and any other byte but a double quote and
-    /// a backslash.
+    /// Between double quotes: a backslash followed by any byte but an LF, and any byte but a double quote and a
+    /// backslash.
     InQuotes,
 }
 
@@ -39,7 +39,7 @@ impl Passed {
         }
     }
 
-    /// How many bytes at the front are passed at once: one, or two; none where it stops.
+    /// How many bytes at the start are passed at once: one or two, or 0 where passing stops.
     fn step_len(self, bytes: &[u8]) -> usize
         ensures { result ≡ step_len self bytes.now }
     {
@@ -51,7 +51,7 @@ impl Passed {
     }
 }
 
-/// How many bytes at the front are passed.
+/// How many bytes at the start are passed.
 fn passed_len(bytes: &[u8], kind: Passed) -> usize
     ensures { result ≡ passed_len kind bytes.now }
 {
@@ -64,7 +64,7 @@ fn passed_len(bytes: &[u8], kind: Passed) -> usize
     i
 }
 
-/// The front that is passed, as long as possible, and what is left behind it. The quote of a string is ASCII.
+/// The longest prefix that is passed, and the rest after it. The quote of a string is ASCII.
 pub fn pass(text: &str, kind: Passed) -> (&str, &str)
     requires { EndsInAscii kind }
     ensures parts { (result.0.now, result.1.now) ≡ passed kind text.now }

@@ -17,7 +17,7 @@ pub fn starts(text: &str, class: ByteClass) -> bool
     }
 }
 
-/// How many bytes at the front of the text are of the class.
+/// How many bytes at the start of the text are in the class.
 fn run_len(text: &str, class: ByteClass) -> usize
     ensures { result ≡ prefix_len (holds class) text.now }
 {
@@ -30,7 +30,7 @@ fn run_len(text: &str, class: ByteClass) -> usize
     bytes.len()
 }
 
-/// The longest front of bytes of the class, and what is left behind it.
+/// The longest prefix of bytes in the class, and the rest after it.
 #[tactic(auto, using(crate::proofs::Boundaries::run_boundary, crate::proofs::Boundaries::run_stops))]
 pub fn run(text: &str, class: ByteClass) -> (&str, &str)
     ensures front { result.0.now ≡ (run (holds class) text.now).0 }

@@ -8,7 +8,7 @@ use crate::passed::{Passed, pass};
 use crate::words::run_from;
 use reading::after_word;
 
-/// The name at the front of the text, and what is left behind it: the longest `[a-zA-Z][a-zA-Z_]*`.
+/// The name at the start of the text, and the rest after it: the longest `[a-zA-Z][a-zA-Z_]*`.
 pub fn leading_section_name(text: &str) -> Option<(&str, &str)>
     ensures exact { option_map (λ x. (x.0.now, x.1.now)) result ≡ name_of text.now }
     ensures lengths { IfSome result (λ x. length x.0.now + length x.1.now ≡ length text.now) }
@@ -16,8 +16,8 @@ pub fn leading_section_name(text: &str) -> Option<(&str, &str)>
     run_from(text, ByteClass::Letter, ByteClass::IdentifierStart)
 }
 
-/// What stands between the two double quotes at the front of the text, and what is left behind them: single characters
-/// but these and a backslash, and backslashes with another character than an LF.
+/// What is between the two double quotes at the start of the text, and the rest after them: single characters except
+/// double quotes and backslashes, and backslashes followed by any character but an LF.
 #[tactic(auto, unfolding(crate::specs::SectionWords::text_of))]
 pub fn leading_text(text: &str) -> Option<(&str, &str)>
     ensures exact { option_map (λ x. (x.0.now, x.1.now)) result ≡ text_of text.now }

@@ -10,7 +10,7 @@ use crate::passed::{Passed, pass};
 use reading::split_at_first;
 use std::alloc::{AllocError, Global};
 
-/// What stands before the closing quote, and what is left behind it, where the string is closed there.
+/// What precedes the closing quote, and the rest after it, if the string is closed here.
 fn closed_by<'a>(quote: u8, inside: &'a str, left: &'a str) -> Result<(&'a str, &'a str), &'a str>
     requires { holds ByteClass.Quote quote ≡ true }
     ensures { raw_view result ≡ closed_by quote (inside.now, left.now) }
@@ -21,14 +21,14 @@ fn closed_by<'a>(quote: u8, inside: &'a str, left: &'a str) -> Result<(&'a str, 
     }
 }
 
-/// What stands between the quotes of the string at the front of the text, with its backslashes, and what is left behind
-/// the closing quote: a quote, any bytes but that quote, a backslash, a CR and an LF, or a backslash with a quote (`"`
-/// or `'`) behind it, and the same quote.
+/// What is between the quotes of the string at the start of the text, with its backslashes, and the rest after the
+/// closing quote. A string is a quote, any bytes except that quote, a backslash, a CR and an LF, or a backslash
+/// followed by a quote (`"` or `'`), and the same quote.
 ///
 /// # Errors
 ///
-/// Where no such string stands, what is left at the fault's place: at the front where no quote stands there, else at a
-/// CR, an LF, a backslash with no quote behind it, or the end.
+/// If there is no such string, the rest from the fault on: at the start if there is no quote, else at a CR, an LF, a
+/// backslash with no quote after it, or the end.
 #[tactic(auto, unfolding(crate::specs::Strings::raw_string))]
 pub fn leading_string(text: &str) -> Result<(&str, &str), &str>
     ensures exact { raw_view result ≡ raw_string text.now }
@@ -48,7 +48,7 @@ pub fn leading_string(text: &str) -> Result<(&str, &str), &str>
 ///
 /// # Errors
 ///
-/// `AllocError` where there is no memory for it.
+/// `AllocError` if an allocation fails.
 pub fn unescaped(alloc: Global, text: &str) -> Result<String, AllocError>
     ensures { IfOk result (λ value. string_bytes value ≡ unescaped text.now) }
 {

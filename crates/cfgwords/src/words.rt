@@ -11,15 +11,15 @@ use crate::bytes::ByteClass;
 use crate::run::{run, starts};
 use cfgbase::Span;
 
-/// A name in a text, and the span of its bytes.
+/// A name in a text, and its span.
 #[derive(Clone, Copy, Debug)]
 pub struct Word<'a> {
     pub name: &'a str,
     pub span: Span,
 }
 
-/// A token in a text: its name, the span of the name's bytes (quotes are outside), whether it was quoted, and
-/// the offset in bytes where it ends (behind a closing quote).
+/// A token in a text: its name, the span of the name (without quotes), whether it was quoted, and the offset in bytes
+/// where it ends (after a closing quote).
 #[derive(Clone, Copy, Debug)]
 pub struct Token<'a> {
     pub name: &'a str,
@@ -29,7 +29,7 @@ pub struct Token<'a> {
 }
 
 impl<'a> Token<'a> {
-    /// The name, with the span of its bytes.
+    /// The name, with its span.
     pub fn word(&self) -> Word<'a>
         ensures { result ≡ record { name = self.now.name; span = self.now.span } }
     {
@@ -40,8 +40,7 @@ impl<'a> Token<'a> {
     }
 }
 
-/// The longest front of bytes of the second class, where the text begins with a byte of the first, and what is left
-/// behind it.
+/// The longest prefix of bytes of the second class, if the text begins with a byte of the first, and the rest after it.
 #[tactic(auto, unfolding(crate::specs::FileWords::run_from))]
 pub fn run_from(text: &str, first: ByteClass, others: ByteClass) -> Option<(&str, &str)>
     ensures exact { option_map (λ x. (x.0.now, x.1.now)) result ≡ run_from first others text.now }
@@ -53,8 +52,7 @@ pub fn run_from(text: &str, first: ByteClass, others: ByteClass) -> Option<(&str
     Some(run(text, others))
 }
 
-/// The name at the front of the text, and what is left behind it: the longest
-/// `[a-zA-Z_.][a-zA-Z0-9_.]*`.
+/// The name at the start of the text, and the rest after it: the longest `[a-zA-Z_.][a-zA-Z0-9_.]*`.
 pub fn leading_name(text: &str) -> Option<(&str, &str)>
     ensures exact { option_map (λ x. (x.0.now, x.1.now)) result ≡ name_of text.now }
     ensures lengths { IfSome result (λ x. length x.0.now + length x.1.now ≡ length text.now) }
@@ -62,8 +60,7 @@ pub fn leading_name(text: &str) -> Option<(&str, &str)>
     run_from(text, ByteClass::NameStart, ByteClass::NameByte)
 }
 
-/// The identifier at the front of the text, and what is left behind it: the longest
-/// `[a-zA-Z_][a-zA-Z_0-9]*`.
+/// The identifier at the start of the text, and the rest after it: the longest `[a-zA-Z_][a-zA-Z_0-9]*`.
 pub fn leading_identifier(text: &str) -> Option<(&str, &str)>
     ensures exact { option_map (λ x. (x.0.now, x.1.now)) result ≡ identifier_of text.now }
     ensures lengths { IfSome result (λ x. length x.0.now + length x.1.now ≡ length text.now) }
@@ -71,7 +68,7 @@ pub fn leading_identifier(text: &str) -> Option<(&str, &str)>
     run_from(text, ByteClass::IdentifierStart, ByteClass::IdentifierByte)
 }
 
-/// How many bytes stand before the quote, an LF or the end.
+/// How many bytes precede the quote, an LF or the end.
 fn inside_len(bytes: &[u8], quote: u8) -> usize
     ensures { result ≡ prefix_len (is_inside quote) bytes.now }
 {
@@ -83,7 +80,7 @@ fn inside_len(bytes: &[u8], quote: u8) -> usize
     bytes.len()
 }
 
-/// How many bytes the name of the quoted token at the front has, if one stands there.
+/// How many bytes the name of the quoted token at the start has, if there is one.
 fn quoted_len(bytes: &[u8]) -> Option<usize>
     ensures { MatchOption result (quoted_of bytes.now ≡ None) (λ n. IsQuotedLen bytes.now n) }
 {
@@ -97,8 +94,8 @@ fn quoted_len(bytes: &[u8]) -> Option<usize>
     None
 }
 
-/// The name of the quoted token at the front of the text, and what is left behind the closing quote: a quote,
-/// at least one character, and the next same quote, within one line.
+/// The name of the quoted token at the start of the text, and the rest after the closing quote: a quote, at least one
+/// character, and the next quote of the same kind, within one line.
 pub fn leading_quoted(text: &str) -> Option<(&str, &str)>
     ensures exact { option_map (λ x. (x.0.now, x.1.now)) result ≡ quoted_of text.now }
     ensures lengths { IfSome result (λ x. 2 + length x.0.now + length x.1.now ≡ length text.now) }
@@ -110,8 +107,8 @@ pub fn leading_quoted(text: &str) -> Option<(&str, &str)>
     Some((name, rest))
 }
 
-/// The name of the token at the front of the text, whether it is quoted, and what is left behind it: a quoted
-/// token or an identifier.
+/// The name of the token at the start of the text, whether it is quoted, and the rest after it: a quoted token or an
+/// identifier.
 #[tactic(auto, unfolding(crate::specs::FileWords::token_of))]
 pub fn leading_token(text: &str) -> Option<(&str, bool, &str)>
     ensures exact { option_map (λ x. (record { name = x.0.now; quoted = x.1 }, x.2.now)) result ≡ token_of text.now }
@@ -126,8 +123,8 @@ pub fn leading_token(text: &str) -> Option<(&str, bool, &str)>
     Some((name, false, rest))
 }
 
-/// The integer at the front of the text, and what is left behind it: the number that the longest `[0-9]+` writes in
-/// decimal, where a `usize` holds it.
+/// The integer at the start of the text, and the rest after it: the value of the longest `[0-9]+` in decimal, if it
+/// fits in a `usize`.
 #[tactic(auto, unfolding(crate::specs::FileWords::integer_of))]
 pub fn leading_integer(text: &str) -> Option<(usize, &str)>
     ensures exact { option_map (λ x. (x.0, x.1.now)) result ≡ integer_of text.now }

@@ -3,6 +3,6 @@ use Rattle.std.specs.List.{prefix_len}
 use Rattle.cfgwords.specs.Bytes.{holds}
 use Rattle.cfgwords.proofs.run.run_len.Given as goal
 
--- what is counted so far, and the run that is left, make the whole run
+-- the count so far and the rest of the run make up the whole run
 abbrev pub invariant-loop-i : goal.invariant-loop-i
 invariant-loop-i l = l.i + prefix_len (holds l.class) (drop l.i l.text) ≡ prefix_len (holds l.class) l.text

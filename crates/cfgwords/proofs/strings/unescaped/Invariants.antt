@@ -5,7 +5,7 @@ use Rattle.std.specs.String.{string_bytes}
 use Rattle.cfgwords.specs.Strings.{unescaped}
 use Rattle.cfgwords.proofs.strings.unescaped.Given as goal
 
--- what is gathered, and the rest without its backslashes, make the whole without them
+-- what is gathered and the rest, both without backslashes, make up the whole
 abbrev pub invariant-loop-front : goal.invariant-loop-front
 invariant-loop-front l = shadow (Utf8 l.rest) × (string_bytes l.value ++ unescaped l.rest ≡ unescaped l.text)
 
