@@ -10,7 +10,7 @@ use Rattle.cfgreader.specs.declared.reader.ReadFault.TheVariants as errors
 use Rattle.cfgreader.specs.Inner.Builds.{IsPartHere, Builds, file_reader}
 use Rattle.cfgreader.specs.Here.{blank_here}
 
--- the blank that is left, now, ends as the whole one does
+-- the rest of the blank, from now on, ends as the whole blank does
 pub record KeepsBlank (lines : Bool) (start now : Reader) : Type 0 where
   pub len : now.len ≡ start.len
   pub tree : now.tree ≡ start.tree

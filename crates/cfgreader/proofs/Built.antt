@@ -1,4 +1,4 @@
--- What the reader built of a file, where it began with no items, and what stopped it.
+-- What the reader built of a file, having begun with no items, and what stopped it.
 use Rattle.std.proofs.Common.{◌≡◌, ℕ, List, [], fold, Option, Result, Ok, Err, IfOk, sym, subst, ◌∙◌, ap}
 use Rattle.reading.specs.Construct.{computes}
 use Rattle.reading.specs.Read.{stop_of}

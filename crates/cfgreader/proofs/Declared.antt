@@ -1,4 +1,4 @@
--- Declarations by the keywords that the code finds.
+-- Declarations, by the keywords that the code finds.
 use Rattle.std.proofs.Common.{◌≡◌, ℕ, ◌<◌, ◌≤◌, ◌+◌, List, [], ◌∷◌, map, drop, get_or, length, Option, Some, None, refl, sym, ap, subst, ◌∙◌}
 use Rattle.std.proofs.lemmas.List.{drop_all, drop_more}
 use denote.Ref.{Bor}
@@ -15,7 +15,7 @@ use Rattle.cfgreader.specs.Keywords.{Keyword, one_of}
 use Rattle.cfgreader.specs.Declarations.{declaration, own_declarations}
 use Rattle.cfgreader.specs.Inner.Keywords.{IsKeywordHere, IsRowHere, declared, first_of, shown_row, with_value}
 
--- the loop over a table: none of the words before i stands here
+-- the loop over a table: the text begins with none of the words before i
 pub record Passed (table : List (Bor (List ℕ) × Declaration)) (i : ℕ) (start now : Reader) : Type 0 where
   pub same : now ≡ start
   pub left : first_of (map shown_row (drop i table)) start.rest.now ≡ first_of (map shown_row table) start.rest.now
@@ -25,7 +25,7 @@ pub passed_all : (table : List (Bor (List ℕ) × Declaration)) (i : ℕ) (start
 unfolding first_of
 passed_all table i start now all so_far = (sym so_far.left ∙ ap (λ rows. first_of (map shown_row rows) start.rest.now) (drop_all i table all), so_far.same)
 
--- a row more
+-- one row more
 module _ (table : List (Bor (List ℕ) × Declaration)) (i : ℕ) (d : Bor (List ℕ) × Declaration) (within : i < length table) (start now next : Reader) (so_far : Passed table i start now) where
   left_by : (o : Option (List ℕ)) → strip (get_or table i d).0.now now.rest.now ≡ o
       → first_of (map shown_row table) start.rest.now ≡ with_value (get_or table i d).1 o (first_of (map shown_row (drop (i + 1) table)) start.rest.now)
@@ -41,7 +41,7 @@ module _ (table : List (Bor (List ℕ) × Declaration)) (i : ℕ) (d : Bor (List
       → IsRowHere (map shown_row table) start next (Some (get_or table i d).1)
   found_here (found, len, tree) = (left_by (Some next.rest.now) found, len ∙ ap (λ (r : Reader). r.len) so_far.same, tree ∙ ap (λ (r : Reader). r.tree) so_far.same)
 
--- What is read by what was found in a table of words, which a turn has as keywords, each behind its `%`.
+-- What is read after a word of a table was found. The turn has these words as keywords, each after its `%`.
 module _ (len : ℕ) (c : Turn (Unit {0})) where
   abbrev pub keyword_of : List ℕ × Declaration → Keyword
   keyword_of (word, declaration) = record { first = 37; others = drop 1 word; follows = declared len declaration }
@@ -68,7 +68,7 @@ module _ (len : ℕ) (c : Turn (Unit {0})) where
       → computes (one_of (map keyword_of words) c) text ≡ behind_found text found
   reads words proper text found e = one_of_first words text ∙ ap (λ words. behind_found text (first_of words text)) proper ∙ ap (behind_found text) e
 
--- the same where only the keywords of one kind are left
+-- the same, if only the keywords of one kind are left
 pub own_found : (kind : YaccKind) (old now next : Reader) (words : List (List ℕ × Declaration)) (found : Option Declaration)
     → map (word_of old.len ends) words ≡ words → own_declarations old.len kind ≡ map (keyword_of old.len ends) words
     → computes (declaration old.len kind) old.rest.now ≡ computes (one_of (own_declarations old.len kind) ends) old.rest.now → now ≡ old

@@ -1,6 +1,6 @@
--- What holds of all that a file's constructs give: every item's spans are pieces of the text (but an action's, which lies
--- within it), and so is each fault's. Here what is asked, and words at their places; construct by construct it is shown in
--- KeptDeclarations and KeptRules.
+-- What holds of everything that a file's constructs give: every item's spans are pieces of the text (except an action's, which lies within
+-- it), and so is each fault's. Here are the properties, and words with their spans; KeptDeclarations and KeptRules prove them construct by
+-- construct.
 use Rattle.std.proofs.Common.{ℕ, List, length, All}
 use Rattle.std.specs.Prelude.{IfSome}
 use Rattle.std.specs.Str.{IsUtf8}
@@ -15,7 +15,7 @@ use Rattle.cfgwords.proofs.WordPlaces.{IsWordAt, StandsBehind, name_at, integer_
 use Rattle.cfgast.specs.Items.{Item, TokenDeclared, StartDeclared, ActionTypeDeclared, PrintedFormDeclared, ExpectDeclared, ExpectReduceReduceDeclared, ExpectedUnused, AvoidInsertDeclared, ImplicitTokenDeclared, PrecedenceDeclared, RuleBegun, RuleNamed, TokenQuoted, PrecedenceUsed, Alternative}
 use Rattle.cfgast.specs.Syntax.{symbol_word}
 
--- a name is a piece of the text, and begins as names do
+-- a name is a piece of the text, and begins with a byte that names begin with
 abbrev pub IsNameAt : List ℕ → Word → Type 0
 IsNameAt whole name = IsWordAt whole name × begins_as_name name.name
 

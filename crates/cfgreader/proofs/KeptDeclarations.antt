@@ -1,4 +1,4 @@
--- What holds of all that declarations give, construct by construct.
+-- What holds of everything that declarations give, construct by construct.
 use Rattle.std.proofs.Common.{◌≡◌, ℕ, true, false, List, [], ◌∷◌, length, map, codes, refl}
 use Rattle.std.specs.Str.{IsUtf8}
 use Rattle.reading.specs.Leaves.{Leaves, One}
@@ -106,7 +106,7 @@ module _ (whole : List ℕ) (utf8 : IsUtf8 whole) where
   unfolding parse_generics_declaration
   parse_generics_declaration_kept from Q q = search (blank_is_at whole utf8, line_rest_is_at whole utf8, q)
 
-  -- a token of a list, whose item says of a word at its place what passes
+  -- a token of a list, if its item has the property for every word that is a piece of the text
   line_token_kept : (from : List ℕ) (item : Word → Item) → ((word : Word) → IsWordAt whole word → IsItemAt whole (item word))
       → KeepsPlaces whole (line_token len item) from (λ _. Unit {0})
   unfolding line_token line_blank
@@ -132,7 +132,7 @@ module _ (whole : List ℕ) (utf8 : IsUtf8 whole) where
     (b, tt),
   )
 
-  -- a keyword of ASCII bytes, behind which what stands keeps places
+  -- an ASCII keyword followed by a construct that keeps the property
   record Kept (from : List ℕ) : Type 1 where
     pub keyword : Keyword
     pub ascii : is_ascii_word (keyword.first ∷ keyword.others) ≡ true
@@ -142,13 +142,13 @@ module _ (whole : List ℕ) (utf8 : IsUtf8 whole) where
       → KeepsPlaces whole c from (λ _. Unit {0}) → Kept from
   kept from name ascii c keeps = record { keyword = declares name c; ascii = ascii; follows = keeps }
 
-  -- a table keeps what its rows keep
+  -- a table keeps the property if each of its rows does
   one_of_kept : (from : List ℕ) (table : List (Kept from)) (c : Turn (Unit {0})) → KeepsPlaces whole c from (λ _. Unit {0})
       → KeepsPlaces whole (one_of (map (λ row. row.keyword) table) c) from (λ _. Unit {0})
   one_of_kept from [] c keeps = keeps
   one_of_kept from (row ∷ table) c keeps = (word_passed whole utf8 (row.keyword.first ∷ row.keyword.others) row.ascii from, row.follows, one_of_kept from table c keeps)
 
-  -- nothing is asked of a value
+  -- nothing is required of a value
   abbrev any : Unit {0} → Type 0
   any _ = Unit {0}
 

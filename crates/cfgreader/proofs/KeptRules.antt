@@ -1,4 +1,4 @@
--- What holds of all that rules give, construct by construct, and of all that a whole file gives.
+-- What holds of everything that rules give, construct by construct, and of everything that a whole file gives.
 use Rattle.std.proofs.Common.{◌≡◌, ◌==◌, ℕ, suc, ◌-◌, ◌≤◌, Bool, true, false, List, [], ◌∷◌, filter_map, length, slice_get, option_map, unwrap_or, Option, Some, None, All, codes, refl, sym, ap, subst, arith}
 use Rattle.std.specs.Prelude.{IfSome}
 use Rattle.std.specs.Str.{IsUtf8, IsCharBoundary}
@@ -23,7 +23,7 @@ use Rattle.cfgreader.specs.FileGrammar.{programs, file}
 use Rattle.cfgreader.proofs.Kept.{IsNameAt, IsItemAt, IsAt, KeepsPlaces}
 use Rattle.cfgreader.proofs.KeptDeclarations.{declaration_kept, separator_fault_kept}
 
--- a part ends at a place of the text, behind the one where its production begins
+-- a part ends at a character boundary of the text, not before the offset where its production begins
 abbrev IsPartAt : (whole from : List ℕ) → Part → Type 0
 IsPartAt whole from (SymbolPart token) = IsTokenBehind whole from token
 IsPartAt whole from (PrecedencePart token) = IsTokenBehind whole from token
@@ -53,7 +53,7 @@ module _ (whole : List ℕ) (utf8 : IsUtf8 whole) where
   symbols_at from (PrecedencePart token ∷ parts) all = symbols_at from parts (All-tail (IsPartAt whole from) (PrecedencePart token) parts all)
   symbols_at from (EmptyPart end ∷ parts) all = symbols_at from parts (All-tail (IsPartAt whole from) (EmptyPart end) parts all)
 
-  -- an end is at a place of the text, behind the one where its production begins
+  -- an end is at a character boundary of the text, not before the offset where its production begins
   abbrev IsEndAt : (from : List ℕ) → ℕ → Type 0
   IsEndAt from end = (place (length whole) from ≤ end) × IsCharBoundary whole end
 
@@ -76,7 +76,7 @@ module _ (whole : List ℕ) (utf8 : IsUtf8 whole) where
     end = end_at from before.end more at.end all;
   }
 
-  -- a part behind a place is behind each place before it
+  -- a part that ends after an offset ends after each earlier one
   part_on : (from text : List ℕ) → StandsBehind whole from text → (part : Part) → IsPartAt whole text part → IsPartAt whole from part
   part_on from text t (SymbolPart token) at = record { piece = at.piece; behind = omega (arith, place_cut from text t.further, at.behind); ends_at = at.ends_at }
   part_on from text t (PrecedencePart token) at = record { piece = at.piece; behind = omega (arith, place_cut from text t.further, at.behind); ends_at = at.ends_at }
@@ -108,7 +108,7 @@ module _ (whole : List ℕ) (utf8 : IsUtf8 whole) where
   unfolding misplaced_empty
   misplaced_empty_kept from text t Q = (blank_is_at whole utf8 true from, λ _ _ _. fault_is_at whole utf8 NonEmptyProduction from text t)
 
-  -- what a turn of a repetition of parts asks of what passes
+  -- what a turn of a repetition of parts requires of a part
   abbrev KeepsParts : Turn Part → List ℕ → Type 1
   KeepsParts c from = (Q : Option Part → Type 0) → ((part : Part) → IsPartAt whole from part → Q (Some part)) → Q None → KeepsPlaces whole c from Q
 
@@ -165,7 +165,7 @@ module _ (whole : List ℕ) (utf8 : IsUtf8 whole) where
   finish_kept from has_action production p =
       search (word_passed whole utf8 (codes "|") refl, word_passed whole utf8 (codes ";") refl, blank_is_at whole utf8, end_fault_kept has_action, p)
 
-  -- from where a production begins to a place behind it, and to where its last part ends
+  -- from where a production begins to a later offset, and to where its last part ends
   piece_to : (from text : List ℕ) → IsCut whole from → StandsBehind whole from text → IsPiece whole (record { start = place (length whole) from; end = place (length whole) text })
   piece_to from text cut t = record {
     ordered = omega (arith, place_cut from text t.further);

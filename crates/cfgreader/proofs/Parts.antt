@@ -19,7 +19,7 @@ use Rattle.cfgreader.specs.Here.{Turn}
 use Rattle.cfgreader.specs.Rules.{Part, Parts, SymbolPart, PrecedencePart, EmptyPart, part_end, precedence_in, parts_row, symbol_in, with_parts}
 use Rattle.cfgreader.specs.Inner.Builds.{Builds, fault_of, file_reader, part_view, parts_view}
 
--- the last of a list that grows
+-- the last of a list after a push
 last_of-push : {A : Type 0} (xs : List A) (x : A) → last_of (xs ++ x ∷ []) ≡ Some x
 last_of-push xs x = slice_get_push xs x _ (omega (arith, length-append xs (x ∷ [])))
 
@@ -27,11 +27,11 @@ last_of-pushed : {A : Type 0} (xs : List A) (o : Option A) → last_of (pushed x
 last_of-pushed xs None = refl
 last_of-pushed xs (Some x) = last_of-push xs x
 
--- no more parts
+-- with no more parts
 with_none : (before : Parts) → with_parts before [] ≡ before
 with_none before = λ i. record { symbols = append-nil before.symbols i; precedence = before.precedence; end = before.end }
 
--- What the code does with a part is what its row says of all: the fold of a row is its summary.
+-- Adding parts one by one, as the code does, gives the summary of the whole list.
 with_push : (before : Parts) (parts : List Part) (part : Part) → with_parts before (parts ++ part ∷ []) ≡ with_parts (with_parts before parts) (part ∷ [])
 with_push before parts part = λ i. record { symbols = symbols i; precedence = precedence i; end = ap (λ o. option_or (option_map part_end o) before.end) (last_of-push parts part) i }
   where
@@ -54,7 +54,7 @@ with_push before parts part = λ i. record { symbols = symbols i; precedence = p
         ∙ either (precedence_in part) (last_of (filter_map precedence_in parts))
         ∙ ap (λ o. option_or o (option_or (last_of (filter_map precedence_in parts)) before.precedence)) (sym (last_one part))
 
--- the parts so far: none ends before a place that isn't behind the start, where those before the loop don't
+-- the parts so far: no part of the loop ends before its start, so if no earlier part ends before an offset up to there, none does
 pub record InParts (c : ℕ → Turn Part) (before : Parts) (start now : Reader) (parts : CodeParts) : Type 0 where
   pub gathers : Gathers file_reader c start now
   pub values : parts_view parts ≡ with_parts before gathers.values

@@ -1,4 +1,4 @@
--- The spans of the syntax that items say are those of the items.
+-- The spans of the syntax are those of the items that it is built from.
 use Rattle.std.proofs.Common.{◌||◌, ℕ, Bool, true, false, List, [], ◌∷◌, filter_map, All, Option, option_map, if◌then◌else◌}
 use Rattle.std.specs.Prelude.{IfSome}
 use Rattle.std.proofs.lemmas.List.Elements.{All-map, All-weaker}
@@ -54,7 +54,7 @@ module _ (whole : List ℕ) where
   occurrence_placed (PrecedenceDeclared kind word) h = h
   occurrence_placed _ h = tt
 
-  -- a token's name and form at their places
+  -- a token's name and printed form, with their spans
   abbrev IsPrintedAt : List ℕ × (Span × (List ℕ × Span)) → Type 0
   IsPrintedAt entry = IsPiece whole entry.1.0 × IsPiece whole entry.1.1.1
 
@@ -101,7 +101,7 @@ module _ (whole : List ℕ) where
   }
   production_placed is_declared _ h = tt
 
-  -- what items say, whatever stands before each, and what they say by themselves
+  -- what each item says given the items before it, and what it says by itself
   behind_placed : {A : Type 0} (P : A → Type 0) (said : List Item × Item → Option A) → ((front : List Item) (item : Item) → IsItemAt whole item → IfSome (said (front, item)) P)
       → (items : List Item) → All (IsItemAt whole) items → All P (filter_map said (with_fronts items))
   behind_placed P said each items all = All-filter_map P said (with_fronts items) (All-with_fronts (λ x. IfSome (said x) P) (IsItemAt whole) each items all)
@@ -118,7 +118,7 @@ module _ (whole : List ℕ) where
   unfolding alternatives
   productions_placed items all = behind_placed IsProductionAt alternative (λ front. production_placed _) items all
 
-  -- the marked tokens, where lists say them
+  -- the marked tokens, if there are lists of them
   marked_placed : (said : List (Option Word)) → All (λ o. IfSome o (IsWordAt whole)) said → IfSome (marked said) (λ table. All (λ entry. IsPiece whole entry.1) table)
   marked_placed [] h = tt
   marked_placed (o ∷ said) h =

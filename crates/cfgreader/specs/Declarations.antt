@@ -1,4 +1,4 @@
--- Declarations, construct by construct: what stands before the first `%%`. `do` is sequence.
+-- Declarations, construct by construct: what precedes the first `%%`. `do` is sequence.
 use Rattle.std.specs.Prelude.{ℕ, Bool, true, false, List, [], ◌∷◌, ◌++◌, ◌==◌, not, codes}
 use Rattle.reading.specs.Pieces.{starts}
 use Rattle.reading.specs.Leaves.{Leaves, One}
@@ -17,11 +17,11 @@ use Rattle.cfgreader.specs.FileWordKinds.{name_kind}
 use Rattle.cfgreader.specs.Keywords.{Keyword, behind, one_of}
 use Rattle.cfgreader.specs.Here.{Strict, Lax, Turn, is_open, blank_here, line_blank, name_here, token_or, token_here, integer_here, line_rest_here, epp_string_here, colon_text_here}
 
--- a list of `%token` or `%expect-unused` goes on until `%` or the end
+-- a list of `%token` or `%expect-unused` continues until `%` or the end
 abbrev pub is_listed : List ℕ → Bool
 is_listed text = starts (λ b. not (b == 37)) text
 
--- a keyword by its name behind `%`, and what stands behind it
+-- a keyword by its name after `%`, and what follows the keyword
 abbrev pub declares : {l : Leaves} → List ℕ → Construct Item Fault l (One (Unit {0})) → Keyword
 declares name c = record { first = 37; others = name; follows = behind c }
 
@@ -33,7 +33,7 @@ module _ (len : ℕ) where
     emits (TokenDeclared (word_of token))
     blank_here len true
 
-  -- a list of such tokens, or of others, which goes on until `%` or the end
+  -- a list of tokens, or of symbols, which continues until `%` or the end
   unfoldable pub list_declaration : Strict (Unit {0}) → Lax (Unit {0})
   list_declaration symbol = do
     blank_here len false
@@ -54,13 +54,13 @@ module _ (len : ℕ) where
       here (λ rest. emits (ActionTypeDeclared (line, record { start = place len text; end = place len rest }))))
     blank_here len true
 
-  -- the token of an `%epp`, whose span goes from quote to quote
+  -- the token of an `%epp`, whose span includes its quotes
   unfoldable pub printed_token : Strict Word
   printed_token = here (λ text. do
     token ← token_here len
     gives (record { name = token.name; span = record { start = place len text; end = token.end } }))
 
-  -- its printed form, with the string's place
+  -- its printed form, with the string's span
   unfoldable pub printed_form : Lax (List ℕ × Span)
   printed_form = here (λ text. do
     form ← epp_string_here len
@@ -75,7 +75,7 @@ module _ (len : ℕ) where
     emits (PrintedFormDeclared token form)
     blank_here len true
 
-  -- what is expected: a number, of which item says
+  -- an expected number, which item makes an item of
   unfoldable pub number_declaration : (ℕ × Span → Item) → Strict (Unit {0})
   number_declaration item = do
     blank_here len false
@@ -90,7 +90,7 @@ module _ (len : ℕ) where
         (token_or len (λ token. emits (ExpectedUnused (TokenSymbol (word_of token)))) (fails (fault_at len UnknownSymbol)))
     blank_here len true
 
-  -- A name up to a colon, and its type up to the line's end: no blank behind the colon passes that end.
+  -- A name up to a colon, and its type up to the line's end: the blank after the colon may not pass that end.
   unfoldable pub parse_param_declaration : Strict (Unit {0})
   parse_param_declaration = do
     blank_here len false
@@ -108,7 +108,7 @@ module _ (len : ℕ) where
     emits (GenericsDeclared generics)
     blank_here len true
 
-  -- A token of a list that a line's end closes: the list goes on where the blank behind the token stays on the line.
+  -- A token of a list that ends with its line: the list continues if the blank after the token stays on the line.
   unfoldable pub line_token : (Word → Item) → Turn (Unit {0})
   line_token item = do
     token ← token_here len
@@ -116,7 +116,7 @@ module _ (len : ℕ) where
     stays ← line_blank len
     gives (goes_on stays)
 
-  -- the text's end closes a list of precedences too
+  -- the text's end ends a list of precedences too
   unfoldable pub level_token : AssocKind → Turn (Unit {0})
   level_token kind = choice is_open (line_token (PrecedenceDeclared kind)) ends
 
@@ -126,7 +126,7 @@ module _ (len : ℕ) where
     repeat (level_token kind)
     emits (LevelEnded kind)
 
-  -- a list of marked tokens, which may be missing where its keyword ends the text
+  -- a list of marked tokens, which may be missing if its keyword ends the text
   unfoldable pub marking_declaration : Item → (Word → Item) → Lax (Unit {0})
   marking_declaration begins item =
       choice is_open (do
@@ -135,7 +135,7 @@ module _ (len : ℕ) where
         repeat (line_token item))
       (emits begins)
 
-  -- What every kind of files declares, by the keywords' names behind `%`. A name that begins another one is tried after it.
+  -- What files of every kind declare, by the keywords' names after `%`. A name that is a prefix of another one is tried after it.
   abbrev pub common_declarations : List Keyword
   common_declarations =
       declares (codes "token") (list_declaration listed_token)
@@ -152,7 +152,7 @@ module _ (len : ℕ) where
       ∷ declares (codes "parse-generics") parse_generics_declaration
       ∷ []
 
-  -- what one kind alone declares
+  -- what files of only one kind declare
   abbrev pub own_declarations : YaccKind → List Keyword
   own_declarations (Original actions) = declares (codes "actiontype") action_type_declaration ∷ []
   own_declarations Grmtools = []
@@ -161,7 +161,7 @@ module _ (len : ℕ) where
   unfoldable pub declaration : YaccKind → Turn (Unit {0})
   declaration kind = one_of (common_declarations ++ own_declarations kind) ends
 
-  -- where `%%` must stand
+  -- the fault if there is no `%%`
   abbrev pub separator_fault : List ℕ → Fault
   separator_fault [] = fault_at len PrematureEnd []
   separator_fault (b ∷ text) = fault_at len UnknownDeclaration (b ∷ text)

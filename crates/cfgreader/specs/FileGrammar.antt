@@ -1,4 +1,4 @@
--- The grammar of a grammar file: declarations, `%%`, rules, and the programs behind a second `%%`.
+-- The grammar of a grammar file: declarations, `%%`, rules, and the programs after a second `%%`.
 use Rattle.std.specs.Prelude.{ℕ, true, codes}
 use Rattle.reading.specs.Construct.{◌>>◌, case_of, here, repeat, while_test, gives, emits, expect}
 use Rattle.cfgast.specs.Items.{ProgramsGiven}
@@ -7,7 +7,7 @@ use Rattle.cfgreader.specs.Here.{Strict, Lax, blank_here}
 use Rattle.cfgreader.specs.Declarations.{declaration, separator_fault}
 use Rattle.cfgreader.specs.Rules.{is_rule_next, rule}
 
--- the rest of the text, as it stands
+-- the rest of the text, unchanged
 unfoldable pub programs : ℕ → Lax (Unit {0})
 programs len =
     case_of (codes "%%") (do

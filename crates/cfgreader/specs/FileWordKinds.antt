@@ -1,5 +1,5 @@
--- The kinds of words and of other pieces that a grammar file has. Each holds the proofs that its program finds just it, so this file
--- names those.
+-- The kinds of words and of other pieces in a grammar file. Each includes the proofs that its program finds exactly it, so this file refers
+-- to proofs.
 use Rattle.std.specs.Prelude.{ℕ, Bool, List}
 use Rattle.reading.specs.WordKind.{WordKind}
 use Rattle.reading.specs.Silent.{PieceKind}

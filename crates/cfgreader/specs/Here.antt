@@ -1,4 +1,4 @@
--- Words and blanks of a grammar file, each at the place where it must stand. What a construct means is `Says` of it.
+-- Words and blanks of a grammar file, each where it is required. `Says` of a construct is its meaning.
 use Rattle.std.specs.Prelude.{ℕ, Bool, true, false, List, not}
 use Rattle.std.specs.Option.{option_map_or}
 use Rattle.reading.specs.Pieces.{starts, strip}
@@ -13,11 +13,11 @@ use Rattle.cfgwords.specs.FileWords.{Word, Token, word_at, token_at, integer_at}
 use Rattle.cfgast.specs.Items.{Item}
 use Rattle.cfgreader.specs.FileWordKinds.{name_kind, token_kind, integer_kind, blank_kind, line_rest_kind, epp_string_kind, colon_text_kind}
 
--- a construct that leaves less text than it found, as each turn of a repetition must
+-- a construct that leaves a shorter rest, as each turn of a repetition must
 abbrev pub Strict : Type 0 → Type 1
 Strict A = Construct Item Fault Less (One A)
 
--- a construct that may leave all of it
+-- a construct that may leave the whole text
 abbrev pub Lax : Type 0 → Type 1
 Lax A = Construct Item Fault NoMore (One A)
 
@@ -25,11 +25,11 @@ Lax A = Construct Item Fault NoMore (One A)
 abbrev pub Turn : Type 0 → Type 1
 Turn A = Construct Item Fault Less (OneOrEnd A)
 
--- the text goes on
+-- this is not the text's end
 abbrev pub is_open : List ℕ → Bool
 is_open text = starts (λ b. true) text
 
--- the word stands here
+-- the text begins with the word
 abbrev pub stands : List ℕ → List ℕ → Bool
 stands word text = option_map_or (λ _. true) (strip word text) false
 
@@ -47,7 +47,7 @@ module _ (len : ℕ) where
   abbrev pub name_here : Strict Word
   name_here = word_or name_kind (word_at len) gives (fails (fault_at len IllegalName))
 
-  -- what a token makes follow, or d where none stands
+  -- what a token is followed by, or d if there is no token
   abbrev pub token_or : {l m : Leaves} {G : Gives} → (Token → Construct Item Fault l G) → Construct Item Fault m G → Construct Item Fault m G
   token_or c d = word_or token_kind (token_at len) c d
 

@@ -14,13 +14,13 @@ pub record Behind : Type 1 where
 abbrev pub behind : {l : Leaves} → Construct Item Fault l (One (Unit {0})) → Behind
 behind {l} c = record { leaves = l; construct = c }
 
--- a keyword, by its first byte and the others, and what stands behind it
+-- a keyword, by its first byte and the others, and what follows it
 pub record Keyword : Type 1 where
   pub first : ℕ
   pub others : List ℕ
   pub follows : Behind
 
--- a turn behind one of these keywords, the first of them that stands here, or else what c says
+-- a turn after the first of these keywords that the text begins with, or else what c says
 abbrev pub one_of : List Keyword → Turn (Unit {0}) → Turn (Unit {0})
 one_of [] c = c
 one_of (keyword ∷ keywords) c = case_of (keyword.first ∷ keyword.others) (then keyword.follows.construct again) (one_of keywords c)

@@ -1,4 +1,4 @@
--- Rules, construct by construct: what stands behind the first `%%`. `do` is sequence.
+-- Rules, construct by construct: what follows the first `%%`. `do` is sequence.
 use Rattle.std.specs.Prelude.{ℕ, Bool, true, false, ◌==◌, ◌||◌, ◌&&◌, not, Option, Some, None, List, [], ◌∷◌, ◌++◌, option_map, unwrap_or, codes}
 use Rattle.std.specs.List.{filter_map}
 use Rattle.std.specs.Option.{option_or}
@@ -18,7 +18,7 @@ use Rattle.cfgkinds.specs.declared.kind.YaccKind.TheVariants.{Grmtools}
 use Rattle.cfgreader.specs.FileWordKinds.{action_kind}
 use Rattle.cfgreader.specs.Here.{Strict, Lax, Turn, is_open, stands, blank_here, name_here, token_or, token_here, colon_text_here}
 
--- a part of a production: a symbol, the token behind a `%prec`, or an `%empty`, by the place where it ends
+-- a part of a production: a symbol, the token after a `%prec`, or an `%empty`, with the offset where it ends
 pub data Part : Type 0 where
   SymbolPart : Token → Part
   PrecedencePart : Token → Part
@@ -29,7 +29,7 @@ part_end (SymbolPart token) = token.end
 part_end (PrecedencePart token) = token.end
 part_end (EmptyPart end) = end
 
--- what was read of a production: its symbols, the token behind its last `%prec`, and the place where its last part ends
+-- what was read of a production: its symbols, the token after its last `%prec`, and the offset where its last part ends
 pub record Parts : Type 0 where
   pub symbols : List Token
   pub precedence : Option (List ℕ)
@@ -46,7 +46,7 @@ abbrev pub precedence_in : Part → Option (List ℕ)
 precedence_in (PrecedencePart token) = Some token.name
 precedence_in _ = None
 
--- with more parts behind: the symbols among them, the last precedence among them, and the end of the last one
+-- with more parts added: the symbols among them, the last precedence among them, and the end of the last one
 abbrev pub with_parts : Parts → List Part → Parts
 with_parts before more = record {
   symbols = before.symbols ++ filter_map symbol_in more;
@@ -54,18 +54,18 @@ with_parts before more = record {
   end = option_or (option_map part_end (last_of more)) before.end;
 }
 
--- where a production without an action ends: behind its last part, or at the place behind it where it is bare
+-- where a production without an action ends: after its last part, or, without parts, at the given offset
 abbrev pub end_of : Parts → ℕ → ℕ
 end_of parts place = unwrap_or parts.end place
 
 abbrev pub body_of : Parts → Option (List ℕ × Span) → Span → Body
 body_of parts action span = record { symbols = parts.symbols; precedence = parts.precedence; action = action; span = span }
 
--- what may stand behind an `%empty`: `|`, `;`, an action or a `%prec`
+-- what may follow an `%empty`: `|`, `;`, an action or a `%prec`
 abbrev pub may_follow_empty : List ℕ → Bool
 may_follow_empty text = starts (λ b. b == 124 || b == 59 || b == 123) text || stands (codes "%prec") text
 
--- what is wrong where neither a part nor an action stands: an open brace has none that balances it
+-- the fault if there is neither a part nor an action: at an opening brace, that no brace balances it
 abbrev pub brace_fault : Bool → FaultKind
 brace_fault true = IncompleteAction
 brace_fault false = IllegalString
@@ -74,11 +74,11 @@ abbrev pub is_grmtools : YaccKind → Bool
 is_grmtools Grmtools = true
 is_grmtools _ = false
 
--- rules go on to the second `%%`, or to the end
+-- rules continue until the second `%%` or the end
 abbrev pub is_rule_next : List ℕ → Bool
 is_rule_next text = is_open text && not (stands (codes "%%") text)
 
--- a row of parts, behind those that were read before
+-- a sequence of parts, after those that were read before
 unfoldable pub parts_row : Turn Part → Parts → Lax Parts
 parts_row c before = do
   parts ← many c
@@ -86,11 +86,11 @@ parts_row c before = do
 
 -- len is the whole text's length
 module _ (len : ℕ) where
-  -- a quoted use of a token names it
+  -- a quoted use of a token names the token
   abbrev pub quoted_use : Token → Lax (Unit {0})
   quoted_use token = choice (λ _. token.quoted) (emits (TokenQuoted (word_of token))) (gives tt)
 
-  -- what stands behind `%prec`
+  -- what follows `%prec`
   unfoldable pub precedence : Strict Part
   precedence = do
     blank_here len true
@@ -99,13 +99,13 @@ module _ (len : ℕ) where
     blank_here len true
     gives (PrecedencePart token)
 
-  -- what stands behind the `%empty` that begins at text, where no symbol stands before it
+  -- what follows the `%empty` that begins at text, if no symbol precedes it,
   unfoldable pub empty : List ℕ → Lax Part
   empty text = here (λ behind. do
     blank_here len true
     choice may_follow_empty (gives (EmptyPart (place len behind))) (fails (λ _. fault_at len NonEmptyProduction text)))
 
-  -- and where one does
+  -- and if one does
   unfoldable pub misplaced_empty : List ℕ → Strict Part
   misplaced_empty text = do
     blank_here len true
@@ -118,7 +118,7 @@ module _ (len : ℕ) where
       (case_of (codes "%empty") (then (empty text) again)
       ends))
 
-  -- a symbol, if one stands here
+  -- a symbol, if there is one here
   unfoldable pub symbol_part : Turn Part
   symbol_part = token_or len (λ token. do
     blank_here len true
@@ -133,27 +133,27 @@ module _ (len : ℕ) where
       (case_of (codes "%empty") (then (misplaced_empty text) again)
       symbol_part))
 
-  -- the parts before the first symbol, and those from there on
+  -- the parts before the first symbol, and those from it on
   abbrev pub front_parts : Lax Parts
   front_parts = parts_row front_part no_parts
 
   abbrev pub more_parts : Parts → Lax Parts
   more_parts front = parts_row part front
 
-  -- where `|` or `;` must stand: behind an action, and elsewhere in a body
+  -- the fault if there is no `|` or `;`: after an action, and elsewhere in a body
   abbrev pub end_fault : Bool → List ℕ → Fault
   end_fault true text = fault_at len ProductionNotTerminated text
   end_fault false [] = fault_at len IncompleteRule []
   end_fault false (b ∷ text) = fault_at len (brace_fault (b == 123)) (b ∷ text)
 
-  -- whether another production follows: `|` stands before one, and `;` ends a rule
+  -- whether another production follows: after `|` there is one, and `;` ends the rule
   unfoldable pub another : Bool → Strict Bool
   another has_action =
       case_of (codes "|") (gives true)
       (case_of (codes ";") (gives false)
       (fails (end_fault has_action)))
 
-  -- what stands behind a production; there it counts as read
+  -- what follows a production; from there on it counts as read
   unfoldable pub finish : Bool → Item → Turn (Unit {0})
   finish has_action production = do
     follows ← another has_action
@@ -176,7 +176,7 @@ module _ (len : ℕ) where
     parts ← more_parts front
     production_end head (place len text) parts)
 
-  -- what stands between a rule's name and its colon in a Grmtools file
+  -- what is between a rule's name and its colon in a Grmtools file
   unfoldable pub rule_type : Strict (Option (List ℕ))
   rule_type = do
     blank_here len true
@@ -185,7 +185,7 @@ module _ (len : ℕ) where
     action_type ← colon_text_here len
     gives (Some action_type)
 
-  -- what stands behind a rule's name, or behind its type
+  -- what follows a rule's name, or its type
   unfoldable pub rule_body : RuleHead → Strict (Unit {0})
   rule_body head = do
     blank_here len true

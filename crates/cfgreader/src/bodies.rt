@@ -17,7 +17,7 @@ use std::alloc::AllocError;
 pub(super) enum Part<'a> {
     /// A symbol.
     Symbol(Token<'a>),
-    /// The token behind a `%prec`.
+    /// The token after a `%prec`.
     Precedence(Token<'a>),
     /// An `%empty`, and the offset in bytes where it ends.
     Empty(usize),
@@ -28,7 +28,7 @@ pub(super) enum Part<'a> {
 pub(super) struct Parts<'a> {
     /// Its symbols, in order.
     pub(super) symbols: Vec<Token<'a>>,
-    /// The name of the token behind its last `%prec`.
+    /// The name of the token after its last `%prec`.
     pub(super) precedence: Option<&'a str>,
     /// The offset in bytes where its last part ends.
     pub(super) end: Option<usize>,
@@ -39,7 +39,7 @@ impl<'a> Parts<'a> {
     ///
     /// # Errors
     ///
-    /// Want of memory.
+    /// `AllocError` if an allocation fails.
     fn add(&mut self, part: Part<'a>) -> Result<(), AllocError>
         ensures { OnOk result (parts_view self.new ≡ with_parts (parts_view self.old) (part_view part.entry ∷ [])) }
     {
@@ -61,7 +61,7 @@ impl<'a> Parts<'a> {
 impl<'a> Reader<'a> {
     ghost use Rattle.cfgreader.specs.Inner.Builds.{Builds};
 
-    /// Passes what stands behind `%prec`.
+    /// Passes what follows `%prec`.
     #[tactic(auto, unfolding(crate::specs::Rules::precedence))]
     fn precedence(&mut self) -> Result<Option<Part<'a>>, ReadFault>
         ensures read { Builds (option_map part_view) self.old self.new result (then (precedence self.old.len) again) }
@@ -75,14 +75,14 @@ impl<'a> Reader<'a> {
         Ok(Some(Part::Precedence(token)))
     }
 
-    /// Whether a `|`, a `;`, an action or a `%prec` stands here.
+    /// Whether the text begins with `|`, `;`, an action or `%prec`.
     fn may_follow_empty(&self) -> bool
         ensures { result ≡ may_follow_empty self.now.rest.now }
     {
         matches!(self.rest.as_bytes(), [b'|' | b';' | b'{', ..]) || self.stands("%prec")
     }
 
-    /// Passes the blank behind the `%empty` that begins at `text`.
+    /// Passes the blank after the `%empty` that begins at `text`.
     #[tactic(auto, unfolding(crate::specs::Rules::empty))]
     fn empty(&mut self, text: &'a str) -> Result<Option<Part<'a>>, ReadFault>
         ensures read { Builds (option_map part_view) self.old self.new result
@@ -99,7 +99,7 @@ impl<'a> Reader<'a> {
         }
     }
 
-    /// Passes a part of a production before its first symbol, if one stands here.
+    /// Passes a part of a production before its first symbol, if there is one here.
     #[tactic(auto, unfolding(crate::specs::Rules::front_part))]
     fn front_part(&mut self) -> Result<Option<Part<'a>>, ReadFault>
         ensures read { Builds (option_map part_view) self.old self.new result (front_part self.old.len) }
@@ -116,7 +116,7 @@ impl<'a> Reader<'a> {
         }
     }
 
-    /// Passes a symbol, if one stands here, and the blank behind it; a quoted token is noted.
+    /// Passes a symbol, if there is one here, and the blank after it; notes a quoted token.
     #[tactic(auto, unfolding(crate::specs::Rules::symbol_part))]
     fn symbol(&mut self) -> Result<Option<Part<'a>>, ReadFault>
         ensures read { Builds (option_map part_view) self.old self.new result (symbol_part self.old.len) }
@@ -135,7 +135,7 @@ impl<'a> Reader<'a> {
         }
     }
 
-    /// Passes a part of a production from its first symbol on, if one stands here. There an `%empty` is a fault.
+    /// Passes a part of a production from its first symbol on, if there is one here. An `%empty` is a fault here.
     #[tactic(auto, unfolding(crate::specs::Rules::part, crate::specs::Rules::misplaced_empty))]
     fn later_part(&mut self) -> Result<Option<Part<'a>>, ReadFault>
         ensures read { Builds (option_map part_view) self.old self.new result (part self.old.len) }

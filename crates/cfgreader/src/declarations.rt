@@ -1,4 +1,4 @@
-//! Declarations: what stands before the first `%%`.
+//! Declarations: what precedes the first `%%`.
 
 ghost use Rattle.std.specs.Prelude.{◌≡◌, codes};
 ghost use Rattle.std.specs.String.{string_bytes};
@@ -21,7 +21,7 @@ use cfgwords::words::Word;
 impl<'a> Reader<'a> {
     ghost use Rattle.cfgreader.specs.Inner.Builds.{Builds};
 
-    /// Passes a token of a `%token` list and the blank behind it.
+    /// Passes a token of a `%token` list and the blank after it.
     #[tactic(auto, unfolding(crate::specs::Declarations::listed_token))]
     pub(super) fn listed_token(&mut self) -> Result<(), ReadFault>
         ensures { Builds (λ x. x) self.old self.new result (listed_token self.old.len) }
@@ -55,7 +55,7 @@ impl<'a> Reader<'a> {
         self.blank(true)
     }
 
-    /// Passes the token of an `%epp`, whose span goes from quote to quote.
+    /// Passes the token of an `%epp`, whose span includes its quotes.
     #[tactic(auto, unfolding(crate::specs::Declarations::printed_token))]
     fn printed_token(&mut self) -> Result<Word<'a>, ReadFault>
         ensures { Builds word_view self.old self.new result (printed_token self.old.len) }
@@ -68,7 +68,7 @@ impl<'a> Reader<'a> {
         })
     }
 
-    /// Passes the printed form of a token, and answers it with the string's place.
+    /// Passes the printed form of a token, and returns it with the string's span.
     #[tactic(auto, unfolding(crate::specs::Declarations::printed_form))]
     fn printed_form(&mut self) -> Result<(String, Span), ReadFault>
         ensures { Builds (λ form. (string_bytes form.0, form.1)) self.old self.new result (printed_form self.old.len) }
@@ -115,7 +115,7 @@ impl<'a> Reader<'a> {
         self.blank(true)
     }
 
-    /// Passes a symbol of an `%expect-unused` list and the blank behind it.
+    /// Passes a symbol of an `%expect-unused` list and the blank after it.
     #[tactic(auto, unfolding(crate::specs::Declarations::unused_symbol))]
     pub(super) fn unused_symbol(&mut self) -> Result<(), ReadFault>
         ensures { Builds (λ x. x) self.old self.new result (unused_symbol self.old.len) }
@@ -155,7 +155,7 @@ impl<'a> Reader<'a> {
         self.blank(true)
     }
 
-    /// Passes what stands behind a keyword.
+    /// Passes what follows a keyword.
     fn declared(&mut self, declaration: Declaration) -> Result<(), ReadFault>
         ensures { Builds (λ x. x) self.old self.new result (declared self.old.len declaration).construct }
     {
@@ -173,7 +173,7 @@ impl<'a> Reader<'a> {
         }
     }
 
-    /// Passes a declaration, and tells whether one stands here.
+    /// Passes a declaration, and returns whether there was one.
     fn declaration(&mut self, kind: YaccKind) -> Result<bool, ReadFault>
         ensures { Builds goes_on self.old self.new result (declaration self.old.len kind) }
     {
@@ -192,7 +192,7 @@ impl<'a> Reader<'a> {
         Ok(())
     }
 
-    /// Passes the `%%` behind the declarations.
+    /// Passes the `%%` after the declarations.
     pub(super) fn separator(&mut self) -> Result<(), ReadFault>
         ensures { Builds (λ x. x) self.old self.new result (expect (codes "%%") (separator_fault self.old.len)) }
     {

@@ -11,7 +11,7 @@ use cfgkinds::YaccKind;
 /// What a keyword declares.
 #[derive(Clone, Copy)]
 pub(super) enum Declaration {
-    /// A list that goes on until `%`.
+    /// A list that continues until `%`.
     List(Listed),
     Start,
     PrintedForm,
@@ -26,7 +26,7 @@ pub(super) enum Declaration {
     ActionType,
 }
 
-/// What every kind of files declares. A keyword that begins another one is tried after it.
+/// What files of every kind declare. A keyword that is a prefix of another one is tried after it.
 const COMMON: [(&str, Declaration); 12] = [
     ("%token", Declaration::List(Listed::Tokens)),
     ("%start", Declaration::Start),
@@ -42,7 +42,7 @@ const COMMON: [(&str, Declaration); 12] = [
     ("%parse-generics", Declaration::ParseGenerics),
 ];
 
-/// What one kind alone declares.
+/// What files of only one kind declare.
 const ORIGINAL: [(&str, Declaration); 1] = [("%actiontype", Declaration::ActionType)];
 
 const ECO: [(&str, Declaration); 1] = [(
@@ -51,7 +51,7 @@ const ECO: [(&str, Declaration); 1] = [(
 )];
 
 impl<'a> Reader<'a> {
-    /// Passes the first of the table's words that stands here, and answers what the table has beside it.
+    /// Passes the first of the table's words that the text begins with, and returns the table's value for it.
     fn first_of(&mut self, table: &[(&str, Declaration)]) -> Option<Declaration>
         ensures { IsRowHere (map shown_row table.now) self.old self.new result }
     {
@@ -63,7 +63,7 @@ impl<'a> Reader<'a> {
         None
     }
 
-    /// Passes the keyword of a declaration, if one stands here.
+    /// Passes the keyword of a declaration, if there is one here.
     pub(super) fn keyword(&mut self, kind: YaccKind) -> Option<Declaration>
         ensures { IsKeywordHere kind self.old self.new result }
     {

@@ -6,8 +6,8 @@ ghost use Rattle.reading.specs.Construct.{Says, computes};
 ghost use Rattle.cfgreader.specs.FileGrammar.{file};
 ghost use Rattle.cfgkinds.specs.declared.kind.YaccKind.{YaccKind};
 
-/// The plain program `file`, a function on lists of bytes, reads just what the grammar relates a text to: so
-/// whatever stands behind the section of a text has a reading, and only one.
+/// The plain program `file`, a function on lists of bytes, reads exactly what the grammar relates a text to: so
+/// whatever follows a text's section has exactly one reading.
 #[tactic(auto, using(reading::proofs::Agree::agree))]
 pub fn file_is_graph()
     ensures { (kind : YaccKind) (len : ℕ) → IsGraph (Says (file kind len)) (computes (file kind len)) }

@@ -1,4 +1,4 @@
-//! The reader of Yacc files: the grammar of a file, as it stands behind a section, and what is read of one.
+//! The reader of Yacc files: the grammar of what follows a file's section, and what is read of it.
 #![tactic(auto)]
 
 mod bodies;

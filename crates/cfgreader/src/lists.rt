@@ -1,4 +1,4 @@
-//! Lists: those that go on until `%`, and those of tokens that a line's end closes.
+//! Lists: those that continue until `%`, and lists of tokens that end with their line.
 
 ghost use Rattle.std.specs.Prelude.{◌≡◌, OnOk};
 ghost use Rattle.reading.specs.Construct.{goes_on, repeat, while_test};
@@ -14,7 +14,7 @@ use cfgwords::blank::passes_line_end;
 use cfgwords::words::Word;
 use std::alloc::{AllocError, Global};
 
-/// What a list that goes on until `%` holds.
+/// What a list that continues until `%` holds.
 #[derive(Clone, Copy)]
 pub(crate) enum Listed {
     /// `%token`.
@@ -44,12 +44,12 @@ impl Marking {
     }
 }
 
-/// What a list that a line's end closes says of its tokens.
+/// What a list that ends with its line says of its tokens.
 #[derive(Clone, Copy)]
 pub(crate) enum LineList {
-    /// `%left`, `%right` or `%nonassoc`: the precedence of each.
+    /// `%left`, `%right` or `%nonassoc`: each token's precedence.
     Precedence(AssocKind),
-    /// A mark of each.
+    /// Each token's mark.
     Marked(Marking),
 }
 
@@ -58,7 +58,7 @@ impl LineList {
     ///
     /// # Errors
     ///
-    /// `AllocError` where there is no memory for it.
+    /// `AllocError` if an allocation fails.
     fn note(self, tree: &mut AstBuilder, alloc: Global, word: Word<'_>) -> Result<(), AllocError>
         ensures { OnOk result (syntax_built tree.new
             ≡ add (syntax_built tree.old) (said self (word_view word.entry))) }
@@ -74,7 +74,7 @@ impl LineList {
 impl Reader<'_> {
     ghost use Rattle.cfgreader.specs.Inner.Builds.{Builds};
 
-    /// Whether such a list goes on here: it ends at `%` and at the end.
+    /// Whether such a list continues here: it ends at `%` and at the text's end.
     fn is_listed(&self) -> bool
         ensures { result ≡ is_listed self.now.rest.now }
     {
@@ -84,7 +84,7 @@ impl Reader<'_> {
         }
     }
 
-    /// Passes one of what the list holds, and the blank behind it.
+    /// Passes an element of the list, and the blank after it.
     fn listed(&mut self, list: Listed) -> Result<(), ReadFault>
         ensures { Builds (λ x. x) self.old self.new result (listed_in self.old.len list) }
     {
@@ -94,7 +94,7 @@ impl Reader<'_> {
         }
     }
 
-    /// Passes all that the list holds.
+    /// Passes all elements of the list.
     fn list(&mut self, list: Listed) -> Result<(), ReadFault>
         ensures { Builds (λ x. x) self.old self.new result
             (repeat (while_test is_listed (listed_in self.old.len list))) }
@@ -115,8 +115,8 @@ impl Reader<'_> {
         self.list(list)
     }
 
-    /// Passes a token of the list and the blank behind it, and tells whether the list goes on: where the blank stays on
-    /// its line.
+    /// Passes a token of the list and the blank after it, and returns whether the list continues: it does if the blank
+    /// stays on its line.
     #[tactic(auto, unfolding(crate::specs::Declarations::line_token, crate::specs::Here::line_blank))]
     fn line_token(&mut self, list: LineList) -> Result<bool, ReadFault>
         ensures { Builds goes_on self.old self.new result (line_token self.old.len (said list)) }
@@ -128,7 +128,8 @@ impl Reader<'_> {
         Ok(!passes_line_end(text, self.rest))
     }
 
-    /// Passes a token of the list, and tells whether the list goes on: the text's end closes one of precedences too.
+    /// Passes a token of the list, and returns whether the list continues: the text's end ends a list of precedences
+    /// too.
     #[tactic(auto, unfolding(crate::specs::Declarations::level_token))]
     fn line_turn(&mut self, list: LineList) -> Result<bool, ReadFault>
         ensures { Builds goes_on self.old self.new result (turn_in self.old.len list) }

@@ -1,4 +1,4 @@
-//! The reading of a file, behind a text's section.
+//! Reading a file, from the end of a text's section.
 
 ghost use Rattle.std.specs.Prelude.{◌≡◌, ◌≤◌, IfOk, length};
 ghost use Rattle.reading.specs.Construct.{computes};
@@ -12,8 +12,8 @@ use cfgkinds::YaccKind;
 use cfgwords::fault::Fault;
 use std::alloc::{AllocError, Global};
 
-/// Reads what is left of a text of `len` bytes as a grammar file of the kind: what was read, and what stopped the
-/// reading, if anything did.
+/// Reads the rest of a text of `len` bytes as a grammar file of the kind: what was read, and what stopped the reading,
+/// if anything did.
 pub fn read_file(
     alloc: Global,
     kind: YaccKind,

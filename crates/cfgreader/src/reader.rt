@@ -1,4 +1,4 @@
-//! The reader: a place in the text, and the tree of what was read so far.
+//! The reader: an offset in the text, and the tree of what was read so far.
 
 ghost use Rattle.std.specs.Prelude.{◌≡◌, ◌≤◌, length, [], Some, None, Ok, MatchBool, IfOk, IfSome};
 ghost use Rattle.std.specs.String.{string_bytes};
@@ -37,7 +37,7 @@ impl From<AllocError> for ReadFault {
     }
 }
 
-/// Reads a text of `len` bytes from its front: `rest` is left of it, and `tree` holds what was read.
+/// Reads a text of `len` bytes from its start: `rest` is the unread suffix, and `tree` holds what was read.
 #[derive(Drop)]
 pub(crate) struct Reader<'a> {
     pub(crate) alloc: Global,
@@ -52,7 +52,7 @@ impl<'a> Reader<'a> {
     ghost use Rattle.cfgast.specs.SyntaxView.{syntax_view, syntax_built, word_view, token_view};
     ghost use Rattle.cfgast.specs.Syntax.{syntax_of};
 
-    /// At the front of what is left of a text of `len` bytes, with nothing read.
+    /// Before the rest of a text of `len` bytes, with nothing read.
     pub(super) fn new(alloc: Global, len: usize, rest: &'a str) -> Self
         requires { length rest.now ≤ len }
         ensures place { (result.rest.now ≡ rest.now) × (result.len ≡ len) }
@@ -73,14 +73,14 @@ impl<'a> Reader<'a> {
         self.tree.finish()
     }
 
-    /// The offset of what is left, in bytes.
+    /// The offset of the rest, in bytes.
     pub(super) fn place(&self) -> usize
         ensures { result ≡ place self.now.len self.now.rest.now }
     {
         self.len - self.rest.len()
     }
 
-    /// A fault at the place where `text` is left.
+    /// A fault where `text` begins.
     pub(super) fn fault_at(&self, kind: FaultKind, text: &str) -> ReadFault
         ensures { result ≡ ReadFault.Fault (fault_at self.now.len kind text.now) }
     {
@@ -98,7 +98,7 @@ impl<'a> Reader<'a> {
         self.fault_at(kind, self.rest)
     }
 
-    /// Whether the text goes on here.
+    /// Whether this is not the text's end.
     pub(super) fn is_open(&self) -> bool
         ensures { result ≡ is_open self.now.rest.now }
     {
@@ -108,14 +108,14 @@ impl<'a> Reader<'a> {
         }
     }
 
-    /// Whether the word stands here.
+    /// Whether the rest begins with the word.
     pub(super) fn stands(&self, word: &str) -> bool
         ensures { result ≡ stands word.now self.now.rest.now }
     {
         after_word(self.rest, word).is_some()
     }
 
-    /// Passes the word, where it stands here.
+    /// Passes the word, if the rest begins with it.
     pub(super) fn accept(&mut self, word: &str) -> bool
         ensures passed { MatchBool result
             ((strip word.now self.old.rest.now ≡ Some self.new.rest.now) × (self.new.len ≡ self.old.len)
@@ -132,7 +132,7 @@ impl<'a> Reader<'a> {
         }
     }
 
-    /// Passes the word that must stand here; where another thing does, there is a fault of the kind.
+    /// Passes the word that must be here; otherwise there is a fault of the kind.
     pub(super) fn expect(&mut self, word: &str, kind: FaultKind) -> Result<(), ReadFault>
         ensures { Builds (λ x. x) self.old self.new result (expect word.now (fault_at self.old.len kind)) }
     {
@@ -143,7 +143,7 @@ impl<'a> Reader<'a> {
         }
     }
 
-    /// The next part of a blank: what is left behind it, or None where the blank ends here.
+    /// The next part of a blank: the rest after it, or None if the blank ends here.
     fn blank_part(&self, lines: bool) -> Result<Option<&'a str>, ReadFault>
         ensures { IsPartHere lines self.now result }
     {
@@ -153,7 +153,7 @@ impl<'a> Reader<'a> {
         }
     }
 
-    /// Passes the blank that begins here; where `lines` is false, it may not pass a line's end.
+    /// Passes the blank that begins here; if `lines` is false, it may not pass a line's end.
     pub(super) fn blank(&mut self, lines: bool) -> Result<(), ReadFault>
         ensures { Builds (λ x. x) self.old self.new result (blank_here self.old.len lines) }
     {
@@ -163,7 +163,7 @@ impl<'a> Reader<'a> {
         Ok(())
     }
 
-    /// Passes the name that stands here, if one does.
+    /// Passes the name here, if there is one.
     pub(super) fn next_name(&mut self) -> Option<Word<'a>>
         ensures { IsNameHere self.old self.new result }
     {
@@ -178,7 +178,7 @@ impl<'a> Reader<'a> {
         }
     }
 
-    /// Passes the name that must stand here.
+    /// Passes the name that must be here.
     pub(super) fn name(&mut self) -> Result<Word<'a>, ReadFault>
         ensures { Builds word_view self.old self.new result (name_here self.old.len) }
     {
@@ -188,7 +188,7 @@ impl<'a> Reader<'a> {
         }
     }
 
-    /// Passes the integer that must stand here, and answers it with its place.
+    /// Passes the integer that must be here, and returns it with its span.
     pub(super) fn integer(&mut self) -> Result<(usize, Span), ReadFault>
         ensures { Builds (λ x. x) self.old self.new result (integer_here self.old.len) }
     {
@@ -211,7 +211,7 @@ impl<'a> Reader<'a> {
         line
     }
 
-    /// Passes the string of an `%epp`, which must stand here, and answers its value.
+    /// Passes the string of an `%epp`, which must be here, and returns its value.
     #[tactic(auto, unfolding(cfgwords::specs::Strings::epp_string))]
     pub(super) fn epp_string(&mut self) -> Result<String, ReadFault>
         ensures { Builds string_bytes self.old self.new result (epp_string_here self.old.len) }
@@ -226,7 +226,7 @@ impl<'a> Reader<'a> {
         }
     }
 
-    /// Passes the text up to a single colon, which must stand behind it, and answers it trimmed.
+    /// Passes the text up to a single colon, which must follow, and returns it trimmed.
     #[tactic(auto, unfolding(cfgwords::specs::ColonText::colon_text))]
     pub(super) fn colon_text(&mut self) -> Result<&'a str, ReadFault>
         ensures { Builds (λ x. x.now) self.old self.new result (colon_text_here self.old.len) }
@@ -240,7 +240,7 @@ impl<'a> Reader<'a> {
         }
     }
 
-    /// Passes the token that stands here, if one does.
+    /// Passes the token here, if there is one.
     pub(super) fn next_token(&mut self) -> Option<Token<'a>>
         ensures read { IsTokenHere self.old self.new result }
         ensures after { IfSome result (λ token. place self.old.len self.old.rest.now ≤ token.end) }
@@ -261,7 +261,7 @@ impl<'a> Reader<'a> {
         }
     }
 
-    /// Passes the token that must stand here.
+    /// Passes the token that must be here.
     pub(super) fn token(&mut self) -> Result<Token<'a>, ReadFault>
         ensures read { Builds token_view self.old self.new result (token_here self.old.len) }
         ensures after { IfOk result (λ token. place self.old.len self.old.rest.now ≤ token.end) }

@@ -1,4 +1,4 @@
-//! Rules: what stands behind the first `%%`.
+//! Rules: what follows the first `%%`.
 
 ghost use Rattle.std.specs.Prelude.{◌≡◌, ◌≤◌, IfSome, Some, is_some};
 ghost use Rattle.reading.specs.Construct.{goes_on, repeat, while_test};
@@ -21,7 +21,7 @@ impl<'a> Reader<'a> {
     ghost use Rattle.cfgreader.specs.Inner.Builds.{Builds};
     ghost use Rattle.cfgast.specs.SyntaxView.{head_view, body_view};
 
-    /// The fault where `|` or `;` must stand: behind an action, or elsewhere in a body.
+    /// The fault if there is no `|` or `;`: after an action, or elsewhere in a body.
     fn end_fault(&self, has_action: bool) -> ReadFault
         ensures { result ≡ ReadFault.Fault (end_fault self.now.len has_action self.now.rest.now) }
     {
@@ -33,7 +33,7 @@ impl<'a> Reader<'a> {
         }
     }
 
-    /// Passes the `|` before another production, or the `;` that ends a rule, and tells whether it was `|`.
+    /// Passes the `|` before another production, or the `;` that ends a rule, and returns whether it was `|`.
     #[tactic(auto, unfolding(crate::specs::Rules::another))]
     fn another(&mut self, has_action: bool) -> Result<bool, ReadFault>
         ensures { Builds (λ x. x) self.old self.new result (another self.old.len has_action) }
@@ -47,7 +47,7 @@ impl<'a> Reader<'a> {
         }
     }
 
-    /// Notes the production that ends here, and tells whether another one follows.
+    /// Notes the production that ends here, and returns whether another one follows.
     #[tactic(auto, unfolding(crate::specs::Rules::finish))]
     fn finish(&mut self, head: RuleHead<'a>, body: Body<'_, 'a>) -> Result<bool, ReadFault>
         ensures { Builds goes_on self.old self.new result
@@ -60,7 +60,7 @@ impl<'a> Reader<'a> {
         Ok(follows)
     }
 
-    /// Passes the action that stands here, if one does, and answers its trimmed text.
+    /// Passes the action here, if there is one, and returns its trimmed text.
     fn next_action(&mut self) -> Option<(&'a str, Span)>
         ensures { IsActionHere self.old self.new result }
     {
@@ -75,7 +75,7 @@ impl<'a> Reader<'a> {
     }
 
     /// Passes the end of the production that begins at `start` and has these parts: its action, if it has one, and what
-    /// ends it. It tells whether another production follows.
+    /// ends it. Returns whether another production follows.
     #[tactic(auto, unfolding(crate::specs::Rules::production_end))]
     fn production_end(
         &mut self,
@@ -106,7 +106,7 @@ impl<'a> Reader<'a> {
         self.finish(head, body)
     }
 
-    /// Passes a production of the rule and what ends it, and tells whether another one follows.
+    /// Passes a production of the rule and what ends it, and returns whether another one follows.
     #[tactic(auto, unfolding(crate::specs::Rules::production))]
     fn production(&mut self, head: RuleHead<'a>) -> Result<bool, ReadFault>
         ensures { Builds goes_on self.old self.new result (production self.old.len (head_view head.entry)) }
@@ -125,7 +125,7 @@ impl<'a> Reader<'a> {
         Ok(())
     }
 
-    /// Passes what stands between a rule's name and its colon in a Grmtools file, and answers the type.
+    /// Passes what is between a rule's name and its colon in a Grmtools file, and returns the type.
     #[tactic(auto, unfolding(crate::specs::Rules::rule_type))]
     fn rule_type(&mut self) -> Result<&'a str, ReadFault>
         ensures { Builds (λ x. Some x.now) self.old self.new result (rule_type self.old.len) }
@@ -136,7 +136,7 @@ impl<'a> Reader<'a> {
         self.colon_text()
     }
 
-    /// Passes what stands behind a rule's name, or behind its type.
+    /// Passes what follows a rule's name, or its type.
     #[tactic(auto, unfolding(crate::specs::Rules::rule_body))]
     fn rule_body(&mut self, head: RuleHead<'a>) -> Result<(), ReadFault>
         ensures { Builds (λ x. x) self.old self.new result (rule_body self.old.len (head_view head.entry)) }
@@ -147,7 +147,7 @@ impl<'a> Reader<'a> {
         self.productions(head)
     }
 
-    /// Passes a rule and the blank behind it.
+    /// Passes a rule and the blank after it.
     #[tactic(auto, unfolding(crate::specs::Rules::rule))]
     fn rule(&mut self, kind: YaccKind) -> Result<(), ReadFault>
         ensures { Builds (λ x. x) self.old self.new result (rule self.old.len kind) }
@@ -163,7 +163,7 @@ impl<'a> Reader<'a> {
         self.rule_body(head)
     }
 
-    /// Whether a rule must stand here: neither the text's end nor a second `%%` does.
+    /// Whether a rule must be here: this is neither the text's end nor a second `%%`.
     fn is_rule_next(&self) -> bool
         ensures { result ≡ is_rule_next self.now.rest.now }
     {
@@ -181,7 +181,7 @@ impl<'a> Reader<'a> {
         Ok(())
     }
 
-    /// Passes the second `%%`, if it stands here, and notes the programs behind it.
+    /// Passes the second `%%`, if it is here, and notes the programs after it.
     #[tactic(auto, unfolding(crate::specs::FileGrammar::programs))]
     fn programs(&mut self) -> Result<(), ReadFault>
         ensures { Builds (λ x. x) self.old self.new result (programs self.old.len) }

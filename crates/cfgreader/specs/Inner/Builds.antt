@@ -1,4 +1,4 @@
--- What a step of the reader does, told by what reading gives there.
+-- What a step of the reader does, given what reading gives from there.
 use Rattle.std.specs.Prelude.{◌≡◌, ℕ, Bool, List, map, Option, Some, None, option_map, Result, Ok, Err}
 use denote.Ref.{Bor}
 use Rattle.cfgwords.specs.declared.fault.FaultKind.{FaultKind}
@@ -34,7 +34,7 @@ abbrev pub fault_of : ReadFault → Option Fault
 fault_of errors.OutOfMemory = None
 fault_of (errors.Fault fault) = Some fault
 
--- a reader of files: the tree holds what was made
+-- a reader of files: the tree holds what was built
 abbrev pub file_reader : ReaderKind Reader ReadFault Syntax Item Fault
 file_reader = record {
   len = λ reader. reader.len;
@@ -48,12 +48,12 @@ file_reader = record {
 abbrev pub Grows : Reader → Reader → List Item → Type 0
 Grows = steps.Grows file_reader
 
--- What a step returned, seen by view, is what reading the construct gives, and the tree has grown by the items that were
--- read, unless memory ran out.
+-- What a step returned, converted by view, is what reading the construct gives, and the tree has grown by the items that were read, unless
+-- memory ran out.
 abbrev pub Builds : {l : Leaves} {G : Gives} {X : Type 0} → (X → ValueOf G) → Reader → Reader → Result X ReadFault → Construct Item Fault l G → Type 0
 Builds = steps.Builds file_reader
 
--- whether a part of a blank stands here, and what is left behind it
+-- whether a part of a blank is here, and the rest after it
 abbrev pub IsPartHere : Bool → Reader → Result (Option (Bor (List ℕ))) ReadFault → Type 0
 IsPartHere lines reader (Ok part) = part_of lines (front_of reader.rest.now) ≡ Ok (option_map (λ rest. rest.now) part)
 IsPartHere lines reader (Err errors.OutOfMemory) = ⊥
@@ -62,13 +62,13 @@ IsPartHere lines reader (Err (errors.Fault fault)) = (kind : FaultKind) × (part
 abbrev pub text_view : CodeToken → TokenText
 text_view token = record { name = token.name.now; quoted = token.quoted }
 
--- whether a name stands here, and what is left behind it
+-- whether a name is here, and the rest after it
 abbrev pub IsNameHere : Reader → Reader → Option CodeWord → Type 0
 IsNameHere old new (Some word) = (name_of old.rest.now ≡ Some (word.name.now, new.rest.now))
     × (word_at old.len old.rest.now word.name.now new.rest.now ≡ word_view word) × (new.len ≡ old.len) × (new.tree ≡ old.tree)
 IsNameHere old new None = (name_of old.rest.now ≡ None) × (new ≡ old)
 
--- whether a token stands here, and what is left behind it
+-- whether a token is here, and the rest after it
 abbrev pub IsTokenHere : Reader → Reader → Option CodeToken → Type 0
 IsTokenHere old new (Some token) = (token_of old.rest.now ≡ Some (text_view token, new.rest.now))
     × (token_at old.len old.rest.now (text_view token) new.rest.now ≡ token_view token) × (new.len ≡ old.len) × (new.tree ≡ old.tree)
@@ -87,7 +87,7 @@ parts_view parts = record {
   end = parts.end;
 }
 
--- whether an action stands here, and what is left behind it
+-- whether an action is here, and the rest after it
 abbrev pub IsActionHere : Reader → Reader → Option (Bor (List ℕ) × Span) → Type 0
 IsActionHere old new (Some action) = (action_of old.rest.now ≡ Some (action.0.now, new.rest.now))
     × (action_at old.len old.rest.now action.0.now new.rest.now ≡ (action.0.now, action.1)) × (new.len ≡ old.len) × (new.tree ≡ old.tree)

@@ -17,12 +17,12 @@ abbrev pub with_value : {A : Type 0} → A → Option (List ℕ) → Option (A �
 with_value a (Some rest) further = Some (a, rest)
 with_value a None further = further
 
--- what a table has beside its first word that stands at the front, and what is left behind that word
+-- the value of a table's first word that the text begins with, and the rest after that word
 unfoldable pub first_of : {A : Type 0} → List (List ℕ × A) → List ℕ → Option (A × List ℕ)
 first_of [] text = None
 first_of ((word, a) ∷ table) text = with_value a (strip word text) (first_of table text)
 
--- what stands behind a keyword
+-- what follows a keyword
 abbrev pub declared : ℕ → Declaration → Behind
 declared len (code.List list) = behind (list_declaration len (listed_in len list))
 declared len code.Start = behind (start_declaration len)
@@ -38,12 +38,12 @@ declared len code.ActionType = behind (action_type_declaration len)
 abbrev pub shown_row : Bor (List ℕ) × Declaration → List ℕ × Declaration
 shown_row row = (row.0.now, row.1)
 
--- which of a table's words stands here first, and what is left behind it
+-- which of a table's words the text begins with (the first of them), and the rest after it
 abbrev pub IsRowHere : List (List ℕ × Declaration) → Reader → Reader → Option Declaration → Type 0
 IsRowHere table old new (Some found) = (first_of table old.rest.now ≡ Some (found, new.rest.now)) × (new.len ≡ old.len) × (new.tree ≡ old.tree)
 IsRowHere table old new None = (first_of table old.rest.now ≡ None) × (new ≡ old)
 
--- whether a declaration stands here, and what is left behind its keyword: there what it declares is read
+-- whether a declaration is here, and the rest after its keyword, from which what it declares is read
 abbrev pub IsKeywordHere : YaccKind → Reader → Reader → Option Declaration → Type 0
 IsKeywordHere kind old new (Some found) =
     (computes (declaration old.len kind) old.rest.now ≡ computes (then (declared old.len found).construct again) new.rest.now) × (new.len ≡ old.len) × (new.tree ≡ old.tree)

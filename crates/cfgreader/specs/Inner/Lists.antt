@@ -11,12 +11,12 @@ use Rattle.cfgreader.specs.declared.lists.LineList.TheVariants as lists
 use Rattle.cfgreader.specs.Here.{Strict, Turn}
 use Rattle.cfgreader.specs.Declarations.{listed_token, unused_symbol, line_token, level_token}
 
--- one of what a list holds that goes on until `%`
+-- an element of a list that continues until `%`
 abbrev pub listed_in : ℕ → Listed → Strict (Unit {0})
 listed_in len listed.Tokens = listed_token len
 listed_in len listed.Unused = unused_symbol len
 
--- that a list begins which marks its tokens so
+-- the beginning of a list that marks its tokens so
 abbrev pub begun : Marking → Item
 begun markings.AvoidInsert = AvoidInsertBegun
 begun markings.ImplicitTokens = ImplicitTokensBegun
@@ -26,7 +26,7 @@ abbrev pub marked : Marking → Word → Item
 marked markings.AvoidInsert = AvoidInsertDeclared
 marked markings.ImplicitTokens = ImplicitTokenDeclared
 
--- a token of a list that a line's end closes
+-- a token of a list that ends with its line
 abbrev pub said : LineList → Word → Item
 said (lists.Precedence kind) = PrecedenceDeclared kind
 said (lists.Marked marking) = marked marking
