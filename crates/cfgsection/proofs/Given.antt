@@ -1,4 +1,4 @@
--- What the entries give a key, entry by entry.
+-- What the entries give for a key, entry by entry.
 use Rattle.std.proofs.Common.{◌≡◌, ℕ, ◌+◌, Bool, cond, Option, Some, None, List, [], ◌∷◌, ◌++◌, Bor, map, take, option_map, string_bytes, refl, sym, ap, ◌∙◌}
 use Rattle.std.specs.Str.{bytes_eq}
 use Rattle.std.proofs.lemmas.List.Sums.{fold_push}
@@ -8,7 +8,7 @@ use Rattle.cfgbase.specs.declared.span.Span.{Span}
 use Rattle.cfgsection.specs.SectionGrammar.{Entry}
 use Rattle.cfgsection.specs.SectionReads.{entry_view, given, given_by}
 
--- with one entry more
+-- with one more entry
 pub given-push : (done : List Entry) (x : Entry) (key : List ℕ) → given (done ++ x ∷ []) key ≡ cond (bytes_eq x.key key) (Some (given_by x)) (given done key)
 unfolding given
 given-push done x key = fold_push _ _ done x
@@ -23,7 +23,7 @@ none_found entries key = refl
 
 module _ (entries : List CodeEntry) (i : ℕ) (x : CodeEntry) (key : List ℕ)
     (more : map entry_view (take (i + 1) entries) ≡ map entry_view (take i entries) ++ entry_view x ∷ []) where
-  -- one entry more, of this key or of another
+  -- one more entry, of this key or of another
   pub one_more_found : (old new : Option (Bor CodeEntry)) (same : Bool) → gives old ≡ given (map entry_view (take i entries)) key → bytes_eq (string_bytes x.key) key ≡ same
       → gives new ≡ cond same (Some (given_by (entry_view x))) (gives old) → gives new ≡ given (map entry_view (take (i + 1) entries)) key
   one_more_found old new same so_far is made =

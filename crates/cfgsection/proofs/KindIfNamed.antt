@@ -1,4 +1,4 @@
--- Whether a text names a kind, by what is read of its section.
+-- Whether a text names a kind, given what is read of its section.
 use Rattle.std.proofs.Common.{◌≡◌, ℕ, inl, inr, Bool, true, false, not, List, [], ◌∷◌, map, Option, Some, None, Result, Ok, Err, Bor, Vec, Global, option_map, refl, sym, subst, ap, ap₂, ◌∙◌, codes}
 use Rattle.std.proofs.lemmas.Bool.{false≢true}
 use Rattle.std.specs.Prelude.{is_some}
@@ -18,7 +18,7 @@ use Rattle.cfgsection.proofs.NamedLemmas.{naming_is, naming_of}
 use Rattle.cfgsection.proofs.SectionOne.{one_section, section_answered}
 use Rattle.cfgsection.proofs.SectionThere.{same_or_missing}
 
--- a section without errors, as its entries and what is left after it, or its errors
+-- a section: without errors, its entries and the rest after it; else its errors
 abbrev Section : Type 0
 Section = Result (List Entry × List ℕ) (List (ShownError Span))
 
@@ -33,7 +33,7 @@ rest_in (Err errors) = []
 unlike : (errors : List (ShownError Span)) (section : List Entry × List ℕ) → ◌≡◌ {A = Section} (Err errors) (Ok section) → ⊥
 unlike errors section is = cc
 
--- a section with this answer has these entries and this end
+-- a section with this result has these entries and this end
 answered : (errors : List (ShownError Span)) (xs : List Entry) (end : Result (List ℕ) Fault) (entries : List Entry) (rest : List ℕ)
     → unless_errors errors xs end ≡ Ok (entries, rest) → (xs ≡ entries) × (end ≡ Ok rest)
 answered errors xs (Err fault) entries rest is = absurd (unlike errors (entries, rest) is)
@@ -57,11 +57,11 @@ module _ (text : List ℕ) where
   section_is : (it : NamesNoKind text) → section_of false text ≡ Ok (it.entries, it.rest)
   section_is it = section_answered false text it.entries (Ok it.rest) it.section ∙ it.whole
 
-  -- where no kind is named, the entries give none
+  -- if no kind is named, the entries give none
   only_none : (entries : List Entry) (rest : List ℕ) → section_of false text ≡ Ok (entries, rest) → NamesNoKind text → given entries (codes "yacckind") ≡ None
   only_none entries rest is it = subst (λ xs. given xs (codes "yacckind") ≡ None) (ap entries_in (sym (section_is it) ∙ is)) it.none
 
-  -- what is left after a section that must be there is left after one that may be missing
+  -- the rest after a required section is also the rest after an optional one
   pub after_section : (entries : List Entry) (rest : List ℕ) → section_of true text ≡ Ok (entries, rest) → section_of false text ≡ Ok (entries, rest)
   after_section entries rest is = elim (same_or_missing text) [ inl same ↦ sym same ∙ is | inr gone ↦ absurd (gone.1 (entries, rest) is) ]
 
@@ -80,7 +80,7 @@ module _ (text : List ℕ) where
       (named, names_this named _ (ap kind_in read))
   by_errors faults.OutOfMemory read = tt
 
-  -- of one without errors, where the entry was found that gives the key of the kind something
+  -- of one without errors, with the entry that gives a value for the key of the kind
   module _ (entries : Vec CodeEntry Global) (rest : Bor (List ℕ)) (read : IsSectionRead (section_of false text) (Ok (entries, rest))) where
     abbrev value_of : Option (Bor CodeEntry) → Option (ShownHeaderValue Span)
     value_of found = option_map (λ (e : Bor CodeEntry). given_by (entry_view e.now)) found
@@ -108,7 +108,7 @@ module _ (text : List ℕ) where
         go (Err (faults.Errors errors)) naming = (named, names (Err (errors_view errors.items)) naming)
         go (Err faults.OutOfMemory) naming = tt
 
-  -- a text that has these errors has no others
+  -- a text with these errors has no others
   pub naming_if : (fault : HeaderFault) → IsKindIfNamed text (Err fault) → (naming : Naming) → Names text naming → IsNaming naming (Err fault)
   naming_if (faults.Errors errors) is naming names = sym (naming_is text naming names) ∙ naming_is text (Err (errors_view errors.items)) is.1
   naming_if faults.OutOfMemory is naming names = tt

@@ -1,4 +1,4 @@
--- A text has one naming: that of its section.
+-- A text has one naming: its section's.
 use Rattle.std.proofs.Common.{◌≡◌, ℕ, true, List, map, Option, Result, Ok, Err, Bor, Vec, Global, sym, ap, subst, ◌∙◌, option_map, codes}
 use Rattle.cfgkinds.specs.declared.kind.YaccKind.{YaccKind}
 use Rattle.cfgsection.specs.declared.section.entry.Entry.{Entry as CodeEntry}

@@ -1,4 +1,4 @@
--- The errors of a text that names no kind stand at places of the text.
+-- The errors of a text that names no kind have their spans in the text.
 use Rattle.std.proofs.Common.{ℕ, ◌<◌, Bool, true, false, List, [], ◌∷◌, fold, length, All, Option, Some, None, Result, Ok, Err, subst, arith, codes, if◌then◌else◌}
 use Rattle.std.specs.Prelude.{IfSome, IfErr}
 use Rattle.std.specs.Str.{IsUtf8, IsCharBoundary, bytes_eq}
@@ -22,7 +22,7 @@ use Rattle.cfgsection.proofs.SectionOne.{section_answered}
 use Rattle.cfgsection.proofs.SectionPlaces.{IsSectionAt, section_at}
 use Rattle.cfgkinds.proofs.KindPlaces.{kind_places}
 
--- what the entries give a key
+-- what the entries give for a key
 given_from : (P : ShownValue Span → Type 0) (key : List ℕ) (entries : List Entry) (found : Option (ShownHeaderValue Span)) → IfSome found (λ v. P v.value)
     → All (λ entry. P entry.value) entries
     → IfSome (fold (λ found entry. if bytes_eq entry.key key then Some (record { place = entry.key_span; value = entry.value }) else found) found entries) (λ v. P v.value)
@@ -39,7 +39,7 @@ unfolding given
 given_placed P entries key all = given_from P key entries None tt all
 
 module _ (text : List ℕ) where
-  -- what is told of a text that names no kind
+  -- the errors of a text that names no kind
   abbrev pub IsNamingAt : Naming → Type 0
   IsNamingAt (Ok kind) = Unit {0}
   IsNamingAt (Err errors) = All (IsErrorAt text) errors

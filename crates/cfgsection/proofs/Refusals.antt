@@ -1,4 +1,4 @@
--- A section that has no answer, and a text that names no kind, have at least one error.
+-- A refused section, and a text that names no kind, have at least one error.
 use Rattle.std.proofs.Common.{◌≡◌, ℕ, ◌<◌, Bool, List, [], ◌∷◌, length, length-append, arith, Option, Some, None, Result, Ok, Err, Bor, Vec, Global, String, refl, sym, subst, codes}
 use Rattle.std.specs.Prelude.{IfErr}
 use Rattle.std.proofs.lemmas.List.{length-map}

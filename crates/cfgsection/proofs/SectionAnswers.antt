@@ -1,4 +1,4 @@
--- Where what is answered of a section, and of one entry, stands in the text.
+-- The spans in what is returned of a section, and of one entry, lie in the text.
 use Rattle.std.proofs.Common.{ℕ, Bool, List, [], All, length, take, drop, take-append-drop, Result, Ok, Err, Bor, Vec, Global, String, sym, subst}
 use Rattle.std.specs.Prelude.{IfOk, IfErr}
 use Rattle.std.specs.Str.{IsUtf8, IsCharBoundary}
@@ -23,7 +23,7 @@ use Rattle.cfgsection.specs.SectionReads.{AnswersEntry, IsEntryAnswer, IsSection
 use Rattle.cfgsection.proofs.SectionKept.{IsEntryAt, entry_kept}
 use Rattle.cfgsection.proofs.SectionPlaces.{IsSectionAt, section_at}
 
--- what is answered by the plain program is told by each reading
+-- what the plain program returns is what each reading gives
 pub by_entry_readings : (len : ℕ) (text : List ℕ) (result : Result (String Global × Span × Value Span × ℕ) HeaderFault)
     → IsEntryAnswer len result (computes (entry len) text).outcome → AnswersEntry len text result
 by_entry_readings len text result answer read says =

@@ -1,4 +1,4 @@
--- The settings of an array, one by one; and what stands behind a bracket.
+-- The settings of an array, one by one; and what follows a bracket.
 use Rattle.std.proofs.Common.{◌≡◌, ◌≢◌, ℕ, zero, suc, ◌-◌, ◌<◌, true, false, List, [], ◌∷◌, ◌++◌, length, Some, None, Result, Ok, Err, refl, sym, ap, subst, ◌∙◌, arith, Vec, Global}
 use Rattle.std.proofs.lemmas.List.{map-append}
 use Rattle.cfgbase.specs.declared.span.Span.{Span}
@@ -52,7 +52,7 @@ module _ (room : ℕ) {start now : Reader} {values : List (Setting Span)} (so_fa
   elements_done here list e = many_done so_far.gathers now (λ (x : Unit {0}). None) tt (while_done section_reader (goes_on_before 93) (one_element room) now here)
       (λ (values : Vec (Setting Span) Global). settings_list values.items) list (so_far.same ∙ sym (ap settings_list e)) refl
 
--- behind a bracket that may not open, and behind one that may
+-- after a bracket that may not open, and after one that may
 pub bracketed_none : (len room : ℕ) (opening : Span) → room ≡ 0 → (text : List ℕ) → (computes (bracketed len room opening) text) ≡ record { items = []; outcome = Err (nesting_fault opening) }
 unfolding bracketed
 bracketed_none len zero opening e text = refl
@@ -65,7 +65,7 @@ bracketed_some len (suc room) opening some text =
     let before : room ≡ suc room - 1 = omega arith in
     ap (λ n. computes (array len (setting_by len (bracketed len n)) opening) text) before
 
--- in the reader's words
+-- in terms of the reader
 module _ (now next : Reader) (room : ℕ) (opening : Span) where
   pub bracketed_refused : (shown : Fault) → room ≡ 0 → shown ≡ nesting_fault opening → Stops section_reader now now (Some shown) (computes (bracketed now.len room opening) now.rest.now)
   bracketed_refused shown none is = subst (Stops section_reader now now (Some shown)) (sym (bracketed_none now.len room opening none now.rest.now)) (ap Err (sym is), refl)

@@ -1,5 +1,4 @@
--- What holds of all that a section's constructs give: each entry's key and value, and each fault, stands between places of the
--- text.
+-- What holds of everything that a section's constructs give: the spans of each entry's key and value, and of each fault, lie in the text.
 use Rattle.std.proofs.Common.{◌≡◌, ℕ, zero, suc, ◌+◌, ◌≤◌, Bool, true, false, cond, List, [], ◌∷◌, ◌++◌, length, Option, Some, None, codes, refl, ap, subst, sym, ◌∙◌, arith, length-append, eqb, eqb-true}
 use lib.Utf8.{encode}
 use Rattle.std.specs.Prelude.{encode_utf8}
@@ -40,7 +39,7 @@ module _ (whole : List ℕ) (utf8 : IsUtf8 whole) where
   cut_to : (from text rest : List ℕ) → StandsBehind whole from text → IsCut text rest → StandsBehind whole from rest
   cut_to from text rest t cut = record { origin = t.origin; further = cut_on from text rest t.further cut }
 
-  -- a word that is cut off behind a place
+  -- a word after an offset
   word_is : (from text word rest : List ℕ) → StandsBehind whole from text → text ≡ word ++ rest → IsCut text rest → IsPiece whole (span_of (place len text) word)
   word_is from text word rest t e cut = record {
     ordered = omega arith;
@@ -63,7 +62,7 @@ module _ (whole : List ℕ) (utf8 : IsUtf8 whole) where
       let at = boundary_cut whole text utf8 (whole_cut whole utf8 from text t) in
       one_error kind _ (record { ordered = omega arith; begins_at = at; ends_at = at })
 
-  -- characters past ASCII
+  -- characters beyond ASCII
   wide_passed : (code : ℕ) (word : List ℕ) → encode_utf8 code ≡ word → (from text rest : List ℕ) → StandsBehind whole from text → text ≡ word ++ rest → StandsBehind whole from rest
   wide_passed code word is from text rest t e = cut_to from text rest t (record {
     piece = word;
@@ -128,7 +127,7 @@ module _ (whole : List ℕ) (utf8 : IsUtf8 whole) where
   unfolding comma
   comma_kept from Q q = (word_passed whole utf8 (codes ",") refl from, white_kept from (λ _. Q true) (q true), q false)
 
-  -- a name's place, behind the place where its construct began
+  -- a name's span, not before the offset where its construct began
   abbrev IsBehind : List ℕ → Placed Span → Type 0
   IsBehind from key = IsPiece whole key.1 × (place len from ≤ key.1.end)
 
@@ -155,7 +154,7 @@ module _ (whole : List ℕ) (utf8 : IsUtf8 whole) where
   unfolding argument
   argument_kept from Q q = namespaced_kept from _ (λ n at. (word_passed whole utf8 (codes ")") refl from, q n at, λ text t. fault_is _ from text t))
 
-  -- a construct that keeps places, whatever is asked of settings at places
+  -- a construct that keeps the property, whatever is required of settings with their spans
   abbrev KeepsAll : Strict (ShownSetting Span) → Type 1
   KeepsAll c = (from : List ℕ) (Q : ShownSetting Span → Type 0) → ((s : ShownSetting Span) → EachSettingPlace (IsPiece whole) s → Q s) → KeepsPlaces whole c from Q
 
@@ -173,7 +172,7 @@ module _ (whole : List ℕ) (utf8 : IsUtf8 whole) where
         one_error _ _ (word_is from text _ _ t digits.whole cut),
   )
 
-  -- a text between quotes, and its place
+  -- a text between quotes, with its span
   text_kept : (from text word rest : List ℕ) → StandsBehind whole from text → IsText text word rest
       → StandsBehind whole from rest × IsPiece whole (text_at len text word rest).1
   text_kept from text word rest t is = (
@@ -239,7 +238,7 @@ module _ (whole : List ℕ) (utf8 : IsUtf8 whole) where
     )),
   )
     where
-      -- from a `!` to the end of the key behind it
+      -- from a `!` to the end of the key after it
       negated_at : (text : List ℕ) (key : Placed Span) → StandsBehind whole from text → IsBehind text key → IsPiece whole (record { start = place len text; end = key.1.end })
       negated_at text key t at = record {
         ordered = at.1;
@@ -251,7 +250,7 @@ module _ (whole : List ℕ) (utf8 : IsUtf8 whole) where
   unfolding entries entry_turn repeat
   entries_kept from Q q = ((entry_kept from _ (λ e at. (at, comma_kept from _ (λ b. tt))), tt), λ values all. q)
 
-  -- where `}` is missing
+  -- if `}` is missing
   end_is : (opening text : List ℕ) → StandsBehind whole opening text → IsErrorAt whole (end_fault len (place len opening) text)
   end_is opening [] t = one_error _ _ (piece_behind whole utf8 opening [] t)
   end_is opening (b ∷ text) t = go (eqb b 42) refl

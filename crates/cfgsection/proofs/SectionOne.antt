@@ -39,7 +39,7 @@ pub section_answered : (required : Bool) (text : List ℕ) (entries : List Entry
 unfolding section_of
 section_answered required text entries end is = let same = section_is required text entries end is in ap₂ section_answer same.0 same.1
 
--- entries that are noted one by one
+-- entries noted one by one
 noted_behind : (entries xs : List Entry) → fold (λ entries entry. entries ++ entry ∷ []) entries xs ≡ entries ++ xs
 noted_behind entries [] = sym (append-nil entries)
 noted_behind entries (x ∷ xs) = noted_behind (entries ++ x ∷ []) xs ∙ append_assoc entries (x ∷ []) xs
@@ -52,7 +52,7 @@ entries_read required text old new entries whole len none grown e =
     let items = (computes (section old.len required) old.rest.now).items in
     ap (map entry_view) e ∙ grown ∙ noted_behind (entries_of old) items ∙ ap (λ entries. entries ++ items) none ∙ (λ i. (computes (section (len i) required) (whole i)).items)
 
--- What is answered, from what was read and the errors that were found.
+-- What is returned, given what was read and the errors that were found.
 module _ (required : Bool) (text : List ℕ) (entries : List CodeEntry) (end : Result (Bor (List ℕ)) CodeFault) (errors : Vec (HeaderError Span) Global)
     (items_are : map entry_view entries ≡ (computes (section (length text) required) text).items)
     (end_is : end_view end ≡ end_of (computes (section (length text) required) text).outcome)

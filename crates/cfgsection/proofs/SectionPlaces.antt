@@ -1,5 +1,5 @@
--- Each error of a text's section has a place, and each of its places is a piece of the text. So are the places of its values, and
--- what is left behind the section is a cut of the text.
+-- Each error of a text's section has at least one span, and each of its spans is a piece of the text. So are the spans of its values, and
+-- the text may be cut where the section ends.
 use Rattle.std.proofs.Common.{◌≡◌, ℕ, suc, ◌<◌, Bool, true, false, cond, List, [], ◌∷◌, ◌++◌, filter, length, Result, Ok, Err, eqb, eqb-true, refl, ap, subst, length-append, ◌∙◌, append_assoc, arith, All}
 use Rattle.std.specs.Str.{IsUtf8, bytes_eq}
 use Rattle.std.proofs.lemmas.List.{length-map}
@@ -21,7 +21,7 @@ use Rattle.cfgsection.specs.SectionReads.{end_of, unless_errors, section_of}
 use Rattle.cfgsection.proofs.SectionKept.{IsEntryAt, section_kept}
 use Rattle.cfgkinds.proofs.ValuePlaces.{EachKindPlace}
 
--- the places of a repeated key are more than none
+-- a repeated key has at least one span
 front_places : (front rest : List Entry) (key : List ℕ) → 0 < length (places_of front key) → 0 < length (places_of (front ++ rest) key)
 front_places front rest key some = omega (
   arith,
@@ -73,7 +73,7 @@ module _ (whole : List ℕ) where
     errors_at (Ok (rest, left)) t = All-append (IsErrorAt whole) (duplicate_errors entries) [] duplicates_at (All-nil (IsErrorAt whole))
     errors_at (Err fault) at = All-append (IsErrorAt whole) (duplicate_errors entries) (fault ∷ []) duplicates_at (All-cons (IsErrorAt whole) fault [] at (All-nil (IsErrorAt whole)))
 
--- a refused section has an error at least
+-- a refused section has at least one error
 some_errors : (repeats : List Fault) (entries : List Entry) (end : Result (List ℕ) Fault) (shown : List Fault) → unless_errors (repeats ++ stopped_by end) entries end ≡ Err shown
     → 0 < length shown
 some_errors repeats entries (Err fault) shown e = let same : repeats ++ fault ∷ [] ≡ shown = cc in omega (arith, ap length same, length-append repeats (fault ∷ []))

@@ -1,4 +1,4 @@
--- One more entry: the places of its key, and the keys that are given more than once.
+-- One more entry: the spans of its key, and the keys that are given more than once.
 use Rattle.std.proofs.Common.{◌≡◌, ℕ, Bool, true, false, cond, List, [], ◌∷◌, ◌++◌, map, filter, length, eqb, refl, sym, ap, subst, ◌∙◌, append-nil, Vec, Global, Bor, Option, Some, None, Result, Ok, Err, unwrap_or, take, get_or, ◌+◌, ◌<◌}
 use Rattle.std.specs.BTreeMap.{BTreeMap, get_by, is_at}
 use Rattle.std.specs.Cmp.Lexicographic.{slice_cmp}
@@ -50,7 +50,7 @@ repeated-push done x =
     go true = refl
     go false = append-nil _
 
--- the places and the repeated keys of the entries so far
+-- the spans and the repeated keys of the entries so far
 pub record InPlaces (done : List Entry) (places : BTreeMap (Bor (List ℕ)) (Vec Span Global)) (again : List (Bor (List ℕ))) : Type 0 where
   pub spans : (key : List ℕ) → spans_at places key ≡ places_of done key
   pub keys : map (λ (key : Bor (List ℕ)). key.now) again ≡ repeated done
@@ -96,12 +96,12 @@ entries_more xs i x within is = ap (map entry_view) (take_more xs i x within ∙
 abbrev pub found_at : BTreeMap (Bor (List ℕ)) (Vec Span Global) → List ℕ → Option (Vec Span Global)
 found_at places key = get_by (λ k. slice_cmp nat_cmp key k.now) places
 
--- the places that were taken out of a map, or none
+-- the spans that were taken out of a map, or none
 pub items_or : (o : Option (Vec Span Global)) (none : Vec Span Global) → none.items ≡ [] → (unwrap_or o none).items ≡ option_map_or (λ (spans : Vec Span Global). spans.items) o []
 items_or None none e = e
 items_or (Some spans) none e = refl
 
--- taking a key's places out and putting them back with one more
+-- taking a key's spans out and putting them back with one more
 module _ (old mid new : BTreeMap (Bor (List ℕ)) (Vec Span Global)) (key : List ℕ) (span : Span) (spans : Vec Span Global)
     (taken : (other : List ℕ) → found_at mid other ≡ update bytes_eq (found_at old) key None other)
     (put : (other : List ℕ) → found_at new other ≡ update bytes_eq (found_at mid) key (Some spans) other)

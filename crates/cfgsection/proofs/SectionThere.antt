@@ -1,4 +1,4 @@
--- A section that must be there is read as one that may be missing, where it isn't.
+-- A required section is read like an optional one, unless it is missing.
 use Rattle.std.proofs.Common.{◌≡◌, ℕ, ◌⊎◌, inl, inr, Bool, true, false, List, [], ◌∷◌, ◌++◌, length, Option, Some, None, Result, Ok, Err, All, refl, ap, codes}
 use Rattle.std.proofs.lemmas.List.Elements.{All-head}
 use Rattle.cfgbase.specs.declared.span.Span.{Span}
@@ -39,7 +39,7 @@ module _ (text : List ℕ) where
   abbrev Section : Type 0
   Section = Result (List Entry × List ℕ) (List (ShownError Span))
 
-  -- one that must be there, and one that may be missing: they are the same, or it is missing
+  -- a required section and an optional one: they are the same, or the section is missing
   abbrev IsSameOrMissing : Section → Section → Type 0
   IsSameOrMissing needed free = (needed ≡ free) ⊎ ((free ≡ Ok ([], text)) × ((found : List Entry × List ℕ) → needed ≡ Ok found → ⊥))
 
@@ -47,7 +47,7 @@ module _ (text : List ℕ) where
   answer read = section_answer read.items (end_of read.outcome)
 
   module _ (there : List ℕ → Read Entry Fault (List ℕ)) where
-    -- what white space and the word `%grmtools` or none leave
+    -- the rest after white space and the word `%grmtools`, if it is there
     abbrev by_word : Bool → Option (List ℕ) → List ℕ → Read Entry Fault (List ℕ)
     by_word required found rest = behind_word there (computes (missing (length text) required text) rest) found
 

@@ -14,7 +14,7 @@ use Rattle.cfgkinds.specs.Values.{ShownHeaderValue}
 abbrev pub Naming : Type 0
 Naming = Result YaccKind (List (ShownError Span))
 
--- no kind is named, because of what stands at these places
+-- no kind is named, because of what is at these spans
 abbrev pub unnamed : List Span → List (ShownError Span)
 unnamed places = record { kind = InvalidEntry (codes "yacckind"); locations = places } ∷ []
 
@@ -22,7 +22,7 @@ abbrev pub kind_or_places : Result YaccKind (List Span) → Naming
 kind_or_places (Ok kind) = Ok kind
 kind_or_places (Err places) = Err (unnamed places)
 
--- by what is given for the key `yacckind`; where nothing is, the error has the empty span at offset 0
+-- given the value for the key `yacckind`; without one, the error has the empty span at offset 0
 abbrev pub kind_given : Option (ShownHeaderValue Span) → Naming
 kind_given None = Err (unnamed (record { start = 0; end = 0 } ∷ []))
 kind_given (Some given) = kind_or_places (kind_of_value given.value)
@@ -31,7 +31,7 @@ abbrev pub kind_in : Result (List Entry × List ℕ) (List (ShownError Span)) �
 kind_in (Err errors) = Err errors
 kind_in (Ok (entries, rest)) = kind_given (given entries (codes "yacckind"))
 
--- The text has a section, and that names this; where it has errors, these keep it from naming a kind.
+-- The text has a section that names this kind; if the section has errors, these keep it from naming one.
 pub record Names (text : List ℕ) (naming : Naming) : Type 0 where
   pub entries : List Entry
   pub end : Result (List ℕ) Fault
@@ -52,20 +52,20 @@ pub record NamesNoKind (text : List ℕ) : Type 0 where
   pub whole : section_answer entries (Ok rest) ≡ Ok (entries, rest)
   pub none : given entries (codes "yacckind") ≡ None
 
--- what a call answers that asks for the kind
+-- what a call returns that is asked for the kind
 abbrev pub IsNaming : Naming → Result YaccKind HeaderFault → Type 0
 IsNaming naming (Ok kind) = naming ≡ Ok kind
 IsNaming naming (Err (faults.Errors errors)) = naming ≡ Err (errors_view errors.items)
 IsNaming naming (Err faults.OutOfMemory) = Unit {0}
 
--- The same where the text may name no kind, and only there none is given. Running out of memory says nothing.
+-- The same if the text may name no kind; only then none is returned. Running out of memory says nothing.
 abbrev pub IsKindIfNamed : List ℕ → Result (Option YaccKind) HeaderFault → Type 0
 IsKindIfNamed text (Ok None) = NamesNoKind text
 IsKindIfNamed text (Ok (Some kind)) = (NamesNoKind text → ⊥) × Names text (Ok kind)
 IsKindIfNamed text (Err (faults.Errors errors)) = (NamesNoKind text → ⊥) × Names text (Err (errors_view errors.items))
 IsKindIfNamed text (Err faults.OutOfMemory) = Unit {0}
 
--- a result of two parts, by its first
+-- a result of two parts, by the first one
 abbrev pub first_part : {A B E : Type 0} → Result (A × B) E → Result A E
 first_part (Ok (a, b)) = Ok a
 first_part (Err error) = Err error

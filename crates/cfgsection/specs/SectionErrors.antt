@@ -1,4 +1,4 @@
--- The errors of a section: what is given more than once, and then what stopped its reading.
+-- The errors of a section: one for each key that is given more than once, and then what stopped its reading.
 use Rattle.std.specs.Prelude.{ℕ, Bool, List, [], ◌∷◌, ◌++◌, ◌==◌, map, length, Result, Ok, Err}
 use Rattle.std.specs.List.{filter}
 use Rattle.std.specs.Str.{bytes_eq}
@@ -7,11 +7,11 @@ use Rattle.cfgbase.specs.declared.span.Span.{Span}
 use Rattle.cfgerrors.specs.HeaderErrors.{DuplicateEntry, ShownError}
 use Rattle.cfgsection.specs.SectionGrammar.{Entry}
 
--- the places of a key, in order
+-- the spans of a key, in order
 abbrev pub places_of : List Entry → List ℕ → List Span
 places_of entries key = map (λ e. e.key_span) (filter (λ e. bytes_eq e.key key) entries)
 
--- the first repeat of a key: exactly one entry before it has the same
+-- the first repeat of a key: exactly one earlier entry has the same key
 abbrev pub is_first_repeat : List Entry × Entry → Bool
 is_first_repeat (front, entry) = length (places_of front entry.key) == 1
 
@@ -19,7 +19,7 @@ is_first_repeat (front, entry) = length (places_of front entry.key) == 1
 unfoldable pub repeated : List Entry → List (List ℕ)
 repeated entries = map (λ x. x.1.key) (filter is_first_repeat (with_fronts entries))
 
--- the error for a key that is given more than once, at all its places
+-- the error for a key that is given more than once, at all its spans
 abbrev pub duplicate_error : List Entry → List ℕ → ShownError Span
 duplicate_error entries key = record { kind = DuplicateEntry; locations = places_of entries key }
 

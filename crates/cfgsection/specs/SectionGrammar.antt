@@ -1,5 +1,5 @@
--- The grammar of a section, construct by construct. `do` is sequence. What a construct means is `Says` of it; what counts as read
--- are the entries.
+-- The grammar of a section, construct by construct. `do` is sequence. `Says` of a construct is its meaning; the entries are what counts as
+-- read.
 use Rattle.std.specs.Prelude.{ℕ, zero, suc, ◌+◌, Bool, true, false, List, [], ◌∷◌, Some, None, ◌==◌, not, codes, if◌then◌else◌}
 use Rattle.cfgbase.specs.declared.span.Span.{Span}
 use Rattle.reading.specs.Pieces.{starts, run}
@@ -14,7 +14,7 @@ use Rattle.cfgerrors.specs.HeaderErrors.{ShownErrorKind, MissingGrmtoolsSection,
 use Rattle.cfgkinds.specs.Values.{Placed, ShownNamespaced, ShownSetting, Unitary, Constructor, Number, Text, Array, settings_of, ShownValue, Flag, Given}
 use Rattle.cfgsection.specs.SectionWordKinds.{name_kind, text_kind, integer_kind}
 
--- an entry of a section: its key in lower case, the key's place, and what the key has
+-- an entry of a section: its key in lower case, the key's span, and its value
 pub record Entry : Type 0 where
   pub key : List ℕ
   pub key_span : Span
@@ -23,11 +23,11 @@ pub record Entry : Type 0 where
 abbrev pub Fault : Type 0
 Fault = ShownError Span
 
--- a construct that leaves less text than it found, as each turn of a repetition must
+-- a construct that leaves a shorter rest, as each turn of a repetition must
 abbrev pub Strict : Type 0 → Type 1
 Strict A = Construct Entry Fault Less (One A)
 
--- a construct that may leave all of it
+-- a construct that may leave the whole text
 abbrev pub Lax : Type 0 → Type 1
 Lax A = Construct Entry Fault NoMore (One A)
 
@@ -39,7 +39,7 @@ Turn A = Construct Entry Fault Less (OneOrEnd A)
 abbrev pub begins : ℕ → List ℕ → Bool
 begins byte text = starts (λ b. b == byte) text
 
--- the text goes on, and not with this byte
+-- the text is not at its end, and doesn't begin with this byte
 abbrev pub goes_on_before : ℕ → List ℕ → Bool
 goes_on_before byte text = starts (λ b. not (b == byte)) text
 
@@ -53,11 +53,11 @@ glob_hint = codes "perhaps this is a glob, in which case it requires string quot
 abbrev pub error_over : ShownErrorKind → ℕ → ℕ → Fault
 error_over kind start end = record { kind = kind; locations = record { start = start; end = end } ∷ [] }
 
--- a fault right at a place
+-- a fault right where the text is left
 abbrev pub fault_at : ℕ → ShownErrorKind → List ℕ → Fault
 fault_at len kind text = error_over kind (place len text) (place len text)
 
--- what stands from one place to a later one
+-- the span from one offset to a later one
 abbrev pub between : ℕ → List ℕ → List ℕ → Span
 between len text rest = record { start = place len text; end = place len rest }
 
@@ -65,15 +65,15 @@ between len text rest = record { start = place len text; end = place len rest }
 abbrev pub byte_at : ℕ → Span
 byte_at start = record { start = start; end = start + 1 }
 
--- the star where something else must stand
+-- a star instead of something else
 abbrev pub unexpected_star : ShownErrorKind
 unexpected_star = UnexpectedToken 42 glob_hint
 
--- where a name must stand
+-- the fault if there is no name
 abbrev pub name_fault : ℕ → List ℕ → Fault
 name_fault len text = fault_at len (if begins 42 text then unexpected_star else IllegalName) text
 
--- over the digits that write too large a number
+-- over the digits of a number that is too large
 abbrev pub number_fault : ℕ → List ℕ → Fault
 number_fault len text = record { kind = InvalidEntry (codes "number"); locations = span_of (place len text) (run (holds bytes.Digit) text).0 ∷ [] }
 
@@ -81,13 +81,13 @@ number_fault len text = record { kind = InvalidEntry (codes "number"); locations
 abbrev pub nesting_fault : Span → Fault
 nesting_fault opens = record { kind = InvalidEntry (codes "nesting"); locations = opens ∷ [] }
 
--- where a comma or `}` must stand in a section whose `{` stands at opening
+-- the fault if there is no comma or `}` in a section whose `{` is at opening
 abbrev pub end_fault : ℕ → ℕ → List ℕ → Fault
 end_fault len opening text =
     if begins 42 text then record { kind = unexpected_star; locations = byte_at (place len text) ∷ [] }
     else error_over (ExpectedToken 125) opening (place len text)
 
--- one of these characters if one stands here, or else what c says
+-- one of these characters if the text begins with one, or else what c says
 abbrev pub one_of : List (ℕ × List ℕ) → Turn (Unit {0}) → Turn (Unit {0})
 one_of [] c = c
 one_of ((first, others) ∷ characters) c = case_of (first ∷ others) (again tt) (one_of characters c)
@@ -104,11 +104,11 @@ separator = case_of (codes ",") (again tt) white_character
 unfoldable pub white : Lax (Unit {0})
 white = repeat white_character
 
--- white space and commas, in any mix
+-- white space and commas, in any order
 unfoldable pub separators : Lax (Unit {0})
 separators = repeat separator
 
--- whether a comma stands here, and the white space behind it
+-- whether there is a comma here, and the white space after it
 unfoldable pub comma : Lax Bool
 comma = case_of (codes ",") (do
   white
@@ -120,7 +120,7 @@ module _ (len : ℕ) where
   unfoldable pub name : Strict (Placed Span)
   name = word_or name_kind (name_at len) gives (fails (name_fault len))
 
-  -- `name` or `name :: name`, and the white space behind it
+  -- `name` or `name :: name`, and the white space after it
   unfoldable pub namespaced : Strict (ShownNamespaced Span)
   namespaced = do
     first ← name
@@ -132,7 +132,7 @@ module _ (len : ℕ) where
       gives (record { namespace = Some first; member = member }))
         (gives (record { namespace = None; member = first }))
 
-  -- such a name, and the bracket that closes behind it
+  -- such a name, and the `)` after it
   unfoldable pub argument : Strict (ShownNamespaced Span)
   argument = do
     name ← namespaced
@@ -151,7 +151,7 @@ module _ (len : ℕ) where
   unfoldable pub number : Strict (ShownSetting Span)
   number = word_or integer_kind (integer_at len) (λ number. gives (Number number.0 number.1)) (fails (number_fault len))
 
-  -- a setting of an array, and what stands between it and the next
+  -- a setting of an array, and what is between it and the next one
   unfoldable pub element : Strict (ShownSetting Span) → Strict (ShownSetting Span)
   element setting = do
     value ← setting
@@ -161,7 +161,7 @@ module _ (len : ℕ) where
   unfoldable pub elements : Strict (ShownSetting Span) → Lax (List (ShownSetting Span))
   elements setting = many (while_test (goes_on_before 93) (element setting))
 
-  -- what stands behind the bracket that opens it
+  -- what follows the opening bracket
   unfoldable pub array : Strict (ShownSetting Span) → Span → Strict (ShownSetting Span)
   array setting opens = do
     separators
@@ -170,21 +170,21 @@ module _ (len : ℕ) where
       expect (codes "]") (fault_at len (ExpectedToken 93))
       here (λ behind. gives (Array (settings_of values) opens (between len closing behind))))
 
-  -- a setting, by what stands behind its bracket if it has one
+  -- a setting, by what follows its bracket if it has one
   unfoldable pub bare_setting : (Span → Strict (ShownSetting Span)) → Strict (ShownSetting Span)
   bare_setting bracketed =
       choice (starts (holds bytes.Digit)) number
       (word_or text_kind (text_at len) (λ text. gives (Text text.0 text.1))
       (here (λ opening. case_of (codes "[") (here (λ behind. bracketed (between len opening behind))) applied)))
 
-  -- the same, and the white space behind it
+  -- the same, and the white space after it
   unfoldable pub setting_by : (Span → Strict (ShownSetting Span)) → Strict (ShownSetting Span)
   setting_by bracketed = do
     value ← bare_setting bracketed
     white
     gives value
 
-  -- what stands behind a bracket, where room might open with it
+  -- what follows a bracket, if room brackets may still open, this one included
   unfoldable pub bracketed : ℕ → Span → Strict (ShownSetting Span)
   bracketed zero opens = fails (λ text. nesting_fault opens)
   bracketed (suc room) opens = array (setting_by (bracketed room)) opens
@@ -193,14 +193,14 @@ module _ (len : ℕ) where
   unfoldable pub setting : ℕ → Strict (ShownSetting Span)
   setting room = setting_by (bracketed room)
 
-  -- what stands behind a `!` that stood at start
+  -- what follows a `!` that is at start
   unfoldable pub negated : ℕ → Strict Entry
   negated start = do
     key ← name
     white
     gives (record { key = key.0; key_span = key.1; value = Flag false (record { start = start; end = key.1.end }) })
 
-  -- what stands behind a key
+  -- what follows a key
   unfoldable pub value_of : Placed Span → Lax Entry
   value_of key = case_of (codes ":") (do
     white
@@ -214,11 +214,11 @@ module _ (len : ℕ) where
     white
     value_of key
 
-  -- an entry, and the white space behind it
+  -- an entry, and the white space after it
   unfoldable pub entry : Strict Entry
   entry = here (λ text. case_of (codes "!") (negated (place len text)) affirmed)
 
-  -- an entry, behind which the row of entries goes on where a comma stands; it ends before `}` and at the text's end too
+  -- an entry, after which the list of entries continues if there is a comma; it also ends before `}` and at the text's end
   unfoldable pub entry_turn : Turn (Unit {0})
   entry_turn = choice (goes_on_before 125) (do
     one ← entry
@@ -230,7 +230,7 @@ module _ (len : ℕ) where
   unfoldable pub entries : Lax (Unit {0})
   entries = repeat entry_turn
 
-  -- what stands behind `%grmtools` and white space
+  -- what follows `%grmtools` and white space
   unfoldable pub braced : Strict (Unit {0})
   braced = here (λ opening. do
     expect (codes "{") (fault_at len (ExpectedToken 123))
@@ -238,12 +238,12 @@ module _ (len : ℕ) where
     entries
     expect (codes "}") (end_fault len (place len opening)))
 
-  -- where a section may be missing, and where it may not
+  -- if there is no section: it may be optional, or required
   unfoldable pub missing : Bool → List ℕ → Lax (List ℕ)
   missing required whole =
       choice (λ _. required) (fails (λ text. error_over MissingGrmtoolsSection 0 0)) (gives whole)
 
-  -- the section, and what is left behind it: all of the text where there is none
+  -- the section, and the rest after it: the whole text if there is no section
   unfoldable pub section : Bool → Lax (List ℕ)
   section required = here (λ whole. do
     white

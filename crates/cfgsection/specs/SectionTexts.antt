@@ -1,4 +1,4 @@
--- What `{}` prints of a refused section, in bytes: of errors the text of each, in their order, with a line end between two of them.
+-- What `{}` prints of a refused section, in bytes: the text of each error, in order, with a line end between two of them.
 use Rattle.std.specs.Prelude.{ℕ, List, codes}
 use Rattle.std.specs.List.{join_by}
 use Rattle.cfgsection.specs.declared.section.header_fault.HeaderFault.{HeaderFault}

@@ -1,4 +1,4 @@
--- The kinds of words that a section has. Each holds the proofs that its program finds just it, so this file names those.
+-- The kinds of words in a section. Each includes the proofs that its program finds exactly it, so this file refers to proofs.
 use Rattle.std.specs.Prelude.{ℕ, List}
 use Rattle.reading.specs.WordKind.{WordKind}
 use Rattle.cfgwords.specs.SectionWords.{IsName, IsText, name_of, text_of}

@@ -13,7 +13,7 @@ use cfgerrors::{HeaderError, HeaderErrorKind};
 use cfgkinds::{KindFault, YaccKind};
 use std::alloc::{AllocError, Global};
 
-/// The error of a section that has no key `yacckind`.
+/// The error of a section without the key `yacckind`.
 fn key_missing(alloc: Global) -> Result<HeaderError<Span>, AllocError>
     ensures { IfOk result (λ error. error_view error
         ≡ record { kind = InvalidEntry (codes "yacckind"); locations = record { start = 0; end = 0 } ∷ [] }) }
@@ -26,7 +26,7 @@ fn key_missing(alloc: Global) -> Result<HeaderError<Span>, AllocError>
     })
 }
 
-/// The kind that is given for the key `yacckind`, if anything is.
+/// The kind that is given for the key `yacckind`, if there is one.
 fn kind_given(alloc: Global, given: Option<&Entry>) -> Result<YaccKind, HeaderFault>
     ensures { IsNaming (kind_given (option_map (λ entry. given_by (entry_view entry.now)) given.entry)) result }
 {
@@ -43,13 +43,13 @@ fn kind_given(alloc: Global, given: Option<&Entry>) -> Result<YaccKind, HeaderFa
     Err(HeaderFault::Errors(errors))
 }
 
-/// The kind that the section of a text names, and what is left of the text after that. A text names one kind, or has
-/// one list of errors, each at places of the text.
+/// The kind that the section of a text names, and the rest of the text after the section. A text names one kind, or has
+/// one list of errors, whose spans are pieces of the text.
 ///
 /// # Errors
 ///
-/// The errors of the section, which must be there; where there are none, one error where it has no key `yacckind`, or
-/// gives that what is no kind; and running out of memory.
+/// The errors of the section, which is required; if it has none, one error if it has no key `yacckind`, or if the key's
+/// value is not a kind. Or running out of memory.
 pub fn kind_named(alloc: Global, text: &str) -> Result<(YaccKind, &str), HeaderFault>
     ensures one { HasOneNaming text.now }
     ensures naming { (naming : Naming) → Names text.now naming → IsNaming naming (first_part result) }
@@ -62,13 +62,13 @@ pub fn kind_named(alloc: Global, text: &str) -> Result<(YaccKind, &str), HeaderF
     Ok((kind, rest))
 }
 
-/// The kind that the section of a text names, and what is left of the text after that. Where the text has no section,
-/// or one without errors that has no key `yacckind`, there is no kind.
+/// The kind that the section of a text names, and the rest of the text after the section. There is no kind if the text
+/// has no section, or one without errors that has no key `yacckind`.
 ///
 /// # Errors
 ///
-/// The errors of the section; where there are none, one error where it gives `yacckind` what is no kind; and running
-/// out of memory.
+/// The errors of the section; if it has none, one error if the value of `yacckind` is not a kind. Or running out of
+/// memory.
 pub fn kind_if_named(alloc: Global, text: &str) -> Result<(Option<YaccKind>, &str), HeaderFault>
     ensures naming { IsKindIfNamed text.now (first_part result) }
     ensures rest { IfOk result (λ x. IsAfterSection text.now x.1.now) }

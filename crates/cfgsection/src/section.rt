@@ -30,17 +30,16 @@ use read::read;
 use reader::Reader;
 use std::alloc::Global;
 
-/// Reads the section of a text, which must stand there if it is required, and answers its entries, each of another key,
-/// and what is left of the text behind its `}`. Where there is no section and none is required, there are no entries,
-/// and all of the text is left.
+/// Reads the section of a text, and returns its entries, each with another key, and the rest of the text after its `}`.
+/// If there is no section and none is required, there are no entries, and the rest is the whole text.
 ///
-/// The text's section has exactly one reading: the entries that count as read, and what is left behind it or what
-/// stopped the reading. The ends of each span of an error are places of the text.
+/// The text's section has exactly one reading: the entries that count as read, and the rest after it or what stopped
+/// the reading. Both ends of each span of an error are character boundaries of the text.
 ///
 /// # Errors
 ///
-/// An error for each key that is given more than once, in the order of the first repeats, with all its places, and
-/// then the one that stopped the reading, if there is one; at least one. Or want of memory.
+/// An error for each key that is given more than once, in the order of the first repeats, with all its spans, and then
+/// the one that stopped the reading, if there is one; at least one error. Or running out of memory.
 pub fn section_entries(
     alloc: Global,
     text: &str,
@@ -63,13 +62,13 @@ pub fn section_entries(
     Ok((entries, rest))
 }
 
-/// Reads the entry at an offset of a text, in bytes: its key in lower case, the key's place, its value, and the offset
-/// behind the entry and the white space that follows it. That offset is a place of the text, and the key's place is a
-/// piece of it, as is each span of an error.
+/// Reads the entry at an offset of a text, in bytes: its key in lower case, the key's span, its value, and the offset
+/// after the entry and the white space that follows it. That offset is a character boundary of the text, and the key's
+/// span is a piece of it, as is each span of an error.
 ///
 /// # Errors
 ///
-/// The one error that stopped the reading, or want of memory.
+/// The one error that stopped the reading, or running out of memory.
 pub fn entry_at(
     alloc: Global,
     text: &str,

@@ -1,4 +1,4 @@
--- What a step of the section's reader does, told by what reading gives there.
+-- What a step of the section's reader does, given what reading gives from there.
 use Rattle.std.specs.Prelude.{ℕ, List, [], ◌∷◌, ◌++◌, map, Option, Some, None, Result, Ok, Err, Vec}
 use Rattle.std.specs.BTreeMap.{BTreeMap, get_by}
 use Rattle.std.specs.Cmp.Lexicographic.{slice_cmp}
@@ -48,20 +48,20 @@ section_reader = record {
 abbrev pub Grows : Reader → Reader → List Entry → Type 0
 Grows = steps.Grows section_reader
 
--- What a step returned, seen by view, is what reading the construct gives, and the reader has noted the entries that were
--- read, unless memory ran out.
+-- What a step returned, converted by view, is what reading the construct gives, and the reader has noted the entries that were read, unless
+-- memory ran out.
 abbrev pub Builds : {l : Leaves} {G : Gives} {X : Type 0} → (X → ValueOf G) → Reader → Reader → Result X ReadFault → Construct Entry Fault l G → Type 0
 Builds = steps.Builds section_reader
 
--- the places that are noted of a key
+-- the spans that are noted for a key
 abbrev pub spans_at : BTreeMap (Bor (List ℕ)) (Vec Span Global) → List ℕ → List Span
 spans_at places key = option_map_or (λ spans. spans.items) (get_by (λ k. slice_cmp nat_cmp key k.now) places) []
 
--- the error for a key that is given more than once, at the places that are noted of it
+-- the error for a key that is given more than once, at the spans that are noted for it
 abbrev pub duplicate_at : BTreeMap (Bor (List ℕ)) (Vec Span Global) → List ℕ → Fault
 duplicate_at places key = record { kind = DuplicateEntry; locations = spans_at places key }
 
--- the fault that a reading ended with, if one did, or what was left
+-- the fault that ended a reading, if one did, or the rest
 abbrev pub end_view : Result (Bor (List ℕ)) CodeFault → Result (List ℕ) Fault
 end_view (Ok rest) = Ok rest.now
 end_view (Err fault) = Err (fault_view fault)

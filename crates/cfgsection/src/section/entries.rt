@@ -21,7 +21,7 @@ impl<'a> Reader<'a> {
     ghost use Rattle.cfgsection.specs.SectionReads.{entry_view};
     ghost use Rattle.cfgsection.specs.Inner.Steps.{Builds, fault_view};
 
-    /// Passes what stands behind a `!` that stood at `start`.
+    /// Passes what follows a `!` that is at `start`.
     #[tactic(auto, unfolding(crate::specs::SectionGrammar::negated))]
     fn negated(&mut self, start: usize) -> Result<Entry, ReadFault>
         requires { start ≤ place self.old.len self.old.rest.now }
@@ -36,7 +36,7 @@ impl<'a> Reader<'a> {
         })
     }
 
-    /// Passes what stands behind a key.
+    /// Passes what follows a key.
     #[tactic(auto, unfolding(crate::specs::SectionGrammar::value_of))]
     fn value_of(&mut self, key: (String, Span)) -> Result<Entry, ReadFault>
         ensures { Builds entry_view self.old self.new result (value_of self.old.len (placed_view key)) }
@@ -59,7 +59,7 @@ impl<'a> Reader<'a> {
         })
     }
 
-    /// Passes an entry, and the white space behind it.
+    /// Passes an entry, and the white space after it.
     #[tactic(auto, unfolding(crate::specs::SectionGrammar::entry, crate::specs::SectionGrammar::affirmed))]
     pub(super) fn entry(&mut self) -> Result<Entry, ReadFault>
         ensures { Builds entry_view self.old self.new result (entry self.old.len) }
@@ -73,7 +73,7 @@ impl<'a> Reader<'a> {
         self.value_of(key)
     }
 
-    /// Notes the entry that stands here, if one does, and tells whether the row of entries goes on behind it.
+    /// Notes the entry here, if there is one, and returns whether the list of entries continues after it.
     #[tactic(auto, unfolding(crate::specs::SectionGrammar::entry_turn))]
     fn entry_turn(&mut self) -> Result<bool, ReadFault>
         ensures { Builds goes_on self.old self.new result (entry_turn self.old.len) }
@@ -86,7 +86,7 @@ impl<'a> Reader<'a> {
         Ok(self.comma())
     }
 
-    /// Notes the entries that stand here.
+    /// Notes the entries from here on.
     fn entries(&mut self) -> Result<(), ReadFault>
         ensures { Builds (λ x. x) self.old self.new result (entries self.old.len) }
     {
@@ -94,7 +94,7 @@ impl<'a> Reader<'a> {
         Ok(())
     }
 
-    /// A fault where a comma or `}` must stand, in a section whose `{` stands at `opening`.
+    /// The fault if there is no comma or `}`, in a section whose `{` is at `opening`.
     fn end_fault(&self, opening: usize) -> Fault
         requires { opening ≤ place self.now.len self.now.rest.now }
         ensures { fault_view result ≡ end_fault self.now.len opening self.now.rest.now }
@@ -129,8 +129,7 @@ impl<'a> Reader<'a> {
         }
     }
 
-    /// Passes the section, and answers what is left behind it: all of the text where there is none, unless one is
-    /// required.
+    /// Passes the section, and returns the rest after it: the whole text if there is none and none is required.
     #[tactic(auto, unfolding(crate::specs::SectionGrammar::section, crate::specs::SectionGrammar::missing))]
     pub(super) fn section(&mut self, required: bool) -> Result<&'a str, ReadFault>
         ensures { Builds (λ rest. rest.now) self.old self.new result (section self.old.len required) }

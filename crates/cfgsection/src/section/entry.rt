@@ -6,7 +6,7 @@ ghost use Rattle.cfgsection.specs.SectionReads.{entry_view, given, given_by};
 use cfgbase::Span;
 use cfgkinds::Value;
 
-/// A key in lower case, its place, and what it has.
+/// A key in lower case, its span, and its value.
 #[derive(Drop)]
 pub struct Entry {
     pub key: String,

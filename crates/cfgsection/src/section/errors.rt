@@ -14,7 +14,7 @@ use cfgerrors::{HeaderError, HeaderErrorKind};
 use std::alloc::{AllocError, Global};
 use std::collections::BTreeMap;
 
-/// Notes one more place of a key, and answers whether it is the second.
+/// Notes one more span of a key, and returns whether it is the second.
 fn note<'a>(
     alloc: Global,
     places: &mut BTreeMap<&'a str, Vec<Span>>,
@@ -32,7 +32,7 @@ fn note<'a>(
     Ok(second)
 }
 
-/// The places of each key, and the keys that are given more than once, in the order of their first repeats.
+/// The spans of each key, and the keys that are given more than once, in the order of their first repeats.
 fn gathered<'a>(
     alloc: Global,
     entries: &'a [Entry],
@@ -53,7 +53,7 @@ fn gathered<'a>(
     Ok((places, again))
 }
 
-/// The places that are noted of a key.
+/// The spans that are noted for a key.
 fn spans_of(
     alloc: Global,
     places: &BTreeMap<&str, Vec<Span>>,
@@ -67,7 +67,7 @@ fn spans_of(
     }
 }
 
-/// An error for each of the keys, at the places that are noted of it.
+/// An error for each of the keys, at the spans that are noted for it.
 fn errors_at(
     alloc: Global,
     places: &BTreeMap<&str, Vec<Span>>,
@@ -87,7 +87,7 @@ fn errors_at(
     Ok(errors)
 }
 
-/// An error for each key that is given more than once, at all its places, in the order of the first repeats.
+/// An error for each key that is given more than once, at all its spans, in the order of the first repeats.
 fn duplicate_errors(alloc: Global, entries: &[Entry]) -> Result<Vec<HeaderError<Span>>, AllocError>
     ensures { IfOk result (λ errors. errors_view errors.items ≡ duplicate_errors (map entry_view entries.now)) }
 {

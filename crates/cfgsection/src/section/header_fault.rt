@@ -14,7 +14,7 @@ use std::fmt;
 pub enum HeaderFault {
     /// The section has these errors, at least one.
     Errors(Vec<HeaderError<Span>>),
-    /// There is no memory left. This says nothing of the text.
+    /// Out of memory. This says nothing about the text.
     OutOfMemory,
 }
 

@@ -7,22 +7,22 @@ ghost use Rattle.reading.specs.Construct.{Says, computes};
 ghost use Rattle.cfgsection.specs.SectionGrammar.{Entry, Fault, entry, section};
 ghost use Rattle.cfgsection.specs.SectionReads.{IsSection, section_of, section_answer};
 
-/// The plain program `section`, a function on lists of bytes, reads just what the grammar relates a text to: so every
-/// text has a reading of its section, and only one.
+/// The plain program `section`, a function on lists of bytes, reads exactly what the grammar relates a text to: so the
+/// section of every text has exactly one reading.
 #[tactic(auto, using(reading::proofs::Agree::agree))]
 pub fn section_is_graph()
     ensures { (len : ℕ) (required : Bool)
         → IsGraph (Says (section len required)) (computes (section len required)) }
 {}
 
-/// The plain program `entry` reads just what the grammar relates a text to: so every text has a reading of an entry at
-/// its front, and only one.
+/// The plain program `entry` reads exactly what the grammar relates a text to: so every text has exactly one reading of
+/// an entry at its start.
 #[tactic(auto, using(reading::proofs::Agree::agree))]
 pub fn entry_is_graph()
     ensures { (len : ℕ) → IsGraph (Says (entry len)) (computes (entry len)) }
 {}
 
-/// What is answered of a text, `section_of`, is told by the one reading of its section.
+/// What is returned of a text, `section_of`, is what the one reading of its section gives.
 #[tactic(auto, using(crate::proofs::SectionOne::section_answered))]
 pub fn section_answers_its_reading()
     ensures { (required : Bool) (text : List ℕ) (entries : List Entry) (end : Result (List ℕ) Fault)
@@ -30,7 +30,7 @@ pub fn section_answers_its_reading()
         → section_of required text ≡ section_answer entries end }
 {}
 
-/// A refused section has an error. Each error has a place, and each of its places is a piece of the text.
+/// A refused section has an error. Each error has a span, and each of its spans is a piece of the text.
 pub fn section_errors_are_at_places()
     ensures some { (required : Bool) (text : List ℕ) (errors : List Fault) → section_of required text ≡ Err errors
         → 0 < length errors }

@@ -1,4 +1,4 @@
-//! The reading of a text's section.
+//! Reading a text's section.
 
 ghost use Rattle.std.specs.Prelude.{◌≡◌, map, length, IfOk};
 ghost use Rattle.std.specs.Str.{IsUtf8};
@@ -12,7 +12,7 @@ use crate::section::fault::{Fault, ReadFault};
 use crate::section::reader::Reader;
 use std::alloc::{AllocError, Global};
 
-/// Reads the section of a text: its entries, and what is left behind it or what stopped the reading.
+/// Reads the section of a text: its entries, and the rest after it or what stopped the reading.
 pub(super) fn read(
     alloc: Global,
     text: &str,

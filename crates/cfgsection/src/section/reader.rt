@@ -1,4 +1,4 @@
-//! The reader of a section: a place in the text, and the entries that were read.
+//! The reader of a section: an offset in the text, and the entries that were read.
 
 ghost use Rattle.std.specs.Prelude.{◌≡◌, ◌+◌, ◌≤◌, length, [], Some, None, Ok, MatchBool, IfOk};
 ghost use Rattle.reading.specs.Construct.{expect, goes_on};
@@ -20,14 +20,14 @@ use std::alloc::Global;
 
 const GLOB_HINT: &str = "perhaps this is a glob, in which case it requires string quoting.";
 
-/// A star where something else must stand.
+/// A star instead of something else.
 pub(super) fn unexpected_star() -> HeaderErrorKind
     ensures { error_kind_view result ≡ unexpected_star }
 {
     HeaderErrorKind::UnexpectedToken('*', GLOB_HINT)
 }
 
-/// Reads a text of `len` bytes: `rest` is left of it, and `entries` were read.
+/// Reads a text of `len` bytes: `rest` is the unread suffix, and `entries` were read.
 #[derive(Drop)]
 pub(crate) struct Reader<'a> {
     pub(crate) alloc: Global,
@@ -40,7 +40,7 @@ pub(crate) struct Reader<'a> {
 impl<'a> Reader<'a> {
     ghost use Rattle.cfgsection.specs.Inner.Steps.{Builds, entries_of, fault_view};
 
-    /// In a text of `len` bytes, where `rest` is left of it, with nothing read.
+    /// Before the rest of a text of `len` bytes, with nothing read.
     pub(super) fn new(alloc: Global, len: usize, rest: &'a str) -> Self
         requires { length rest.now ≤ len }
         ensures place { (result.rest.now ≡ rest.now) × (result.len ≡ len) }
@@ -61,7 +61,7 @@ impl<'a> Reader<'a> {
         self.entries
     }
 
-    /// The offset of what is left, in bytes.
+    /// The offset of the rest, in bytes.
     pub(super) fn place(&self) -> usize
         ensures { result ≡ place self.now.len self.now.rest.now }
     {
@@ -79,7 +79,7 @@ impl<'a> Reader<'a> {
         }
     }
 
-    /// Whether the text begins with this byte.
+    /// Whether the rest begins with this byte.
     pub(super) fn begins(&self, byte: u8) -> bool
         ensures { result ≡ begins byte self.now.rest.now }
     {
@@ -89,7 +89,7 @@ impl<'a> Reader<'a> {
         }
     }
 
-    /// Whether the text goes on, and not with this byte.
+    /// Whether the rest isn't empty and doesn't begin with this byte.
     pub(super) fn goes_on_before(&self, byte: u8) -> bool
         ensures { result ≡ goes_on_before byte self.now.rest.now }
     {
@@ -99,7 +99,7 @@ impl<'a> Reader<'a> {
         }
     }
 
-    /// Passes the word, where it stands here.
+    /// Passes the word, if the rest begins with it.
     pub(super) fn accept(&mut self, word: &str) -> bool
         ensures { MatchBool result
             ((strip word.now self.old.rest.now ≡ Some self.new.rest.now) × (self.new.len ≡ self.old.len)
@@ -116,7 +116,7 @@ impl<'a> Reader<'a> {
         }
     }
 
-    /// Passes the word that must stand here.
+    /// Passes the word that must be here.
     pub(super) fn expect(&mut self, word: &str, kind: HeaderErrorKind) -> Result<(), ReadFault>
         ensures { Builds (λ x. x) self.old self.new result
             (expect word.now (fault_at self.old.len (error_kind_view kind))) }
@@ -128,7 +128,7 @@ impl<'a> Reader<'a> {
         }
     }
 
-    /// Passes a character of white space past ASCII, and tells whether one stood here.
+    /// Passes a character of white space beyond ASCII, and returns whether there was one.
     #[tactic(auto, unfolding(crate::specs::SectionGrammar::wide_character))]
     fn wide_character(&mut self) -> bool
         ensures { Builds goes_on self.old self.new (Ok result) wide_character }
@@ -140,7 +140,7 @@ impl<'a> Reader<'a> {
             || self.accept("\u{2029}")
     }
 
-    /// Passes a character of white space, and tells whether one stood here.
+    /// Passes a character of white space, and returns whether there was one.
     #[tactic(auto, unfolding(crate::specs::SectionGrammar::white_character))]
     fn white_character(&mut self) -> bool
         ensures { Builds goes_on self.old self.new (Ok result) white_character }
@@ -154,7 +154,7 @@ impl<'a> Reader<'a> {
             || self.wide_character()
     }
 
-    /// Passes a comma or a character of white space, and tells whether one stood here.
+    /// Passes a comma or a character of white space, and returns whether there was one.
     #[tactic(auto, unfolding(crate::specs::SectionGrammar::separator))]
     fn separator(&mut self) -> bool
         ensures { Builds goes_on self.old self.new (Ok result) separator }
@@ -176,7 +176,7 @@ impl<'a> Reader<'a> {
         while self.separator() {}
     }
 
-    /// Passes the comma that stands here and the white space behind it, and tells whether one stood here.
+    /// Passes a comma and the white space after it, if there is one, and returns whether there was.
     #[tactic(auto, unfolding(crate::specs::SectionGrammar::comma))]
     pub(super) fn comma(&mut self) -> bool
         ensures { Builds (λ x. x) self.old self.new (Ok result) comma }
@@ -189,7 +189,7 @@ impl<'a> Reader<'a> {
         }
     }
 
-    /// A fault where a name must stand.
+    /// The fault if there is no name.
     fn name_fault(&self) -> Fault
         ensures { fault_view result ≡ name_fault self.now.len self.now.rest.now }
     {
@@ -200,7 +200,7 @@ impl<'a> Reader<'a> {
         }
     }
 
-    /// Passes the name that must stand here, and answers it in lower case with its place.
+    /// Passes the name that must be here, and returns it in lower case with its span.
     #[tactic(auto, unfolding(crate::specs::SectionGrammar::name))]
     pub(super) fn name(&mut self) -> Result<(String, Span), ReadFault>
         ensures read { Builds placed_view self.old self.new result (name self.old.len) }

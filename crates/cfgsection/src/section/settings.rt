@@ -1,4 +1,4 @@
-//! Settings: what stands behind a key's colon.
+//! Settings: what follows a key's colon.
 
 ghost use Rattle.cfgsection.specs.SectionGrammar.{namespaced, argument, applied, number, element};
 ghost use Rattle.cfgsection.specs.SectionGrammar.{elements, array, bare_setting, bracketed, setting};
@@ -17,7 +17,7 @@ use cfgwords::words::leading_integer;
 impl<'a> Reader<'a> {
     ghost use Rattle.cfgsection.specs.Inner.Steps.{Builds, settings_list};
 
-    /// Passes a name, or two names that `::` stands between, and the white space behind it.
+    /// Passes a name, or two names with `::` between them, and the white space after it.
     #[tactic(auto, unfolding(crate::specs::SectionGrammar::namespaced))]
     fn namespaced(&mut self) -> Result<Namespaced<Span>, ReadFault>
         ensures { Builds namespaced_view self.old self.new result (namespaced self.old.len) }
@@ -39,7 +39,7 @@ impl<'a> Reader<'a> {
         })
     }
 
-    /// Passes such a name and the `)` that must stand behind it.
+    /// Passes such a name and the `)` that must follow it.
     #[tactic(auto, unfolding(crate::specs::SectionGrammar::argument))]
     fn argument(&mut self) -> Result<Namespaced<Span>, ReadFault>
         ensures { Builds namespaced_view self.old self.new result (argument self.old.len) }
@@ -62,7 +62,7 @@ impl<'a> Reader<'a> {
         Ok(Setting::Constructor { ctor, arg })
     }
 
-    /// Passes the number that must stand here; else there is a fault over the digits.
+    /// Passes the number that must be here; otherwise there is a fault over the digits.
     #[tactic(auto, unfolding(crate::specs::SectionGrammar::number))]
     fn number(&mut self) -> Result<Setting<Span>, ReadFault>
         ensures { Builds setting_view self.old self.new result (number self.old.len) }
@@ -83,7 +83,7 @@ impl<'a> Reader<'a> {
         }
     }
 
-    /// A setting of an array, and what stands between it and the next.
+    /// A setting of an array, and what is between it and the next one.
     #[cycle(setting)]
     #[tactic(auto, unfolding(crate::specs::SectionGrammar::element))]
     fn element(&mut self, room: usize) -> Result<Setting<Span>, ReadFault>
@@ -108,7 +108,7 @@ impl<'a> Reader<'a> {
         Ok(values)
     }
 
-    /// Passes what stands behind the bracket that opens an array.
+    /// Passes what follows the bracket that opens an array.
     #[cycle(setting)]
     #[tactic(auto, unfolding(crate::specs::SectionGrammar::array))]
     fn array(&mut self, room: usize, opens: Span) -> Result<Setting<Span>, ReadFault>
@@ -121,7 +121,7 @@ impl<'a> Reader<'a> {
         Ok(Setting::Array(values, opens, Span::new(closing, self.place())))
     }
 
-    /// The same, where `room` brackets might open with that one.
+    /// The same, if `room` brackets may still open, that one included.
     #[cycle(setting)]
     fn bracketed(&mut self, room: usize, opens: Span) -> Result<Setting<Span>, ReadFault>
         ensures { Builds setting_view self.old self.new result (bracketed self.old.len room opens) }
@@ -133,7 +133,7 @@ impl<'a> Reader<'a> {
         self.array(room - 1, opens)
     }
 
-    /// A setting, without the white space behind it.
+    /// A setting, without the white space after it.
     #[cycle(setting)]
     #[tactic(auto, unfolding(crate::specs::SectionGrammar::bare_setting))]
     fn bare_setting(&mut self, room: usize) -> Result<Setting<Span>, ReadFault>
@@ -157,7 +157,7 @@ impl<'a> Reader<'a> {
         }
     }
 
-    /// Passes a setting in which `room` brackets may be open at once, and the white space behind it.
+    /// Passes a setting in which `room` brackets may be open at once, and the white space after it.
     #[cycle(setting)]
     #[tactic(auto, unfolding(crate::specs::SectionGrammar::setting, crate::specs::SectionGrammar::setting_by))]
     pub(super) fn setting(&mut self, room: usize) -> Result<Setting<Span>, ReadFault>

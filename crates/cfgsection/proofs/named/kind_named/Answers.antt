@@ -21,7 +21,7 @@ returns-in_err-entries-clause-naming c =
     let p = err_from_is_err_and c.from_residual.result c.from_residual.ensures.1 in
     rw (p.1, p.2) (refused c.args.text.now _ c.in_err-entries.ensures.answer)
 
--- what is given for the key is no kind
+-- the value given for the key is not a kind
 refused_value : (c : goal.After-drop-entries) (naming : Naming) → Names c.args.text.now naming → IsNaming naming (Err c.in_err-kind.field-0.0)
 refused_value c =
     let gives = c.entry_of.ensures ∙ ap (λ es. given (map entry_view es) (codes "yacckind")) c.as_slice.ensures.value in

@@ -5,7 +5,7 @@ use Rattle.cfgerrors.specs.HeaderErrors.{error_kind_view}
 use Rattle.cfgerrors.specs.HeaderTexts.{kind_text}
 use Rattle.cfgsection.proofs.section.header_fault.HeaderFaultDisplay.fmt.Given as goal
 
--- behind the first error the others so far are written, each behind a line end
+-- after the first error, the others so far are written, each after a line end
 abbrev pub invariant-loop-error : goal.invariant-loop-error
 invariant-loop-error g l =
     let behind = flat_map (λ error. codes "\n" ++ kind_text (error_kind_view error.kind)) (take l.error-index l.others) in
