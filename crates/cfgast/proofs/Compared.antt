@@ -1,4 +1,4 @@
--- `==` of lists, where `==` of their elements compares what they show.
+-- `==` of lists, if `==` of their elements compares what they show.
 use Rattle.std.proofs.Common.{◌≡◌, ◌↔◌, Bool, List, [], ◌∷◌, map, IsTrue, refl}
 use Rattle.std.proofs.lemmas.Bool.{false≢true, and_from, and_parts}
 use Rattle.std.specs.Cmp.Lexicographic.{pointwise}

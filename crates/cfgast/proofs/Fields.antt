@@ -1,4 +1,4 @@
--- What one more item makes of each field of the syntax: one lemma for a field.
+-- What one more item makes of each field of the syntax: one lemma per field.
 use Rattle.std.proofs.Common.{◌≡◌, ℕ, ◌-◌, Bool, true, false, List, [], ◌∷◌, ◌++◌, map, length, filter_map, slice_get, Option, Some, None, option_map, if◌then◌else◌, refl, sym, ap, ◌∙◌, true≢false, arith, length-append}
 use Rattle.std.specs.Option.{option_map_or, option_or}
 use Rattle.std.specs.Str.{bytes_eq}
@@ -68,7 +68,7 @@ alternative_named items name h =
     go (front, Alternative head body) e = e
     go (front, _) e = absurd (false≢true e)
 
--- a production goes to each rule of its name
+-- a production is listed with each rule of its name
 rules-listed : (done : List (List ℕ × Production)) (o : Option (List ℕ × Production)) (heads : List RuleHead)
     → map (rule_of (pushed done o)) heads ≡ with_listed o (length (map (λ a. a.1) done)) (map (rule_of done) heads)
 rules-listed done None heads = refl
@@ -96,7 +96,7 @@ rules-listed done (Some (name, production)) heads = (λ i. map (λ head. same he
         ∙ (λ i. if nat_list_eq_equiv.symm (head_name head) name i then at head ++ next_is i ∷ [] else at head))
         ∙ branch head (bytes_eq name (head_name head))
 
--- one more that is said of marked tokens
+-- one more thing said of marked tokens
 words-pushed : (said : List (Option Word)) (o : Option Word) → map word_entry (firsts word_name (filter_map (λ o. o) (said ++ o ∷ [])))
     ≡ with_entry (option_map word_entry o) (map word_entry (firsts word_name (filter_map (λ o. o) said)))
 words-pushed said o =
@@ -109,7 +109,7 @@ marked-pushed [] (Some o) = ap Some (words-pushed [] o)
 marked-pushed (x ∷ said) (Some o) = ap Some (words-pushed (x ∷ said) o)
 
 module _ (items : List Item) (item : Item) where
-  -- of what the first item that names it says
+  -- of what the first item says that names it
   pub first-push : {A : Type 0} (named : Item → Option A) → slice_get (filter_map named (items ++ item ∷ [])) 0 ≡ with_first (named item) (slice_get (filter_map named items) 0)
   first-push {A} named = ap (λ xs. slice_get xs 0) (filter_map-pushed named items item) ∙ go (named item)
     where
@@ -117,7 +117,7 @@ module _ (items : List Item) (item : Item) where
       go None = refl
       go (Some x) = slice_get-push (filter_map named items) x
 
-  -- of what the last item that names it says
+  -- of what the last item says that names it
   pub last-push : {A : Type 0} (named : Item → Option A) → last_of (filter_map named (items ++ item ∷ [])) ≡ option_or (named item) (last_of (filter_map named items))
   last-push {A} named = ap last_of (filter_map-pushed named items item) ∙ go (named item)
     where
@@ -129,7 +129,7 @@ module _ (items : List Item) (item : Item) where
           let at : length (xs ++ x ∷ []) - 1 ≡ length xs = omega (arith, longer) in
           ap (slice_get (xs ++ x ∷ [])) at ∙ slice_get-get_or (xs ++ x ∷ []) (length xs) x (omega (arith, longer)) ∙ ap Some (get_or-append_seam xs x [] x)
 
-  -- of what an item says behind those that stand before it: all, and the first of each name
+  -- of what an item says after those before it: all of it, and the first for each name
   fronts-push : {A : Type 0} (said : List Item × Item → Option A) → filter_map said (with_fronts (items ++ item ∷ [])) ≡ pushed (filter_map said (with_fronts items)) (said (items, item))
   fronts-push said = ap (filter_map said) (with_fronts-push items item) ∙ filter_map-pushed said (with_fronts items) (items, item)
 
@@ -137,7 +137,7 @@ module _ (items : List Item) (item : Item) where
       → firsts name_of (filter_map said (with_fronts (items ++ item ∷ []))) ≡ put_first name_of (firsts name_of (filter_map said (with_fronts items))) (said (items, item))
   firsts-push name_of said = ap (λ xs. firsts name_of (filter_map said xs)) (with_fronts-push items item) ∙ firsts-filter_map-push name_of said (with_fronts items) (items, item)
 
-  -- of entries, where the first of each name counts
+  -- of entries, if the first of each name counts
   pub entries-push : {V : Type 0} (said : Item → Option (List ℕ × V)) → firsts entry_name (filter_map said (items ++ item ∷ [])) ≡ with_entry (said item) (firsts entry_name (filter_map said items))
   entries-push said = firsts-filter_map-push entry_name said items item ∙ put_first-entry (firsts entry_name (filter_map said items)) (said item)
 
@@ -204,7 +204,7 @@ module _ (items : List Item) (item : Item) where
       stay : indices_of (declared items) (tokens (items ++ item ∷ [])) ≡ indices_of (declared items) (tokens items)
       stay = ap (indices_of (declared items)) tokens-push ∙ indices-stay (declared items) (tokens items) (declared_token items) put
 
-  -- a rule that isn't named has no production
+  -- a rule that isn't named yet has no production
   unlisted : (head : RuleHead) → is_named head_name (head_name head) (rule_heads items) ≡ false → rule_of (alternatives items) head ≡ new_rule head
   unlisted head unknown =
       ap (λ (ps : List ℕ). (head_name head, record { name = head.name; productions = ps; action_type = head.action_type }))
@@ -214,7 +214,7 @@ module _ (items : List Item) (item : Item) where
       name : List ℕ
       name = head_name head
 
-  -- a rule that isn't there is named, before a production is listed
+  -- a rule that doesn't exist yet is named, before a production is listed
   rules-named : (o : Option RuleHead) → map (rule_of (alternatives items)) (put_first head_name (rule_heads items) o) ≡ with_rule o (rules items)
   rules-named None = refl
   rules-named (Some head) =

@@ -6,7 +6,7 @@ use Rattle.std.specs.Str.{bytes_eq}
 use Rattle.cfgast.specs.Syntax.{Syntax}
 use Rattle.cfgast.specs.Building.{is_declared}
 
--- where no `%token` is there, it declares no name
+-- if no `%token` exists, it declares no name
 pub none_declared : (s : Syntax) (name : List ℕ) → length s.token_directives ≡ 0 → false ≡ is_declared s name
 unfolding is_declared
 none_declared s name empty = go s.token_directives (position (bytes_eq name) s.tokens) empty

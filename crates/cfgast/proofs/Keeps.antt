@@ -1,4 +1,4 @@
--- What holds of all words, or of what each item says, holds of those that stay.
+-- What holds of all words, or of what each item says, holds of those that remain.
 use Rattle.std.proofs.Common.{ℕ, Bool, List, filter, not, All}
 use Rattle.std.specs.List.{list_any}
 use Rattle.std.specs.Str.{bytes_eq}

@@ -1,4 +1,4 @@
--- Adding items one after the other gives what the list of them says.
+-- Adding items one by one gives what the list of them says.
 use Rattle.std.proofs.Common.{◌≡◌, ℕ, ◌==◌, Bool, true, false, cond, ◌∷◌, ◌++◌, [], List, filter_map, position, Option, Some, None, refl, sym, ap, ◌∙◌, true≢false}
 use Rattle.std.specs.List.{list_any}
 use Rattle.std.specs.Option.{option_map_or}
@@ -15,7 +15,7 @@ use Rattle.cfgast.specs.Building.{has_name, is_declared, grown, add, adds}
 use Rattle.cfgast.proofs.Names.{is_named-firsts, has_name-names, noted}
 use Rattle.cfgast.proofs.Fields.{tokens, declared, declared_token, first-push, last-push, entries-push, entries_behind-push, marked-push, rules-push, productions-push, production_rules-push, tokens-push, spans-push, directives-push}
 
--- a name is declared so far where a `%token` list has it
+-- a name is declared so far if a `%token` list has it
 is_declared-syntax_of : (items : List Item) (name : List ℕ) → is_named word_name name (filter_map token_declared items) ≡ is_declared (syntax_of items) name
 unfolding is_declared syntax_of declared_words
 is_declared-syntax_of items name =
@@ -64,7 +64,7 @@ syntax_of-push items item = (λ i. record {
   occurrences = filter_map-pushed declared_once items item i;
 }) ∙ ap (grown (syntax_of items) item) (λ i. finished (λ name. is_declared-syntax_of items name i) item)
 
--- all items, added one after the other, say what their list says
+-- all items, added one by one, say what their list says
 pub adds_syntax_of : (items : List Item) → adds (syntax_of []) items ≡ syntax_of items
 unfolding adds
 adds_syntax_of = from_pushes (λ items. adds (syntax_of []) items ≡ syntax_of items) refl (λ items item before.

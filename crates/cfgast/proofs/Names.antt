@@ -1,4 +1,4 @@
--- First occurrences of names, and the places of names among names.
+-- First occurrences of names, and the indices of names among names.
 use Rattle.std.proofs.Common.{◌≡◌, ℕ, ◌<◌, Bool, true, false, cond, not, ◌||◌, ◌==◌, List, [], ◌∷◌, ◌++◌, map, length, get_or, filter, filter_map, Option, Some, None, option_map, refl, sym, ap, subst, ◌∙◌, append-nil, eqb-true, eq-eqb, ltb-true}
 use Rattle.std.specs.List.{list_any, IsDistinct}
 use Rattle.std.specs.Str.{bytes_eq}
@@ -61,7 +61,7 @@ module _ {A : Type 0} (name_of : A → List ℕ) where
       entry_of : A → List ℕ × B
       entry_of x = (name_of x, value_of x)
 
-  -- first occurrences differ
+  -- first occurrences differ from each other
   pub firsts-distinct : (xs : List A) → IsDistinct bytes_eq (map name_of (firsts name_of xs))
   unfolding firsts IsDistinct
   firsts-distinct = from_pushes (λ xs. IsDistinct bytes_eq (map name_of (firsts name_of xs))) tt more
@@ -75,12 +75,12 @@ module _ {A : Type 0} (name_of : A → List ℕ) where
               subst (IsDistinct bytes_eq) (sym (map-append name_of (firsts name_of xs) (x ∷ [])))
               (IsDistinct-push nat_list_eq_equiv (map name_of (firsts name_of xs)) (name_of x) before (has_name-names (name_of x) (firsts name_of xs) ∙ is_named-firsts (name_of x) xs ∙ e))
 
--- of entries, under their own names
+-- of entries, each under its name
 pub put_first-entry : {V : Type 0} (entries : List (List ℕ × V)) (o : Option (List ℕ × V)) → put_first entry_name entries o ≡ with_entry o entries
 put_first-entry entries None = refl
 put_first-entry entries (Some entry) = refl
 
--- Places of names.
+-- Indices of names.
 
 -- names that are all among others
 abbrev pub AreAmong : List (List ℕ) → List (List ℕ) → Type 0
@@ -97,7 +97,7 @@ index_of-within name names there = ltb-true _ _ (found-position (bytes_eq name) 
 get_or-index_of : (name : List ℕ) (names : List (List ℕ)) → has_name name names ≡ true → name ≡ get_or names (index_of name names) []
 get_or-index_of name names h = (bytes_decides _ _).0 (passes_at_first (bytes_eq name) names [] (index_of-within name names h))
 
--- names that are there have the same place exactly if they are the same
+-- names in a list have the same index exactly if they are the same
 same_index : (name other : List ℕ) (names : List (List ℕ)) → has_name name names ≡ true → has_name other names ≡ true → (index_of name names == index_of other names) ≡ bytes_eq name other
 same_index name other names here there =
     same_from_decides _ _ (
@@ -106,7 +106,7 @@ same_index name other names here there =
     )
     (bytes_decides name other)
 
--- among names that differ, a name stands at one place only
+-- among names that differ from each other, a name has only one index
 pub same_place : (name : List ℕ) (all : List (List ℕ)) → IsDistinct bytes_eq all → has_name name all ≡ true
     → (k : ℕ) → k < length all → bytes_eq (get_or all k []) name ≡ (k == index_of name all)
 same_place name all distinct there k within =
@@ -128,7 +128,7 @@ put_grows (Some new) all name there = go (has_name new all)
     go true = there
     go false = list_any-append (bytes_eq name) all (new ∷ []) ∙ or_left _ _ there
 
--- one more name leaves the places of the others
+-- one more name leaves the indices of the others unchanged
 pub indices-stay : (some all : List (List ℕ)) → AreAmong some all → (o : Option (List ℕ)) → indices_of some (with_name o all) ≡ indices_of some all
 indices-stay some all among None = refl
 indices-stay some all among (Some name) = go (has_name name all)
@@ -137,7 +137,7 @@ indices-stay some all among (Some name) = go (has_name name all)
     go true = refl
     go false = map-there _ _ some (λ n h. position_or_len-append (bytes_eq n) all (name ∷ []) (among n h))
 
--- the place of a name is among the places of names exactly if it is among the names
+-- the index of a name is among the indices of names exactly if the name is among the names
 pub noted : (some all : List (List ℕ)) → AreAmong some all → (name : List ℕ) → has_name name all ≡ true → list_any (λ j. index_of name all == j) (indices_of some all) ≡ has_name name some
 noted some all among name there =
     list_any-map (λ j. index_of name all == j) (λ n. index_of n all) some ∙ sym (list_any-map (λ b. b) at_place some)
@@ -147,7 +147,7 @@ noted some all among name there =
     at_place : List ℕ → Bool
     at_place other = index_of name all == index_of other all
 
--- the places of names, with that of one more
+-- the indices of names, with that of one more
 pub indices-put : (some all : List (List ℕ)) → AreAmong some all → (o : Option (List ℕ)) → ((name : List ℕ) → o ≡ Some name → has_name name all ≡ true)
     → indices_of (with_name o some) all ≡ with_directive o all (indices_of some all)
 indices-put some all among None there = refl

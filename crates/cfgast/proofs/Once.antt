@@ -1,4 +1,4 @@
--- Each element once, and the insertion of a key, which puts it at the end where none is the same.
+-- Each element once, and the insertion of a key: it is put at the end if no key is the same.
 use Rattle.std.proofs.Common.{◌≡◌, Bool, true, false, cond, not, ◌||◌, List, [], ◌∷◌, ◌++◌, map, filter, refl, sym, ap, ◌∙◌, append-nil}
 use Rattle.std.specs.Cmp.{IsEquivalence}
 use Rattle.std.specs.List.{list_any}
@@ -38,7 +38,7 @@ module _ {A : Type 0} (same : A → A → Bool) where
       go true = refl
       go false = refl
 
-  -- a test that tells no two apart that are the same passes one of them exactly if it passes one that stays
+  -- a test that doesn't distinguish elements that are the same passes one of all exactly if it passes one of those that remain
   pub any_once : (is : A → Bool) → ((x y : A) → same x y ≡ true → is x ≡ is y) → (xs : List A) → list_any is (each_once same xs) ≡ list_any is xs
   any_once is alike = from_pushes (λ xs. list_any is (each_once same xs) ≡ list_any is xs) refl more
     where
@@ -57,14 +57,14 @@ module _ {A : Type 0} (same : A → A → Bool) where
   pub known_once : IsEquivalence same → (k : A) (xs : List A) → list_any (same k) (each_once same xs) ≡ list_any (same k) xs
   known_once laws k = any_once (same k) (λ x y e. laws.symm k x ∙ laws.congr x y k e ∙ laws.symm y k)
 
--- keys that show each element once, and one key more
+-- keys that show each element once, and one more key
 module _ {K A : Type 0} (eq : K → K → Bool) (same : A → A → Bool) (laws : IsEquivalence same) (show : K → A)
     (shows : (x y : K) → eq x y ≡ same (show x) (show y)) where
   any_shown : (k : K) (keys : List K) → list_any (eq k) keys ≡ list_any (same (show k)) (map show keys)
   any_shown k [] = refl
   any_shown k (x ∷ keys) = λ i. shows k x i || any_shown k keys i
 
-  -- whether the key is there
+  -- whether the key is among them
   pub key_known : (k : K) (keys : List K) (xs : List A) → map show keys ≡ each_once same xs → list_any (eq k) keys ≡ list_any (same (show k)) xs
   key_known k keys xs once = any_shown k keys ∙ ap (list_any (same (show k))) once ∙ known_once same laws (show k) xs
 

@@ -42,7 +42,7 @@ keys-insert_key name keys key is =
     ∙ ap (λ b. pushed_unless b (map string_bytes keys) (string_bytes key)) (sym (has_name-keys (string_bytes key) keys))
     ∙ ap (λ n. pushed_unless (has_name n (map string_bytes keys)) (map string_bytes keys) n) is
 
--- its place
+-- its index
 pub index_of-insert_key : (name : List ℕ) (keys : List (String Global)) (key : String Global) → string_bytes key ≡ name
     → index_of name (map string_bytes (insert_key string_eq keys key)) ≡ position_or_len (is_key (string_bytes key)) keys
 index_of-insert_key name keys key is =
@@ -63,7 +63,7 @@ module _ {V W : Type 0} (show : V → W) where
       list_any-map (λ (r : List ℕ × W). bytes_eq name r.0) shown_entry es
       ∙ sym (list_any-map (is_key name) (λ (e : String Global × V). e.0) es) ∙ sym (is_some-lookup (is_key name) es)
 
-  -- one more entry, under a name that none has yet
+  -- one more entry, under a name that no entry has yet
   pub entries-new : {S : Type 0} (name : List ℕ) (m : IndexMap (String Global) V S) (key : String Global) (value : V) → string_bytes key ≡ name
       → has_entry name (map shown_entry m.entries) ≡ false → map shown_entry (insert_entry string_eq m.entries key value) ≡ map shown_entry m.entries ++ (name, show value) ∷ []
   entries-new name m key value is new =
@@ -72,7 +72,7 @@ module _ {V W : Type 0} (show : V → W) where
       ap (map shown_entry) (insert_entry-new string_eq m key value absent)
       ∙ map-append shown_entry m.entries ((key, value) ∷ []) ∙ ap (λ n. map shown_entry m.entries ++ (n, show value) ∷ []) is
 
--- a value that is put under a name, as what it shows
+-- a value that is put under a name, by what it shows
 pub shown-put : {V W : Type 0} (show : V → W) (name : List ℕ) (value : V) (before after : List (String Global × V))
     → map (shown_entry (λ v. v)) after ≡ with_entry (Some (name, value)) (map (shown_entry (λ v. v)) before)
     → map (shown_entry show) after ≡ with_entry (Some (name, show value)) (map (shown_entry show) before)
@@ -90,7 +90,7 @@ shown-put {V} {W} show name value before after put =
 abbrev pub form_view : Span × (String Global × Span) → Span × (List ℕ × Span)
 form_view form = (form.0, text_view form.1)
 
--- a copy of a table of marked tokens, where there is one
+-- a copy of a table of marked tokens, if there is one
 pub marked-copies : {S : Type 0} (R : String Global × Span → String Global × Span → Type 0) → ((x y : String Global × Span) → R x y → span_entry y ≡ span_entry x)
     → (o p : Option (IndexMap (String Global) Span S)) → AreCopies (λ x y. AllZip R x.entries y.entries) o p
     → option_map (λ table. map span_entry table.entries) p ≡ option_map (λ table. map span_entry table.entries) o
@@ -98,20 +98,20 @@ marked-copies {S} R same o p h =
     option_map-copies (λ x y. AllZip R x.entries y.entries) (λ (table : IndexMap (String Global) Span S). map span_entry table.entries)
     (λ x y h. map-copies R span_entry same x.entries y.entries h) o p h
 
--- the place of a rule's name among the rules
+-- the index of a rule's name among the rules
 pub rule_index : (name : List ℕ) (es : List (String Global × source.Rule)) → index_of name (map (λ (rule : List ℕ × Rule). rule.0) (map rule_entry es)) ≡ position_or_len (is_key name) (keys_of es)
 rule_index name es =
     ap (index_of name) (map-map (λ (rule : List ℕ × Rule). rule.0) rule_entry es ∙ sym (map-map string_bytes (λ (e : String Global × source.Rule). e.0) es))
     ∙ index_of-keys name (keys_of es)
 
--- a new one stands behind the others
+-- a new one comes after the others
 pub rule_index-new : (name : List ℕ) (rules : List (List ℕ × Rule)) (rule : List ℕ × Rule) → rule.0 ≡ name
     → index_of name (map (λ (r : List ℕ × Rule). r.0) (rules ++ rule ∷ [])) ≡ index_of name (map (λ (r : List ℕ × Rule). r.0) rules)
 rule_index-new name rules rule is =
     ap (index_of name) (map-append (λ (r : List ℕ × Rule). r.0) rules (rule ∷ []))
     ∙ position_or_len-push (bytes_eq name) (map (λ (r : List ℕ × Rule). r.0) rules) rule.0 (ap (bytes_eq name) is ∙ nat_list_eq_equiv.refl name)
 
--- the rule, with the production at the place too
+-- the rule, with the production of this index too
 abbrev pub longer : ℕ → Rule → Rule
 longer i rule = record rule { productions = rule.productions ++ i ∷ [] }
 
@@ -130,7 +130,7 @@ module _ (name : List ℕ) (change : Rule → Rule) where
   pub changed-absent : (es : List (String Global × source.Rule)) → lookup (is_key name) es ≡ None → map changed (map rule_entry es) ≡ map rule_entry es
   changed-absent = one.changed-absent string_eq (is_key name) own rule_entry changed others
 
-  -- keys differ, so the change is that of the one rule that is written
+  -- keys differ from each other, so only the one rule that is written changes
   pub changed-set_value : (es : List (String Global × source.Rule)) (old new : source.Rule) → IsDistinct string_eq (keys_of es) → lookup (is_key name) es ≡ Some old
       → rule_view new ≡ change (rule_view old) → map rule_entry (set_value (is_key name) es new) ≡ map changed (map rule_entry es)
   changed-set_value es old new distinct found grown = one.changed-set_value string_eq (is_key name) own rule_entry changed others es old new distinct found

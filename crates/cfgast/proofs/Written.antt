@@ -1,10 +1,10 @@
--- A map of which one value is written: what its entries show changes for the one key that the test finds.
+-- A map in which one value is written: of its entries, the one of the key that the test finds changes.
 use Rattle.std.proofs.Common.{◌≡◌, Bool, true, false, cond, List, [], ◌∷◌, map, Some, None, refl, sym, ap, ◌∙◌}
 use Rattle.std.specs.List.{AllByRecursion, IsDistinct}
 use Rattle.std.specs.Map.{lookup, set_value, keys_of}
 use Rattle.std.proofs.lemmas.Map.Keys.{IsDistinct-head, IsDistinct-tail}
 
--- own: the keys that pass are those that are equal to one that does
+-- own: the keys that pass are those that are equal to one that passes
 module _ {K V D : Type 0} (eq : K → K → Bool) (test : K → Bool) (own : (x y : K) → test x ≡ true → test y ≡ eq x y)
     (show : K × V → D) (change : D → D) (others : (e : K × V) → test e.0 ≡ false → change (show e) ≡ show e) where
   changed-others : (es : List (K × V)) → AllByRecursion (λ k. test k ≡ false) (keys_of es) → map change (map show es) ≡ map show es
@@ -21,7 +21,7 @@ module _ {K V D : Type 0} (eq : K → K → Bool) (test : K → Bool) (own : (x 
       go true is none rest = cc
       go false is none rest = λ i. others e is i ∷ rest none i
 
-  -- keys differ, so the one value is written
+  -- keys differ from each other, so only the one value is written
   pub changed-set_value : (es : List (K × V)) (old new : V) → IsDistinct eq (keys_of es) → lookup test es ≡ Some old
       → ((k : K) → test k ≡ true → show (k, new) ≡ change (show (k, old))) → map show (set_value test es new) ≡ map change (map show es)
   changed-set_value [] old new distinct found changed = refl

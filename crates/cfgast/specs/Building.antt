@@ -1,4 +1,4 @@
--- The same syntax, item by item: what one more item makes of each field. A field that an item says nothing of stays.
+-- The same syntax, item by item: what one more item makes of each field. An item leaves the fields unchanged that it says nothing of.
 use Rattle.std.specs.Prelude.{ℕ, Bool, false, List, [], ◌∷◌, ◌++◌, map, fold, length, position, ◌==◌, Option, Some, None, option_map, if◌then◌else◌}
 use Rattle.std.specs.List.{list_any}
 use Rattle.std.specs.Option.{option_map_or, option_or}
@@ -10,26 +10,26 @@ use Rattle.cfgast.specs.Items.{Item, RuleHead}
 use Rattle.cfgast.specs.Occurrences.{declared_once}
 use Rattle.cfgast.specs.Syntax.{Syntax, Settings, Tables, Rule, Production, word_name, head_name, index_of, token_named, token_declared, start_named, action_type_declared, printed_form_declared, expected, expected_reduce_reduce, expected_unused, parse_param_declared, generics_declared, avoid_insert_said, implicit_tokens_said, precedence_declared, level_ended, programs_given, rule_named, typed, word_entry, finished}
 
--- whether a name stands among names
+-- whether a name is among names
 abbrev pub has_name : List ℕ → List (List ℕ) → Bool
 has_name name names = list_any (bytes_eq name) names
 
--- what is named first, where nothing is yet
+-- what is named first, if nothing is named yet
 abbrev pub with_first : {A : Type 0} → Option A → Option A → Option A
 with_first None first = first
 with_first (Some x) first = option_or first (Some x)
 
--- a name, where it isn't there yet
+-- a name, if it isn't among the names yet
 abbrev pub with_name : Option (List ℕ) → List (List ℕ) → List (List ℕ)
 with_name None names = names
 with_name (Some name) names = pushed_unless (has_name name names) names name
 
--- the span of a token, where none has its name yet
+-- the span of a token, if none has its name yet
 abbrev pub with_span : Option Word → List (List ℕ) → List Span → List Span
 with_span None tokens spans = spans
 with_span (Some word) tokens spans = pushed_unless (has_name word.name tokens) spans word.span
 
--- the place of a declared name among the tokens, where it isn't noted yet
+-- the index of a declared name among the tokens, if it isn't noted yet
 abbrev pub with_directive : Option (List ℕ) → List (List ℕ) → List ℕ → List ℕ
 with_directive None tokens directives = directives
 with_directive (Some name) tokens directives =
@@ -43,16 +43,16 @@ has_rule name rules = list_any (λ rule. bytes_eq name rule.0) rules
 abbrev pub new_rule : RuleHead → List ℕ × Rule
 new_rule head = (head_name head, record { name = head.name; productions = []; action_type = head.action_type })
 
--- a rule, where none has its name yet
+-- a rule, if none has its name yet
 abbrev pub with_rule : Option RuleHead → List (List ℕ × Rule) → List (List ℕ × Rule)
 with_rule None rules = rules
 with_rule (Some head) rules = pushed_unless (has_rule (head_name head) rules) rules (new_rule head)
 
--- the rule, with the production at the place too if the rule has the name
+-- the rule, with the production of this index too if the rule has the name
 abbrev pub listed : List ℕ → ℕ → List ℕ × Rule → List ℕ × Rule
 listed name i rule = if bytes_eq name rule.0 then (rule.0, record rule.1 { productions = rule.1.productions ++ i ∷ [] }) else rule
 
--- the production at the place, with the rule of its name
+-- the production of this index, listed with the rule of its name
 abbrev pub with_listed : Option (List ℕ × Production) → ℕ → List (List ℕ × Rule) → List (List ℕ × Rule)
 with_listed None i rules = rules
 with_listed (Some production) i rules = map (listed production.0 i) rules
@@ -61,7 +61,7 @@ with_listed (Some production) i rules = map (listed production.0 i) rules
 unfoldable pub is_declared : Syntax → List ℕ → Bool
 is_declared s name = option_map_or (λ i. list_any (λ j. i == j) s.token_directives) (position (bytes_eq name) s.tokens) false
 
--- an entry, where none has its name yet
+-- an entry, if none has its name yet
 abbrev pub has_entry : {A : Type 0} → List ℕ → List (List ℕ × A) → Bool
 has_entry name entries = list_any (λ entry. bytes_eq name entry.0) entries
 
@@ -69,7 +69,7 @@ abbrev pub with_entry : {A : Type 0} → Option (List ℕ × A) → List (List �
 with_entry None entries = entries
 with_entry (Some entry) entries = pushed_unless (has_entry entry.0 entries) entries entry
 
--- the table of marked tokens, which is there from the first list on
+-- the table of marked tokens, which exists from the first list on
 abbrev pub with_marked : Option (Option Word) → Option (List (List ℕ × Span)) → Option (List (List ℕ × Span))
 with_marked None table = table
 with_marked (Some said) None = Some (with_entry (option_map word_entry said) [])

@@ -1,4 +1,4 @@
--- Who relies on the calls of this crate has to read these files.
+-- Users of this crate's calls have to read these files.
 pub mod Items
 pub mod Occurrences
 pub mod Syntax

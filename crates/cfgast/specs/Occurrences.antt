@@ -1,4 +1,4 @@
--- What a file may declare only once: each place where it does.
+-- What a file may declare only once: each occurrence of such a declaration.
 use Rattle.std.specs.Prelude.{ℕ, List, Option, Some, None}
 use Rattle.cfgbase.specs.declared.span.Span.{Span}
 use Rattle.cfgast.specs.declared.occurrence.UniqueKind.{UniqueKind}
@@ -6,12 +6,12 @@ use Rattle.cfgast.specs.declared.occurrence.UniqueKind.TheVariants.{Start, Actio
 use Rattle.cfgwords.specs.FileWords.{Word}
 use Rattle.cfgast.specs.Items.{Item, StartDeclared, ActionTypeDeclared, PrintedFormDeclared, ExpectDeclared, ExpectReduceReduceDeclared, AvoidInsertDeclared, ImplicitTokenDeclared, PrecedenceDeclared}
 
--- what may be declared only once: something of the grammar as a whole, or of the token of this name
+-- what may be declared only once: for the grammar as a whole, or for the token of this name
 pub record Unique : Type 0 where
   pub kind : UniqueKind
   pub token : Option (List ℕ)
 
--- a place where it is declared
+-- where it is declared
 pub record Occurrence : Type 0 where
   pub what : Unique
   pub span : Span

@@ -18,13 +18,13 @@ pub record Production : Type 0 where
   pub action : Option (List ℕ × Span)
   pub span : Span
 
--- a rule: its first name, and its productions by their places in the list of all
+-- a rule: its first name, and its productions by their indices in the list of all productions
 pub record Rule : Type 0 where
   pub name : Word
   pub productions : List ℕ
   pub action_type : Option (List ℕ)
 
--- what a file says of its grammar as a whole: the type of all actions, how many conflicts it expects, the parameter and the
+-- what a file says about its grammar as a whole: the type that all actions return, how many conflicts it expects, the parameter and the
 -- generics of its parser, and the programs
 pub record Settings : Type 0 where
   pub action_type : Option (List ℕ)
@@ -34,9 +34,9 @@ pub record Settings : Type 0 where
   pub parse_generics : Option (List ℕ)
   pub programs : Option (List ℕ)
 
--- What a file says of single tokens, each under its name: its precedence and its printed form, and whether it is marked by
--- `%avoid_insert` and by `%implicit_tokens`; there is no table where no such list begins. Levels are the finished
--- declarations of precedences.
+-- What a file says about single tokens, each under its name: its precedence and its printed form, and whether it is marked by
+-- `%avoid_insert` and by `%implicit_tokens`; there is no table if there is no such list. Levels are the finished declarations of
+-- precedences.
 pub record Tables : Type 0 where
   pub precedences : List (List ℕ × (Precedence × Span))
   pub printed_forms : List (List ℕ × (Span × (List ℕ × Span)))
@@ -48,7 +48,7 @@ pub record Syntax : Type 0 where
   pub start : Option Word
   pub rules : List (List ℕ × Rule)
   pub productions : List Production
-  pub production_rules : List ℕ  -- the rule of each production, by its place in the list of rules
+  pub production_rules : List ℕ  -- the rule of each production, by its index in the list of rules
   pub tokens : List (List ℕ)
   pub spans : List Span
   pub token_directives : List ℕ
@@ -98,24 +98,24 @@ head_name head = head.name.name
 abbrev pub is_named : {A : Type 0} → (A → List ℕ) → List ℕ → List A → Bool
 is_named name_of name xs = list_any (λ x. bytes_eq name (name_of x)) xs
 
--- each element once, where the first that is the same stands, and so those of each name
+-- each element once, at the first occurrence of the same element; and so for each name
 abbrev pub each_once : {A : Type 0} → (A → A → Bool) → List A → List A
 each_once same xs = map (λ x. x.1) (filter (λ x. not (list_any (same x.1) x.0)) (with_fronts xs))
 
 unfoldable pub firsts : {A : Type 0} → (A → List ℕ) → List A → List A
 firsts name_of xs = each_once (λ x y. bytes_eq (name_of x) (name_of y)) xs
 
--- the place of a name among names, and the places of several
+-- the index of a name among names, and the indices of several
 abbrev pub index_of : List ℕ → List (List ℕ) → ℕ
 index_of name names = position_or_len (bytes_eq name) names
 
 abbrev pub indices_of : List (List ℕ) → List (List ℕ) → List ℕ
 indices_of some names = map (λ name. index_of name names) some
 
--- What an item says: the words by which it names a token, a declared token and the start, the type of all actions, a token's
--- printed form, the numbers of conflicts that it expects, the symbol that it expects to be unused, what it says of the parser,
--- what it says of a list of marked tokens (that one begins, or its token), a token's precedence at a level, the level that it
--- ends, the rule that it names, and the programs.
+-- What an item says: the words by which it names a token, a declared token and the start; the type that all actions return; a token's
+-- printed form; the numbers of conflicts that it expects; the symbol that it expects to be unused; what it says about the parser; what it
+-- says about a list of marked tokens (that one starts, or its token); a token's precedence at a level; the level that it ends; the rule
+-- that it names; and the programs.
 
 abbrev pub token_named : Item → Option Word
 token_named (TokenDeclared word) = Some word
@@ -189,7 +189,7 @@ rule_named (RuleNamed head) = Some head
 rule_named (Alternative head body) = Some head
 rule_named _ = None
 
--- An unquoted word in a body is a token where a `%token` list before it has its name, and a rule where not.
+-- An unquoted word in a body is a token if an earlier `%token` list has its name, and otherwise a rule.
 abbrev pub symbol_of : (List ℕ → Bool) → Token → Symbol
 symbol_of is_declared token = if token.quoted || is_declared token.name then TokenSymbol (word_of token) else RuleSymbol (word_of token)
 
@@ -201,7 +201,7 @@ production_of is_declared body = record {
   span = body.span;
 }
 
--- the production that an item finishes, behind the name of its rule
+-- the production that an item finishes, with the name of its rule
 abbrev pub finished : (List ℕ → Bool) → Item → Option (List ℕ × Production)
 finished is_declared (Alternative head body) = Some (head_name head, production_of is_declared body)
 finished is_declared _ = None
@@ -218,7 +218,7 @@ token_words items = firsts word_name (filter_map token_named items)
 unfoldable pub declared_words : List Item → List Word
 declared_words items = firsts word_name (filter_map token_declared items)
 
--- a rule with the type of its actions: its own, or the one for all that stands before it
+-- a rule with the type that its actions return: its own, or the one for all that is given before it
 abbrev pub typed : Option (List ℕ) → RuleHead → RuleHead
 typed of_all head = record head { action_type = option_or head.action_type of_all }
 
@@ -228,7 +228,7 @@ typed_rule (front, item) = option_map (typed (slice_get (filter_map action_type_
 unfoldable pub rule_heads : List Item → List RuleHead
 rule_heads items = firsts head_name (filter_map typed_rule (with_fronts items))
 
--- a token's precedence, whose level is the number of precedence declarations before it
+-- a token's precedence, whose level is the number of earlier precedence declarations
 abbrev pub precedence_at : List Item × Item → Option (List ℕ × (Precedence × Span))
 precedence_at (front, item) = precedence_declared (length (filter_map level_ended front)) item
 
@@ -238,7 +238,7 @@ entry_name entry = entry.0
 abbrev pub word_entry : Word → List ℕ × Span
 word_entry word = (word.name, word.span)
 
--- what lists of marked tokens say together: there is a table where one begins, with each token at its first place
+-- what lists of marked tokens say together: there is a table if a list starts, with each token at its first occurrence
 abbrev pub marked : List (Option Word) → Option (List (List ℕ × Span))
 marked [] = None
 marked (said ∷ more) = Some (map word_entry (firsts word_name (filter_map (λ o. o) (said ∷ more))))
@@ -257,7 +257,7 @@ rule_of alternatives head = (
 abbrev pub last_of : {A : Type 0} → List A → Option A
 last_of xs = slice_get xs (length xs - 1)
 
--- Of the types and the numbers of conflicts the first that an item declares counts, of the rest the last.
+-- Of the types and the numbers of conflicts the first counts, of everything else the last.
 unfoldable pub settings_of : List Item → Settings
 settings_of items = record {
   action_type = slice_get (filter_map action_type_declared items) 0;
@@ -268,7 +268,7 @@ settings_of items = record {
   programs = last_of (filter_map programs_given items);
 }
 
--- Of what is said of a token, the first counts.
+-- Of what is said about a token, the first counts.
 unfoldable pub tables_of : List Item → Tables
 tables_of items = record {
   precedences = firsts entry_name (filter_map precedence_at (with_fronts items));
@@ -278,9 +278,8 @@ tables_of items = record {
   levels = filter_map level_ended items;
 }
 
--- Tokens and rules are the first occurrences of their names; productions are all finished ones. The start is
--- what a `%start` or a rule names first: in a file each `%start` stands before all rules. Directives are the
--- places, among the tokens, of the names in `%token` lists.
+-- Tokens and rules are the first occurrences of their names; productions are all finished ones. The start is what a `%start` or a rule
+-- names first: in a file each `%start` precedes all rules. Directives are the indices, among the tokens, of the names in `%token` lists.
 unfoldable pub syntax_of : List Item → Syntax
 syntax_of items = record {
   start = slice_get (filter_map start_named items) 0;

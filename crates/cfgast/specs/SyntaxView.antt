@@ -73,7 +73,7 @@ abbrev pub HasNoText : Settings → Type 0
 HasNoText settings =
     (settings.action_type ≡ None) × (settings.parse_param ≡ None) × (settings.parse_generics ≡ None) × (settings.programs ≡ None)
 
--- what is said of a token, under its name
+-- what is said about a token, under its name
 abbrev pub precedence_entry : String Global × (Precedence × Span) → List ℕ × (Precedence × Span)
 precedence_entry entry = (string_bytes entry.0, entry.1)
 

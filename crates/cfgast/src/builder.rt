@@ -20,11 +20,11 @@ use cfgbase::Span;
 use cfgwords::words::{Token, Word};
 use std::alloc::{AllocError, Global};
 
-/// Builds what a grammar file says from the items that a reader finds in it, in their order.
+/// Builds what a grammar file says, from the items that a reader finds in it, in order.
 ///
-/// It is the reader's own: no public path of `cfgrammar` leads to it. A method that fails for lack of memory may have
-/// added a part of its item, and its contract says nothing of what the builder holds then. So the reader drops it, and
-/// answers want of memory alone.
+/// It is for readers only: no public path of `cfgrammar` leads to it. A method that runs out of memory may have added a
+/// part of its item, and its contract says nothing about what the builder then holds. So the reader drops it, and
+/// returns only that memory ran out.
 #[derive(Drop)]
 pub struct AstBuilder {
     syntax: Syntax,
@@ -36,7 +36,7 @@ impl AstBuilder {
     ghost use Rattle.cfgast.specs.SyntaxView.{word_view};
     ghost use Rattle.cfgast.specs.SyntaxView.{token_view, head_view, body_view};
 
-    /// A builder that no item was added to.
+    /// A builder without items.
     pub fn new(alloc: Global) -> Self
         ensures { syntax_built result ≡ syntax_of [] }
     {
@@ -45,7 +45,7 @@ impl AstBuilder {
         }
     }
 
-    /// What the items that were added say.
+    /// What the added items say.
     pub fn finish(self) -> Syntax
         ensures { syntax_view result ≡ syntax_built self }
     {
@@ -92,7 +92,7 @@ impl AstBuilder {
         Ok(())
     }
 
-    /// Adds the beginning of an `%avoid_insert` list.
+    /// Adds the start of an `%avoid_insert` list.
     pub fn begin_avoid_insert(&mut self, alloc: Global)
         ensures { syntax_built self.new ≡ add (syntax_built self.old) AvoidInsertBegun }
     {
@@ -109,7 +109,7 @@ impl AstBuilder {
         self.note_token(alloc, UniqueKind::AvoidInsert, word)
     }
 
-    /// Adds the beginning of an `%implicit_tokens` list.
+    /// Adds the start of an `%implicit_tokens` list.
     pub fn begin_implicit_tokens(&mut self, alloc: Global)
         ensures { syntax_built self.new ≡ add (syntax_built self.old) ImplicitTokensBegun }
     {
@@ -130,7 +130,7 @@ impl AstBuilder {
         self.note_token(alloc, UniqueKind::ImplicitToken, word)
     }
 
-    /// Adds the printed form of a token, with its place; the token's span has its quotes too. The first form counts.
+    /// Adds the printed form of a token, with its span; the token's span includes its quotes. The first form counts.
     pub fn declare_printed_form(
         &mut self,
         alloc: Global,
@@ -168,7 +168,7 @@ impl AstBuilder {
         Ok(())
     }
 
-    /// Adds the rule that a `%start` names: it is the start where none was named before.
+    /// Adds the rule that a `%start` names: it is the start if none was named before.
     pub fn declare_start(&mut self, alloc: Global, word: Word<'_>) -> Result<(), AllocError>
         ensures { OnOk result (syntax_built self.new
             ≡ add (syntax_built self.old) (StartDeclared (word_view word.entry))) }
@@ -177,7 +177,7 @@ impl AstBuilder {
         self.note(UniqueKind::Start, word.span)
     }
 
-    /// Adds the type that the actions of all rules answer, with its place. The first one counts.
+    /// Adds the type that the actions of all rules return, with its span. The first one counts.
     pub fn declare_action_type(
         &mut self,
         alloc: Global,
@@ -193,7 +193,7 @@ impl AstBuilder {
         self.note(UniqueKind::ActionType, span)
     }
 
-    /// Adds the number of a `%expect`, with its place.
+    /// Adds the number of an `%expect`, with its span.
     pub fn declare_expect(&mut self, number: (usize, Span)) -> Result<(), AllocError>
         ensures { OnOk result (syntax_built self.new ≡ add (syntax_built self.old) (ExpectDeclared number)) }
     {
@@ -203,7 +203,7 @@ impl AstBuilder {
         self.note(UniqueKind::Expect, number.1)
     }
 
-    /// Adds the number of a `%expect-rr`, with its place.
+    /// Adds the number of an `%expect-rr`, with its span.
     pub fn declare_expect_rr(&mut self, number: (usize, Span)) -> Result<(), AllocError>
         ensures { OnOk result (syntax_built self.new
             ≡ add (syntax_built self.old) (ExpectReduceReduceDeclared number)) }
@@ -214,7 +214,7 @@ impl AstBuilder {
         self.note(UniqueKind::ExpectReduceReduce, number.1)
     }
 
-    /// Adds the name and the type of the parser's parameter, which replace those that were added before.
+    /// Adds the name and the type of the parser's parameter, which replace those added before.
     pub fn declare_parse_param(
         &mut self,
         alloc: Global,
@@ -230,7 +230,7 @@ impl AstBuilder {
         Ok(())
     }
 
-    /// Adds the parser's generic parameters, which replace those that were added before.
+    /// Adds the parser's generic parameters, which replace those added before.
     pub fn declare_generics(&mut self, alloc: Global, text: &str) -> Result<(), AllocError>
         ensures { OnOk result (syntax_built self.new ≡ add (syntax_built self.old) (GenericsDeclared text.now)) }
     {
@@ -238,7 +238,7 @@ impl AstBuilder {
         Ok(())
     }
 
-    /// Adds a rule of a `%expect-unused` list.
+    /// Adds a rule of an `%expect-unused` list.
     pub fn expect_unused_rule(&mut self, alloc: Global, word: Word<'_>) -> Result<(), AllocError>
         ensures { OnOk result (syntax_built self.new
             ≡ add (syntax_built self.old) (ExpectedUnused (RuleSymbol (word_view word.entry)))) }
@@ -250,7 +250,7 @@ impl AstBuilder {
         Ok(())
     }
 
-    /// Adds a token of a `%expect-unused` list.
+    /// Adds a token of an `%expect-unused` list.
     pub fn expect_unused_token(&mut self, alloc: Global, word: Word<'_>) -> Result<(), AllocError>
         ensures { OnOk result (syntax_built self.new
             ≡ add (syntax_built self.old) (ExpectedUnused (TokenSymbol (word_view word.entry)))) }
@@ -262,7 +262,7 @@ impl AstBuilder {
         Ok(())
     }
 
-    /// Adds the text of the programs part, which replaces one that was added before.
+    /// Adds the text of the programs part, which replaces one added before.
     pub fn give_programs(&mut self, alloc: Global, text: &str) -> Result<(), AllocError>
         ensures { OnOk result (syntax_built self.new ≡ add (syntax_built self.old) (ProgramsGiven text.now)) }
     {
@@ -270,7 +270,7 @@ impl AstBuilder {
         Ok(())
     }
 
-    /// Adds the name of a rule: it is the start where none was named before.
+    /// Adds the name of a rule: it is the start if none was named before.
     pub fn begin_rule(&mut self, alloc: Global, word: Word<'_>) -> Result<(), AllocError>
         ensures { OnOk result (syntax_built self.new
             ≡ add (syntax_built self.old) (RuleBegun (word_view word.entry))) }
@@ -278,7 +278,7 @@ impl AstBuilder {
         self.put_start(alloc, word)
     }
 
-    /// Adds a rule once its head is read. Where the head says no type of its actions, the one of all rules counts.
+    /// Adds a rule once its head is read. If the head gives no type for its actions, the one for all rules counts.
     pub fn name_rule(&mut self, alloc: Global, head: RuleHead<'_>) -> Result<(), AllocError>
         ensures { OnOk result (syntax_built self.new
             ≡ add (syntax_built self.old) (RuleNamed (head_view head.entry))) }
@@ -287,8 +287,8 @@ impl AstBuilder {
         Ok(())
     }
 
-    /// Adds a finished production of a rule, which is named as by `name_rule`. Of its symbols, those are tokens that
-    /// are quoted or declared so far.
+    /// Adds a finished production of a rule, which is named as by `name_rule`. Its symbols are tokens if they are
+    /// quoted or declared so far.
     pub fn add_production(
         &mut self,
         alloc: Global,
@@ -307,7 +307,7 @@ impl AstBuilder {
         Ok(())
     }
 
-    // Notes where the file declares what it may declare only once of the grammar as a whole.
+    // Notes where the file declares something that it may declare only once for the whole grammar.
     fn note(&mut self, kind: UniqueKind, span: Span) -> Result<(), AllocError>
         ensures { OnOk result (syntax_built self.new ≡ record (syntax_built self.old) {
           occurrences = (syntax_built self.old).occurrences ++ of_grammar kind span ∷ [];
@@ -318,7 +318,7 @@ impl AstBuilder {
         Ok(())
     }
 
-    // Notes where the file declares what it may declare only once of a token.
+    // Notes where the file declares something that it may declare only once for a token.
     fn note_token(
         &mut self,
         alloc: Global,
@@ -341,7 +341,7 @@ impl AstBuilder {
         Ok(())
     }
 
-    // The word is the start where none is there yet.
+    // The word becomes the start if there is none yet.
     fn put_start(&mut self, alloc: Global, word: Word<'_>) -> Result<(), AllocError>
         ensures { OnOk result (syntax_built self.new ≡ record (syntax_built self.old) {
           start = with_first (Some (word_view word.entry)) (syntax_built self.old).start;
@@ -353,7 +353,7 @@ impl AstBuilder {
         Ok(())
     }
 
-    // The index of the token of this name, which is added where it is new.
+    // The index of the token of this name, which is added if it is new.
     fn put_token(&mut self, alloc: Global, word: Word<'_>) -> Result<usize, AllocError>
         ensures added { OnOk result (syntax_built self.new
             ≡ add (syntax_built self.old) (TokenQuoted (word_view word.entry))) }
@@ -368,7 +368,7 @@ impl AstBuilder {
         Ok(index)
     }
 
-    // The index of the rule of this name, which is added where it is new.
+    // The index of the rule of this name, which is added if it is new.
     fn put_rule(&mut self, alloc: Global, head: RuleHead<'_>) -> Result<usize, AllocError>
         ensures added { OnOk result (syntax_built self.new ≡ record (syntax_built self.old) {
           rules = with_rule (Some (typed (syntax_built self.old).settings.action_type (head_view head.entry)))
@@ -387,7 +387,7 @@ impl AstBuilder {
         Ok(index)
     }
 
-    // A rule with no production yet. Where its head says no type, it has the one of all rules.
+    // A rule with no production yet. If its head gives no type, it has the one for all rules.
     fn new_rule(&self, alloc: Global, head: RuleHead<'_>) -> Result<Rule, AllocError>
         ensures { IfOk result (λ rule. rule_view rule
             ≡ (new_rule (typed (syntax_built self.now).settings.action_type (head_view head.entry))).1) }
@@ -460,8 +460,7 @@ impl AstBuilder {
     }
 }
 
-/// The law behind `AstBuilder`: what it builds from a list of items, one after the other, is what
-/// the list says.
+/// The law of `AstBuilder`: what it builds from a list of items, one by one, is what the list says.
 pub fn built_is_syntax()
     ensures { (items : List Item) → adds (syntax_of []) items ≡ syntax_of items }
 {}

@@ -1,9 +1,9 @@
-//! What a reader finds of a rule, to be handed to the builder.
+//! What a reader finds of a rule, for the builder.
 
 use cfgbase::Span;
 use cfgwords::words::{Token, Word};
 
-/// What stands before a rule's colon: its name, and the type that its actions answer, where the file says one.
+/// What precedes a rule's colon: its name, and the type that its actions return, if the file gives one.
 #[derive(Clone, Copy)]
 pub struct RuleHead<'a> {
     pub name: Word<'a>,
@@ -15,10 +15,10 @@ pub struct RuleHead<'a> {
 pub struct Body<'t, 'a> {
     /// The symbols, in order.
     pub symbols: &'t [Token<'a>],
-    /// The name of the token that `%prec` gives it.
+    /// The name of the token that its `%prec` names.
     pub precedence: Option<&'a str>,
-    /// The action's text, and its place.
+    /// The action's text, and its span.
     pub action: Option<(&'a str, Span)>,
-    /// The place of the production.
+    /// The production's span.
     pub span: Span,
 }

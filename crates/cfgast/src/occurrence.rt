@@ -10,11 +10,11 @@ use std::alloc::AllocError;
 pub enum UniqueKind {
     /// `%start`: the rule to start from.
     Start,
-    /// `%actiontype`: the type that the actions of all rules answer.
+    /// `%actiontype`: the type that the actions of all rules return.
     ActionType,
-    /// `%expect`: how many conflicts there are between shifting and reducing.
+    /// `%expect`: the number of shift/reduce conflicts.
     Expect,
-    /// `%expect-rr`: how many conflicts there are between reductions.
+    /// `%expect-rr`: the number of reduce/reduce conflicts.
     ExpectReduceReduce,
     /// `%epp`: a token's printed form.
     PrintedForm,
@@ -22,19 +22,19 @@ pub enum UniqueKind {
     Precedence,
     /// `%avoid_insert`: that a repair avoids to insert a token.
     AvoidInsert,
-    /// `%implicit_tokens`: that a token may stand anywhere.
+    /// `%avoid_insert`: that error recovery avoids inserting a token.
     ImplicitToken,
 }
 
-/// What a file may declare only once: something of the grammar as a whole, or of a token.
+/// What a file may declare only once: for the whole grammar, or for a token.
 #[derive(Debug, PartialEq, Eq, Hash, Drop)]
 pub struct Unique {
     pub kind: UniqueKind,
-    /// The token's name, where it is something of a token.
+    /// The token's name, if it is for a token.
     pub token: Option<String>,
 }
 
-/// A place where a file declares it.
+/// Where a file declares it.
 #[derive(Debug, Drop)]
 pub struct Occurrence {
     pub what: Unique,

@@ -9,11 +9,11 @@ use std::alloc::AllocError;
 pub struct Production {
     /// The symbols, in order.
     pub symbols: Vec<Symbol>,
-    /// The token whose precedence the production takes, where `%prec` names one.
+    /// The token whose precedence the production takes, if `%prec` names one.
     pub precedence: Option<String>,
-    /// The action's text, and its place.
+    /// The action's text, and its span.
     pub action: Option<(String, Span)>,
-    /// The place of the production.
+    /// The production's span.
     pub prod_span: Span,
 }
 

@@ -9,11 +9,11 @@ use std::alloc::AllocError;
 /// A rule of a grammar.
 #[derive(Debug, PartialEq, Eq, Drop)]
 pub struct Rule {
-    /// The name, where it stands first.
+    /// The name, and its first span.
     pub name: (String, Span),
     /// The rule's productions, by their indices among the productions of all rules.
     pub pidxs: Vec<usize>,
-    /// The type that the rule's actions answer.
+    /// The type that the rule's actions return.
     pub actiont: Option<String>,
 }
 

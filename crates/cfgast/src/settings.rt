@@ -4,14 +4,14 @@ use cfgbase::Span;
 use lending::{Refill, refilled};
 use std::alloc::AllocError;
 
-/// What a file says of its grammar as a whole.
+/// What a file says about its grammar as a whole.
 #[derive(Debug, Drop)]
 pub struct Settings {
-    /// The type that the actions of all rules answer, where a rule says none of its own.
+    /// The type that the actions of all rules return, unless a rule gives its own.
     pub action_type: Option<String>,
-    /// How many conflicts between shifting and reducing `%expect` allows (Bison), and where it says so.
+    /// How many shift/reduce conflicts `%expect` allows (Bison), and where it says so.
     pub expect: Option<(usize, Span)>,
-    /// How many conflicts between reductions `%expect-rr` allows (Bison), and where it says so.
+    /// How many reduce/reduce conflicts `%expect-rr` allows (Bison), and where it says so.
     pub expectrr: Option<(usize, Span)>,
     /// The name and the type of the parser's parameter.
     pub parse_param: Option<(String, String)>,
@@ -25,7 +25,7 @@ impl Settings {
     ghost use Rattle.cfgast.specs.Syntax.{settings_of};
     ghost use Rattle.cfgast.specs.SyntaxView.{settings_view};
 
-    /// None of them.
+    /// No settings.
     #[tactic(auto, unfolding(crate::specs::Syntax::settings_of))]
     pub fn none() -> Self
         ensures { settings_view result ≡ settings_of [] }

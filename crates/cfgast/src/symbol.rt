@@ -4,7 +4,7 @@ use cfgbase::Span;
 use std::alloc::AllocError;
 use std::fmt;
 
-/// A symbol of a production, by its name, with the place of that name.
+/// A symbol of a production: its name, with the name's span.
 #[derive(Debug, PartialEq, Eq, Drop)]
 pub enum Symbol {
     /// The rule of this name.

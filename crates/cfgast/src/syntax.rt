@@ -15,9 +15,9 @@ use std::alloc::Global;
 /// What a grammar file says: its rules, productions and tokens, by their names.
 #[derive(Debug, Drop)]
 pub struct Syntax {
-    /// The start rule's name, and the place where it is given.
+    /// The start rule's name, and its span where it is given.
     pub start: Option<(String, Span)>,
-    /// The rules, by their names, in the order in which they come first.
+    /// The rules, by their names, in the order of their first occurrences.
     pub rules: IndexMap<String, Rule>,
     /// The productions of all rules, in their order in the file.
     pub prods: Vec<Production>,
@@ -25,13 +25,13 @@ pub struct Syntax {
     pub prods_rules: Vec<usize>,
     /// The indices of the tokens that a `%token` declares.
     pub token_directives: IndexSet<usize>,
-    /// The tokens' names, in the order in which they come first.
+    /// The tokens' names, in the order of their first occurrences.
     pub tokens: IndexSet<String>,
-    /// The place of each token's name, where it comes first.
+    /// The span of the first occurrence of each token's name.
     pub spans: Vec<Span>,
-    /// What the file says of single tokens.
+    /// What the file says about single tokens.
     pub tables: Tables,
-    /// What the file says of its grammar as a whole.
+    /// What the file says about its grammar as a whole.
     pub settings: Settings,
     /// The symbols of the `%expect-unused` lists, in order.
     pub expect_unused: Vec<Symbol>,
@@ -43,7 +43,7 @@ impl Syntax {
     ghost use Rattle.cfgast.specs.Syntax.{syntax_of};
     ghost use Rattle.cfgast.specs.SyntaxView.{syntax_view};
 
-    /// Nothing.
+    /// An empty syntax.
     #[tactic(auto, unfolding(crate::specs::Syntax::syntax_of, crate::specs::SyntaxView::syntax_view))]
     pub fn none(alloc: Global) -> Self
         ensures { syntax_view result ≡ syntax_of [] }
@@ -63,7 +63,7 @@ impl Syntax {
         }
     }
 
-    /// The syntax with how its making ended, or else what failed. It stands here, so that no reader drops a syntax.
+    /// The syntax together with how building it ended, or what failed. It is here so that no reader drops a syntax.
     pub fn with_end<S, E>(self, end: Result<S, E>) -> Result<(Self, S), E>
         ensures both { IfOk result (λ both. (both.0 ≡ self) × (end ≡ Ok both.1)) }
         ensures failed { IfErr result (λ fault. end ≡ Err fault) }

@@ -1,4 +1,4 @@
-//! What a file says of single tokens.
+//! What a file says about single tokens.
 
 ghost use Rattle.std.specs.Prelude.{◌≡◌, [], map, option_map, string_bytes, None, Some, OnOk};
 ghost use Rattle.cfgast.specs.Building.{with_entry, with_marked};
@@ -11,16 +11,16 @@ use indexmap::IndexMap;
 use lending::{Refill, refilled};
 use std::alloc::{AllocError, Global};
 
-/// What a file says of single tokens, each under its name, in the order in which they come first.
+/// What a file says about single tokens, each under its name, in the order of their first occurrences.
 #[derive(Debug, Drop)]
 pub struct Tables {
-    /// The tokens of `%left`, `%right` and `%nonassoc` lists, with their precedences (POSIX yacc) and places.
+    /// The tokens of `%left`, `%right` and `%nonassoc` lists, with their precedences (POSIX yacc) and spans.
     pub precs: IndexMap<String, (Precedence, Span)>,
-    /// The keys of `%epp`, with their places, and their printed forms with theirs.
+    /// The keys of `%epp` with their spans, and their printed forms with theirs.
     pub epp: IndexMap<String, (Span, (String, Span))>,
-    /// The tokens of `%avoid_insert` lists, with their places, where there is such a list.
+    /// The tokens of `%avoid_insert` lists with their spans, if there is such a list.
     pub avoid_insert: Option<IndexMap<String, Span>>,
-    /// The tokens of `%implicit_tokens` lists, with their places, where there is such a list.
+    /// The tokens of `%implicit_tokens` lists with their spans, if there is such a list.
     pub implicit_tokens: Option<IndexMap<String, Span>>,
     /// The declarations of precedence that ended, in order.
     pub levels: Vec<AssocKind>,
@@ -30,7 +30,7 @@ impl Tables {
     ghost use Rattle.cfgast.specs.Syntax.{tables_of};
     ghost use Rattle.cfgast.specs.SyntaxView.{tables_view};
 
-    /// Nothing of any token.
+    /// Nothing about any token.
     #[tactic(auto, unfolding(crate::specs::Syntax::tables_of))]
     pub fn none(alloc: Global) -> Self
         ensures { tables_view result ≡ tables_of [] }
@@ -70,7 +70,7 @@ impl Refill for Tables {
     }
 }
 
-// The value, under the name where none has it yet.
+// The value, under the name if no entry has it yet.
 pub(crate) fn put_entry<V: Drop>(
     alloc: Global,
     entries: &mut IndexMap<String, V>,
@@ -86,7 +86,7 @@ pub(crate) fn put_entry<V: Drop>(
     Ok(())
 }
 
-// The table of marked tokens, from the beginning of a list on.
+// The table of marked tokens, which exists once a list starts.
 pub(crate) fn begin_marked(alloc: Global, table: &mut Option<IndexMap<String, Span>>)
     ensures { option_map (λ table. map span_entry table.entries) table.new
         ≡ with_marked (Some None) (option_map (λ table. map span_entry table.entries) table.old) }

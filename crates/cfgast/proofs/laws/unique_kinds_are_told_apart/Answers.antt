@@ -5,7 +5,7 @@ use Rattle.cfgast.specs.declared.occurrence.UniqueKind.{UniqueKind}
 use Rattle.cfgast.specs.declared.occurrence.UniqueKind.TheVariants.{Start, ActionType, Expect, ExpectReduceReduce, PrintedForm, Precedence, AvoidInsert, ImplicitToken}
 use Rattle.cfgast.proofs.laws.unique_kinds_are_told_apart.Goals as goal
 
--- A hash is fed the number of the kind, whose first byte is that number.
+-- A hash is fed the kind's number, whose first byte is that number.
 kind_at : ℕ → UniqueKind
 kind_at number = get_or (Start ∷ ActionType ∷ Expect ∷ ExpectReduceReduce ∷ PrintedForm ∷ Precedence ∷ AvoidInsert ∷ ImplicitToken ∷ []) number Start
 
