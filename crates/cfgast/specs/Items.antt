@@ -25,7 +25,7 @@ pub data Item : Type 0 where
   TokenDeclared : Word → Item  -- a token of a `%token` list
   StartDeclared : Word → Item  -- the name after `%start`
   ActionTypeDeclared : List ℕ × Span → Item  -- the rest of the line after `%actiontype`, and its span
-  PrintedFormDeclared : Word → List ℕ × Span → Item  -- after `%epp` a token, with the span of it and its quotes, and its printed form with the string's span
+  PrintedFormDeclared : Word → List ℕ × Span → Item  -- after `%epp` a token, its span with quotes, and its printed form with its span
   ExpectDeclared : ℕ × Span → Item  -- the number after `%expect`, and its span
   ExpectReduceReduceDeclared : ℕ × Span → Item  -- the number after `%expect-rr`, and its span
   ExpectedUnused : Symbol → Item  -- a symbol of an `%expect-unused` list

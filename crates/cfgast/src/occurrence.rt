@@ -20,9 +20,9 @@ pub enum UniqueKind {
     PrintedForm,
     /// `%left`, `%right` and `%nonassoc`: a token's precedence.
     Precedence,
-    /// `%avoid_insert`: that a repair avoids to insert a token.
-    AvoidInsert,
     /// `%avoid_insert`: that error recovery avoids inserting a token.
+    AvoidInsert,
+    /// `%implicit_tokens`: that a token may be anywhere.
     ImplicitToken,
 }
 
