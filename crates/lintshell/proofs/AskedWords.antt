@@ -1,4 +1,4 @@
--- What words ask for, one after the other.
+-- What arguments ask for, one by one.
 use Rattle.std.proofs.Common.{◌≡◌, ℕ, ◌+◌, ◌<◌, ◌≤◌, Bool, true, false, List, [], ◌∷◌, ◌++◌, length, map, drop, get_or, Some, Option, codes, refl, sym, subst, ◌∙◌, if◌then◌else◌, arith}
 use Rattle.std.specs.Borrow.{Bor}
 use Rattle.std.specs.Option.{option_map_or}
@@ -17,7 +17,7 @@ not_same a b other = go (bytes_eq a b) refl
     go false is = is
 
 module _ (awaits : Bool) (wanted : Wanted) (words : List (Bor (List ℕ))) (i : ℕ) (asked : Asked) where
-  -- the word at this place is asked first
+  -- the argument at this index is read first
   pub at_word : (d : Bor (List ℕ)) → i < length words → words_ask awaits wanted (map (λ word. word.now) (drop i words)) ≡ asked
       → words_ask awaits wanted ((get_or words i d).now ∷ map (λ word. word.now) (drop (i + 1) words)) ≡ asked
   at_word d within asks = sym (at_drop_more (λ rest. words_ask awaits wanted (map (λ word. word.now) rest)) words i d within) ∙ asks
@@ -26,7 +26,7 @@ module _ (awaits : Bool) (wanted : Wanted) (words : List (Bor (List ℕ))) (i : 
   at_end past asks = sym (at_drop_all (λ rest. words_ask awaits wanted (map (λ word. word.now) rest)) words i past) ∙ asks
 
 module _ (wanted : Wanted) (word : List ℕ) (words : List (List ℕ)) (asked : Asked) where
-  -- a word behind `--kind`
+  -- the argument after `--kind`
   pub at_kind : (kind : Option KindArg) → kind ≡ kind_named word → words_ask true wanted (word ∷ words) ≡ asked
       → option_map_or (λ kind. words_ask false (record wanted { kind = Some kind }) words) kind Wrong ≡ asked
   unfolding words_ask
@@ -49,7 +49,7 @@ module _ (wanted : Wanted) (word : List ℕ) (words : List (List ℕ)) (asked : 
     unfolding words_ask
     at_kind_option is = subst (λ w. words_ask false wanted (w ∷ words) ≡ asked) is asks
 
-    -- a word that is none of the options
+    -- an argument that is none of the options
     pub at_file : (word ≡ codes "--help" → ⊥) → (word ≡ codes "--version" → ⊥) → (word ≡ codes "--deny-warnings" → ⊥) → (word ≡ codes "--kind" → ⊥)
         → (option : Bool) → option ≡ is_option word
         → (if option then Wrong else words_ask false (record wanted { files = wanted.files ++ word ∷ [] }) words) ≡ asked

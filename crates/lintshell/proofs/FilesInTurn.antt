@@ -1,4 +1,4 @@
--- Files one after the other: what is told of them, and what a source is asked for.
+-- Files one by one: what is reported about them, and which of them a source is asked for.
 use Rattle.std.proofs.Common.{◌≡◌, ℕ, ◌+◌, ◌<◌, ◌≤◌, List, [], ◌∷◌, ◌++◌, length, map, take, drop, get_or, Option, Result, Ok, Err, refl, sym, ap, ◌∙◌, subst, arith}
 use Rattle.std.specs.Prelude.{OnErr}
 use Rattle.std.specs.Borrow.{Bor}
@@ -8,13 +8,13 @@ use Rattle.cfgshell.specs.declared.words.KindArg.{KindArg}
 use Rattle.lintshell.specs.Files.{AsksFirst, IsAsked, IsFate, Lints}
 use Rattle.lintshell.specs.Tally.{Fate, Linted, NoText, Tally, Told, Unread, with_file}
 
--- a file is at most one text
+-- a file has at most one text
 pub texts-with_file : (file : List ℕ) (fate : Fate) (tally : Tally) → (with_file file fate tally).texts ≤ tally.texts + 1
 texts-with_file file Unread tally = omega arith
 texts-with_file file NoText tally = omega arith
 texts-with_file file (Linted told) tally = omega arith
 
--- what holds anyway
+-- what holds in either case
 pub on_err : {T E P : Type 0} (r : Result T E) → P → OnErr r P
 on_err (Ok value) holds = tt
 on_err (Err fault) holds = holds
@@ -38,7 +38,7 @@ module _ {S : Type 0} (Fetches : S → List ℕ → Input → S → Type 0) wher
   pub all_asked : (before after : S) (files : List (List ℕ)) → IsAsked Fetches before files after → AsksFirst Fetches before after files
   all_asked before after files asked = record { front = files; back = []; are = sym (append-nil files); fetched = asked }
 
-  -- the last file that is asked for stands at this place
+  -- the last file that is asked for has this index
   pub asked_up_to : (files : List (Bor (List ℕ))) (i : ℕ) (d : Bor (List ℕ)) → i < length files → (before between after : S) (answer : Input)
       → IsAsked Fetches before (map (λ file. file.now) (take i files)) between → Fetches between (get_or files i d).now answer after
       → AsksFirst Fetches before after (map (λ file. file.now) files)
@@ -62,7 +62,7 @@ module _ {S : Type 0} (Fetches : S → List ℕ → Input → S → Type 0) wher
     Lints-more file answer fate Lints.none fetched is = Lints.next fate fetched is Lints.none
     Lints-more file answer fate (Lints.next before first was rest) fetched is = Lints.next before first was (Lints-more file answer fate rest fetched is)
 
-    -- the last file that is linted stands at this place
+    -- the last file that is linted has this index
     pub linted_up_to : (files : List (Bor (List ℕ))) (i : ℕ) (d : Bor (List ℕ)) → i < length files → (before between after : S) (tally last : Tally) (answer : Input) (fate : Fate)
         → Lints Tells kind Fetches before tally (map (λ file. file.now) (take i files)) between last
         → Fetches between (get_or files i d).now answer after → IsFate Tells kind (get_or files i d).now answer fate

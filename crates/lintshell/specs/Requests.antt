@@ -1,18 +1,18 @@
--- What the words of the program ask for, and what it then says of itself.
+-- What the program's arguments ask for, and what it then says about itself.
 use Rattle.std.specs.Prelude.{ℕ, Bool, true, false, not, ◌&&◌, ◌==◌, List, [], ◌∷◌, ◌++◌, Option, Some, None, codes, if◌then◌else◌}
 use Rattle.std.specs.Option.{option_map_or}
 use Rattle.std.specs.Str.{bytes_eq}
 use Rattle.cfgshell.specs.Arguments.{kind_named}
 use Rattle.cfgshell.specs.declared.words.KindArg.{KindArg}
 
--- that these files are linted, in order, as files of the kind, or each as one of the kind that it names; and whether warnings
--- are denied
+-- that these files are linted, in order, as files of the given kind, or else each as the kind that it names; and whether warnings are
+-- denied
 pub record Wanted : Type 0 where
   pub kind : Option KindArg
   pub denies : Bool
   pub files : List (List ℕ)
 
--- before the first word
+-- before the first argument
 abbrev pub nothing_wanted : Wanted
 nothing_wanted = record { kind = None; denies = false; files = [] }
 
@@ -22,18 +22,18 @@ pub data Asked : Type 0 where
   Wrong : Asked
   Lint : Wanted → Asked
 
--- a word that begins with a dash is an option, but for the dash alone, which is standard input
+-- an argument that begins with a dash is an option, except for a single dash, which is standard input
 abbrev pub is_option : List ℕ → Bool
 is_option [] = false
 is_option (first ∷ more) = first == 45 && not (bytes_eq (first ∷ more) (codes "-"))
 
--- at the words' end: some file has to be given
+-- at the end of the arguments: at least one file is required
 abbrev pub asked_files : Wanted → List (List ℕ) → Asked
 asked_files wanted [] = Wrong
 asked_files wanted (file ∷ files) = Lint wanted
 
--- What these words ask for behind those that wanted this, where a word that names a kind has to come first, or hasn't. The first word
--- decides that asks for something else, or is wrong.
+-- What these arguments ask for after those that wanted this, and whether a kind's name has to come first. The first argument decides that
+-- asks for something else or is wrong.
 unfoldable pub words_ask : Bool → Wanted → List (List ℕ) → Asked
 words_ask true wanted [] = Wrong
 words_ask true wanted (word ∷ words) =
@@ -50,7 +50,7 @@ words_ask false wanted (word ∷ words) =
 abbrev pub asked : List (List ℕ) → Asked
 asked words = words_ask false nothing_wanted words
 
--- the files that the words name
+-- the files that the arguments name
 abbrev pub files_asked : Asked → List (List ℕ)
 files_asked Help = []
 files_asked Version = []

@@ -16,7 +16,7 @@ pub record Answer : Type 0 where
   pub errors : List ℕ
   pub status : ℕ
 
--- how a run ends: with its answer, or with one that the output did not take whole, or without memory for one
+-- how a run ends: with its result, with one that the output didn't accept completely, or out of memory
 pub data Ending : Type 0 where
   Answered : Answer → Ending
   Unwritten : Answer → Ending
@@ -33,32 +33,32 @@ ending_errors (Answered answer) = answer.errors
 ending_errors (Unwritten answer) = answer.errors ++ codes "cfglint: cannot write\n"
 ending_errors NoMemory = codes "cfglint: out of memory\n"
 
--- how many faults of its output a run that ends so met
+-- how many faults of its output a run with this ending met
 abbrev pub ending_faults : Ending → ℕ
 ending_faults (Answered answer) = 0
 ending_faults (Unwritten answer) = 1
 ending_faults NoMemory = 0
 
--- the answer behind a run through files
+-- the result of a run through files
 abbrev pub answer_of : Bool → Tally → Answer
 answer_of denies tally = record { output = tally.lines ++ summary tally; errors = tally.faults; status = status_of denies tally }
 
--- the answer to words that ask for no files, or for nothing
+-- the result of arguments that ask for a text
 abbrev pub written : List ℕ → Answer
 written text = record { output = text; errors = []; status = 0 }
 
 abbrev pub refused : Answer
 refused = record { output = []; errors = usage; status = 2 }
 
--- how a run ends that has no words, for this reason: words that are no text are wrong usage
+-- how a run ends that has no arguments, for this reason: arguments that are not text are wrong usage
 abbrev pub ending_without : WordsFault → Ending
 ending_without words.NotUtf8 = Answered refused
 ending_without words.OutOfMemory = NoMemory
 
--- `Tells` says what may be told of a text, and `Fetches` what a source may answer for a file, and what becomes of it: a source that
--- was `before`, and is `after`.
+-- `Tells` says what may be reported about a text, and `Fetches` what a source may return for a file, and what the source then is: it was
+-- `before`, and is `after`.
 module _ (Tells : Option KindArg → List ℕ → List ℕ → Told → Type 0) {S : Type 0} (Fetches : S → List ℕ → Input → S → Type 0) (before after : S) where
-  -- the answer to what is asked
+  -- the result of what is asked
   abbrev pub Answers : Asked → Answer → Type 0
   Answers Help answer = (after ≡ before) × (answer ≡ written help)
   Answers Version answer = (after ≡ before) × (answer ≡ written version)
@@ -66,8 +66,8 @@ module _ (Tells : Option KindArg → List ℕ → List ℕ → Told → Type 0) 
   Answers (Lint wanted) answer = (tally : Tally) × Lints Tells wanted.kind Fetches before no_files wanted.files after tally
       × (answer ≡ answer_of wanted.denies tally)
 
-  -- what a run does with its words, and its output's known bytes: without memory the source was asked for the first of the files that
-  -- the words name, and for nothing else
+  -- what a run does with its arguments, and its output's known bytes: if it runs out of memory, the source was asked for a prefix of the
+  -- files that the arguments name, and for nothing else
   abbrev pub Handles : List (List ℕ) → Option (List ℕ) → Option (List ℕ) → Ending → Type 0
   Handles words old new (Answered answer) = Answers (asked words) answer × Appends old new answer.output
   Handles words old new (Unwritten answer) = Answers (asked words) answer × AppendsBeginning old new answer.output

@@ -1,23 +1,23 @@
--- What is told of files, one after the other, and the summary behind it.
+-- What is reported about files, one by one, and the summary at the end.
 use Rattle.std.specs.Prelude.{ℕ, ◌+◌, ◌==◌, ◌||◌, nat_lt, Bool, true, false, ◌&&◌, List, [], ◌++◌, codes, if◌then◌else◌}
 use Rattle.std.specs.Fmt.{decimal}
 
--- What is told of a text: lines as people read them, whether the text names no kind, so that one was taken, and how many errors
--- and warnings there are.
+-- What is reported about a text: lines as people read them, whether the text names no kind, so that one was assumed, and how many errors
+-- and warnings it has.
 pub record Told : Type 0 where
   pub lines : List ℕ
   pub is_taken : Bool
   pub errors : ℕ
   pub warnings : ℕ
 
--- what became of a file: it could not be read, or is no text, or this was told of it
+-- what became of a file: it could not be read, or is not text, or this was reported about it
 pub data Fate : Type 0 where
   Unread : Fate
   NoText : Fate
   Linted : Told → Fate
 
--- What was told of files: lines on their texts, and lines on those that have none; how many texts there were, and how many of these
--- name no kind; how many errors and warnings there are; whether there was a file without a text.
+-- What was reported about files: lines about their texts, and lines about those without text; how many texts there were, and how many of
+-- these name no kind; how many errors and warnings there are; whether there was a file without text.
 pub record Tally : Type 0 where
   pub lines : List ℕ
   pub faults : List ℕ
@@ -30,7 +30,7 @@ pub record Tally : Type 0 where
 abbrev pub no_files : Tally
 no_files = record { lines = []; faults = []; texts = 0; taken = 0; errors = 0; warnings = 0; is_short = false }
 
--- the line on a file without a text
+-- the line about a file without text
 abbrev pub unread_line : List ℕ → List ℕ
 unread_line file = codes "cfglint: cannot read " ++ (file ++ codes "\n")
 

@@ -1,4 +1,4 @@
-//! What a run answers, and how that is told.
+//! The result of a run, and how it is printed.
 
 ghost use Rattle.std.specs.Prelude.{◌≡◌, ◌+◌, ◌-◌, ◌^◌, ◌<◌, ◌≤◌, ◌++◌, IfOk};
 ghost use Rattle.cfgsink.specs.Sinks.{AppendsOrFaults};
@@ -36,7 +36,7 @@ impl Model for Answer {
 }
 
 impl Answer {
-    /// That the text is written.
+    /// The result is this text.
     pub(crate) fn written(alloc: Global, text: &str) -> Result<Self, AllocError>
         ensures { IfOk result (λ answer. answer ≡ written text.now) }
     {
@@ -47,7 +47,7 @@ impl Answer {
         })
     }
 
-    /// That the words are wrong.
+    /// The arguments are wrong.
     pub(crate) fn refused(alloc: Global) -> Result<Self, AllocError>
         ensures { IfOk result (λ answer. answer ≡ refused) }
     {
@@ -58,7 +58,7 @@ impl Answer {
         })
     }
 
-    /// What was told of files, where warnings are denied or not.
+    /// What was reported about files, with warnings denied or not.
     pub(crate) fn of_files(alloc: Global, tally: Tally, denies: bool) -> Result<Self, AllocError>
         ensures { IfOk result (λ answer. answer ≡ answer_of denies tally) }
     {
@@ -78,7 +78,7 @@ impl Answer {
     }
 }
 
-/// Writes the answer, and answers the status that the run ends with.
+/// Writes the result, and returns the status that the run ends with.
 pub(crate) fn tell<O: Sink, E: Sink>(answer: &Answer, out: &mut O, err: &mut E) -> u8
     requires out_counts { O.faults_counted out.old < 2 ^ 64 - 1 }
     requires err_counts { E.faults_counted err.old < 2 ^ 64 - 1 }
@@ -101,7 +101,7 @@ pub(crate) fn tell<O: Sink, E: Sink>(answer: &Answer, out: &mut O, err: &mut E) 
     }
 }
 
-/// Writes the first bytes, and the others behind them.
+/// Writes the first bytes, and then the others.
 fn write_both<E: Sink>(err: &mut E, first: &[u8], more: &[u8]) -> Result<(), SinkFault>
     requires { E.faults_counted err.old < 2 ^ 64 - 1 }
     ensures { AppendsOrFaults (E.written err.old) (E.written err.new)

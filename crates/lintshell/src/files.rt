@@ -1,4 +1,4 @@
-//! Linting of files, one after the other.
+//! Linting of files, one by one.
 
 ghost use Rattle.std.specs.Prelude.{◌≡◌, ◌-◌, ◌^◌, ◌<◌, IfOk, OnErr, OnOk, map};
 ghost use Rattle.cfgshell.specs.declared.source.Input.{Input};
@@ -11,12 +11,11 @@ use cfgshell::KindArg;
 use cfgshell::source::{Input, Source};
 use std::alloc::{AllocError, Global};
 
-/// What is told of files, one after the other, as files of the kind; where there is none, each as one of the kind that
-/// it names.
+/// What is reported about files, one by one, as files of the kind; without one, each as the kind that it names.
 ///
 /// # Errors
 ///
-/// Want of memory; `source` was then asked for the first of the files alone.
+/// Running out of memory; `source` was then asked only for a prefix of the files.
 pub(crate) fn lint_files<L: Linter, S: Source>(
     alloc: Global,
     linter: &L,
@@ -35,7 +34,7 @@ pub(crate) fn lint_files<L: Linter, S: Source>(
     Ok(tally)
 }
 
-/// Adds what is told of a file.
+/// Adds what is reported about a file.
 fn lint_file<L: Linter, S: Source>(
     alloc: Global,
     linter: &L,
@@ -56,7 +55,7 @@ fn lint_file<L: Linter, S: Source>(
     }
 }
 
-/// Adds what is told of the bytes of a file.
+/// Adds what is reported about the bytes of a file.
 fn lint_bytes<L: Linter>(
     alloc: Global,
     linter: &L,

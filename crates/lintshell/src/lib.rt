@@ -1,4 +1,4 @@
-//! The shell of the program `cfglint`: its words, the files that it goes through, its summary, and how it ends.
+//! The shell of the program `cfglint`: its arguments, the files that it visits, its summary, and how it ends.
 #![tactic(auto)]
 
 mod answer;

@@ -1,4 +1,4 @@
-//! What lints a text, and what it tells.
+//! What lints a text, and what it returns.
 
 ghost use Rattle.std.specs.Prelude.{IfOk};
 
@@ -6,16 +6,16 @@ use cfgshell::KindArg;
 use std::alloc::{AllocError, Global};
 use std::marker::Model;
 
-/// What is told of a text.
+/// What is reported about a text.
 #[derive(Debug, Drop)]
 pub struct Report {
-    /// Its errors, or what is odd about it, as people read them.
+    /// Its errors or warnings, as people read them.
     pub lines: String,
-    /// Whether the text names no kind, so that one was taken.
+    /// Whether the text names no kind, so that one was assumed.
     pub is_taken: bool,
     /// How many errors it has.
     pub errors: usize,
-    /// How many warnings there are of it.
+    /// How many warnings it has.
     pub warnings: usize,
 }
 
@@ -39,16 +39,15 @@ pub trait Linter {
     ghost use Rattle.cfgshell.specs.declared.words.KindArg.{KindArg};
     ghost use Rattle.lintshell.specs.Tally.{Told};
 
-    // What may be told of a text in a file of this name, as a file of the kind; where there is none, as one of the kind
-    // that it names itself.
+    // What may be reported about a text in a file of this name, as a file of the kind; without one, as the kind that it
+    // names itself.
     ghost tells: { Option KindArg → List ℕ → List ℕ → Told → Type 0 };
 
-    /// Lints a text in a file of this name, as a file of the kind; where there is none, as one of the kind that it
-    /// names itself.
+    /// Lints a text in a file of this name, as a file of the kind; without one, as the kind that it names itself.
     ///
     /// # Errors
     ///
-    /// Want of memory.
+    /// Running out of memory.
     fn lint(
         &self,
         alloc: Global,

@@ -16,10 +16,10 @@ use cfgshell::sink::{Sink, write_whole};
 use cfgshell::source::Source;
 use std::alloc::{AllocError, Global};
 
-/// Runs the program on the words after its name, and answers its status. What it tells of the files that the words
-/// name, and a summary, is written to `out`, and a line for each file without a text, or on what else went wrong, to
-/// `err`, as far as `err` takes it. Nothing is written before all files are read. Words that are wrong leave `source`
-/// as it was.
+/// Runs the program on its command-line arguments, and returns its status. What it reports about the files that they
+/// name, and a summary, is written to `out`; a line for each file without text, or about what else went wrong, is
+/// written to `err`, as far as `err` accepts it. Nothing is written before all files are read. Wrong arguments leave
+/// `source` as it was.
 pub fn lint<L: Linter, S: Source, O: Sink, E: Sink>(
     alloc: Global,
     linter: &L,
@@ -47,11 +47,11 @@ pub fn lint<L: Linter, S: Source, O: Sink, E: Sink>(
     }
 }
 
-/// The answer to the words.
+/// The result of the arguments.
 ///
 /// # Errors
 ///
-/// Want of memory.
+/// Running out of memory.
 fn answered<L: Linter, S: Source>(
     alloc: Global,
     linter: &L,
@@ -71,11 +71,11 @@ fn answered<L: Linter, S: Source>(
     }
 }
 
-/// The answer to words that ask for files.
+/// The result of arguments that ask for files.
 ///
 /// # Errors
 ///
-/// Want of memory; `source` was then asked for the first of the files alone.
+/// Running out of memory; `source` was then asked only for a prefix of the files.
 fn linted<L: Linter, S: Source>(
     alloc: Global,
     linter: &L,

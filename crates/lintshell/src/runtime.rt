@@ -13,9 +13,9 @@ use cfgshell::sink::{Counted, Sink, write_whole};
 use std::io;
 use std::rt::{Env, Files};
 
-/// Runs the program over a runtime, and answers its status: [`lint`](crate::lint) on the words behind the program's
-/// name, over the runtime's files, its standard input under the name `-`, its standard output and its standard error.
-/// Words that are not UTF-8 are wrong usage.
+/// Runs the program over a runtime, and returns its status: [`lint`](crate::lint) on the command-line arguments, over
+/// the runtime's files, its standard input under the name `-`, its standard output and its standard error. Arguments
+/// that are not UTF-8 are wrong usage.
 pub fn run_over<R: Env + Files + Input + Print + Eprint + AllocGlobal, L: Linter>(
     rt: &R,
     linter: &L,
@@ -28,11 +28,11 @@ pub fn run_over<R: Env + Files + Input + Print + Eprint + AllocGlobal, L: Linter
     }
 }
 
-/// Runs the program on its words.
+/// Runs the program on its arguments.
 ///
 /// # Errors
 ///
-/// Why there are no words; nothing is then read or written.
+/// Why there are no arguments; nothing is then read or written.
 fn run_on_words<R: Env + Files + Input + Print + Eprint + AllocGlobal, L: Linter>(
     rt: &R,
     linter: &L,
@@ -51,7 +51,8 @@ fn run_on_words<R: Env + Files + Input + Print + Eprint + AllocGlobal, L: Linter
     ))
 }
 
-/// Ends a run that has no words, and answers its status. A line on why is written to `err`, as far as `err` takes it.
+/// Ends a run that has no arguments, and returns its status. A line that says why is written to `err`, as far as `err`
+/// accepts it.
 fn refuse_words<E: Sink>(fault: WordsFault, err: &mut E) -> u8
     requires { E.faults_counted err.old < 2 ^ 64 - 1 }
     ensures small { result ≤ 3 }

@@ -1,4 +1,4 @@
-//! The last line that is told.
+//! The last line of the report.
 
 ghost use Rattle.std.specs.Prelude.{◌≡◌, ◌++◌, IfOk, OnOk, string_bytes};
 ghost use Rattle.lintshell.specs.Tally.{counted, summary, taken_text};
@@ -33,7 +33,7 @@ fn write_taken(text: &mut String, taken: u64) -> Result<(), AllocError>
     text.push_str(" read as original-noaction")
 }
 
-/// Writes a number of things of this name: `1 file`, `2 files`.
+/// Writes a count of things of this name: `1 file`, `2 files`.
 fn write_counted(text: &mut String, count: u128, name: &str) -> Result<(), AllocError>
     ensures { OnOk result (string_bytes text.new ≡ string_bytes text.old ++ counted count name.now) }
 {

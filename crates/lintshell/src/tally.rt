@@ -1,4 +1,4 @@
-//! What is told of files, one after the other.
+//! What is reported about files, one by one.
 
 ghost use Rattle.std.specs.Prelude.{◌≡◌, ◌-◌, ◌^◌, ◌<◌, ℕ, List, OnOk};
 ghost use Rattle.lintshell.specs.Tally.{Linted, NoText, Unread, fails, no_files, status_of, with_file};
@@ -7,14 +7,14 @@ use crate::linter::Report;
 use std::alloc::{AllocError, Global};
 use std::marker::Model;
 
-/// What was told of files.
+/// What was reported about files.
 #[derive(Drop)]
 pub(crate) struct Tally {
     pub(crate) lines: String,
     pub(crate) faults: String,
     pub(crate) texts: u64,
     pub(crate) taken: u64,
-    /// A sum of lengths, one for each text.
+    /// A sum of list lengths, one per text.
     pub(crate) errors: u128,
     pub(crate) warnings: u128,
     pub(crate) is_short: bool,
@@ -55,7 +55,7 @@ impl Tally {
         }
     }
 
-    /// Adds a file of whose text this is told.
+    /// Adds a file with what is reported about its text.
     pub(crate) fn add_report(&mut self, report: &Report) -> Result<(), AllocError>
         requires { self.old.texts < 2 ^ 64 - 1 }
         ensures { OnOk result ((file : List ℕ) → self.new ≡ with_file file (Linted report.now) self.old) }
@@ -76,7 +76,7 @@ impl Tally {
         writeln!(self.faults, "cfglint: cannot read {file}")
     }
 
-    /// Adds a file that is no text.
+    /// Adds a file that is not text.
     pub(crate) fn add_no_text(&mut self, file: &str) -> Result<(), AllocError>
         ensures { OnOk result (self.new ≡ with_file file.now NoText self.old) }
     {
@@ -84,7 +84,7 @@ impl Tally {
         writeln!(self.faults, "cfglint: {file} is not UTF-8")
     }
 
-    /// The status that the program ends with, where warnings are denied or not.
+    /// The status that the program ends with, with warnings denied or not.
     pub(crate) fn status(&self, denies: bool) -> u8
         ensures { result ≡ status_of denies self.now }
     {

@@ -1,4 +1,4 @@
-//! What the words of the program ask for, and what it says of itself.
+//! What the program's arguments ask for, and what it says about itself.
 
 ghost use Rattle.std.specs.Prelude.{◌≡◌, IfOk, map};
 ghost use Rattle.lintshell.specs.Inner.{asked_view};
@@ -8,13 +8,13 @@ use cfgshell::KindArg;
 use cfgshell::words::kind_of;
 use std::alloc::{AllocError, Global};
 
-/// How the program is used, as it says where the words are wrong.
+/// How the program is used, which it prints if the arguments are wrong.
 pub(crate) const USAGE: &str = "usage: cfglint [--kind KIND] [--deny-warnings] FILE..\n";
 
-/// What it says to `--version`.
+/// What it prints for `--version`.
 pub(crate) const VERSION: &str = "cfglint 0.15.0\n";
 
-/// What it says to `--help`.
+/// What it prints for `--help`.
 pub(crate) const HELP: &str =
     "cfglint tells what is wrong with Yacc grammar files, and what is odd about them.
 
@@ -32,7 +32,7 @@ status: 0 without errors or denied warnings; 1 with either; 2 where the argument
 read or the output can't be written; 3 where there is no memory left
 ";
 
-/// What the words ask for.
+/// What the arguments ask for.
 #[derive(Drop)]
 pub(crate) enum Asked<'a> {
     /// How the program is used.
@@ -48,18 +48,18 @@ pub(crate) enum Asked<'a> {
 /// That these files are linted, in order.
 #[derive(Drop)]
 pub(crate) struct Wanted<'a> {
-    /// As files of this kind; where there is none, each as one of the kind that it names.
+    /// As files of this kind; without one, each as the kind that it names.
     pub(crate) kind: Option<KindArg>,
     /// Whether warnings are denied.
     pub(crate) denies: bool,
     pub(crate) files: Vec<&'a str>,
 }
 
-/// What the words ask for.
+/// What the arguments ask for.
 ///
 /// # Errors
 ///
-/// Want of memory.
+/// Running out of memory.
 pub(crate) fn asked_by<'a>(alloc: Global, words: &[&'a str]) -> Result<Asked<'a>, AllocError>
     ensures { IfOk result (λ x. asked_view x ≡ asked (map (λ word. word.now) words.now)) }
 {
@@ -93,7 +93,7 @@ pub(crate) fn asked_by<'a>(alloc: Global, words: &[&'a str]) -> Result<Asked<'a>
     Ok(Asked::Lint(wanted))
 }
 
-/// Whether the word is an option.
+/// Whether the argument is an option.
 fn is_option(word: &str) -> bool
     ensures { result ≡ is_option word.now }
 {

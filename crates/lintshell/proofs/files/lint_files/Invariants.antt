@@ -1,4 +1,4 @@
--- The files so far are linted, and there are no more texts than these.
+-- The files so far are linted, and there are no more texts than files.
 use Rattle.std.proofs.Common.{◌≤◌, map, take}
 use Rattle.lintshell.specs.Files.{Lints}
 use Rattle.lintshell.specs.Tally.{no_files}

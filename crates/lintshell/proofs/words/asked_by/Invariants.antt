@@ -1,4 +1,4 @@
--- What is left of the words asks, behind what was wanted so far, for what all of them ask.
+-- The rest of the arguments asks, after what was wanted so far, for what all of them ask for.
 use Rattle.std.proofs.Common.{◌≡◌, drop, map}
 use Rattle.lintshell.specs.Inner.{wanted_view}
 use Rattle.lintshell.specs.Requests.{asked, words_ask}
