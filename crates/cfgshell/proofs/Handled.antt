@@ -1,4 +1,4 @@
--- How a run ends, by what its words name and what its source answers.
+-- How a run ends, by what its arguments name and what its source returns.
 use Rattle.std.proofs.Common.{◌≡◌, ℕ, ◌<◌, ◌≤◌, List, [], ◌∷◌, length, map, get_or, Option, Some, Result, Ok, Err, Vec, Global, Bool, true, refl, sym, subst, ap, arith}
 use Rattle.std.specs.Prelude.{IsErrAnd}
 use Rattle.std.specs.Borrow.{Bor}
@@ -34,17 +34,17 @@ four_words (x ∷ (y ∷ (z ∷ []))) d least below = absurd (omega (arith, leas
 four_words (x ∷ (y ∷ (z ∷ (w ∷ [])))) d least below = refl
 four_words (x ∷ (y ∷ (z ∷ (w ∷ (v ∷ rest))))) d least below = absurd (omega (arith, below))
 
--- how a run ends where its report was not told
+-- how a run ends whose report failed
 pub ended_with : (r : Result Outcome RunFault) (fault : ReportFault) → IsErrAnd r (λ made. ending_with made ≡ ending_of (Err fault)) → ending_in r ≡ ending_of (Err fault)
 ended_with (Ok outcome) fault made = absurd made
 ended_with (Err run_fault) fault made = made
 
--- how a run ends that told nothing for this reason
+-- how a run ends that failed for this reason
 pub ended_so : (r : Result Outcome RunFault) (fault : RunFault) → IsErrAnd r (λ made. made ≡ fault) → ending_in r ≡ ending_with fault
 ended_so (Ok outcome) fault made = absurd made
 ended_so (Err run_fault) fault made = ap ending_with made
 
--- the bytes that a run goes on with
+-- the bytes that a run continues with
 fetched : (old new : Option (List ℕ)) (ending : Ending) (file : List ℕ) (answer : Input) (bytes : Vec ℕ Global) (Holds : List ℕ → Type 0) → IsFetched file answer (Ok bytes) → Holds bytes.items
     → WithBytes old new ending file answer Holds
 fetched old new ending file (input.Bytes given) bytes Holds is holds = subst (λ (v : Vec ℕ Global). Holds v.items) is holds
@@ -58,7 +58,7 @@ module _ (bytes : Vec ℕ Global) (handed : List ℕ) (handed_is : handed ≡ by
   pub not_text : (old : Option (List ℕ)) → (IsUtf8 handed → ⊥) → ending ≡ NotUtf8 file → WithText old old ending file bytes.items Holds
   not_text old other ends = (λ utf8. absurd (other (subst IsUtf8 (sym handed_is) utf8)), λ _. (ends, Keeps-refl old))
 
--- a file that is read, of words that name a kind and a command
+-- a file that is read, for arguments that name a kind and a command
 pub read_one : (Tells : KindArg → Command → List ℕ → Option (List ℕ) → Option (List ℕ) → Result Outcome ReportFault → Type 0)
     → {S : Type 0} (Fetches : S → List ℕ → Input → S → Type 0) (kind : KindArg) (command : Command) (file : List ℕ) (before after : S) (old new : Option (List ℕ)) (ending : Ending)
     → (kind_word command_word : List ℕ) → Some kind ≡ kind_named kind_word → Some command ≡ command_named command_word
@@ -70,7 +70,7 @@ read_one Tells Fetches kind command file before after old new ending kind_word c
     subst (λ k. HandlesNames Tells k (command_named command_word) file Fetches before after old new ending) kind_is
     (subst (λ m. HandlesNames Tells (Some kind) m file Fetches before after old new ending) command_is (answer, given, read))
 
--- two files that are read, of a word that names a kind
+-- two files that are read, for an argument that names a kind
 module _ (TellsLexer : KindArg → List ℕ → List ℕ → Option (List ℕ) → Option (List ℕ) → Result Outcome ReportFault → Type 0) {S : Type 0}
     (Fetches : S → List ℕ → Input → S → Type 0) (kind : KindArg) (file names : List ℕ) (before between after : S) (old new : Option (List ℕ)) (ending : Ending) where
   first : (answer : Input) (bytes : Vec ℕ Global) → IsFetched file answer (Ok bytes)
@@ -93,13 +93,13 @@ module _ (TellsLexer : KindArg → List ℕ → List ℕ → Option (List ℕ) �
 module _ (Tells : KindArg → Command → List ℕ → Option (List ℕ) → Option (List ℕ) → Result Outcome ReportFault → Type 0)
     (TellsLexer : KindArg → List ℕ → List ℕ → Option (List ℕ) → Option (List ℕ) → Result Outcome ReportFault → Type 0) {S : Type 0}
     (words : List (Bor (List ℕ))) (d : Bor (List ℕ)) (Fetches : S → List ℕ → Input → S → Type 0) (before after : S) (old new : Option (List ℕ)) (ending : Ending) where
-  -- three words
+  -- three arguments
   pub handled : 3 ≤ length words → length words < 4
       → HandlesNames Tells (kind_named (get_or words 0 d).now) (command_named (get_or words 1 d).now) (get_or words 2 d).now Fetches before after old new ending
       → HandlesWords Tells TellsLexer (map (λ word. word.now) words) Fetches before after old new ending
   handled least below handles = subst (λ ws. HandlesWords Tells TellsLexer ws Fetches before after old new ending) (sym (three_words words d least below)) handles
 
-  -- four words
+  -- four arguments
   pub handled_lexer : 4 ≤ length words → length words < 5
       → (asked : Bool) → asked ≡ asks_lexer (get_or words 1 d).now (get_or words 2 d).now (get_or words 3 d).now
       → HandlesLexer TellsLexer (kind_named (get_or words 0 d).now) asked (get_or words 2 d).now (get_or words 3 d).now Fetches before after old new ending
@@ -107,7 +107,7 @@ module _ (Tells : KindArg → Command → List ℕ → Option (List ℕ) → Opt
   handled_lexer least below asked is handles = subst (λ ws. HandlesWords Tells TellsLexer ws Fetches before after old new ending) (sym (four_words words d least below))
       (subst (λ a. HandlesLexer TellsLexer (kind_named (get_or words 0 d).now) a (get_or words 2 d).now (get_or words 3 d).now Fetches before after old new ending) is handles)
 
-  -- neither three words nor four
+  -- neither three arguments nor four
   pub unasked : ending ≡ Usage → after ≡ before → new ≡ old → (3 ≤ length words → length words < 5 → ⊥) → HandlesWords Tells TellsLexer (map (λ word. word.now) words) Fetches before after old new ending
   unasked ends same kept other = go words other
     where

@@ -8,7 +8,7 @@ use Rattle.cfgshell.specs.declared.words.Command.TheVariants.{Grammar, Firsts, F
 use Rattle.cfgshell.specs.declared.words.KindArg.{KindArg}
 use Rattle.cfgshell.specs.declared.words.KindArg.TheVariants.{Named, Section}
 
--- the kind that a word names
+-- the kind that an argument names
 abbrev pub kind_named : List ℕ → Option KindArg
 kind_named word =
     if bytes_eq word (codes "original-noaction") then Some (Named (Original NoAction))
@@ -19,7 +19,7 @@ kind_named word =
     else if bytes_eq word (codes "section") then Some Section
     else None
 
--- the command that a word names
+-- the command that an argument names
 unfoldable pub command_named : List ℕ → Option Command
 command_named word =
     if bytes_eq word (codes "grammar") then Some Grammar
@@ -29,6 +29,6 @@ command_named word =
     else if bytes_eq word (codes "warnings") then Some Warnings
     else None
 
--- whether two files are asked for rightly: by the command `lex`, and one of them alone may be standard input
+-- whether two files are asked for correctly: by the command `lex`, and with at most one of them standard input
 abbrev pub asks_lexer : List ℕ → List ℕ → List ℕ → Bool
 asks_lexer command file names = bytes_eq command (codes "lex") && not (bytes_eq file (codes "-") && bytes_eq names (codes "-"))

@@ -39,7 +39,7 @@ line_of (NotUtf8 file) = codes "cfgtool: " ++ (file ++ codes " is not UTF-8\n")
 line_of Unwritten = codes "cfgtool: cannot write\n"
 line_of NoMemory = codes "cfgtool: out of memory\n"
 
--- how a run ends that told nothing for this reason
+-- how a run ends that failed for this reason
 abbrev pub ending_with : RunFault → Ending
 ending_with why.Usage = Usage
 ending_with (why.Unreadable file) = Unreadable file.now
@@ -47,7 +47,7 @@ ending_with (why.NotUtf8 file) = NotUtf8 file.now
 ending_with why.Write = Unwritten
 ending_with why.OutOfMemory = NoMemory
 
--- how a run ends that has no words, for this reason: words that are no text are wrong usage
+-- how a run ends that has no arguments, for this reason: arguments that are not text are wrong usage
 abbrev pub ending_without : WordsFault → Ending
 ending_without words.NotUtf8 = Usage
 ending_without words.OutOfMemory = NoMemory
@@ -56,13 +56,13 @@ abbrev pub ending_in : Result Outcome RunFault → Ending
 ending_in (Ok outcome) = Told outcome
 ending_in (Err fault) = ending_with fault
 
--- how a run ends where this is what its report answers
+-- how a run ends if this is what its report returns
 abbrev pub ending_of : Result Outcome ReportFault → Ending
 ending_of (Ok outcome) = Told outcome
 ending_of (Err faults.Write) = Unwritten
 ending_of (Err faults.OutOfMemory) = NoMemory
 
--- how many faults of its output a run that ends so met
+-- how many faults of its output a run with this ending met
 abbrev pub faults_at : Ending → ℕ
 faults_at (Told outcome) = 0
 faults_at Usage = 0
@@ -71,7 +71,7 @@ faults_at (NotUtf8 file) = 0
 faults_at Unwritten = 1
 faults_at NoMemory = 0
 
--- what a run goes on with where a source answers this for a file: its bytes, or why there are none
+-- what a run continues with if a source returns this for a file: its bytes, or why there are none
 abbrev pub IsFetched : List ℕ → Input → Result (Vec ℕ Global) RunFault → Type 0
 IsFetched file (input.Bytes bytes) (Ok fetched) = fetched ≡ bytes
 IsFetched file input.Unreadable (Err fault) = ending_with fault ≡ Unreadable file

@@ -1,6 +1,6 @@
--- What a run of the program does with its words: how it ends, and what its output gets. `Tells` is what a report of a command
--- tells of a text, and `TellsLexer` what a report on a lexer's names tells of a text and a list of names: what becomes of the
--- known bytes of its sink, where this is what it answers.
+-- What a run of the program does with its arguments: how it ends, and what its output gets. `Tells` says what a command's report on a text
+-- is, and `TellsLexer` what a report on a lexer's names is, of a text and a list of names: what becomes of the known bytes of its sink, if
+-- this is what it returns.
 use Rattle.std.specs.Prelude.{◌≡◌, ℕ, List, [], ◌∷◌, Option, Some, Result, Bool, true}
 use Rattle.std.specs.Str.{IsUtf8}
 use Rattle.std.specs.Io.KnownBytes.{Keeps}
@@ -17,28 +17,28 @@ use Rattle.cfgshell.specs.declared.words.KindArg.{KindArg}
 abbrev pub EndsUnwritten : Ending → Option (List ℕ) → Option (List ℕ) → Ending → Type 0
 EndsUnwritten why old new ending = (ending ≡ why) × Keeps old new
 
--- The run was asked wrongly: it ends by its usage, its source is as it was, and nothing was written to its output.
+-- The run was asked wrongly: it ends with its usage, its source is as it was, and nothing was written to its output.
 abbrev pub EndsUnread : {S : Type 0} → S → S → Option (List ℕ) → Option (List ℕ) → Ending → Type 0
 EndsUnread before after old new ending = (after ≡ before) × EndsUnwritten Usage old new ending
 
--- The run ends as a report that answers so, and its output gets what that tells.
+-- The run ends as its report does, and its output gets what the report writes.
 abbrev pub EndsReported : (Option (List ℕ) → Option (List ℕ) → Result Outcome ReportFault → Type 0) → Option (List ℕ) → Option (List ℕ) → Ending → Type 0
 EndsReported Told old new ending = (answer : Result Outcome ReportFault) × (ending ≡ ending_of answer) × Told old new answer
 
 module _ (old new : Option (List ℕ)) (ending : Ending) where
-  -- What a run does with what its source answers for a file, where this holds of the file's bytes.
+  -- What a run does with what its source returns for a file, if this holds of the file's bytes.
   abbrev pub WithBytes : List ℕ → Input → (List ℕ → Type 0) → Type 0
   WithBytes file input.Unreadable Holds = EndsUnwritten (Unreadable file) old new ending
   WithBytes file input.OutOfMemory Holds = EndsUnwritten NoMemory old new ending
   WithBytes file (input.Bytes bytes) Holds = Holds bytes.items
 
-  -- What a run does with the bytes of a file, where this holds if they are text.
+  -- What a run does with the bytes of a file, if this holds when they are text.
   abbrev pub WithText : List ℕ → List ℕ → Type 0 → Type 0
   WithText file bytes Holds = (IsUtf8 bytes → Holds) × ((IsUtf8 bytes → ⊥) → EndsUnwritten (NotUtf8 file) old new ending)
 
 module _ (Tells : KindArg → Command → List ℕ → Option (List ℕ) → Option (List ℕ) → Result Outcome ReportFault → Type 0) where
-  -- What a run of a kind and a command does with a file, where `Fetches` says what a source may answer for a file, and what
-  -- becomes of it: a source that was `before`, and is `after`.
+  -- What a run of a kind and a command does with a file. `Fetches` says what a source may return for a file, and what the source then is:
+  -- it was `before`, and is `after`.
   abbrev pub HandlesNames : {S : Type 0} → Option KindArg → Option Command → List ℕ → (S → List ℕ → Input → S → Type 0) → S → S → Option (List ℕ) → Option (List ℕ) → Ending → Type 0
   HandlesNames (Some kind) (Some command) file Fetches before after old new ending =
       (answer : Input) × Fetches before file answer after
@@ -51,8 +51,7 @@ module _ (TellsLexer : KindArg → List ℕ → List ℕ → Option (List ℕ) �
   HandlesTexts kind file names text list old new ending =
       WithText old new ending file text (WithText old new ending names list (EndsReported (TellsLexer kind text list) old new ending))
 
-  -- What it does with what its source, which is then `between`, answers for the first file: only where that is bytes, the second
-  -- is read.
+  -- What it does with what its source, which is then `between`, returns for the first file: only if that is bytes, the second is read.
   abbrev pub HandlesFirst : {S : Type 0} → KindArg → List ℕ → List ℕ → Input → (S → List ℕ → Input → S → Type 0) → S → S → Option (List ℕ) → Option (List ℕ) → Ending → Type 0
   HandlesFirst kind file names input.Unreadable Fetches between after old new ending = (after ≡ between) × EndsUnwritten (Unreadable file) old new ending
   HandlesFirst kind file names input.OutOfMemory Fetches between after old new ending = (after ≡ between) × EndsUnwritten NoMemory old new ending
@@ -60,7 +59,7 @@ module _ (TellsLexer : KindArg → List ℕ → List ℕ → Option (List ℕ) �
       (answer : Input) × Fetches between names answer after
       × WithBytes old new ending names answer (λ list. HandlesTexts kind file names bytes.items list old new ending)
 
-  -- what a run does with a kind and two files, where it is asked rightly for `lex`
+  -- what a run does with a kind and two files, if `lex` is asked for correctly
   abbrev pub HandlesLexer : {S : Type 0} → Option KindArg → Bool → List ℕ → List ℕ → (S → List ℕ → Input → S → Type 0) → S → S → Option (List ℕ) → Option (List ℕ) → Ending → Type 0
   HandlesLexer {S} (Some kind) true file names Fetches before after old new ending =
       (answer : Input) × (between : S) × Fetches before file answer between × HandlesFirst kind file names answer Fetches between after old new ending
@@ -68,7 +67,7 @@ module _ (TellsLexer : KindArg → List ℕ → List ℕ → Option (List ℕ) �
 
 module _ (Tells : KindArg → Command → List ℕ → Option (List ℕ) → Option (List ℕ) → Result Outcome ReportFault → Type 0)
     (TellsLexer : KindArg → List ℕ → List ℕ → Option (List ℕ) → Option (List ℕ) → Result Outcome ReportFault → Type 0) where
-  -- what a run does with its words
+  -- what a run does with its arguments
   abbrev pub HandlesWords : {S : Type 0} → List (List ℕ) → (S → List ℕ → Input → S → Type 0) → S → S → Option (List ℕ) → Option (List ℕ) → Ending → Type 0
   HandlesWords (kind ∷ (command ∷ (file ∷ []))) Fetches before after old new ending =
       HandlesNames Tells (kind_named kind) (command_named command) file Fetches before after old new ending

@@ -1,4 +1,4 @@
-//! Why a run told nothing, and what it then tells.
+//! Run failures, and their messages.
 
 ghost use Rattle.std.specs.Prelude.{◌≡◌, ◌++◌, ◌+◌, ◌-◌, ◌^◌, ◌<◌, Err};
 ghost use Rattle.cfgshell.specs.Endings.{ending_of, ending_with, ending_without, line_of, status_of};
@@ -9,18 +9,18 @@ use crate::outcome::ReportFault;
 use crate::sink::{Sink, SinkFault, write_whole};
 use std::alloc::AllocError;
 
-/// Why a run told nothing.
+/// Why a run failed.
 #[derive(Clone, Copy)]
 pub(crate) enum RunFault<'a> {
-    /// The words were wrong.
+    /// The arguments were wrong.
     Usage,
-    /// The file of this name could not be read, for another cause than memory.
+    /// The file of this name could not be read, for a reason other than memory.
     Unreadable(&'a str),
     /// The file of this name is not UTF-8.
     NotUtf8(&'a str),
-    /// The output did not take the report whole.
+    /// The output did not accept the whole report.
     Write,
-    /// No memory is left.
+    /// Out of memory.
     OutOfMemory,
 }
 
@@ -35,7 +35,7 @@ impl RunFault<'_> {
         }
     }
 
-    /// The line that tells it, in three parts: the file's name, as it was given, stands in the middle.
+    /// The message line, in three parts: the one in the middle is the file's name, as it was given.
     fn line(&self) -> (&str, &str, &str)
         ensures { result.0.now ++ (result.1.now ++ result.2.now) ≡ line_of (ending_with self.now) }
     {
@@ -60,12 +60,12 @@ impl From<ReportFault> for RunFault<'_> {
     }
 }
 
-/// Why there are no words to run on.
+/// Why there are no arguments to run on.
 #[derive(Clone, Copy, Debug, PartialEq, Eq)]
 pub enum WordsFault {
     /// One of them is not UTF-8.
     NotUtf8,
-    /// No memory was left for them.
+    /// There was no memory for them.
     OutOfMemory,
 }
 
@@ -77,7 +77,8 @@ impl From<AllocError> for WordsFault {
     }
 }
 
-/// Ends a run that has no words, and answers its status. A line on why is written to `err`, as far as `err` takes it.
+/// Ends a run that has no arguments, and returns its status. A line that says why is written to `err`, as far as `err`
+/// accepts it.
 pub(crate) fn refuse_words<E: Sink>(fault: WordsFault, err: &mut E) -> u8
     requires { E.faults_counted err.old < 2 ^ 64 - 1 }
     ensures status { result ≡ status_of (ending_without fault) }
@@ -92,7 +93,7 @@ pub(crate) fn refuse_words<E: Sink>(fault: WordsFault, err: &mut E) -> u8
     fault.status()
 }
 
-/// Writes the line of a fault.
+/// Writes a fault's message line.
 pub(crate) fn tell<E: Sink>(fault: &RunFault<'_>, err: &mut E) -> Result<(), SinkFault>
     requires { E.faults_counted err.old < 2 ^ 64 - 1 }
     ensures { AppendsOrFaults (E.written err.old) (E.written err.new)

@@ -1,5 +1,5 @@
-//! What `==` and `clone` of kinds, commands and faults compare and copy. They are derived, so each law names
-//! the impl, as in `⟦<Command as PartialEq>⟧`, and holds of every value.
+//! What `==` and `clone` of kinds, commands and faults compare and copy. They are derived, so each law names the impl,
+//! as in `⟦<Command as PartialEq>⟧`, and holds for every value.
 
 ghost use Rattle.std.specs.Prelude.{◌≡◌, ◌↔◌, IsTrue};
 ghost use Rattle.cfgshell.specs.declared.faults.WordsFault.{WordsFault};
@@ -10,7 +10,8 @@ use crate::faults::WordsFault;
 use crate::words::{Command, KindArg};
 pub use cfgsink::laws::outcomes_are_told_apart;
 
-/// Kinds, commands and faults are equal exactly where they are the same. A clone is its source, and takes no memory.
+/// Two kinds, commands or faults are equal exactly if they are the same. A clone equals its source and allocates
+/// nothing.
 pub fn words_are_told_apart()
     ensures equal_kinds { (a b : KindArg) → IsTrue (⟦<KindArg as PartialEq>⟧.eq a b) ↔ (a ≡ b) }
     ensures clone_kind { (a b : KindArg) → ⟦<KindArg as Clone>⟧.is_clone a b → b ≡ a }

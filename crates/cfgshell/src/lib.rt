@@ -1,4 +1,4 @@
-//! The shell of the program `cfgtool`: its words, what it reads from and writes to, and how it ends.
+//! The shell of the program `cfgtool`: its arguments, what it reads from and writes to, and how it ends.
 #![tactic(auto)]
 
 pub mod faults;

@@ -31,11 +31,11 @@ pub trait Reporter {
     ghost tells_lexer: { KindArg → List ℕ → List ℕ → Option (List ℕ) → Option (List ℕ) → Result Outcome ReportFault
         → Type 0 };
 
-    /// Writes what the command tells of a text that is read as this kind.
+    /// Writes the command's report on a text that is read as this kind.
     ///
     /// # Errors
     ///
-    /// Want of memory, and a fault of `out`.
+    /// Running out of memory, and a fault of `out`.
     fn report<W: Sink>(
         &self,
         alloc: Global,
@@ -52,7 +52,7 @@ pub trait Reporter {
     ///
     /// # Errors
     ///
-    /// Want of memory, and a fault of `out`.
+    /// Running out of memory, and a fault of `out`.
     fn report_lex<W: Sink>(
         &self,
         alloc: Global,
@@ -66,8 +66,8 @@ pub trait Reporter {
         ensures faults { W.faults_counted out.new ≡ W.faults_counted out.old + faults_met result };
 }
 
-/// Runs the program on the words after its name, and answers its status. What its report tells is written to `out`,
-/// and a line on what went wrong to `err`, as far as `err` takes it. Words that are wrong leave `source` as it was.
+/// Runs the program on its command-line arguments, and returns its status. Its report is written to `out`, and a line
+/// about what went wrong to `err`, as far as `err` accepts it. Wrong arguments leave `source` as it was.
 pub fn run<P: Reporter, S: Source, O: Sink, E: Sink>(
     alloc: Global,
     reporter: &P,
@@ -96,7 +96,7 @@ pub fn run<P: Reporter, S: Source, O: Sink, E: Sink>(
     }
 }
 
-/// How the report that the words ask for ended.
+/// How the report that the arguments ask for ended.
 fn outcome<'a, P: Reporter, S: Source, O: Sink>(
     alloc: Global,
     reporter: &P,
@@ -170,7 +170,7 @@ fn lexer_outcome<'a, P: Reporter, S: Source, O: Sink>(
     Ok(reporter.report_lex(alloc, kind, text, list, out)?)
 }
 
-/// The bytes of the file of this name.
+/// The bytes of the file with this name.
 fn fetch<'a, S: Source>(source: &mut S, file: &'a str) -> Result<Vec<u8>, RunFault<'a>>
     ensures { (answer : Input) × S.fetches source.old file.now answer source.new × IsFetched file.now answer result }
 {
@@ -181,7 +181,7 @@ fn fetch<'a, S: Source>(source: &mut S, file: &'a str) -> Result<Vec<u8>, RunFau
     }
 }
 
-/// The bytes of the file of this name as text.
+/// The bytes of the file with this name, as text.
 fn text_of<'a, 'b>(bytes: &'b [u8], file: &'a str) -> Result<&'b str, RunFault<'a>>
     ensures ok { IfOk result (λ text. (text.now ≡ bytes.now) × IsUtf8 bytes.now) }
     ensures err { IfErr result (λ fault. (ending_with fault ≡ NotUtf8 file.now) × (IsUtf8 bytes.now → ⊥)) }

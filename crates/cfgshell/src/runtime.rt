@@ -1,4 +1,4 @@
-//! The program over a runtime: its words, its files and its streams.
+//! The program over a runtime: its arguments, its files and its streams.
 
 ghost use Rattle.std.specs.Prelude.{◌≡◌, IfOk};
 ghost use Rattle.cfgshell.specs.Endings.{Ending, status_of};
@@ -11,9 +11,9 @@ use std::io::{self, Read, Write};
 use std::rt::{Env, Files};
 use std::{env, fs};
 
-/// Runs the program over a runtime, and answers its status: [`run`](crate::run) on the words behind the program's name,
-/// over the runtime's files, its standard input under the name `-`, its standard output and its standard error. Words
-/// that are not UTF-8 are wrong usage.
+/// Runs the program over a runtime, and returns its status: [`run`](crate::run) on the command-line arguments, over the
+/// runtime's files, its standard input under the name `-`, its standard output and its standard error. Arguments that
+/// are not UTF-8 are wrong usage.
 pub fn run_over<R: Env + Files + Input + Print + Eprint + AllocGlobal, P: Reporter>(
     rt: &R,
     reporter: &P,
@@ -26,11 +26,11 @@ pub fn run_over<R: Env + Files + Input + Print + Eprint + AllocGlobal, P: Report
     }
 }
 
-/// Runs the program on its words.
+/// Runs the program on its arguments.
 ///
 /// # Errors
 ///
-/// Why there are no words; nothing is then read or written.
+/// Why there are no arguments; nothing is then read or written.
 fn run_on_words<R: Env + Files + Input + Print + Eprint + AllocGlobal, P: Reporter>(
     rt: &R,
     reporter: &P,
@@ -49,11 +49,11 @@ fn run_on_words<R: Env + Files + Input + Print + Eprint + AllocGlobal, P: Report
     ))
 }
 
-/// The words behind the program's name.
+/// The command-line arguments, without the program's name.
 ///
 /// # Errors
 ///
-/// One that is not UTF-8, or want of memory.
+/// One that is not UTF-8, or running out of memory.
 pub fn words<R: Env + AllocGlobal>(rt: &R) -> Result<Vec<String>, WordsFault> {
     match env::args(rt) {
         Ok(words) => Ok(words.skip(1).collect(rt.alloc())?),
@@ -90,7 +90,7 @@ impl<R: Files + Input + AllocGlobal> Source for SystemFiles<'_, R> {
     }
 }
 
-/// Standard error of a runtime. It takes text alone.
+/// Standard error of a runtime. It accepts only text.
 #[derive(Drop)]
 pub struct ErrorStream<'a, R> {
     /// The runtime.

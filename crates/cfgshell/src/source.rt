@@ -7,18 +7,18 @@ pub trait Source {
 
     ghost fetches: { Self → List ℕ → Input → Self → Type 0 } = { λ old name input new. Unit {0} };
 
-    /// The bytes of the file of this name, where `-` stands for standard input.
+    /// The bytes of the file with this name; `-` is standard input.
     fn fetch(&mut self, name: &str) -> Input
         ensures { fetches self.old name.now result self.new };
 }
 
-/// What a source answers.
+/// What a source returns.
 #[derive(Debug, Drop)]
 pub enum Input {
     /// The file's bytes.
     Bytes(Vec<u8>),
-    /// The file could not be read, for another cause than memory.
+    /// The file could not be read, for a reason other than memory.
     Unreadable,
-    /// No memory was left to read it.
+    /// There was no memory to read it.
     OutOfMemory,
 }

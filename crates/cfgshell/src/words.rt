@@ -1,11 +1,11 @@
-//! The words that name a kind of Yacc and a command.
+//! The arguments that name a kind of Yacc and a command.
 
 ghost use Rattle.std.specs.Prelude.{◌≡◌};
 ghost use Rattle.cfgshell.specs.Arguments.{asks_lexer, command_named, kind_named};
 
 use cfgrammar::yacc::{YaccKind, YaccOriginalActionKind};
 
-/// Which kind of Yacc a text is read as.
+/// The kind of Yacc that a text is read as.
 #[derive(Clone, Copy, Debug, PartialEq, Eq)]
 pub enum KindArg {
     /// This kind.
@@ -14,7 +14,7 @@ pub enum KindArg {
     Section,
 }
 
-/// What is reported of a grammar.
+/// What is reported about a grammar.
 #[derive(Clone, Copy, Debug, PartialEq, Eq)]
 pub enum Command {
     /// Its productions.
@@ -23,13 +23,13 @@ pub enum Command {
     Firsts,
     /// Its FOLLOW sets.
     Follows,
-    /// What the sentences of its rules cost, and those of least cost.
+    /// What its rules' sentences cost, and those of least cost.
     Sentences,
-    /// What is odd about it: rules and tokens that nothing reaches.
+    /// Its warnings: unreachable rules and tokens.
     Warnings,
 }
 
-/// The kind that a word names, byte for byte.
+/// The kind that an argument names, byte for byte.
 pub fn kind_of(word: &str) -> Option<KindArg>
     ensures { result ≡ kind_named word.now }
 {
@@ -45,7 +45,7 @@ pub fn kind_of(word: &str) -> Option<KindArg>
     Some(KindArg::Named(kind))
 }
 
-/// The command that a word names, byte for byte.
+/// The command that an argument names, byte for byte.
 #[tactic(auto, unfolding(crate::specs::Arguments::command_named))]
 pub fn command_of(word: &str) -> Option<Command>
     ensures { result ≡ command_named word.now }
@@ -60,7 +60,7 @@ pub fn command_of(word: &str) -> Option<Command>
     }
 }
 
-/// Whether a command that takes two files is asked for rightly: it is `lex`, and one of the files alone is standard
+/// Whether a command with two files is asked for correctly: it is `lex`, and at most one of the files is standard
 /// input.
 pub(crate) fn asks_lexer(command: &str, file: &str, names: &str) -> bool
     ensures { result ≡ asks_lexer command.now file.now names.now }
