@@ -1,4 +1,4 @@
--- Which parts of a value are wrong, gone through one by one.
+-- Which parts of a value are wrong, checked one by one.
 use Rattle.std.proofs.Common.{◌≡◌, ℕ, ◌+◌, ◌<◌, List, [], ◌∷◌, ◌++◌, length, map, take, drop, get_or, Option, Some, None, Result, Ok, Err, filter_map, IfErr, refl, sym, ap, ◌∙◌, subst, Bor}
 use Rattle.std.specs.Prelude.{◌≢◌}
 use Rattle.std.specs.Option.{option_copied, option_to_list}
@@ -20,7 +20,7 @@ not_empty : {A : Type 0} (front : List A) (x : A) (back : List A) → (front ++ 
 not_empty [] x back none = cc
 not_empty (y ∷ front) x back none = cc
 
--- want of memory is an answer where something is wrong
+-- running out of memory is a possible result if something is wrong
 pub want_of_memory : {T : Type 0} (is_clone : T → T → Type 0) (r : Result YaccKind (KindFault T)) (kind : Result YaccKind (List T)) (wrong : List T)
     → IsErrAnd r (λ fault. fault ≡ OutOfMemory) → kind ≡ Err wrong → IfErr r (λ fault. Refuses is_clone kind fault)
 want_of_memory is_clone (Ok named) kind wrong h is = tt

@@ -1,4 +1,4 @@
--- Where a value names no kind, the places that are told are the value's.
+-- If a value names no kind, the locations that are reported are the value's.
 use Rattle.std.proofs.Common.{◌≡◌, ℕ, ◌<◌, Bool, true, false, List, [], ◌∷◌, ◌++◌, length, All, Option, Some, None, is_some, refl, arith, codes, if◌then◌else◌}
 use Rattle.std.specs.List.{filter_map}
 use Rattle.std.specs.Prelude.{IfSome, IfErr}
@@ -40,7 +40,7 @@ module _ {T : Type 0} (P : T → Type 0) where
       → IfErr (judged parts kind) AreTold
   judged_told parts kind all some = unless_told (filter_map (λ part. part) parts) kind (All-filter_map P (λ part. part) parts all) some
 
-  -- an unknown name stands behind whatever is wrong before it
+  -- an unknown name comes after whatever is wrong before it
   unknown_last : (first : List (Option T)) (place : T) → 0 < length (filter_map (λ part. part) (first ++ Some place ∷ []))
   unknown_last [] place = omega arith
   unknown_last (None ∷ first) place = unknown_last first place

@@ -1,4 +1,4 @@
--- `==` of two values of a section, where that of the places tells two apart exactly where they differ.
+-- `==` of two values of a section, if `==` of their locations distinguishes two exactly if they differ.
 use Rattle.std.proofs.Common.{◌≡◌, ℕ, suc, ◌+◌, ◌<◌, get_or, ◌↔◌, ◌∙◌, refl, ap, sym, subst, IsTrue, Bool, true, false, ◌&&◌, ◌==◌, List, [], ◌∷◌, length, drop, String, Global, string_eq, option_map, Option, Some, None}
 use Rattle.std.proofs.lemmas.Bool.{and_parts, eqb-true, false≢true}
 use Rattle.std.proofs.Math.Bool.{and-true, and-false}
@@ -24,7 +24,7 @@ module _ {T : Type 0} (eq : T → T → Bool) where
   both_compared (Some given) None m n = sym (and-false (same_placed eq given n))
   both_compared (Some given) (Some other) m n = λ i. same_placed eq given other && sym (and-true (same_placed eq m n)) i
 
-  -- the namespaces, as the code has them
+  -- the namespaces, as the code represents them
   pub same_namespaces : (given other : Option (String Global × T))
       → option_eq (λ x y. string_eq x.0 y.0 && eq x.1 y.1) given other ≡ option_eq (same_placed eq) (option_map placed_view given) (option_map placed_view other)
   same_namespaces None None = refl
@@ -84,7 +84,7 @@ module _ {T : Type 0} (eq : T → T → Bool) (is : IsIdentity eq) where
     λ e. subst (λ s. same_setting eq a s ≡ true) e (setting_itself eq (λ place. (is place place).1 refl) a),
   )
 
--- lists of settings of other lengths differ
+-- lists of settings of different lengths differ
 pub other_lengths : {T : Type 0} (eq : T → T → Bool) (xs ys : List (Setting T)) → length xs ≢ length ys → same_settings eq (settings_view xs) (settings_view ys) ≡ false
 other_lengths eq [] [] other = absurd (other refl)
 other_lengths eq [] (y ∷ ys) other = refl
@@ -92,7 +92,7 @@ other_lengths eq (x ∷ xs) [] other = refl
 other_lengths eq (x ∷ xs) (y ∷ ys) other =
     ap (λ b. same_setting eq (setting_view x) (setting_view y) && b) (other_lengths eq xs ys (λ e. other (ap suc e))) ∙ and-false (same_setting eq (setting_view x) (setting_view y))
 
--- one more of each
+-- one more setting in each
 pub one_left : {T : Type 0} (eq : T → T → Bool) (xs ys : List (Setting T)) (i : ℕ) (x y : Setting T) → i < length xs → i < length ys → x ≡ get_or xs i x → y ≡ get_or ys i y
     → same_settings eq (settings_view (drop i xs)) (settings_view (drop i ys))
     ≡ (same_setting eq (setting_view x) (setting_view y) && same_settings eq (settings_view (drop (i + 1) xs)) (settings_view (drop (i + 1) ys)))

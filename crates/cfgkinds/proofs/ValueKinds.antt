@@ -1,4 +1,4 @@
--- Where the parts of a value stand makes no difference to the kind that it names, and a refusal tells of some part.
+-- The locations of a value's parts make no difference to the kind that it names, and a refusal lists at least one part.
 use Rattle.std.proofs.Common.{◌≡◌, List, [], ◌∷◌, ◌++◌, map, filter_map, Bool, true, false, Option, Some, None, is_some, option_map, Result, Ok, Err, codes, refl, sym, ap, ◌∙◌}
 use Rattle.std.specs.Prelude.{◌≢◌, ℕ}
 use Rattle.std.specs.Str.{bytes_eq}
@@ -37,7 +37,7 @@ module _ {S T : Type 0} (f : S → T) where
   judged_along (None ∷ parts) kind = judged_along parts kind
   judged_along (Some place ∷ parts) kind = refl
 
-  -- the same kind, wherever its parts stand
+  -- the same kind, whatever the locations of its parts
   kind_along : (value : ShownValue S) → kind_only (kind_of_value (map_value f value)) ≡ kind_only (kind_of_value value)
   kind_along (Flag on place) = refl
   kind_along (Given (Unitary name)) =
@@ -73,7 +73,7 @@ module _ {T : Type 0} where
   wrong_there (None ∷ front) place none = wrong_there front place none
   wrong_there (Some other ∷ front) place none = cc
 
-  -- where there is no kind, the name is unknown
+  -- if there is no kind, the name is unknown
   unknown_there : {A : Type 0} (kind : Option A) (front : List (Option T)) (name : Placed T) → is_some kind ≡ false → filter_map (λ p. p) (front ++ wrong_member (is_some kind) name ∷ []) ≢ []
   unknown_there None front name e = wrong_there front name.1
   unknown_there (Some kind) front name e = cc

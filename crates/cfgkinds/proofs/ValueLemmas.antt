@@ -1,4 +1,4 @@
--- What each setting shows, and lists of settings with other places.
+-- What each setting shows, and lists of settings with other locations.
 use Rattle.std.proofs.Common.{◌≡◌, ◌∙◌, ℕ, List, [], ◌∷◌, map, refl, sym, ap, String, Vec, Global, string_bytes}
 use Rattle.cfgkinds.specs.Values.{ShownSetting, Unitary, Constructor, Number, Text, Array}
 use Rattle.cfgkinds.specs.Values.{setting, settings_of, settings_view, setting_view, setting_step, namespaced_view, map_setting, map_settings}

@@ -1,4 +1,4 @@
--- The places of a value that are told where it names no kind.
+-- The locations of a value that are reported if it names no kind.
 use Rattle.std.specs.Prelude.{IfSome}
 use Rattle.cfgkinds.specs.Values.{ShownNamespaced, ShownSetting, ShownValue, Unitary, Constructor, Number, Text, Array, Flag, Given}
 

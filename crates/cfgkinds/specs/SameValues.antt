@@ -1,4 +1,4 @@
--- When `==` holds of two values of a section, by `==` of their places: every field is compared.
+-- When `==` of two values of a section holds, given `==` of their locations: every field is compared.
 use Rattle.std.specs.Prelude.{◌≡◌, ◌↔◌, Bool, true, false, ◌&&◌, ◌==◌, IsTrue, List, [], ◌∷◌, ◌++◌}
 use Rattle.std.proofs.Common.{refl, sym}
 use Rattle.std.proofs.lemmas.Bool.{and_from, and_parts, true≢false}
@@ -8,7 +8,7 @@ use Rattle.std.specs.Option.{option_to_list}
 use Rattle.std.specs.Str.{bytes_eq}
 use Rattle.cfgkinds.specs.Values.{Placed, ShownNamespaced, ShownSetting, ShownSettings, ShownValue, ShownHeaderValue, Flag, Given, Unitary, Constructor, Number, Text, Array, no_settings, setting}
 
--- only a place is equal to itself
+-- a location is equal only to itself
 abbrev pub IsIdentity : {T : Type 0} → (T → T → Bool) → Type 0
 IsIdentity {T} eq = (p q : T) → IsTrue (eq p q) ↔ (p ≡ q)
 
@@ -50,7 +50,7 @@ module _ {T : Type 0} (eq : T → T → Bool) where
   abbrev pub same_header_value : ShownHeaderValue T → ShownHeaderValue T → Bool
   same_header_value a b = eq a.place b.place && same_value a.value b.value
 
--- a partial equivalence where that of the places is one
+-- a partial equivalence if `==` of the locations is one
 module _ {T : Type 0} {eq : T → T → Bool} where
   placed_per : IsPartialEquivalence eq → IsPartialEquivalence (same_placed eq)
   placed_per per = and_per (on_per (λ n. n.0) (partial_equiv_from_equiv nat_list_eq_equiv)) (on_per (λ n. n.1) per)
@@ -109,7 +109,7 @@ module _ {T : Type 0} {eq : T → T → Bool} where
   pub same_setting_per : IsPartialEquivalence eq → IsPartialEquivalence (same_setting eq)
   same_setting_per per = record { symm = setting_symm per; trans = setting_trans per }
 
--- and an equivalence where that of the places is one
+-- and an equivalence if `==` of the locations is one
 module _ {T : Type 0} (eq : T → T → Bool) (itself : (place : T) → eq place place ≡ true) where
   placed_itself : (name : Placed T) → same_placed eq name name ≡ true
   placed_itself name = and_from _ _ (nat_list_eq_equiv.refl name.0) (itself name.1)

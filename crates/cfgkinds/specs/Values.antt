@@ -1,4 +1,4 @@
--- What the values of a section show, as plain data. T is the type of places.
+-- What the values of a section show, as plain data. T is the type of locations.
 use Rattle.std.specs.Prelude.{ℕ, Bool, List, [], ◌∷◌, map, Option, String, string_bytes, option_map}
 use Rattle.std.specs.declared.alloc.Global.{Global}
 use Rattle.cfgkinds.specs.declared.value.Namespaced.{Namespaced}
@@ -8,11 +8,11 @@ use Rattle.cfgkinds.specs.declared.value.Value.{Value}
 use Rattle.cfgkinds.specs.declared.value.Value.TheVariants as values
 use Rattle.cfgkinds.specs.declared.value.HeaderValue.{HeaderValue}
 
--- a name with its place
+-- a name with its location
 abbrev pub Placed : Type 0 → Type 0
 Placed T = List ℕ × T
 
--- a name that a namespace may stand before
+-- a name that may have a namespace
 pub record ShownNamespaced (T : Type 0) : Type 0 where
   pub namespace : Option (Placed T)
   pub member : Placed T
@@ -24,9 +24,9 @@ mutual
     -- a name, and the name that it is applied to
     Constructor : ShownNamespaced T → ShownNamespaced T → ShownSetting T
     Number : ℕ → T → ShownSetting T
-    -- a text, as it stands between its quotes
+    -- a text, as it is between its quotes
     Text : List ℕ → T → ShownSetting T
-    -- settings, and the places of the two brackets
+    -- settings, and the locations of the two brackets
     Array : ShownSettings T → T → T → ShownSetting T
 
   -- a list of settings
@@ -34,12 +34,12 @@ mutual
     no_settings : ShownSettings T
     setting : ShownSetting T → ShownSettings T → ShownSettings T
 
--- whether a key alone is given or one behind `!`, or what stands behind its colon
+-- a flag: whether the key is given by itself or after a `!`; or what follows the key's colon
 pub data ShownValue (T : Type 0) : Type 0 where
   Flag : Bool → T → ShownValue T
   Given : ShownSetting T → ShownValue T
 
--- a key's place, and what the key has
+-- a key's location, and the key's value
 pub record ShownHeaderValue (T : Type 0) : Type 0 where
   pub place : T
   pub value : ShownValue T
@@ -55,7 +55,7 @@ module _ {T : Type 0} where
   abbrev pub namespaced_view : Namespaced T → ShownNamespaced T
   namespaced_view name = record { namespace = option_map placed_view name.namespace; member = placed_view name.member }
 
-  -- one level, with each setting inside already seen as its data
+  -- one level, whose inner settings are already converted to data
   abbrev pub setting_step : Setting-F T (ShownSetting T) → ShownSetting T
   setting_step (Setting-F.Unitary name) = Unitary (namespaced_view name)
   setting_step (Setting-F.Constructor ctor arg) = Constructor (namespaced_view ctor) (namespaced_view arg)
@@ -76,8 +76,8 @@ module _ {T : Type 0} where
   abbrev pub header_value_view : HeaderValue T → ShownHeaderValue T
   header_value_view entry = record { place = entry.0; value = value_view entry.1 }
 
-  -- the place that speaks for a setting: of an array its opening bracket, of a name the name without its namespace, and
-  -- where that is applied to another, the other's
+  -- the location that represents a setting: of an array its opening bracket's, of a name that of the name without its namespace, and, if
+  -- the name is applied to another, the other's
   abbrev pub setting_place : ShownSetting T → T
   setting_place (Unitary name) = name.member.1
   setting_place (Constructor ctor arg) = arg.member.1
@@ -85,12 +85,12 @@ module _ {T : Type 0} where
   setting_place (Text text place) = place
   setting_place (Array inside opens closes) = opens
 
-  -- the place that speaks for a value
+  -- the location that represents a value
   abbrev pub value_place : ShownValue T → T
   value_place (Flag on place) = place
   value_place (Given s) = setting_place s
 
--- the same with other places
+-- the same with other locations
 module _ {S T : Type 0} (f : S → T) where
   abbrev pub map_placed : Placed S → Placed T
   map_placed name = (name.0, f name.1)

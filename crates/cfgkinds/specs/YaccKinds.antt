@@ -12,7 +12,7 @@ use Rattle.cfgkinds.specs.declared.kind.YaccOriginalActionKind.TheVariants.{NoAc
 use Rattle.cfgkinds.specs.declared.fault.KindFault.{KindFault}
 use Rattle.cfgkinds.specs.declared.fault.KindFault.TheVariants.{Error, OutOfMemory}
 
--- the namespaces that may stand before a kind of Yacc and before a kind of actions
+-- the namespaces that may qualify a kind of Yacc and a kind of actions
 abbrev pub kind_namespace : List ℕ
 kind_namespace = codes "yacckind"
 
@@ -24,11 +24,11 @@ action_name NoAction = codes "noaction"
 action_name UserAction = codes "useraction"
 action_name GenericParseTree = codes "genericparsetree"
 
--- what the name of a kind that stands alone names
+-- the kind that a name names by itself
 abbrev pub plain_kind : List ℕ → Option YaccKind
 plain_kind name = if bytes_eq name (codes "grmtools") then Some Grmtools else if bytes_eq name (codes "eco") then Some Eco else None
 
--- what the name of a kind of actions makes of `original`
+-- the kind that a name of a kind of actions makes of `original`
 abbrev pub original_kind : List ℕ → Option YaccKind
 original_kind name =
     if bytes_eq name (action_name NoAction) then Some (Original NoAction)
@@ -37,12 +37,12 @@ original_kind name =
     else None
 
 module _ {T : Type 0} where
-  -- the place of a namespace that isn't the one that may stand there
+  -- the location of a namespace other than the permitted one
   abbrev pub wrong_namespace : List ℕ → Option (Placed T) → Option T
   wrong_namespace wanted None = None
   wrong_namespace wanted (Some given) = if bytes_eq given.0 wanted then None else Some given.1
 
-  -- the place of a name that isn't known
+  -- the location of an unknown name
   abbrev pub wrong_member : Bool → Placed T → Option T
   wrong_member known given = if known then None else Some given.1
 
@@ -54,11 +54,11 @@ module _ {T : Type 0} where
   kind_unless [] (Some kind) = Ok kind
   kind_unless wrong _ = Err wrong
 
-  -- a kind, if no part is wrong; else the places of the wrong ones, in order
+  -- a kind, if no part is wrong; otherwise the locations of the wrong parts, in order
   abbrev pub judged : List (Option T) → Option YaccKind → Result YaccKind (List T)
   judged parts kind = kind_unless (filter_map (λ part. part) parts) kind
 
-  -- the kind that a value names, or the places of what is wrong with it
+  -- the kind that a value names, or the locations of what is wrong with it
   abbrev pub kind_of_value : ShownValue T → Result YaccKind (List T)
   kind_of_value (Given (Unitary name)) =
       let kind = plain_kind name.member.0 in
@@ -70,14 +70,14 @@ module _ {T : Type 0} where
       kind
   kind_of_value value = judged (Some (value_place value) ∷ []) None
 
-  -- a refusal tells clones of the places, or that there is no memory for them
+  -- a refusal gives clones of the locations, or says that there is no memory for them
   abbrev pub Refuses : (T → T → Type 0) → Result YaccKind (List T) → KindFault T → Type 0
   Refuses is_clone kind (Error error) =
       (wrong : List T) × (kind ≡ Err wrong) × (error_kind_view error.kind ≡ InvalidEntry (codes "yacckind"))
       × AllZip is_clone wrong error.locations.items
   Refuses is_clone kind OutOfMemory = (wrong : List T) × (kind ≡ Err wrong)
 
--- where the parts of a value stand that is made of a kind
+-- the locations in a value that is made from a kind
 abbrev pub from_kind : Origin
 from_kind = InWords (codes "From<YaccKind>")
 

@@ -1,4 +1,4 @@
-//! Why a call gave no answer.
+//! Why a call failed.
 
 ghost use Rattle.std.specs.Prelude.{◌≡◌, Some};
 ghost use Rattle.cfgkinds.specs.ValueErrorTexts.{kind_fault_text};
@@ -14,7 +14,7 @@ use std::fmt;
 pub enum KindFault<T> {
     /// These parts of the value are wrong.
     Error(HeaderError<T>),
-    /// There is no memory left for their places.
+    /// Out of memory for their locations.
     OutOfMemory,
 }
 

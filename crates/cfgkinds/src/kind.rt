@@ -1,6 +1,6 @@
 //! The kinds of Yacc.
 
-/// What the actions of a grammar in Johnson's original notation stand for.
+/// What the actions of a grammar in Johnson's original notation are.
 #[derive(Clone, Copy, Debug, PartialEq, Eq)]
 pub enum YaccOriginalActionKind {
     /// The user's own code.
@@ -16,8 +16,8 @@ pub enum YaccOriginalActionKind {
 pub enum YaccKind {
     /// Johnson's original notation, that of POSIX `yacc`.
     Original(YaccOriginalActionKind),
-    /// Grmtools's notation: rules say the type of what their actions answer.
+    /// Grmtools's notation: rules give the type that their actions return.
     Grmtools,
-    /// Eco's notation, after the editor of that name: white space and comments may be implicit tokens.
+    /// The notation of Eco, the editor: white space and comments may be implicit tokens.
     Eco,
 }

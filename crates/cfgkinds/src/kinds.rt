@@ -1,4 +1,4 @@
-//! Kinds of Yacc out of values, and values out of kinds.
+//! Kinds of Yacc from values, and values from kinds.
 
 ghost use Rattle.std.specs.Prelude.{◌≡◌, map, is_some, string_bytes, codes, Ok, Some, IfOk, IfErr};
 ghost use Rattle.std.specs.Option.{option_copied};
@@ -21,13 +21,13 @@ const ACTION_NAMESPACE: &str = "yaccoriginalactionkind";
 
 impl YaccKind {
     /// The kind that a value names: `grmtools`, `eco`, or `original(x)` with `noaction`, `useraction` or
-    /// `genericparsetree` as x. Before each name its namespace may stand, `yacckind`, and `yaccoriginalactionkind`
-    /// before x. Names are compared as they stand. Only a refusal takes memory.
+    /// `genericparsetree` as x. Each name may have its namespace before it: `yacckind`, and for x
+    /// `yaccoriginalactionkind`. Names are compared byte for byte. Only a refusal allocates.
     ///
     /// # Errors
     ///
-    /// `InvalidEntry` with clones of the places of the wrong parts, in order, each part judged by itself; where the
-    /// value isn't made of names, with its primary location. Or there is no memory for the places.
+    /// `InvalidEntry` with clones of the locations of the wrong parts, in order, each part judged by itself; with the
+    /// value's primary location if it isn't made of names. Or running out of memory for the locations.
     pub fn try_from_value<T: Clone + Drop>(
         alloc: Global,
         value: &Value<T>,
@@ -53,7 +53,7 @@ impl YaccKind {
     }
 }
 
-/// What the name of a kind that stands alone names.
+/// The kind that a name names by itself.
 fn plain_kind(name: &str) -> Option<YaccKind>
     ensures { result ≡ plain_kind name.now }
 {
@@ -64,7 +64,7 @@ fn plain_kind(name: &str) -> Option<YaccKind>
     }
 }
 
-/// What the name of a kind of actions makes of `original`.
+/// The kind that a name of a kind of actions makes of `original`.
 fn original_kind(name: &str) -> Option<YaccKind>
     ensures { result ≡ original_kind name.now }
 {
@@ -77,7 +77,7 @@ fn original_kind(name: &str) -> Option<YaccKind>
     Some(YaccKind::Original(action))
 }
 
-/// The place of the name's namespace where that isn't this one, and the place of the name where it isn't known.
+/// The location of the name's namespace if it isn't this one, and the location of the name if it is unknown.
 fn wrong_parts<'a, T>(
     namespace: &str,
     known: bool,
@@ -118,11 +118,11 @@ fn judged<T: Clone + Drop>(
 }
 
 impl Value<Location> {
-    /// The value that names a kind, with both namespaces. Each of its places is `Other("From<YaccKind>")`.
+    /// The value that names a kind, with both namespaces. Each of its locations is `Other("From<YaccKind>")`.
     ///
     /// # Errors
     ///
-    /// There is no memory for the names and places.
+    /// Running out of memory for the names and locations.
     pub fn try_from_kind(alloc: Global, kind: YaccKind) -> Result<Value<Location>, AllocError>
         ensures { IfOk result (λ value. map_value location_view (value_view value) ≡ value_of_kind kind) }
     {
@@ -150,7 +150,7 @@ fn action_name(action: YaccOriginalActionKind) -> &'static str
     }
 }
 
-/// A name behind a namespace, as they are made of a kind.
+/// A name qualified by a namespace, as made from a kind.
 fn named(alloc: Global, namespace: &str, name: &str) -> Result<Namespaced<Location>, AllocError>
     ensures { IfOk result (λ both. map_namespaced location_view (namespaced_view both)
         ≡ name_of_kind namespace.now name.now) }
@@ -163,7 +163,7 @@ fn named(alloc: Global, namespace: &str, name: &str) -> Result<Namespaced<Locati
     })
 }
 
-/// A name and its place, as they are made of a kind.
+/// A name and its location, as made from a kind.
 fn placed(alloc: Global, name: &str) -> Result<(String, Location), AllocError>
     ensures name { IfOk result (λ placed. string_bytes placed.0 ≡ name.now) }
     ensures place { IfOk result (λ placed. location_view placed.1 ≡ from_kind) }

@@ -1,5 +1,5 @@
-//! What `==` and `clone` of kinds and values compare and copy, and that a kind comes back out of its value. Where
-//! they are derived, a law names the impl, as in `⟦<YaccKind as PartialEq>⟧`, and holds of every value.
+//! What `==` and `clone` of kinds and values compare and copy, and that a kind survives the conversion to a value and
+//! back. Where they are derived, a law names the impl, as in `⟦<YaccKind as PartialEq>⟧`, and holds for every value.
 
 ghost use Rattle.std.specs.Prelude.{◌≡◌, ◌≢◌, ◌↔◌, IsTrue, List, [], Ok, Err};
 ghost use Rattle.cfgbase.specs.Locations.{location_view};
@@ -16,14 +16,14 @@ ghost use Rattle.cfgkinds.specs.declared.kind.YaccOriginalActionKind.{YaccOrigin
 use crate::kind::{YaccKind, YaccOriginalActionKind};
 use crate::value::{HeaderValue, Namespaced, Value};
 
-/// Kinds of Yacc are equal exactly where they are the same. A clone is its source, and takes no memory.
+/// Two kinds of Yacc are equal exactly if they are the same. A clone equals its source and allocates nothing.
 pub fn yacc_kinds_are_told_apart()
     ensures equal { (a b : YaccKind) → IsTrue (⟦<YaccKind as PartialEq>⟧.eq a b) ↔ (a ≡ b) }
     ensures clone { (a b : YaccKind) → ⟦<YaccKind as Clone>⟧.is_clone a b → b ≡ a }
     ensures cloned { (a : YaccKind) → ⟦<YaccKind as Clone>⟧.is_infallible a }
 {}
 
-/// Kinds of actions are equal exactly where they are the same. A clone is its source, and takes no memory.
+/// Two kinds of actions are equal exactly if they are the same. A clone equals its source and allocates nothing.
 pub fn action_kinds_are_told_apart()
     ensures equal { (a b : YaccOriginalActionKind)
         → IsTrue (⟦<YaccOriginalActionKind as PartialEq>⟧.eq a b) ↔ (a ≡ b) }
@@ -32,18 +32,18 @@ pub fn action_kinds_are_told_apart()
     ensures cloned { (a : YaccOriginalActionKind) → ⟦<YaccOriginalActionKind as Clone>⟧.is_infallible a }
 {}
 
-/// The value that a kind is put into names that kind.
+/// The value that is made from a kind names that kind.
 pub fn kinds_come_back()
     ensures { (kind : YaccKind) (value : ShownValue Location) → map_value location_view value ≡ value_of_kind kind
         → kind_of_value value ≡ Ok kind }
 {}
 
-/// Of a value that names no kind, some part is wrong.
+/// If a value names no kind, some part of it is wrong.
 pub fn refusals_have_places<T>()
     ensures { (value : ShownValue T) (wrong : List T) → kind_of_value value ≡ Err wrong → wrong ≢ [] }
 {}
 
-/// `==` of names, of values and of what keys have compares every field: names and texts by their bytes, places by their
+/// `==` of names, of values and of keys' values compares every field: names and texts byte for byte, locations by their
 /// own `==`.
 pub fn values_are_compared_whole<T: PartialEq>()
     ensures name { (a b : Namespaced T) → ⟦<Namespaced<T> as PartialEq>⟧.eq a b

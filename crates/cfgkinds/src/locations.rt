@@ -1,4 +1,4 @@
-//! Values with places in a text, as values with locations.
+//! Values with spans, as values with locations.
 
 ghost use Rattle.std.specs.Prelude.{◌≡◌, IfOk};
 ghost use Rattle.cfgbase.specs.declared.span.Location.TheVariants.{Span as at_span};
@@ -15,7 +15,7 @@ impl HeaderValue<Span> {
     ///
     /// # Errors
     ///
-    /// There is no memory for the copies of names and texts.
+    /// Running out of memory for the copies of names and texts.
     pub fn to_location(&self, alloc: Global) -> Result<HeaderValue<Location>, AllocError>
         ensures { IfOk result (λ entry. header_value_view entry
             ≡ map_header_value at_span (header_value_view self.now)) }
@@ -29,7 +29,7 @@ impl Value<Span> {
     ///
     /// # Errors
     ///
-    /// There is no memory for the copies of names and texts.
+    /// Running out of memory for the copies of names and texts.
     pub fn to_location(&self, alloc: Global) -> Result<Value<Location>, AllocError>
         ensures { IfOk result (λ value. value_view value ≡ map_value at_span (value_view self.now)) }
     {
@@ -45,7 +45,7 @@ impl Setting<Span> {
     ///
     /// # Errors
     ///
-    /// There is no memory for the copies of names and texts.
+    /// Running out of memory for the copies of names and texts.
     pub fn to_location(&self, alloc: Global) -> Result<Setting<Location>, AllocError>
         ensures { IfOk result (λ setting. setting_view setting ≡ map_setting at_span (setting_view self.now)) }
     {

@@ -1,4 +1,4 @@
-//! `==` of settings, which hold settings.
+//! `==` of settings, which contain settings.
 
 ghost use Rattle.std.specs.Prelude.{◌≡◌, ◌↔◌, IsTrue};
 ghost use Rattle.cfgkinds.specs.SameValues.{same_namespaced, same_setting, same_settings};

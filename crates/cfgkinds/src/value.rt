@@ -2,16 +2,16 @@
 
 ghost use Rattle.std.specs.Prelude.{◌≡◌};
 
-/// A name, with its place, that a namespace may stand before.
+/// A name, with its location, that may have a namespace.
 #[derive(Debug, Drop, PartialEq, Eq)]
 pub struct Namespaced<T> {
-    /// The namespace and its place, where one is given.
+    /// The namespace and its location, if one is given.
     pub namespace: Option<(String, T)>,
-    /// The name itself and its place.
+    /// The name itself and its location.
     pub member: (String, T),
 }
 
-/// What stands behind a key's colon. Each `T` is a place.
+/// What follows a key's colon. Each `T` is a location.
 #[derive(Debug, Drop)]
 pub enum Setting<T> {
     /// A name.
@@ -20,31 +20,31 @@ pub enum Setting<T> {
     Constructor {
         /// The name before the brackets.
         ctor: Namespaced<T>,
-        /// The name in them.
+        /// The name inside the brackets.
         arg: Namespaced<T>,
     },
     /// A number.
     Num(u64, T),
-    /// A text, as it stands between its quotes.
+    /// A text, as it is between its quotes.
     String(String, T),
-    /// A list of settings, with the places of its two brackets.
+    /// A list of settings, with the locations of its two brackets.
     Array(Vec<Setting<T>>, T, T),
 }
 
-/// What a key has.
+/// A key's value.
 #[derive(Debug, Drop, PartialEq, Eq)]
 pub enum Value<T> {
-    /// Whether a key alone is given, or one behind `!`.
+    /// Whether the key is given by itself, or after a `!`.
     Flag(bool, T),
-    /// What stands behind its colon.
+    /// What follows its colon.
     Setting(Setting<T>),
 }
 
 impl<T> Value<T> {
     ghost use Rattle.cfgkinds.specs.Values.{value_view, value_place};
 
-    /// The place that speaks for the value where it can't be used: of an array its opening bracket, of a name the name
-    /// without its namespace, and of a name that is applied to another the place of the other.
+    /// The location that represents the value if it can't be used: of an array its opening bracket's, of a name that of
+    /// the name without its namespace, and of a name that is applied to another the other's.
     pub fn primary_location(&self) -> &T
         ensures { result.now ≡ value_place (value_view self.now) }
     {
@@ -59,6 +59,6 @@ impl<T> Value<T> {
     }
 }
 
-/// A key's place, and what the key has.
+/// A key's location, and its value.
 #[derive(Debug, Drop, PartialEq)]
 pub struct HeaderValue<T>(pub T, pub Value<T>);

@@ -13,7 +13,7 @@ all_located-returns t c =
     ap settings_of (c.loop-setting.invariant ∙ ap (map (λ s. map_setting (λ x. at_span x) (setting_view s))) all)
     ∙ sym (map_settings-settings_view (λ x. at_span x) c.args.settings.now.items)
 
--- what a setting shows is known of the one that it is
+-- what a setting shows holds of the one that it equals
 module _ (setting one : Setting Span) (is : setting ≡ one) where
   same : map_setting (λ x. at_span x) (setting_view one) ≡ map_setting (λ x. at_span x) (setting_view setting)
   same = ap (λ s. map_setting (λ x. at_span x) (setting_view s)) (sym is)

@@ -3,7 +3,7 @@ use Rattle.cfgkinds.specs.Values.{settings_view}
 use Rattle.cfgkinds.specs.SameValues.{same_settings}
 use Rattle.cfgkinds.proofs.same.+is_same.Given as goal
 
--- what is left decides
+-- the rest of the settings decides
 abbrev pub invariant-are_same-loop-index : goal.invariant-are_same-loop-index
 invariant-are_same-loop-index g l =
     same_settings g.T.PartialEq.eq (settings_view l.settings.items) (settings_view l.others.items)
