@@ -1,4 +1,4 @@
--- The function of each combinator gives just what the combinator's relation allows.
+-- The function of each combinator gives exactly what the combinator's relation allows.
 use Rattle.std.proofs.Common.{◌≡◌, ℕ, zero, suc, ◌<◌, Bool, true, false, cond, List, [], ◌++◌, length, Option, Some, None, Result, Ok, Err, refl, ap, ◌∙◌, arith}
 use Rattle.reading.specs.Graph.{IsGraph}
 use Rattle.reading.specs.WordKind.{IsFinder}
@@ -89,11 +89,11 @@ word_or_graph {I = I} {F = F} {W = W} {B = B} {P = P} {p = p} {G = G} {H = H} {g
         ap (found_word (value text) g (h text)) (f.only text word rest e) ∙ (q (value text word rest)).only rest r there
     only text r (missing none there) = lacks text r none there (p text) refl
 
--- each further step has less text
+-- each further step has a shorter text
 pub record Shrinks {R : Type 0} (step : List ℕ → Turn R) : Type 0 where
   pub less : (text rest : List ℕ) (complete : R → R) → step text ≡ again complete rest → length rest < length text
 
--- any two numbers of steps above the text's length are enough
+-- any two numbers of steps above the text's length give the same
 pub turns_enough : {R : Type 0} {step : List ℕ → Turn R} → Shrinks step → (none : R) (n m : ℕ) (text : List ℕ)
     → length text < n → length text < m → turns step none n text ≡ turns step none m text
 unfolding turns
@@ -106,7 +106,7 @@ turns_enough {R = R} {step = step} s none (suc n) (suc m) text h1 h2 = go (turns
     go ih (again complete rest) e = let less = s.less text rest complete e in ap complete (ih rest (omega arith) (omega arith))
     go ih (ends r) e = refl
 
--- repetition is one step, and repetition from where that leaves off
+-- repetition is one step, and then repetition from where that step stops
 pub turns_next : {R : Type 0} {step : List ℕ → Turn R} → Shrinks step → (none : R) (text : List ℕ)
     → all_turns step none text ≡ after (all_turns step none) (step text)
 unfolding turns
@@ -118,7 +118,7 @@ turns_next {R = R} {step = step} s none text = go (step text) refl
     go (ends r) e = refl
 
 module _ {R : Type 0} {Step : List ℕ → Turn R → Type 0} {step : List ℕ → Turn R} where
-  -- what enough steps give is allowed
+  -- what sufficiently many steps give is allowed
   pub turns_sound : IsGraph Step step → Shrinks step → (none : R) (n : ℕ) (text : List ℕ) → length text < n → Turns Step text (turns step none n text)
   unfolding turns
   turns_sound g s none zero text h = absurd (omega arith)
@@ -143,7 +143,7 @@ module _ {R : Type 0} {Step : List ℕ → Turn R → Type 0} {step : List ℕ �
   }
 
 module _ {I F A : Type 0} {g : List ℕ → Read I F (Option A)} where
-  -- where each turn with a value leaves less text, a repetition goes on with less
+  -- if each turn with a value leaves a shorter rest, a repetition continues with a shorter text
   pub one_of_shrinks : Shortens (weight (OneOrEnd A)) g → Shrinks (λ text. turn_of (g text))
   one_of_shrinks p = record { less = λ text rest complete e. go text rest complete (g text).outcome refl e }
     where

@@ -7,27 +7,27 @@ use Rattle.reading.specs.Read.{Read, gives, fails, follow, follow_outcome, behin
 use Rattle.reading.specs.Turns.{after, turns, with_value, turn_outcome, turn_of, many}
 use Rattle.reading.proofs.PiecesLemmas.{strip_length}
 
--- what a value weighs: the end of a repetition nothing, all others one byte
+-- what a value requires: the end of a repetition nothing, all others one byte
 abbrev pub weight : (G : Gives) → ValueOf G → ℕ
 weight (One A) a = 1
 weight (OneOrEnd A) (Some a) = 1
 weight (OneOrEnd A) None = 0
 
--- by how many bytes a construct shortens its text at least, where it gives a
+-- by how many bytes at least a construct shortens its text, if it gives a
 abbrev pub shortened : (G : Gives) → Leaves → ValueOf G → ℕ
 shortened G Less a = weight G a
 shortened G NoMore a = 0
 
--- a reading that shortens its text by n a bytes at least, where it gives a
+-- a reading that shortens its text by at least n a bytes, if it gives a
 pub record Shortens {I F A : Type 0} (n : A → ℕ) (g : List ℕ → Read I F A) : Type 0 where
   pub least : (text : List ℕ) (a : A) (rest : List ℕ) → (g text).outcome ≡ Ok (a, rest) → n a + length rest ≤ length text
 
--- what two equal outcomes leave, and give
+-- two equal outcomes leave and give the same
 pub left_same : {F A : Type 0} {a b : A} {text rest : List ℕ} → ◌≡◌ {A = Result (A × List ℕ) F} (Ok (a, text)) (Ok (b, rest))
     → ◌≡◌ {A = A × List ℕ} (b, rest) (a, text)
 left_same e = cc
 
--- a value that leaves the text
+-- a value that leaves the whole text
 pub stays_shortens : {I F A : Type 0} {g : List ℕ → Read I F A} (n : A → ℕ) (a : A) → n a ≡ 0 → ((text : List ℕ) → (g text).outcome ≡ Ok (a, text)) → Shortens n g
 stays_shortens {A = A} n a none stays = record {
   least = λ text b rest e.
@@ -39,7 +39,7 @@ stays_shortens {A = A} n a none stays = record {
 pub fails_shortens : {I F A : Type 0} (n : A → ℕ) (fault : List ℕ → F) → Shortens n (λ text. fails {I = I} (fault text))
 fails_shortens n fault = record { least = λ text a rest e. cc }
 
--- choice by a word that leaves less
+-- choice by a word that leaves a shorter rest
 pub word_or_shortens : {I F W A B : Type 0} {n m : B → ℕ} {p : List ℕ → Option (W × List ℕ)} {g : A → List ℕ → Read I F B} {h : List ℕ → Read I F B}
     → IsShorter p → (value : List ℕ → W → List ℕ → A) → ((b : B) → m b ≤ 1 + n b) → ((a : A) → Shortens n (g a)) → Shortens m h → Shortens m (word_or p value g h)
 word_or_shortens {I = I} {F = F} {W = W} {B = B} {m = m} {p = p} {g = g} {h = h} s value enough q q' = record { least = λ text b rest e. go text b rest (p text) refl e }
@@ -49,7 +49,7 @@ word_or_shortens {I = I} {F = F} {W = W} {B = B} {m = m} {p = p} {g = g} {h = h}
     go text b rest (Some (word, mid)) e1 e2 = omega (arith, enough b, s.less text word mid e1, (q (value text word mid)).least mid b rest e2)
     go text b rest None e1 e2 = q'.least text b rest e2
 
--- where a sequence gives a value, both parts do
+-- if a sequence gives a value, both parts do
 pub follow_parts : {I F A B : Type 0} (g : List ℕ → Read I F A) (h : A → List ℕ → Read I F B) (text : List ℕ) (b : B) (rest : List ℕ)
     → (follow g h text).outcome ≡ Ok (b, rest)
     → (a : A) × (mid : List ℕ) × ((g text).outcome ≡ Ok (a, mid)) × ((h a mid).outcome ≡ Ok (b, rest))
@@ -88,13 +88,13 @@ choose_shortens {I = I} {F = F} {A = A} {g = g} {h = h} k test first second p q 
     go text a rest true e = omega (arith, first a, p.least text a rest e)
     go text a rest false e = omega (arith, second a, q.least text a rest e)
 
--- where one more value before an outcome gives values, that outcome gives values
+-- if one more value before an outcome gives values, that outcome gives values
 with_value_parts : {F A : Type 0} (a : A) (o : Result (List A × List ℕ) F) (values : List A) (rest : List ℕ)
     → with_value a o ≡ Ok (values, rest) → (others : List A) × (o ≡ Ok (others, rest))
 with_value_parts {A = A} a (Ok (others, left)) values rest e = (others, ap (λ (x : List A × List ℕ). Ok (others, x.1)) (sym (left_same e)))
 with_value_parts a (Err fault) values rest e = cc
 
--- repetition, n times at most
+-- repetition, at most n times
 turns_shortens : {I F A : Type 0} {n : Option A → ℕ} {g : List ℕ → Read I F (Option A)} → Shortens n g → (k : ℕ)
     → Shortens (λ _. 0) (turns (λ text. turn_of (g text)) (gives [] []) k)
 unfolding turns
@@ -117,7 +117,7 @@ pub many_shortens : {I F A : Type 0} {n : Option A → ℕ} {g : List ℕ → Re
 unfolding many
 many_shortens p = record { least = λ text. (turns_shortens p (suc (length text))).least text }
 
--- By its type: of a sequence, and of a choice behind a word.
+-- By its type: of a sequence, and of a choice after a word.
 
 weight_one : (G : Gives) (a : ValueOf G) → weight G a ≤ 1
 weight_one (One A) a = omega arith

@@ -1,4 +1,4 @@
--- Repetition turn by turn, as a loop makes it.
+-- Repetition turn by turn, as a loop performs it.
 use Rattle.std.proofs.Common.{◌≡◌, ℕ, List, [], ◌∷◌, ◌++◌, Option, Some, None, Result, Ok, Err, refl, ap, ap₂, sym, ◌∙◌, append_assoc, append-nil}
 use Rattle.reading.specs.Leaves.{OneOrEnd}
 use Rattle.reading.specs.Read.{Read, gives}
@@ -17,7 +17,7 @@ abbrev pub with_values : {F A : Type 0} → List A → Result (List A × List �
 with_values front (Ok (values, rest)) = Ok (front ++ values, rest)
 with_values front (Err fault) = Err fault
 
--- items and values before those that follow: what a loop has read, and what it still reads
+-- items and values before those that follow: what a loop has read, and what it still has to read
 abbrev pub with_front : {I F A : Type 0} → List I → List A → Read I F (List A) → Read I F (List A)
 with_front items values r = record { items = items ++ r.items; outcome = with_values values r.outcome }
 
@@ -29,7 +29,7 @@ with_front_nil {I = I} {F = F} {A = A} r = go r.outcome
     go (Ok (values, rest)) = refl
     go (Err fault) = refl
 
--- one more value goes to the front
+-- one more value is added to the prefix
 pub with_front_one : {I F A : Type 0} (items : List I) (values : List A) (more : List I) (a : A) (r : Read I F (List A))
     → with_front items values (with_one more a r) ≡ with_front (items ++ more) (values ++ a ∷ []) r
 with_front_one {I = I} {F = F} {A = A} items values more a r = go r.outcome
@@ -41,7 +41,7 @@ with_front_one {I = I} {F = F} {A = A} items values more a r = go r.outcome
         (sym (append_assoc items more r.items)) (sym (append_assoc values (a ∷ []) others))
     go (Err fault) = ap (λ xs. record { items = xs; outcome = Err fault }) (sym (append_assoc items more r.items))
 
--- what a loop read and gathered from start to now, where the same is left to read
+-- what a loop read and gathered from start to now, with the same left to read
 pub record Front {I F A : Type 0} (g : List ℕ → Read I F (Option A)) (start now : List ℕ) (items : List I) (values : List A) : Type 0 where
   pub so_far : many g start ≡ with_front items values (many g now)
 
@@ -63,6 +63,6 @@ module _ {I F A : Type 0} {g : List ℕ → Read I F (Option A)} (p : Shortens (
   front_done rest e = front.so_far ∙ ap (with_front items values) (many_next p now _ e)
       ∙ ap (λ xs. record { items = items ++ (g now).items; outcome = Ok (xs, rest) }) (append-nil values)
 
-  -- where a fault stops a turn
+  -- if a fault stops a turn
   pub front_stopped : (fault : F) → (g now).outcome ≡ Err fault → many g start ≡ record { items = items ++ (g now).items; outcome = Err fault }
   front_stopped fault e = front.so_far ∙ ap (with_front items values) (many_next p now _ e)

@@ -4,11 +4,11 @@ use Rattle.std.proofs.lemmas.List.{append_cancel_left}
 use Rattle.std.specs.List.{prefix_len, list_all}
 use Rattle.reading.specs.Pieces.{starts, IsRun, run, strip, IsFirst, with_first, found_here, split_first}
 
--- `strip` at two first bytes, by whether they are the same
+-- `strip` with two first bytes, by whether they are the same
 pub strip_same : (c b : ℕ) (word text : List ℕ) → c ≡ b → strip (c ∷ word) (b ∷ text) ≡ strip word text
 strip_same c b word text e = ap (λ t. cond t (strip word text) None) (eq-eqb c b e)
 
--- what `strip` leaves stands behind the word
+-- what `strip` leaves comes after the word
 pub strip_sound : (word text rest : List ℕ) → strip word text ≡ Some rest → text ≡ word ++ rest
 strip_sound [] text rest e = cc
 strip_sound (c ∷ word) [] rest e = cc
@@ -19,7 +19,7 @@ strip_sound (c ∷ word) (b ∷ text) rest e = go (strip_sound word text rest) (
     go further true h h' = let same : c ≡ b = eqb-true c b h in let after : text ≡ word ++ rest = further h' in cc
     go further false h h' = cc
 
--- `strip` finds the word that stands at the front
+-- `strip` finds the word that the text begins with
 pub strip_only : (word text rest : List ℕ) → text ≡ word ++ rest → strip word text ≡ Some rest
 strip_only [] text rest e = ap Some e
 strip_only (c ∷ word) [] rest e = cc
@@ -28,11 +28,11 @@ strip_only (c ∷ word) (b ∷ text) rest e =
     let after : text ≡ word ++ rest = cc in
     strip_same c b word text same ∙ strip_only word text rest after
 
--- where `strip` finds nothing, the word doesn't stand at the front
+-- if `strip` finds nothing, the text doesn't begin with the word
 pub strip_none : (word text : List ℕ) → strip word text ≡ None → (rest : List ℕ) → text ≢ word ++ rest
 strip_none word text e rest h = let found : strip word text ≡ Some rest = strip_only word text rest h in cc
 
--- where the word doesn't stand at the front, `strip` finds nothing
+-- if the text doesn't begin with the word, `strip` finds nothing
 pub strip_lacks : (word text : List ℕ) → ((rest : List ℕ) → text ≢ word ++ rest) → strip word text ≡ None
 strip_lacks word text lacks = go (strip word text) refl
   where
@@ -40,11 +40,11 @@ strip_lacks word text lacks = go (strip word text) refl
     go (Some rest) e = absurd (lacks rest (strip_sound word text rest e))
     go None e = refl
 
--- what `strip` leaves is as much shorter as the word is long
+-- what `strip` leaves is shorter by the word's length
 pub strip_length : (word text rest : List ℕ) → strip word text ≡ Some rest → length text ≡ length word + length rest
 strip_length word text rest e = ap length (strip_sound word text rest e) ∙ length-append word rest
 
--- `run` at a byte that passes
+-- `run` at a byte that passes the test
 pub run_on : (test : ℕ → Bool) (b : ℕ) (text : List ℕ) → test b ≡ true → run test (b ∷ text) ≡ (b ∷ (run test text).0, (run test text).1)
 run_on test b text e =
     let n : prefix_len test (b ∷ text) ≡ suc (prefix_len test text) = ap (λ t. cond t (1 + prefix_len test text) 0) e ∙ one-add (prefix_len test text) in
@@ -54,7 +54,7 @@ run_on test b text e =
 pub run_off : (test : ℕ → Bool) (b : ℕ) (text : List ℕ) → test b ≡ false → run test (b ∷ text) ≡ ([], b ∷ text)
 run_off test b text e = ap (λ t. let n : ℕ = cond t (1 + prefix_len test text) 0 in (take n (b ∷ text), drop n (b ∷ text))) e
 
--- `run` gives the longest front of bytes that pass
+-- `run` gives the longest prefix of bytes that pass the test
 pub IsRun-run : (test : ℕ → Bool) (text : List ℕ) → IsRun test text (run test text).0 (run test text).1
 IsRun-run test [] = record { whole = refl; passes = refl; longest = refl }
 IsRun-run test (b ∷ text) = go (IsRun-run test text) (test b) refl
@@ -72,7 +72,7 @@ IsRun-run test (b ∷ text) = go (IsRun-run test text) (test b) refl
       longest = e;
     })
 
--- bytes that pass, before one that doesn't
+-- bytes that pass the test, before one that doesn't
 pub prefix_len-run : (test : ℕ → Bool) (piece rest : List ℕ) → list_all test piece ≡ true → starts test rest ≡ false
     → prefix_len test (piece ++ rest) ≡ length piece
 prefix_len-run test [] [] passes longest = refl
@@ -84,26 +84,26 @@ prefix_len-run test (b ∷ piece) rest passes longest = go (λ h. prefix_len-run
     go ih true h = one-add _ ∙ ap suc (ih h)
     go ih false h = cc
 
--- the longest front is the one that `run` gives
+-- the longest prefix is the one that `run` gives
 pub run_only : (test : ℕ → Bool) (text piece rest : List ℕ) → IsRun test text piece rest → run test text ≡ (piece, rest)
 run_only test text piece rest r =
     let n = prefix_len-run test piece rest r.passes r.longest in
     ap (run test) r.whole ∙ ap₂ (λ x y. (x, y)) (take_at piece rest _ (sym n)) (drop_at piece rest _ (sym n))
 
--- what is left behind a run is no longer than the text
+-- the rest after a run is no longer than the text
 pub run_no_longer : (test : ℕ → Bool) (text : List ℕ) → length (run test text).1 ≤ length text
 run_no_longer test text = simp length-drop (omega arith)
 
--- and shorter, where the first byte passes
+-- and it is shorter if the first byte passes the test
 pub run_shorter : (test : ℕ → Bool) (text : List ℕ) → starts test text ≡ true → length (run test text).1 < length text
 run_shorter test [] e = cc
 run_shorter test (b ∷ text) e = let shorter = run_no_longer test text in subst (λ x. length x.1 < suc (length text)) (sym (run_on test b text e)) (omega arith)
 
--- a needle at the front is the first
+-- a needle at the start is the first
 pub found_at_front : (needle text rest : List ℕ) → strip needle text ≡ Some rest → IsFirst needle text [] rest
 found_at_front needle text rest e = record { whole = strip_sound needle text rest e; first = λ x y h. omega arith }
 
--- a needle that doesn't stand at the front: the first one in the rest is the first
+-- if the text doesn't begin with the needle, the first one after its first byte is the first
 pub IsFirst-more : (needle : List ℕ) (b : ℕ) (text body rest : List ℕ) → strip needle (b ∷ text) ≡ None → IsFirst needle text body rest
     → IsFirst needle (b ∷ text) (b ∷ body) rest
 IsFirst-more needle b text body rest e f = record { whole = ap (λ x. b ∷ x) f.whole; first = first }
@@ -112,23 +112,23 @@ IsFirst-more needle b text body rest e f = record { whole = ap (λ x. b ∷ x) f
     first [] y h = absurd (strip_none needle (b ∷ text) e y h)
     first (c ∷ x) y h = let after : text ≡ x ++ needle ++ y = cc in let less = f.first x y after in omega arith
 
--- an empty text without a needle at its front has none
+-- an empty text that doesn't begin with a needle has none
 pub lacks_in_nil : (needle : List ℕ) → strip needle [] ≡ None → (x y : List ℕ) → [] ≢ x ++ needle ++ y
 lacks_in_nil needle e [] y h = strip_none needle [] e y h
 lacks_in_nil needle e (c ∷ x) y h = cc
 
--- neither has a text with none at its front and none behind the first byte
+-- nor does a text that has none at its start and none after its first byte
 pub lacks_more : (needle : List ℕ) (b : ℕ) (text : List ℕ) → strip needle (b ∷ text) ≡ None → ((x y : List ℕ) → text ≢ x ++ needle ++ y)
     → (x y : List ℕ) → b ∷ text ≢ x ++ needle ++ y
 lacks_more needle b text e lacks [] y h = strip_none needle (b ∷ text) e y h
 lacks_more needle b text e lacks (c ∷ x) y h = let after : text ≡ x ++ needle ++ y = cc in lacks x y after
 
--- what a split at the first needle says of a text
+-- what a split at the first needle says about a text
 abbrev pub SplitsFirst : List ℕ → List ℕ → Option (List ℕ × List ℕ) → Type 0
 SplitsFirst needle text (Some (body, rest)) = IsFirst needle text body rest
 SplitsFirst needle text None = (x y : List ℕ) → text ≢ x ++ needle ++ y
 
--- `split_first` says it
+-- `split_first` says so
 pub SplitsFirst-split_first : (needle text : List ℕ) → SplitsFirst needle text (split_first needle text)
 unfolding split_first
 SplitsFirst-split_first needle [] = go (strip needle []) refl
@@ -148,11 +148,11 @@ SplitsFirst-split_first needle (b ∷ text) = go (strip needle (b ∷ text)) ref
 pub split_first_sound : (needle text body rest : List ℕ) → split_first needle text ≡ Some (body, rest) → IsFirst needle text body rest
 split_first_sound needle text body rest e = subst (SplitsFirst needle text) e (SplitsFirst-split_first needle text)
 
--- where `split_first` gives nothing, there is no needle
+-- if `split_first` gives nothing, there is no needle
 pub split_first_none : (needle text : List ℕ) → split_first needle text ≡ None → (x y : List ℕ) → text ≢ x ++ needle ++ y
 split_first_none needle text e = subst (SplitsFirst needle text) e (SplitsFirst-split_first needle text)
 
--- where there is no needle, `split_first` gives nothing
+-- if there is no needle, `split_first` gives nothing
 pub split_first_lacks : (needle text : List ℕ) → ((x y : List ℕ) → text ≢ x ++ needle ++ y) → split_first needle text ≡ None
 split_first_lacks needle text lacks = go (split_first needle text) (SplitsFirst-split_first needle text)
   where
@@ -160,7 +160,7 @@ split_first_lacks needle text lacks = go (split_first needle text) (SplitsFirst-
     go (Some (body, rest)) f = absurd (lacks body rest f.whole)
     go None f = refl
 
--- there is one first needle
+-- the first needle is unique
 pub IsFirst-one : (needle text body rest body' rest' : List ℕ) → IsFirst needle text body rest → IsFirst needle text body' rest'
     → (body ≡ body') × (rest ≡ rest')
 IsFirst-one needle text body rest body' rest' f f' = (bodies, rests)
@@ -186,7 +186,7 @@ split_first_only needle text body rest f = go (split_first needle text) (SplitsF
     go (Some (body', rest')) f' = let same = IsFirst-one needle text body' rest' body rest f' f in ap₂ (λ x y. Some (x, y)) same.0 same.1
     go None lacks = absurd (lacks body rest f.whole)
 
--- the parts are as long as the text
+-- the parts together are as long as the text
 pub split_first_length : (needle text body rest : List ℕ) → split_first needle text ≡ Some (body, rest)
     → length text ≡ length body + length needle + length rest
 split_first_length needle text body rest e = ap length (split_first_sound needle text body rest e).whole

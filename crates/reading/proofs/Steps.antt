@@ -1,4 +1,4 @@
--- The loops of a reader: what is left to read, from what was made so far, leads to the same end.
+-- The loops of a reader: reading the rest, from what was made so far, leads to the same end.
 use Rattle.std.proofs.Common.{◌≡◌, ℕ, ◌<◌, ◌≤◌, ◌-◌, Bool, true, false, cond, List, [], ◌∷◌, ◌++◌, length, fold, Option, Some, None, Result, Ok, Err, refl, sym, ◌∙◌, ap, subst, arith, append-nil}
 use Rattle.std.specs.Prelude.{IsErrAnd}
 use Rattle.std.proofs.lemmas.List.Sums.{fold-append}
@@ -11,18 +11,18 @@ use Rattle.reading.proofs.Agree.{leaves}
 use Rattle.reading.proofs.Loops.{Front, front_start, front_one, front_done, front_stopped}
 
 module _ {Reader Stop Made Item Fault : Type 0} (R : ReaderKind Reader Stop Made Item Fault) where
-  -- what was passed leaves no more of the text, so the place behind it isn't before its own
+  -- the rest after what was passed is no longer, so its offset isn't smaller
   pub place_on : {l : Leaves} {G : Gives} {X : Type 0} (c : Construct Item Fault l G) (view : X → ValueOf G) (now next : Reader) (x : X)
       → Builds R view now next (Ok x) c → R.len now - length (R.rest now) ≤ R.len next - length (R.rest next)
   place_on c view now next x builds = omega (arith, (leaves c).least (R.rest now) (view x) (R.rest next) builds.0, builds.1)
 
-  -- a turn that is not the last leaves less
+  -- a turn that is not the last leaves a shorter rest
   pub turn_shorter : {A X : Type 0} (c : ℕ → Construct Item Fault Less (OneOrEnd A)) (view : X → Option A) (now next : Reader) (x : X) (a : A)
       → Builds R view now next (Ok x) (c (R.len now)) → view x ≡ Some a → length (R.rest next) < length (R.rest now)
   turn_shorter c view now next x a builds is =
       omega (arith, (leaves (c (R.len now))).least (R.rest now) (Some a) (R.rest next) (builds.0 ∙ ap (λ a. Ok (a, R.rest next)) is))
 
-  -- where f makes another value of what was read
+  -- if f makes another value of what was read
   module _ {A B : Type 0} (f : A → B) (old new : Reader) (r : Read Item Fault A) where
     pub stops_then : (o : Option Fault) → Stops R old new o r → Stops R old new o (follow_outcome r.items r.outcome (λ a. gives (f a)))
     stops_then None stops = tt
@@ -68,7 +68,7 @@ module _ {Reader Stop Made Item Fault : Type 0} {R : ReaderKind Reader Stop Made
     grown = refl;
   }
 
-  -- the loop so far, and one turn more
+  -- the loop so far, and one more turn
   module _ {start now : Reader} (so_far : Gathers R c start now) (next : Reader) where
     -- all items so far
     abbrev read : List Item
@@ -101,14 +101,14 @@ module _ {Reader Stop Made Item Fault : Type 0} {R : ReaderKind Reader Stop Made
       unfolding repeat
       repeat_done is = returns_then R (λ values. tt) start next _ (λ (x : Unit {0}). so_far.values) (Ok tt) (many_done (λ (x : Unit {0}). so_far.values) tt refl is)
 
-    -- where a turn fails
+    -- if a turn fails
     pub many_stops : (o : Option Fault) → Stops R now next o (computes (c (R.len now)) (R.rest now)) → Stops R start next o (computes (many (c (R.len start))) (R.rest start))
     many_stops None stops = tt
     many_stops (Some fault) stops =
         let turn = rw so_far.len at stops in
         subst (Stops R start next (Some fault)) (sym (front_stopped (leaves (c (R.len start))) so_far.front fault turn.0)) (refl, grown turn.1)
 
-    -- as the code hands it on
+    -- as the code returns it
     pub repeat_refused : (result : Result (Unit {0}) Stop) (e : Stop) → IsErrAnd result (λ fault. fault ≡ e) → Fails R now next e (c (R.len now))
         → Builds R (λ x. x) start next result (repeat (c (R.len start)))
     unfolding repeat

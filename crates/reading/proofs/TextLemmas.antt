@@ -1,4 +1,4 @@
--- What std's `strip_prefix` and `split_once` say of a text, in the words of Pieces.
+-- What std's `strip_prefix` and `split_once` say about a text, in terms of Pieces.
 use Rattle.std.proofs.Common.{◌≡◌, ℕ, ◌<◌, ◌≤◌, List, ◌++◌, length, drop, Option, Some, None, Bor, MatchOption, refl, ap, ap₂, sym, ◌∙◌, ◌⊎◌, inl, inr, arith, take-append-drop, drop_at, length-append, append_assoc}
 use Rattle.std.proofs.lemmas.Bool.{cases_lt}
 use Rattle.std.specs.Option.{option_map}
@@ -13,11 +13,11 @@ pub strip_prefix_strip : (word text : List ℕ) (r : Option (Bor (List ℕ)))
 strip_prefix_strip word text None h = sym (strip_lacks word text h)
 strip_prefix_strip word text (Some x) h = sym (strip_only word text x.now (h.1.1 ∙ ap (λ rest. word ++ rest) (sym h.2)))
 
--- a needle behind a front stands where the front ends
+-- a needle after a prefix begins where the prefix ends
 pub drop_front : (text front needle rest : List ℕ) → text ≡ front ++ needle ++ rest → drop (length front) text ≡ needle ++ rest
 drop_front text front needle rest e = ap (drop (length front)) (e ∙ append_assoc front needle rest) ∙ drop_at front (needle ++ rest) _ refl
 
--- the parts that `split_once` gives: its needle is the first
+-- the parts that `split_once` gives: the needle between them is the first
 pub IsFirst-around : (needle text body rest : List ℕ) → SplitsAroundMatch (FindsText needle) text body rest → IsFirst needle text body rest
 IsFirst-around needle text body rest h = record {
   whole = sym (take-append-drop h.0 text) ∙ ap₂ (λ x y. x ++ y) (sym h.3) (h.2.1.split ∙ ap (λ y. needle ++ y) (sym h.4)) ∙ sym (append_assoc body needle rest);

@@ -1,5 +1,5 @@
--- What holds of all that a kind of piece gives. Texts pass T where a piece begins and where one ends; each item
--- that counts passes P, a value passes Q, and a fault that stops the reading passes S.
+-- What holds of everything that a kind of piece gives. Texts have property T where a piece begins and where one ends; each item that counts
+-- has P, a value Q, and a fault that stops the reading S.
 use Rattle.std.proofs.Common.{◌≡◌, ℕ, Bool, List, [], ◌++◌, Option, Some, None, Result, Ok, Err, All, sym, subst}
 use Rattle.std.proofs.lemmas.List.Elements.{All-nil, All-cons, All-append}
 use Rattle.reading.specs.Read.{Read, gives, emits, fails, Exactly, Then, on, off, Case, begins, other, Choice, where_true, where_false, WordOr, found, missing}
@@ -24,7 +24,7 @@ pub weaker : {F A : Type 0} (T T' : List ℕ → Type 0) (S : F → Type 0) (Q :
 weaker T T' S Q texts (Ok (a, rest)) (t, q) = (texts rest t, q)
 weaker T T' S Q texts (Err fault) s = s
 
--- steps: where one goes on, the text that it leaves passes, and it completes what passes to what passes
+-- steps: if one continues, the rest has the property, and the step completes what has the property to what has it
 abbrev pub TurnPasses : {R : Type 0} → (List ℕ → Type 0) → (R → Type 0) → Turn R → Type 0
 TurnPasses {R} T W (again complete rest) = T rest × ((r : R) → W r → W (complete r))
 TurnPasses T W (ends r) = W r

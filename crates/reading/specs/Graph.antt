@@ -1,4 +1,4 @@
--- A function that gives just what a relation allows: for each x there is one y in the relation, the function's.
+-- A function that gives exactly what a relation allows: each x is related to one y only, the function's.
 use Rattle.std.specs.Prelude.{◌≡◌}
 
 pub record IsGraph {X Y : Type 0} (R : X → Y → Type 0) (f : X → Y) : Type 0 where

@@ -1,17 +1,16 @@
--- Pieces of a text: what stands at its front, and what is left behind that.
+-- Pieces of a text: what it begins with, and the rest after that.
 --
--- A place is never a number here: it is what is left of the text from there on. A relation `P text piece rest`
--- says that text begins with a piece of its kind, and that rest is left. Beside each stands the plain function
--- that finds the piece.
+-- An offset is never a number here: it is the rest of the text from there on. A relation `P text piece rest` says that text begins with a
+-- piece of its kind, and that rest follows. Next to each is the plain function that finds the piece.
 use Rattle.std.specs.Prelude.{◌≡◌, ℕ, ◌≤◌, Bool, true, false, List, [], ◌∷◌, ◌++◌, length, take, drop, Option, Some, None, ◌==◌, if◌then◌else◌}
 use Rattle.std.specs.List.{prefix_len, list_all}
 
--- whether the first byte passes; an empty text has none
+-- whether the first byte passes the test; an empty text has none
 abbrev pub starts : (ℕ → Bool) → List ℕ → Bool
 starts test [] = false
 starts test (b ∷ text) = test b
 
--- the longest front of bytes that pass
+-- the longest prefix of bytes that pass the test
 pub record IsRun (test : ℕ → Bool) (text piece rest : List ℕ) : Type 0 where
   pub whole : text ≡ piece ++ rest
   pub passes : list_all test piece ≡ true
@@ -20,13 +19,13 @@ pub record IsRun (test : ℕ → Bool) (text piece rest : List ℕ) : Type 0 whe
 abbrev pub run : (ℕ → Bool) → List ℕ → List ℕ × List ℕ
 run test text = (take (prefix_len test text) text, drop (prefix_len test text) text)
 
--- what is left behind a word at the front
+-- the rest after a word at the start
 abbrev pub strip : List ℕ → List ℕ → Option (List ℕ)
 strip [] text = Some text
 strip (c ∷ word) [] = None
 strip (c ∷ word) (b ∷ text) = if c == b then strip word text else None
 
--- what stands before the first needle, and what is left behind that needle
+-- what precedes the first needle, and the rest after that needle
 pub record IsFirst (needle text body rest : List ℕ) : Type 0 where
   pub whole : text ≡ body ++ needle ++ rest
   pub first : (x y : List ℕ) → text ≡ x ++ needle ++ y → length body ≤ length x

@@ -1,11 +1,11 @@
--- What reading a piece of a text gives, and how pieces stand one behind another.
+-- What reading a piece of a text gives, and how pieces follow each other.
 --
--- A kind of piece is a relation between a text and what reading it there gives. Item is the type of the parts that
--- count as read, Fault that of what stops a reading.
+-- A kind of piece is a relation between a text and what reading the piece at its start gives. Item is the type of the parts that count as
+-- read, Fault that of what stops a reading.
 use Rattle.std.specs.Prelude.{◌≡◌, ◌≢◌, ℕ, Bool, true, false, List, [], ◌∷◌, ◌++◌, Option, Some, None, Result, Ok, Err, if◌then◌else◌}
 use Rattle.reading.specs.Pieces.{strip}
 
--- the items that count as read, in order; then the piece's value and what is left, or what stopped the reading
+-- the items that count as read, in order; then the piece's value and the rest, or what stopped the reading
 pub record Read (Item Fault A : Type 0) : Type 0 where
   pub items : List Item
   pub outcome : Result (A × List ℕ) Fault
@@ -21,7 +21,7 @@ emits item rest = record { items = item ∷ []; outcome = Ok (tt, rest) }
 abbrev pub fails : {I F A : Type 0} → F → Read I F A
 fails fault = record { items = []; outcome = Err fault }
 
--- r behind earlier items
+-- r after earlier items
 abbrev pub prefixed : {I F A : Type 0} → List I → Read I F A → Read I F A
 prefixed items r = record { items = items ++ r.items; outcome = r.outcome }
 
@@ -34,30 +34,30 @@ stop_of (Err fault) = Some fault
 abbrev pub Exactly : {I F A : Type 0} → (List ℕ → Read I F A) → List ℕ → Read I F A → Type 0
 Exactly f text r = f text ≡ r
 
--- sequence: G, and behind it what H makes of its value
+-- sequence: G, and after it what H makes of its value
 pub data Then {I F A B : Type 0} (G : List ℕ → Read I F A → Type 0) (H : A → List ℕ → Read I F B → Type 0) (text : List ℕ) : Read I F B → Type 0 where
   on : (items : List I) (a : A) (rest : List ℕ) (r : Read I F B)
       → G text (record { items = items; outcome = Ok (a, rest) }) → H a rest r → Then G H text (prefixed items r)
   off : (items : List I) (fault : F)
       → G text (record { items = items; outcome = Err fault }) → Then G H text (record { items = items; outcome = Err fault })
 
--- choice by a word: G behind it, H where another thing stands
+-- choice by a word: G after it, H if the text doesn't begin with it
 pub data Case {I F A : Type 0} (word : List ℕ) (G H : List ℕ → Read I F A → Type 0) (text : List ℕ) (r : Read I F A) : Type 0 where
   begins : (rest : List ℕ) → text ≡ word ++ rest → G rest r → Case word G H text r
   other : ((rest : List ℕ) → text ≢ word ++ rest) → H text r → Case word G H text r
 
--- choice by a test: G where the text passes, H where it doesn't
+-- choice by a test: G if the text passes, H if it doesn't
 pub data Choice {I F A : Type 0} (test : List ℕ → Bool) (G H : List ℕ → Read I F A → Type 0) (text : List ℕ) (r : Read I F A) : Type 0 where
   where_true : test text ≡ true → G text r → Choice test G H text r
   where_false : test text ≡ false → H text r → Choice test G H text r
 
--- choice by a word that Is allows: behind it what G makes of its value, H where none stands
+-- choice by a word that Is allows: after it what G makes of its value, H if there is none
 pub data WordOr {I F W A B : Type 0} (Is : List ℕ → W → List ℕ → Type 0) (value : List ℕ → W → List ℕ → A)
     (G : A → List ℕ → Read I F B → Type 0) (H : List ℕ → Read I F B → Type 0) (text : List ℕ) (r : Read I F B) : Type 0 where
   found : (word : W) (rest : List ℕ) → Is text word rest → G (value text word rest) rest r → WordOr Is value G H text r
   missing : ((word : W) (rest : List ℕ) → Is text word rest → ⊥) → H text r → WordOr Is value G H text r
 
--- The same by functions: the plain slow program.
+-- The same as functions: the plain slow program.
 
 abbrev pub follow_outcome : {I F A B : Type 0} → List I → Result (A × List ℕ) F → (A → List ℕ → Read I F B) → Read I F B
 follow_outcome items (Ok (a, rest)) h = prefixed items (h a rest)

@@ -3,8 +3,7 @@ use Rattle.std.specs.Prelude.{◌≡◌, ℕ, ◌≤◌, List, [], length, Resul
 use Rattle.reading.specs.Graph.{IsGraph}
 use Rattle.reading.specs.Read.{Read}
 
--- A kind of such pieces, one of which stands at the front of every text: its value and what is left, or a fault. `reads` is the plain
--- program.
+-- A kind of such pieces, one of which is at the start of every text: its value and the rest, or a fault. `reads` is the plain program.
 pub record PieceKind (F A : Type 0) : Type 1 where
   pub Is : List ℕ → Result (A × List ℕ) F → Type 0
   pub reads : List ℕ → Result (A × List ℕ) F

@@ -2,8 +2,7 @@
 use Rattle.std.specs.Prelude.{ℕ, zero, suc, List, [], ◌∷◌, ◌++◌, length, Option, Some, None, Result, Ok, Err}
 use Rattle.reading.specs.Read.{Read, gives}
 
--- What a step makes of a text: the end, or another step from the text that is left. What that one gives is
--- completed by the function.
+-- What a step makes of a text: the end, or another step from the rest of the text. The function completes what that step gives.
 pub data Turn (R : Type 0) : Type 0 where
   again : (R → R) → List ℕ → Turn R
   ends : R → Turn R
@@ -13,7 +12,7 @@ pub data Turns {R : Type 0} (Step : List ℕ → Turn R → Type 0) : List ℕ �
   next : {text rest : List ℕ} {complete : R → R} {r : R}
       → Step text (again complete rest) → Turns Step rest r → Turns Step text (complete r)
 
--- the same by a function: n steps at most, which are enough where each leaves less text
+-- the same as a function: at most n steps, which are enough if each leaves a shorter text
 abbrev pub after : {R : Type 0} → (List ℕ → R) → Turn R → R
 after go (again complete rest) = complete (go rest)
 after go (ends r) = r
@@ -33,7 +32,7 @@ with_value a (Err fault) = Err fault
 abbrev pub with_one : {I F A : Type 0} → List I → A → Read I F (List A) → Read I F (List A)
 with_one items a r = record { items = items ++ r.items; outcome = with_value a r.outcome }
 
--- what a turn makes of what it read: the end where it gave no value, or where a fault stopped it
+-- what a turn makes of what it read: the end if it gave no value, or if a fault stopped it
 abbrev pub turn_outcome : {I F A : Type 0} → List I → Result (Option A × List ℕ) F → Turn (Read I F (List A))
 turn_outcome items (Ok (Some a, rest)) = again (with_one items a) rest
 turn_outcome items (Ok (None, rest)) = ends (record { items = items; outcome = Ok ([], rest) })

@@ -1,4 +1,4 @@
-//! What a reader of texts is.
+//! The foundations of a reader of texts.
 #![tactic(auto)]
 
 mod text;

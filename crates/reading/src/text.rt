@@ -14,8 +14,8 @@ fn begins_with(text: &str, byte: u8) -> bool
     }
 }
 
-/// What is left of a text behind a word at its front; `None` where another thing stands there. Mostly the first byte
-/// tells that.
+/// The rest of a text after a word at its start; `None` if it doesn't begin with the word. Usually the first byte
+/// decides.
 #[tactic(auto, using(crate::proofs::TextLemmas::strip_prefix_strip))]
 pub fn after_word<'a>(text: &'a str, word: &str) -> Option<&'a str>
     ensures rest { option_map (λ x. x.now) result ≡ strip word.now text.now }
@@ -27,7 +27,7 @@ pub fn after_word<'a>(text: &'a str, word: &str) -> Option<&'a str>
     }
 }
 
-/// What stands before the first needle of a text, and what is left behind that needle; `None` where there is no needle.
+/// What precedes the first needle of a text, and the rest after it; `None` if there is no needle.
 pub fn split_at_first<'a>(text: &'a str, needle: &str) -> Option<(&'a str, &'a str)>
     ensures parts { option_map (λ x. (x.0.now, x.1.now)) result ≡ split_first needle.now text.now }
     ensures shorter { IfSome result (λ x. length x.0.now + length needle.now + length x.1.now ≡ length text.now) }
