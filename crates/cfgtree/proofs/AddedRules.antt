@@ -23,7 +23,7 @@ module _ (s : Syntax) (head : RuleHead) where
   pub added-new : (rules : List (List ℕ × Rule)) → has_rule (head_name head) s.rules ≡ false → rules ≡ s.rules ++ new_rule head ∷ [] → record s { rules = rules } ≡ rule_added s head
   added-new rules new are = (λ i. record s { rules = are i }) ∙ (λ i. record s { rules = added_where (sym new i) })
 
-  -- where it was added, a rule has the name
+  -- after it was added, a rule has the name
   pub added-there : is_some (lookup (bytes_eq (head_name head)) (rule_added s head).rules) ≡ true
   added-there = found-lookup (bytes_eq (head_name head)) (rule_added s head).rules ∙ go (has_rule (head_name head) s.rules) refl
     where

@@ -1,4 +1,4 @@
--- The places of what is declared more than once, gathered from one occurrence after the other.
+-- The spans of what is declared more than once, gathered occurrence by occurrence.
 use Rattle.std.proofs.Common.{◌≡◌, Bool, true, false, cond, List, [], ◌∷◌, ◌++◌, length, arith, map, Some, None, Vec, Global, refl, sym, ap, ◌∙◌}
 use Rattle.std.specs.Borrow.{Bor}
 use Rattle.std.specs.List.{IsDistinct}
@@ -11,7 +11,7 @@ use Rattle.cfgtree.specs.TreeView.{duplicate_view}
 use Rattle.cfgtree.proofs.Repeats.{is_same_equivalence, key_view, same_key, same_shown, places_of-push}
 use Rattle.cfgast.proofs.Written.{changed-absent, changed-set_value}
 
--- with its places so far, and with one more where it is of the same
+-- with its spans so far, and one more if the occurrence is of the same
 abbrev pub placed : List Occurrence → Unique → Duplicate
 placed done what = record { what = what; spans = places_of done what }
 
@@ -26,7 +26,7 @@ placed-push done o (u ∷ us) = λ i. (go (is_same o.what u) ∙ ap (λ spans. r
     go true = refl
     go false = refl
 
--- where nothing is declared again, it is at no places
+-- if nothing is declared again, it has no spans
 pub placed_nowhere : {E : Type 0} (shown : E → Duplicate) (es : List E) (f g : Unique → Duplicate) (us : List Unique) → length es ≡ 0 → map shown es ≡ map f us → map shown es ≡ map g us
 placed_nowhere shown [] f g [] none e = refl
 placed_nowhere shown [] f g (u ∷ us) none e = absurd (cc)

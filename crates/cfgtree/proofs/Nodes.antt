@@ -1,4 +1,4 @@
--- Names and their nodes: what is reached among names is what is reached among nodes.
+-- Names and their nodes: what is reachable among names is what is reachable among nodes.
 use Rattle.std.proofs.Common.{◌≡◌, ◌↔◌, ℕ, zero, suc, ◌+◌, ◌-◌, ◌<◌, inl, inr, List, [], ◌∷◌, ◌++◌, map, length, position, Contains, ◌⊎◌, slice_get, option_map, Option, Some, None, is_some, arith, refl, sym, ap, ◌∙◌, subst}
 use Rattle.std.specs.List.{IsDistinct, position_or_len}
 use Rattle.std.specs.Map.{lookup}
@@ -50,7 +50,7 @@ module _ (s : Syntax) where
   token_there n i e = behind (map (λ rule. RuleName rule.0) s.rules) (map TokenName s.tokens) n i (e ∙ ap (λ m. m + i) (sym rules_before))
       ∙ slice_get-map TokenName s.tokens i
 
-  -- a name stands at its node
+  -- a name is at its node
   pub named : (name : Name) (n : ℕ) → IsNodeOf s name n → slice_get (nodes s) n ≡ Some name
   named (RuleName name) n is =
       let at = found_at (map entry_name s.rules) name n is in
@@ -66,7 +66,7 @@ module _ (s : Syntax) where
   pub node_within : (name : Name) (n : ℕ) → IsNodeOf s name n → n < length (nodes s)
   node_within name n is = slice_get_within (nodes s) n name (named name n is)
 
-  -- where names differ, each has the node at which it stands
+  -- if names differ, each has the node at its own index
   pub node_there : IsDistinct bytes_eq (map entry_name s.rules) → IsDistinct bytes_eq s.tokens → (name : Name) (n : ℕ) → slice_get (nodes s) n ≡ Some name
       → IsNodeOf s name n
   node_there rules tokens name n at = elim (cases_lt n (length s.rules)) [
@@ -136,7 +136,7 @@ module _ (s : Syntax) where
       among n name (implicit given h) is =
           inr (record { thing = name; among = subst (λ t. Contains (map entry_token t) name) (same_Some _ _ (sym given ∙ some)) h; finds = is })
 
-  -- what the productions of the rule at a node hold is what the node leads to
+  -- what the productions of a node's rule hold is what the node leads to
   pub leads_to : (node : ℕ) (name : List ℕ) (head : Rule) (old new : SearchState) → slice_get (nodes s) node ≡ Some (RuleName name)
       → lookup (bytes_eq name) s.rules ≡ Some head → Reaches (FoundBy (HeldAt s) head.productions) old new → Reaches (LeadsTo s node) old new
   leads_to node name head old new at found w = reaches_as _ (LeadsTo s node) old new
@@ -182,7 +182,7 @@ module _ (s : Syntax) where
           go (rule ∷ rules) zero none at = cc
           go (rule ∷ rules) (suc n) none at = go rules n none at
 
-  -- names that differ are known as their nodes are
+  -- names that differ from each other are known as their nodes are
   pub knows : IsDistinct bytes_eq (map entry_name s.rules) → IsDistinct bytes_eq s.tokens → (Seed : ℕ → Type 0)
       → ((n : ℕ) → (Seed n ↔ ((name : Name) × IsStart s name × IsNodeOf s name n))) → (mid new : SearchState) → length mid.reached ≡ length (nodes s)
       → ((n : ℕ) → (IsReachedIn mid n ↔ Reached Seed (LeadsTo s) n)) → Reaches ExpectedNode mid new → Knows s new

@@ -1,4 +1,4 @@
--- One more occurrence: what it adds to the repeats, and to the places of what it declares.
+-- One more occurrence: what it adds to the repeats, and to the spans of what it declares.
 use Rattle.std.proofs.Common.{◌≡◌, ℕ, ◌+◌, ◌<◌, Bool, true, false, cond, not, ◌&&◌, ◌||◌, List, [], ◌∷◌, ◌++◌, map, filter, length, take, get_or, Option, Some, None, Vec, Global, String, string_bytes, string_eq, refl, sym, ap, subst, ◌∙◌}
 use Rattle.std.specs.Borrow.{Bor}
 use Rattle.std.specs.Cmp.{IsEquivalence}
@@ -57,11 +57,11 @@ repeats-push done o =
 pub places_of-push : (done : List Occurrence) (o : Occurrence) (what : Unique) → places_of (done ++ o ∷ []) what ≡ cond (is_same o.what what) (places_of done what ++ o.span ∷ []) (places_of done what)
 places_of-push done o what = filtered-push (λ (o : Occurrence). o.span) (λ o. is_same o.what what) done o
 
--- what is declared more than once, with no place yet
+-- what is declared more than once, without spans yet
 abbrev pub bare : Unique → Duplicate
 bare what = record { what = what; spans = [] }
 
--- an entry with no place: a key that is there keeps it, and a new one goes last
+-- an entry without spans: if its key exists, the entry keeps its index, and otherwise it is added at the end
 module _ (k : Bor CodeUnique) (none : Vec Span Global) (empty : none.items ≡ []) where
   insert_bare : (es : List (Bor CodeUnique × Vec Span Global)) (us : List Unique) → map duplicate_view es ≡ map bare us
       → map duplicate_view (insert_entry same_key es k none) ≡ map bare (pushed_unless (list_any (is_same (key_view k)) us) us (key_view k))
@@ -127,7 +127,7 @@ module _ (done : List Occurrence) (keys more : List (Bor CodeUnique)) (entries :
 pub shown_more : (xs : List CodeOccurrence) (i : ℕ) (x : CodeOccurrence) → i < length xs → x ≡ get_or xs i x → map occurrence_view (take (i + 1) xs) ≡ map occurrence_view (take i xs) ++ occurrence_view x ∷ []
 shown_more xs i x within is = ap (map occurrence_view) (take_more xs i x within ∙ ap (λ y. take i xs ++ y ∷ []) (sym is)) ∙ map-append occurrence_view (take i xs) (x ∷ [])
 
--- whether it was known, from whether it was added
+-- whether it was known, given whether it was added
 pub from_added : (known added b : Bool) → added ≡ not known → added ≡ b → known ≡ not b
 from_added true added b e f = ap not (sym e ∙ f)
 from_added false added b e f = ap not (sym e ∙ f)

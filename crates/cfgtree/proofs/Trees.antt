@@ -1,4 +1,4 @@
--- What is well formed is a tree, and a tree stays one when it is written.
+-- What is well formed is a tree, and a tree stays one when it is written to.
 use Rattle.std.proofs.Common.{arith, ◌≡◌, ℕ, ◌+◌, ◌<◌, ◌==◌, Bool, true, false, List, [], ◌∷◌, ◌++◌, map, length, get_or, All, if◌then◌else◌, refl, sym, ◌∙◌, length-append}
 use Rattle.std.specs.Str.{bytes_eq}
 use Rattle.std.specs.Cmp.Lexicographic.{bytes_decides}
@@ -18,7 +18,7 @@ use Rattle.cfgast.proofs.Names.{index_of-within}
 abbrev IsNamed : List ℕ × Rule → Type 0
 IsNamed rule = rule.0 ≡ rule.1.name.name
 
--- a rule lists places below n
+-- a rule lists indices below n
 abbrev ListsBelow : ℕ → List ℕ × Rule → Type 0
 ListsBelow n rule = All (λ i. i < n) rule.1.productions
 

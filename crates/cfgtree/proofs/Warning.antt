@@ -13,7 +13,7 @@ use Rattle.cfgtree.specs.Unused.{Name, RuleName, TokenName, IsUnused, Warned, no
 use Rattle.search.specs.Reached.{IsReachedIn, SearchState}
 use Rattle.cfgtree.specs.Inner.Nodes.{nodes, Knows}
 
--- what would be warned of at a node stands there
+-- the warning that a node would have exists
 pub named_there : (rules : List (List ℕ × Rule)) (tokens : List (List ℕ)) (spans : List Span) (i : ℕ) (e : Name × GrammarWarning)
     → slice_get (map rule_warning rules ++ map token_warning (zip tokens spans)) i ≡ Some e
     → slice_get (map (λ rule. RuleName rule.0) rules ++ map TokenName tokens) i ≡ Some e.0
@@ -30,7 +30,7 @@ zip_get (x ∷ xs) [] i lt = refl
 zip_get (x ∷ xs) (y ∷ ys) zero lt = refl
 zip_get (x ∷ xs) (y ∷ ys) (suc i) lt = zip_get xs ys i (omega (arith, lt))
 
--- what would be warned of at a rule, and behind all rules
+-- the warning that a rule would have, and the first one after all rules
 pub rule_there : (s : Syntax) (i : ℕ) (rule : List ℕ × Rule) → slice_get s.rules i ≡ Some rule
     → Some (rule_warning rule).1 ≡ option_map (λ named. named.1) (slice_get (possible_warnings s) i)
 rule_there s i rule at = go s.rules i at
@@ -100,7 +100,7 @@ module _ (s : Syntax) where
             (subst (Warned s (take i (possible_warnings s) ++ named ∷ [])) (sym (put ∙ ap (λ y. told ++ y ∷ []) is))
             (with_one (take i (possible_warnings s)) told named w (unused named.0 (named_there s.rules s.tokens s.spans i named at))))
 
-    -- there is nothing, or it isn't unused
+    -- there is no node, or it isn't unused
     warned_left : ((e : Name × GrammarWarning) → slice_get (possible_warnings s) i ≡ Some e → IsUnused s e.0 → ⊥) → Warned s (take (i + 1) (possible_warnings s)) told
     warned_left used = elim (cases_lt i (length (possible_warnings s))) [
       | inl within ↦ let (e, at) = element_at (possible_warnings s) i within in

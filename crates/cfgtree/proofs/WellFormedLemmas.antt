@@ -23,12 +23,12 @@ use Rattle.cfgast.proofs.Keeps.{All-firsts}
 use Rattle.cfgast.proofs.Names.{AreAmong, is_named-firsts, has_name-names, firsts-distinct, index_of-within, same_place}
 use Rattle.cfgast.proofs.Fields.{tokens, declared_token, alternative_named, rule_names, production_names}
 
--- each of the names has a place among those that they stand among
+-- each of the names has an index among those that they are among
 indices-within : (some all : List (List ℕ)) → AreAmong some all → All (λ i. i < length all) (indices_of some all)
 indices-within some all among = All-map (λ i. i < length all) (λ name. index_of name all) some (λ k d h.
     index_of-within (get_or some k d) all (among (get_or some k d) (list_any_at (bytes_eq (get_or some k d)) some k d h (nat_list_eq_equiv.refl (get_or some k d)))))
 
--- a rule lists the places of the productions of its name, which are those of its place
+-- a rule lists the indices of the productions of its name, which are those of its own index
 module _ (items : List Item) where
   done : List (List ℕ × Production)
   done = alternatives items

@@ -1,6 +1,6 @@
--- Validation of a syntax: the first check that fails, in this order. There is a start; the start is a rule; then, rule by
--- rule and production by production, the token of its `%prec` is a token and has a precedence, and what each symbol names is
--- there; then each key of `%epp` is a token; then what each symbol of the `%expect-unused` lists names is there.
+-- Validation of a syntax: the first check that fails, in this order. There is a start; the start is a rule; then, rule by rule and
+-- production by production, the token of its `%prec` is a token and has a precedence, and what each symbol names exists; then each key of
+-- `%epp` is a token; then what each symbol of the `%expect-unused` lists names exists.
 use Rattle.std.specs.Prelude.{ℕ, List, [], ◌∷◌, Option, Some, None, slice_get, if◌then◌else◌, not}
 use Rattle.std.specs.Option.{option_or, option_and_then}
 use Rattle.cfgwords.specs.FileWords.{Word}
@@ -14,7 +14,7 @@ abbrev pub first_error : {A : Type 0} → (A → Option GrammarError) → List A
 first_error f [] = None
 first_error f (x ∷ xs) = option_or (f x) (first_error f xs)
 
--- where no place is told, or none is there
+-- if no span is reported, or there is none
 abbrev pub nowhere : Span
 nowhere = record { start = 0; end = 0 }
 
@@ -36,7 +36,7 @@ precedence_error syntax (Some name) =
 abbrev pub production_error : Syntax → Production → Option GrammarError
 production_error syntax production = option_or (precedence_error syntax production.precedence) (first_error (symbol_error syntax) production.symbols)
 
--- of the production at a place of the list of all
+-- of the production at an index of the list of all
 abbrev pub place_error : Syntax → ℕ → Option GrammarError
 place_error syntax place = option_and_then (production_error syntax) (slice_get syntax.productions place)
 

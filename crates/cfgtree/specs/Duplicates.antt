@@ -9,7 +9,7 @@ use Rattle.cfgast.specs.contracts.occurrence.UniqueKindPartialEq.TheImpl.{ghosts
 use Rattle.cfgast.specs.Occurrences.{Unique, Occurrence}
 use Rattle.cfgast.specs.Syntax.{each_once}
 
--- what is declared more than once, and all its places: the first, and then those of its repeats
+-- what is declared more than once, and all its spans: the first, and then those of its repeats
 pub record Duplicate : Type 0 where
   pub what : Unique
   pub spans : List Span
@@ -17,7 +17,7 @@ pub record Duplicate : Type 0 where
 abbrev pub is_same : Unique → Unique → Bool
 is_same a b = kinds.eq a.kind b.kind && option_eq bytes_eq a.token b.token
 
--- a repeat: an occurrence before it is of the same
+-- a repeat: an earlier occurrence is of the same
 abbrev pub is_repeat : List Occurrence × Occurrence → Bool
 is_repeat (front, occurrence) = list_any (λ other. is_same occurrence.what other.what) front
 
@@ -25,7 +25,7 @@ is_repeat (front, occurrence) = list_any (λ other. is_same occurrence.what othe
 unfoldable pub repeats : List Occurrence → List Unique
 repeats occurrences = map (λ x. x.1.what) (filter is_repeat (with_fronts occurrences))
 
--- the places of what is declared
+-- the spans of what is declared
 abbrev pub places_of : List Occurrence → Unique → List Span
 places_of occurrences what = map (λ o. o.span) (filter (λ o. is_same o.what what) occurrences)
 

@@ -1,5 +1,5 @@
--- What holds of whatever was parsed: the syntax is well formed, its rules have names, and where there are no errors,
--- it passes validation.
+-- What holds of everything that was parsed: the syntax is well formed, its rules have names, and if there are no errors, it passes
+-- validation.
 use Rattle.std.specs.Prelude.{◌≡◌, List, [], None, All, true}
 use Rattle.reading.specs.Pieces.{starts}
 use Rattle.cfgwords.specs.declared.bytes.ByteClass.TheVariants as bytes

@@ -12,6 +12,6 @@ use Rattle.cfgtree.specs.declared.ast.GrammarAST.{GrammarAST}
 unfoldable pub syntax : GrammarAST → Syntax
 syntax ast = syntax_view ast.syntax
 
--- what is declared more than once, under what it is
+-- what is declared more than once, as an entry
 abbrev pub duplicate_view : Bor Unique × Vec Span Global → Duplicate
 duplicate_view entry = record { what = unique_view entry.0.now; spans = entry.1.items }

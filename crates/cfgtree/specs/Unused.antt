@@ -1,4 +1,4 @@
--- What is odd about a grammar: rules and tokens that nothing reaches.
+-- Warnings about a grammar: unreachable rules and tokens.
 use Rattle.std.specs.Prelude.{◌≡◌, ℕ, List, [], ◌∷◌, ◌++◌, map, Contains, Some, slice_get, bytes_eq}
 use Rattle.std.specs.List.{zip}
 use Rattle.std.specs.Map.{lookup}
@@ -39,7 +39,7 @@ pub record IsStart (s : Syntax) (name : Name) : Type 0 where
   pub given : s.start ≡ Some word
   pub is : RuleName word.name ≡ name
 
--- the start rule, and whatever its rules lead to
+-- the start rule, and whatever is reachable from it
 abbrev pub IsUsed : Syntax → Name → Type 0
 IsUsed s = Reached (IsStart s) (Leads s)
 
@@ -52,7 +52,7 @@ pub data Expected (s : Syntax) : Name → Type 0 where
   implicit : {table : List (List ℕ × Span)} {name : Name} → s.tables.implicit_tokens ≡ Some table
       → Contains (map entry_token table) name → Expected s name
 
--- neither reached nor expected to be unused
+-- neither reachable nor expected to be unused
 abbrev pub IsUnused : Syntax → Name → Type 0
 IsUnused s name = (IsUsed s name → ⊥) × (Expected s name → ⊥)
 
@@ -62,11 +62,11 @@ rule_warning rule = (RuleName rule.0, warning_at UnusedRule rule.1.name.span)
 abbrev pub token_warning : List ℕ × Span → Name × GrammarWarning
 token_warning token = (TokenName token.0, warning_at UnusedToken token.1)
 
--- what would be warned of if all were unused: the rules, then the tokens
+-- the warnings if everything were unused: about the rules, then about the tokens
 abbrev pub possible_warnings : Syntax → List (Name × GrammarWarning)
 possible_warnings s = map rule_warning s.rules ++ map token_warning (zip s.tokens s.spans)
 
--- the warnings of those among them that are unused, in order
+-- those of the warnings that are about something unused, in order
 pub data Warned (s : Syntax) : List (Name × GrammarWarning) → List GrammarWarning → Type 0 where
   none : Warned s [] []
   taken : {name : Name} {warning : GrammarWarning} {rest : List (Name × GrammarWarning)} {warnings : List GrammarWarning}

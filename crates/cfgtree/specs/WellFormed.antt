@@ -6,15 +6,15 @@ use Rattle.lemmas.specs.Lists.{places}
 use Rattle.cfgast.specs.Syntax.{Rule, Syntax}
 
 pub record IsWellFormed (s : Syntax) : Type 0 where
-  -- each rule stands under its name, and no two rules or two tokens share a name
+  -- each rule is under its name, and no two rules or two tokens share a name
   pub rules_named : All (λ rule. rule.0 ≡ rule.1.name.name) s.rules
   pub rules_distinct : IsDistinct bytes_eq (map (λ rule. rule.0) s.rules)
   pub tokens_distinct : IsDistinct bytes_eq s.tokens
-  -- each production is of a rule that is there, and a rule lists its own productions, in order, and no others
+  -- each production is of an existing rule, and a rule lists its own productions, in order, and no others
   pub production_rules_as_long : length s.production_rules ≡ length s.productions
   pub production_rules_within : All (λ r. r < length s.rules) s.production_rules
   pub productions_listed : (r : ℕ) (rule : List ℕ × Rule) → slice_get s.rules r ≡ Some rule → rule.1.productions ≡ places (λ other. r == other) s.production_rules
-  -- each token has a span, and each directive is the place of a token
+  -- each token has a span, and each directive is the index of a token
   pub spans_as_long : length s.spans ≡ length s.tokens
   pub directives_within : All (λ i. i < length s.tokens) s.token_directives
   -- each implicit token is a token

@@ -1,4 +1,4 @@
--- What the calls that write a tree make of its syntax.
+-- What the calls that write to a tree make of its syntax.
 use Rattle.std.specs.Prelude.{◌≡◌, ℕ, ◌<◌, List, [], ◌∷◌, ◌++◌, All, map, length, Some, true, if◌then◌else◌}
 use Rattle.std.specs.Str.{bytes_eq}
 use Rattle.cfgwords.specs.FileWords.{Word}
@@ -6,11 +6,11 @@ use Rattle.cfgast.specs.Items.{RuleHead}
 use Rattle.cfgast.specs.Syntax.{Syntax, Rule, Production, head_name, index_of}
 use Rattle.cfgast.specs.Building.{has_rule, new_rule, listed}
 
--- a rule of the name loses its productions, and has the head's place and type
+-- a rule of this name loses its productions, and gets the head's span and type
 abbrev pub restated : RuleHead → List ℕ × Rule → List ℕ × Rule
 restated head rule = if bytes_eq (head_name head) rule.0 then (rule.0, (new_rule head).1) else rule
 
--- a rule with no production yet: where its name is known at that one's place, and else behind all others
+-- a rule with no production yet: at the index of a rule with this name, if there is one, and otherwise after all others
 abbrev pub rule_added : Syntax → RuleHead → Syntax
 rule_added s head =
     record s { rules = if has_rule (head_name head) s.rules then map (restated head) s.rules else s.rules ++ new_rule head ∷ [] }
@@ -23,16 +23,16 @@ production_added s name production = record s {
   production_rules = s.production_rules ++ index_of name (map (λ rule. rule.0) s.rules) ∷ [];
 }
 
--- other programs
+-- with other programs
 abbrev pub programs_set : Syntax → List ℕ → Syntax
 programs_set s text = record s { settings = record s.settings { programs = Some text } }
 
--- another start
+-- with another start
 abbrev pub started_at : Syntax → Word → Syntax
 started_at s word = record s { start = Some word }
 
--- What holds of every tree, also of one that was written: each rule stands under its name and lists productions that are
--- there, each production is of a rule that is there, each token has a span, and each directive is the place of a token.
+-- What holds of every tree, also of one that was written to: each rule is under its name and lists existing productions, each production is
+-- of an existing rule, each token has a span, and each directive is the index of a token.
 pub record IsTree (s : Syntax) : Type 0 where
   pub rules_named : All (λ rule. rule.0 ≡ rule.1.name.name) s.rules
   pub productions_within : All (λ rule. All (λ i. i < length s.productions) rule.1.productions) s.rules
@@ -41,6 +41,6 @@ pub record IsTree (s : Syntax) : Type 0 where
   pub spans_as_long : length s.spans ≡ length s.tokens
   pub directives_within : All (λ i. i < length s.tokens) s.token_directives
 
--- a production of a rule that is there leaves a tree a tree
+-- adding a production of an existing rule to a tree gives a tree
 abbrev pub ProductionsKeepTrees : Type 0
 ProductionsKeepTrees = (s : Syntax) (name : List ℕ) (production : Production) → has_rule name s.rules ≡ true → IsTree s → IsTree (production_added s name production)

@@ -19,7 +19,7 @@ pub struct GrammarAST {
     pub(crate) syntax: Syntax,
 }
 
-/// The tree that holds this. No public path of `cfgrammar` leads to it.
+/// The tree of this syntax. No public path of `cfgrammar` leads to it.
 #[tactic(auto, unfolding(crate::specs::TreeView::syntax))]
 pub fn tree_of(said: Syntax) -> GrammarAST
     ensures { syntax result ≡ syntax_view said }
@@ -27,11 +27,11 @@ pub fn tree_of(said: Syntax) -> GrammarAST
     GrammarAST { syntax: said }
 }
 
-/// The tree, and what goes with it, where that was made. No public path of `cfgrammar` leads to it.
+/// The tree, and what goes with it, if that was made. No public path of `cfgrammar` leads to it.
 ///
 /// # Errors
 ///
-/// There was no memory for what goes with it. The tree is dropped here, so that no caller has to drop one.
+/// Running out of memory for what goes with it. The tree is dropped here, so that no caller has to drop one.
 pub fn tree_with<T: Drop>(
     tree: GrammarAST,
     made: Result<T, AllocError>,
@@ -42,7 +42,7 @@ pub fn tree_with<T: Drop>(
     both(tree, made)
 }
 
-// Of any types: a refusal drops the first one.
+// For any types: an error drops the first value.
 fn both<A: Drop, B: Drop>(a: A, b: Result<B, AllocError>) -> Result<(A, B), AllocError>
     ensures made { IfOk result (λ both. (both.0 ≡ a) × (b ≡ Ok both.1)) }
     ensures refused { OnErr result (IsErr b) }
@@ -52,14 +52,14 @@ fn both<A: Drop, B: Drop>(a: A, b: Result<B, AllocError>) -> Result<(A, B), Allo
 
 #[tactic(auto, unfolding(crate::specs::TreeView::syntax, cfgast::specs::SyntaxView::syntax_view))]
 impl GrammarAST {
-    /// The start rule's name, and the place where it is given.
+    /// The start rule's name, and its span where it is given.
     pub fn start(&self) -> &Option<(String, Span)>
         ensures { option_map named_view result.now ≡ (syntax self.now).start }
     {
         &self.syntax.start
     }
 
-    /// The rules, by their names, in the order in which they come first.
+    /// The rules, by their names, in the order of their first occurrences.
     pub fn rules(&self) -> &IndexMap<String, Rule>
         ensures { map rule_entry result.now.entries ≡ (syntax self.now).rules }
     {
@@ -87,28 +87,28 @@ impl GrammarAST {
         &self.syntax.token_directives
     }
 
-    /// The tokens' names, in the order in which they come first.
+    /// The tokens' names, in the order of their first occurrences.
     pub fn tokens(&self) -> &IndexSet<String>
         ensures { map string_bytes result.now.keys ≡ (syntax self.now).tokens }
     {
         &self.syntax.tokens
     }
 
-    /// The place of each token's name, where it comes first.
+    /// The span of the first occurrence of each token's name.
     pub fn spans(&self) -> &[Span]
         ensures { result.now ≡ (syntax self.now).spans }
     {
         &self.syntax.spans
     }
 
-    /// The precedences of tokens (POSIX yacc), each with the place where the token is given one first.
+    /// The precedences of tokens (POSIX yacc), each with the span where the token is first given one.
     pub fn precs(&self) -> &IndexMap<String, (Precedence, Span)>
         ensures { map precedence_entry result.now.entries ≡ (syntax self.now).tables.precedences }
     {
         &self.syntax.tables.precs
     }
 
-    /// The tokens of the `%avoid_insert` lists, each with its first place there, where there is such a list.
+    /// The tokens of the `%avoid_insert` lists, each with its first span in them, if there is such a list.
     pub fn avoid_insert(&self) -> &Option<IndexMap<String, Span>>
         ensures { option_map (λ table. map span_entry table.entries) result.now
             ≡ (syntax self.now).tables.avoid_insert }
@@ -116,7 +116,7 @@ impl GrammarAST {
         &self.syntax.tables.avoid_insert
     }
 
-    /// The tokens of the `%implicit_tokens` lists, each with its first place there, where there is such a list.
+    /// The tokens of the `%implicit_tokens` lists, each with its first span in them, if there is such a list.
     pub fn implicit_tokens(&self) -> &Option<IndexMap<String, Span>>
         ensures { option_map (λ table. map span_entry table.entries) result.now
             ≡ (syntax self.now).tables.implicit_tokens }
@@ -124,21 +124,21 @@ impl GrammarAST {
         &self.syntax.tables.implicit_tokens
     }
 
-    /// The printed forms of tokens: the place of the token behind its first `%epp`, and the form with its own place.
+    /// The printed forms of tokens: the span of the token after its first `%epp`, and the form with its own span.
     pub fn epp(&self) -> &IndexMap<String, (Span, (String, Span))>
         ensures { map printed_entry result.now.entries ≡ (syntax self.now).tables.printed_forms }
     {
         &self.syntax.tables.epp
     }
 
-    /// How many conflicts between shifting and reducing `%expect` allows, and where it says so first.
+    /// How many shift/reduce conflicts `%expect` allows, and where it says so first.
     pub fn expect(&self) -> &Option<(usize, Span)>
         ensures { result.now ≡ (syntax self.now).settings.expect }
     {
         &self.syntax.settings.expect
     }
 
-    /// How many conflicts between reductions `%expect-rr` allows, and where it says so first.
+    /// How many reduce/reduce conflicts `%expect-rr` allows, and where it says so first.
     pub fn expectrr(&self) -> &Option<(usize, Span)>
         ensures { result.now ≡ (syntax self.now).settings.expect_reduce_reduce }
     {
@@ -166,7 +166,7 @@ impl GrammarAST {
         &self.syntax.settings.programs
     }
 
-    /// What the file says of its grammar as a whole.
+    /// What the file says about its grammar as a whole.
     pub fn settings(&self) -> &Settings
         ensures { settings_view result.now ≡ (syntax self.now).settings }
     {
@@ -187,7 +187,7 @@ impl GrammarAST {
         &self.syntax.occurrences
     }
 
-    /// The rule of this name.
+    /// The rule with this name.
     pub fn get_rule(&self, name: &str) -> Option<&Rule>
         ensures { option_map (λ rule. rule_view rule.now) result
             ≡ lookup (bytes_eq name.now) (syntax self.now).rules }

@@ -11,7 +11,7 @@ use cfgbase::Span;
 use indexmap::{IndexMap, IndexSet};
 use std::alloc::{AllocError, Global};
 
-/// What the occurrences declare more than once, in the order of the first repeats, with all its places.
+/// What the occurrences declare more than once, in the order of the first repeats, with all its spans.
 #[tactic(auto, unfolding(crate::specs::Duplicates::duplicates))]
 pub fn duplicates(
     alloc: Global,
@@ -32,7 +32,7 @@ pub fn duplicates(
     Ok(found)
 }
 
-// What the occurrences declare more than once, in the order of the first repeats, without its places.
+// What the occurrences declare more than once, in the order of the first repeats, without its spans.
 fn repeated(
     alloc: Global,
     occurrences: &[Occurrence],

@@ -1,4 +1,4 @@
-//! Rules and tokens that nothing reaches.
+//! Unreachable rules and tokens.
 
 ghost use Rattle.std.specs.Prelude.{◌≡◌, ◌<◌, ◌+◌, ◌↔◌, ℕ, Some, Contains, length, map, option_map, slice_get};
 ghost use Rattle.std.specs.Prelude.{IfOk, IfSome, OnOk};
@@ -22,13 +22,13 @@ use std::alloc::{AllocError, Global};
 
 #[tactic(auto, unfolding(crate::specs::TreeView::syntax, cfgast::specs::SyntaxView::syntax_view))]
 impl GrammarAST {
-    /// The rules, then the tokens, that no row of productions reaches from the start rule and that aren't expected to
-    /// be unused: each as a warning, in order, at the place of its name. Without a start rule nothing is reached.
-    /// Implicit tokens are expected to be unused; a token that `%prec` alone names isn't reached.
+    /// The rules, then the tokens, that no sequence of productions reaches from the start rule and that aren't expected
+    /// to be unused: each as a warning, in order, with the span of its name. Without a start rule nothing is reachable.
+    /// Implicit tokens are expected to be unused; a token that only `%prec` names isn't reachable.
     ///
     /// # Errors
     ///
-    /// Want of memory.
+    /// Running out of memory.
     pub fn warnings(&self, alloc: Global) -> Result<Vec<YaccGrammarWarning>, AllocError>
         ensures { IfOk result (λ warnings. AreWarnings (syntax self.now) warnings.items) }
     {
@@ -53,7 +53,7 @@ impl GrammarAST {
         self.syntax.rules.len() + self.syntax.tokens.len()
     }
 
-    // What would be warned of at this node: the rules are nodes, and behind them the tokens.
+    // The warning that this node would have: the rules are nodes, and after them the tokens.
     fn kind_and_span(&self, node: usize) -> Option<(YaccGrammarWarningKind, Span)>
         requires { node < length (nodes (syntax self.now)) }
         ensures { option_map (λ found. warning_at found.0 found.1) result
@@ -66,7 +66,7 @@ impl GrammarAST {
         Some((YaccGrammarWarningKind::UnusedToken, *span))
     }
 
-    // A search that has reached what is reached from the start rule, and what is expected to be unused.
+    // A search that has reached what is reachable from the start rule, and what is expected to be unused.
     fn known(&self, alloc: Global) -> Result<Search, AllocError>
         ensures { IfOk result (Knows (syntax self.now)) }
     {

@@ -1,4 +1,4 @@
-//! Writing a tree that is there.
+//! Writing to an existing tree.
 
 ghost use Rattle.std.specs.Prelude.{◌≡◌, ◌<◌, ℕ, List, false, length, map, option_map, string_bytes, IsSome, IfOk};
 ghost use Rattle.std.specs.Prelude.{OnErr, OnOk};
@@ -22,14 +22,14 @@ use std::alloc::AllocError;
 
 #[tactic(auto, unfolding(crate::specs::TreeView::syntax, cfgast::specs::SyntaxView::syntax_view))]
 impl GrammarAST {
-    /// Adds a rule that has no productions yet, with its name's place and the type that its actions answer.
+    /// Adds a rule that has no productions yet, with its name's span and the type that its actions return.
     ///
-    /// A rule that has the name keeps its place among the rules. It gets the span and the type, and its list of
+    /// A rule with the same name keeps its index among the rules. It gets the span and the type, and its list of
     /// productions is emptied; they stay among the productions of all rules.
     ///
     /// # Errors
     ///
-    /// The name is new, and there is no memory for the rule. The tree is as it was.
+    /// Running out of memory for a rule with a new name. The tree is as it was.
     pub fn add_rule(
         &mut self,
         name: (String, Span),
@@ -58,11 +58,11 @@ impl GrammarAST {
         Ok(())
     }
 
-    /// Adds a production, as the last one of all and of the rule of this name, which is there.
+    /// Adds a production, as the last one of all and of the rule with this name, which exists.
     ///
     /// # Errors
     ///
-    /// There is no memory for it. The tree is as it was.
+    /// Running out of memory for it. The tree is as it was.
     pub fn add_prod(
         &mut self,
         rule: String,
@@ -111,7 +111,7 @@ impl GrammarAST {
         list_production(&mut self.syntax.rules, name, place)
     }
 
-    /// Sets the text of the programs part, in place of the one that was there.
+    /// Sets the text of the programs part, replacing the old one.
     pub fn set_programs(&mut self, programs: String)
         ensures { syntax self.new ≡ programs_set (syntax self.old) (string_bytes programs) }
     {
@@ -130,7 +130,7 @@ impl GrammarAST {
 ///
 /// # Errors
 ///
-/// There is no memory for the copy.
+/// Running out of memory for the copy.
 pub fn clone_with_start(ast: &GrammarAST, start: (String, Span)) -> Result<GrammarAST, AllocError>
     ensures { IfOk result (λ copy. syntax copy ≡ started_at (syntax ast.now) (named_view start)) }
 {
@@ -139,12 +139,12 @@ pub fn clone_with_start(ast: &GrammarAST, start: (String, Span)) -> Result<Gramm
     Ok(copy)
 }
 
-/// The law behind the trees of grammar files: what a list of items says is well formed.
+/// The law of the trees of grammar files: what a list of items says is well formed.
 pub fn syntax_is_well_formed()
     ensures { (items : List Item) → IsWellFormed (syntax_of items) }
 {}
 
-/// The law behind written trees: what is well formed is a tree, and it stays one when it is written.
+/// The law of trees that are written to: what is well formed is a tree, and writing to a tree gives a tree.
 pub fn written_is_tree()
     ensures read { (s : Syntax) → IsWellFormed s → IsTree s }
     ensures rule { (s : Syntax) (head : RuleHead) → IsTree s → IsTree (rule_added s head) }

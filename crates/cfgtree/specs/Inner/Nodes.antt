@@ -4,11 +4,11 @@ use Rattle.search.specs.Reached.{FoundBy, IsReachedIn, SearchState}
 use Rattle.cfgast.specs.Syntax.{Syntax, Production, entry_name}
 use Rattle.cfgtree.specs.Unused.{Name, RuleName, TokenName, name_of, Leads, IsUsed, Expected}
 
--- the rules, and behind them the tokens
+-- the rules, and after them the tokens
 abbrev pub nodes : Syntax → List Name
 nodes s = map (λ rule. RuleName rule.0) s.rules ++ map TokenName s.tokens
 
--- where the name stands first
+-- the first index of the name
 abbrev pub node_of : Syntax → Name → Option ℕ
 node_of s (RuleName name) = position (bytes_eq name) (map entry_name s.rules)
 node_of s (TokenName name) = option_map (λ place. length s.rules + place) (position (bytes_eq name) s.tokens)
@@ -16,13 +16,13 @@ node_of s (TokenName name) = option_map (λ place. length s.rules + place) (posi
 abbrev pub IsNodeOf : Syntax → Name → ℕ → Type 0
 IsNodeOf s name node = node_of s name ≡ Some node
 
--- the production at this place holds a symbol whose node this is
+-- the production at this index holds a symbol whose node this is
 pub record HeldAt (s : Syntax) (place node : ℕ) : Type 0 where
   pub production : Production
   pub there : slice_get s.productions place ≡ Some production
   pub holds : FoundBy (IsNodeOf s) (map name_of production.symbols) node
 
--- what stands at one node leads to a name whose node the other is
+-- what is at one node leads to a name whose node is the other
 pub record LeadsTo (s : Syntax) (node other : ℕ) : Type 0 where
   pub from : Name
   pub there : slice_get (nodes s) node ≡ Some from
@@ -30,7 +30,7 @@ pub record LeadsTo (s : Syntax) (node other : ℕ) : Type 0 where
   pub leads : Leads s from to
   pub is : IsNodeOf s to other
 
--- exactly what is reached, or expected to be unused, was reached
+-- the search has reached exactly what is reachable, or expected to be unused
 pub record Knows (s : Syntax) (x : SearchState) : Type 0 where
   pub shape : length x.reached ≡ length (nodes s)
   pub each : (node : ℕ) (name : Name) → slice_get (nodes s) node ≡ Some name → (IsReachedIn x node ↔ (IsUsed s name ⊎ Expected s name))
