@@ -1,4 +1,4 @@
--- What a write at a key makes of a list of entries in order.
+-- What writing at a key makes of an ordered list of entries.
 use Rattle.std.proofs.Common.{◌≡◌, Bool, true, false, if◌then◌else◌, None, Some, IsSome, is_some, unwrap_or, List, sym, ap, ◌∙◌}
 use Rattle.std.specs.declared.cmp.Ordering.{Ordering}
 use Rattle.std.specs.declared.cmp.Ordering.TheVariants.{Equal}
@@ -15,7 +15,7 @@ use Rattle.cfgmarks.specs.Inner.Marking.{set_mark}
 use Rattle.lemmas.proofs.Entries.{lookup_inserted, lookup_congr, inserted_twice, set_value_inserts}
 use Rattle.cfgmarks.specs.Marks.{Marks, entry_at, marks_at, unmarked, value_at, changed, set_value}
 
--- a write of f's marks through a borrow of a key's entry is that change of the map
+-- writing f's marks through a borrow of a key's entry changes the map just so
 pub changed_by_write : {K V : Type 0} (cmp : K → K → Ordering) → IsTotalOrder cmp → (m : Marks K V) (k : K) (x : Marked V) (f : Marked V → Marked V) (es : List (K × Marked V))
     → IsStrictlySortedBy cmp (keys_of m.entries) → entry_at cmp m k ≡ Some x → es ≡ map.set_value (is_at (cmp k)) m.entries (f x)
     → record { entries = es; behavior = m.behavior } ≡ changed cmp m k f
@@ -24,20 +24,20 @@ changed_by_write cmp total m k x f es ordered found written =
     let same : x ≡ marks_at cmp m k = sym (ap (λ o. unwrap_or o unmarked) found) in
     ap (λ es. record m { entries = es }) (written ∙ set_value_inserts cmp total m.entries k (f x) ordered stored ∙ ap (λ y. insert_entry cmp m.entries k (f y)) same)
 
--- what was read through a borrow of a key's entry, left there, changes nothing
+-- leaving what was read through a borrow of a key's entry changes nothing
 pub unchanged_by_write : {K V : Type 0} (cmp : K → K → Ordering) (m : Marks K V) (k : K) (x w : Marked V) (es : List (K × Marked V)) → entry_at cmp m k ≡ Some x → w ≡ x
     → es ≡ map.set_value (is_at (cmp k)) m.entries w → record { entries = es; behavior = m.behavior } ≡ m
 unchanged_by_write cmp m k x w es found same written =
     ap (λ es. record m { entries = es }) (written ∙ ap (map.set_value (is_at (cmp k)) m.entries) same ∙ set_value_same (is_at (cmp k)) m.entries x found)
 
--- a mark keeps the value
+-- setting a mark keeps the value
 pub mark_keeps : (mark : Mark) {V : Type 0} (x : Marked V) → is_some x.value ≡ true → is_some (set_mark mark x).value ≡ true
 mark_keeps Used x held = held
 mark_keeps Required x held = held
 mark_keeps (Merges behavior) x held = held
 
 module _ {K : Type 0} (cmp : K → K → Ordering) (total : IsTotalOrder cmp) where
-  -- a change of a key's marks shows at the key
+  -- a change of a key's marks is visible at the key
   pub marks_at_changed : {V : Type 0} (m : Marks K V) (k : K) (f : Marked V → Marked V) → marks_at cmp (changed cmp m k f) k ≡ f (marks_at cmp m k)
   marks_at_changed m k f = ap (λ o. unwrap_or o unmarked) (lookup_inserted cmp total m.entries k (f (marks_at cmp m k)))
 
@@ -52,12 +52,12 @@ module _ {K : Type 0} (cmp : K → K → Ordering) (total : IsTotalOrder cmp) wh
         | false ↦ λ is. ap (λ n. is_some (value_at cmp n k)) is ∙ held
       ] is
 
-  -- a value put at a key is there
+  -- a value that is put at a key is found there
   pub held_after : {V : Type 0} (m n : Marks K V) (k : K) (v : V) → n ≡ changed cmp m k (set_value v) → is_some (value_at cmp n k) ≡ true
   held_after m n k v is = ap (λ n. is_some (value_at cmp n k)) is ∙ ap (λ x. is_some x.value) (marks_at_changed m k (set_value v))
 
   module _ {V : Type 0} (m n : Marks K V) (k q : K) (same : cmp k q ≡ Equal) (added : n ≡ changed cmp m k (λ _. unmarked)) where
-    -- an entry without marks is there
+    -- an entry without marks is found there
     pub added_is : entry_at cmp n q ≡ Some unmarked
     added_is = ap (λ n. entry_at cmp n q) added ∙ sym (lookup_congr cmp total _ k q same) ∙ lookup_inserted cmp total m.entries k unmarked
 

@@ -1,4 +1,4 @@
--- Where `==` of the keys and of the values is identity, so is `==` of two maps of marks.
+-- If `==` of the keys and of the values is identity, so is `==` of two maps of marks.
 use Rattle.std.proofs.Common.{◌≡◌, ℕ, ◌+◌, ◌*◌, Bool, true, false, if◌then◌else◌, ◌==◌, ◌&&◌, Option, Some, None, refl, ap, arith}
 use Rattle.std.proofs.lemmas.Bool.Decides.{Decides-and, Decides-eqb}
 use Rattle.std.specs.Bool.{Decides}
@@ -11,11 +11,11 @@ use Rattle.cfgmarks.specs.declared.markmap.marked.Marked.{Marked}
 use Rattle.cfgmarks.specs.Marks.{Marks, mark_word}
 use Rattle.cfgmarks.specs.MarkSame.{IsIdentity, same_marked, same_marks}
 
--- a fact that is true exactly where another is, decided by the same test
+-- a fact that is true exactly if another one is, decided by the same test
 decides_too : {P Q : Type 0} (b : Bool) → Decides b P → (P → Q) → (Q → P) → Decides b Q
 decides_too b decides there back = (λ h. there (decides.0 h), λ q. decides.1 (back q))
 
--- the number of a behaviour, without the marks' two bits
+-- the number of a behaviour, without the bits of the two marks
 quarter : Option MergeBehavior → ℕ
 quarter None = 0
 quarter (Some Theirs) = 65
@@ -51,7 +51,7 @@ quarter_once (Some MutuallyExclusive) (Some MutuallyExclusive) h = refl
 pub behavior_once : (b c : Option MergeBehavior) → set_behavior_word b ≡ set_behavior_word c → b ≡ c
 behavior_once b c h = quarter_once b c (omega (arith, set_behavior_word-quarter b, set_behavior_word-quarter c))
 
--- the bit, and what stands above it
+-- the bit, and the bits above it
 bit_once : (b c : Bool) (m n : ℕ) → (if b then 1 else 0) + 2 * m ≡ (if c then 1 else 0) + 2 * n → (b ≡ c) × (m ≡ n)
 bit_once true true m n h = (refl, omega arith)
 bit_once true false m n h = absurd (omega arith)

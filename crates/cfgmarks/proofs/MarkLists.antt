@@ -11,7 +11,7 @@ use Rattle.std.proofs.lemmas.List.Elements.{filter_map-append}
 use Rattle.lemmas.proofs.Growing.{given_step, picked}
 use Rattle.cfgmarks.specs.Marks.{held_among}
 
--- the keys that hold a value ascend as all keys do
+-- the keys that hold a value are in ascending order, as all keys are
 module _ {K V : Type 0} (cmp : K → K → Ordering) where
   above_held : (k : K) (es : List (K × Marked V)) → AllByRecursion (λ y. cmp k y ≡ Less) (keys_of es) → AllByRecursion (λ y. cmp k y ≡ Less) (keys_of (held_among es))
   above_held k [] above = tt
@@ -30,7 +30,7 @@ module _ {K V : Type 0} (cmp : K → K → Ordering) where
         | Some v ↦ (above_held e.0 es ordered.0, held_ordered es ordered.1)
       ]
 
--- where a walk over es comes to an item that h gives something of, h gives something of es
+-- if a walk over es comes to an item for which h gives something, h gives something for es
 pub found_one : {A B C : Type 0} (f : A → B) (h : B → Option C) (es : List B) (ys : List A) (y : A) (it rest : List B) (c : C) → es ≡ map f ys ++ it → it ≡ f y ∷ rest → h (f y) ≡ Some c
     → filter_map h es ≢ []
 found_one f h es ys y it rest c given step is none =

@@ -1,4 +1,4 @@
--- Merging one key after another is merging all keys.
+-- Merging one key after another merges all keys.
 use Rattle.std.proofs.Common.{◌≡◌, true, false, cond, if◌then◌else◌, Option, None, Some, is_some, List, [], ◌∷◌, ◌++◌, refl, sym, ap, ◌∙◌, subst, append_assoc}
 use Rattle.std.specs.declared.cmp.Ordering.{Ordering}
 use Rattle.std.specs.declared.cmp.Ordering.TheVariants.{Equal}
@@ -28,7 +28,7 @@ module _ {K U V : Type 0} (cmp : K → K → Ordering) (total : IsTotalOrder cmp
   moved {b} {c} {m} {n} {s} {t} {x} {y} e f h i merged =
       subst (λ c. MergedAt converts c n t y) e (subst (λ n. MergedAt converts b n t y) f (subst (λ t. MergedAt converts b m t y) h (subst (MergedAt converts b m s) i merged)))
 
-  -- the walk over theirs is at k, with the entries done merged
+  -- the walk over theirs is at k, and the entries in done are merged
   pub record Reached (mine now : Marks K V) (theirs : Marks K U) (done rest : List (K × Marked U)) (k : K) (x : Marked U) : Type 0 where
     pub given : theirs.entries ≡ done ++ (k, x) ∷ rest
     pub ordered : IsStrictlySortedBy cmp (keys_of (done ++ (k, x) ∷ rest))
@@ -41,7 +41,7 @@ module _ {K U V : Type 0} (cmp : K → K → Ordering) (total : IsTotalOrder cmp
       record { given = here; ordered = subst (λ es. IsStrictlySortedBy cmp (keys_of es)) here ordered; so_far = so_far }
 
   module _ {mine now : Marks K V} {theirs : Marks K U} {done rest : List (K × Marked U)} {k : K} {x : Marked U} (at_key : Reached mine now theirs done rest k x) where
-    -- a key that isn't reached yet is mine
+    -- a key that isn't reached yet has my entry
     still_mine : entry_at cmp now k ≡ entry_at cmp mine k
     still_mine = subst (λ t. MergedAt converts mine.behavior (entry_at cmp mine k) t (entry_at cmp now k)) (none_before cmp total done rest k x at_key.ordered) (at_key.so_far.1 k)
 
@@ -99,14 +99,14 @@ module _ {K U V : Type 0} (cmp : K → K → Ordering) (total : IsTotalOrder cmp
           merged_below,
         )
 
-    -- what may be converted at the key
+    -- the value at the key may be converted
     pub wanted_callable : {may_convert : U → Type 0} → CallableOnWanted cmp may_convert mine theirs → ForSome (wanted now.behavior (entry_at cmp now k) x) may_convert
     wanted_callable callable =
         let same : wanted now.behavior (entry_at cmp now k) x ≡ wanted mine.behavior (entry_at cmp mine k) x =
         ap (λ b. wanted b (entry_at cmp now k) x) at_key.so_far.0 ∙ ap (λ o. wanted mine.behavior o x) still_mine in
         λ u wants. callable k x theirs_here u (sym same ∙ wants)
 
--- what may be done with any value may be done with those
+-- what may be done with any value may be done with those values
 pub always_callable : {K U V : Type 0} (cmp : K → K → Ordering) (may_convert : U → Type 0) (mine : Marks K V) (theirs : Marks K U) → ((u : U) → may_convert u)
     → CallableOnWanted cmp may_convert mine theirs
 always_callable cmp may_convert mine theirs always q x found u wants = always u

@@ -49,7 +49,7 @@ module _ {K : Type 0} (cmp : K → K → Ordering) (total : IsTotalOrder cmp) wh
   alike k q is x = (eq_by_cmp_equiv total).congr k q x is
 
 module _ {K X : Type 0} (cmp : K → K → Ordering) (total : IsTotalOrder cmp) where
-  -- an insertion stores the key, where none is equal to it
+  -- an insertion stores the key if no stored key is equal to it
   pub stored_inserted : (es : List (K × X)) (k : K) (w : X) (q : K) → lookup (is_at (cmp k)) es ≡ None
       → lookup_key (is_at (cmp q)) (insert_entry cmp es k w) ≡ option_or (lookup_key (is_at (cmp q)) es) (if is_at (cmp k) q then Some k else None)
   stored_inserted es k w q none =
@@ -62,7 +62,7 @@ module _ {K X : Type 0} (cmp : K → K → Ordering) (total : IsTotalOrder cmp) 
         | false ↦ λ is. lookup_key_inserted_other cmp total es k q w is ∙ sym (option_or_none _)
       ] refl
 
-  -- where the key's entry is there, the stored keys stay
+  -- if the key's entry exists, the stored keys stay the same
   pub stored_kept : {Y : Type 0} (es : List (K × X)) (fs : List (K × Y)) (k q : K) → keys_of fs ≡ keys_of es → IsSome (lookup (is_at (cmp k)) es)
       → lookup_key (is_at (cmp q)) fs ≡ option_or (lookup_key (is_at (cmp q)) es) (if is_at (cmp k) q then Some k else None)
   stored_kept es fs k q same found =
@@ -74,7 +74,7 @@ module _ {K X : Type 0} (cmp : K → K → Ordering) (total : IsTotalOrder cmp) 
       ] refl
 
 module _ {K U V : Type 0} (cmp : K → K → Ordering) (total : IsTotalOrder cmp) where
-  -- the stored keys, with the entries done merged
+  -- the stored keys, once the entries in done are merged
   abbrev pub StoredSoFar : Marks K V → List (K × Marked U) → Marks K V → Type 0
   StoredSoFar mine done now = (q : K) → stored_at cmp now q ≡ option_or (stored_at cmp mine q) (lookup_key (is_at (cmp q)) done)
 

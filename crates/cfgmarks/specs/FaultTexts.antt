@@ -1,4 +1,4 @@
--- What `{}` prints of why merging stopped, in bytes: none is told where what it shows has none that is told.
+-- What `{}` prints of why merging stopped, in bytes: None if the text of what it shows is unspecified.
 use Rattle.std.specs.Prelude.{ℕ, List, Option, Some, None, codes}
 use Rattle.std.specs.Fmt.{◌++?◌}
 use Rattle.cfgmarks.specs.declared.markmap.fault.MergeError.{MergeError}
@@ -17,7 +17,7 @@ fault_text key_text refusal_text (Conflict conflict) = conflict_text key_text co
 fault_text key_text refusal_text (Convert key refusal) = Some (codes "the value at the key ") ++? key_text key ++? Some (codes " isn't converted: ") ++? refusal_text refusal
 fault_text key_text refusal_text OutOfMemory = Some (codes "out of memory")
 
--- the text of a fault under options as well, such as a width: none is told where a key is shown
+-- the text of a fault with formatting options, such as a width: None if a key is part of it
 abbrev pub styled_fault_text : {K V E : Type 0} → MergeFault K V E → Option (List ℕ)
 styled_fault_text OutOfMemory = Some (codes "out of memory")
 styled_fault_text _ = None

@@ -1,4 +1,4 @@
--- A key's place in a map of marks.
+-- A view of a key in a map of marks.
 use Rattle.std.specs.Prelude.{◌≡◌, Bool, true, false}
 use Rattle.std.specs.Borrow.{MutBor}
 use Rattle.std.specs.declared.cmp.Ordering.{Ordering}
@@ -19,7 +19,7 @@ module _ {K V : Type 0} {g : ord.Ghosts K} {g' : eq.Ghosts K} {g'' : partial.Gho
   entry_map (Occupied e) = e.map
   entry_map (Vacant e) = e.map
 
-  -- the key that the entry stands at
+  -- the entry's key
   abbrev pub entry_key : Entry K V g g' g'' → K
   entry_key (Occupied e) = e.key
   entry_key (Vacant e) = e.key
@@ -29,11 +29,11 @@ module _ {K V : Type 0} {g : ord.Ghosts K} {g' : eq.Ghosts K} {g'' : partial.Gho
   is_occupied (Occupied e) = true
   is_occupied (Vacant e) = false
 
-  -- the map that an occupied entry borrows, as it stands
+  -- the map that an occupied entry borrows, as it is now
   abbrev pub occupied_map : OccupiedEntry K V g g' g'' → Marks K V
   occupied_map e = marks e.map.now
 
-  -- the key that an occupied entry stands at, which is equal to the stored one
+  -- an occupied entry's key, which is equal to the stored one
   abbrev pub occupied_key : OccupiedEntry K V g g' g'' → K
   occupied_key e = e.key
 
@@ -41,13 +41,13 @@ module _ {K V : Type 0} {g : ord.Ghosts K} {g' : eq.Ghosts K} {g'' : partial.Gho
   abbrev pub occupied_marks : (K → K → Ordering) → OccupiedEntry K V g g' g'' → Marked V
   occupied_marks cmp e = marks_at cmp (occupied_map e) e.key
 
-  -- the same entry of the same map, in which its marks are changed by f
+  -- the same entry of the same map, with its marks changed by f
   abbrev pub IsChanged : (K → K → Ordering) → (Marked V → Marked V) → OccupiedEntry K V g g' g'' → OccupiedEntry K V g g' g'' → Type 0
   IsChanged cmp f before after = (after.map.ghost_name ≡ before.map.ghost_name) × (after.key ≡ before.key)
       × (occupied_map after ≡ changed cmp (occupied_map before) before.key f)
 
 module _ {K V : Type 0} where
-  -- the map that a vacant entry borrows, as it stands
+  -- the map that a vacant entry borrows, as it is now
   abbrev pub vacant_map : VacantEntry K V → Marks K V
   vacant_map e = marks e.map.now
 
@@ -55,6 +55,6 @@ module _ {K V : Type 0} where
   abbrev pub vacant_key : VacantEntry K V → K
   vacant_key e = e.key
 
-  -- the same place in the same map
+  -- the same key of the same map
   abbrev pub IsSamePlace : VacantEntry K V → VacantEntry K V → Type 0
   IsSamePlace before after = (after.map.ghost_name ≡ before.map.ghost_name) × (after.key ≡ before.key)

@@ -1,4 +1,4 @@
--- When `==` holds of two maps of marks, by `==` of their keys and of their values.
+-- When `==` of two maps of marks holds, given `==` of their keys and of their values.
 use Rattle.std.specs.Prelude.{◌≡◌, ◌↔◌, Bool, true, ◌&&◌, ◌==◌, IsTrue, Option, Some, None, List}
 use Rattle.std.proofs.Common.{refl, sym}
 use Rattle.std.proofs.lemmas.Bool.{true≢false}
@@ -9,7 +9,7 @@ use Rattle.cfgmarks.specs.MarkWord.{set_behavior_word}
 use Rattle.cfgmarks.specs.declared.markmap.marked.Marked.{Marked}
 use Rattle.cfgmarks.specs.Marks.{Marks, mark_word}
 
--- only a value is equal to itself
+-- a value is equal only to itself
 abbrev pub IsIdentity : {A : Type 0} → (A → A → Bool) → Type 0
 IsIdentity {A} eq = (x y : A) → IsTrue (eq x y) ↔ (x ≡ y)
 
@@ -18,15 +18,15 @@ abbrev pub same_marked : {V : Type 0} → (V → V → Bool) → Marked V → Ma
 same_marked eq x y = (mark_word x == mark_word y) && option_eq eq x.value y.value
 
 module _ {K V : Type 0} (key_eq : K → K → Bool) (value_eq : V → V → Bool) where
-  -- the keys are equal in pairs, and what they have
+  -- keys and their marks are equal pairwise
   abbrev pub same_entries : List (K × Marked V) → List (K × Marked V) → Bool
   same_entries = pointwise (λ e f. key_eq e.0 f.0 && same_marked value_eq e.1 f.1)
 
-  -- that, and an unset behaviour means the same
+  -- so are the entries, and an unset behaviour means the same
   abbrev pub same_marks : Marks K V → Marks K V → Bool
   same_marks m n = same_entries m.entries n.entries && (set_behavior_word (Some m.behavior) == set_behavior_word (Some n.behavior))
 
--- both are partial equivalences, and equivalences, where those of the keys and the values are
+-- both are partial equivalences, and equivalences, if those of the keys and the values are
 module _ {V : Type 0} {eq : V → V → Bool} where
   options_symm : IsPartialEquivalence eq → (o p : Option V) → option_eq eq o p ≡ option_eq eq p o
   options_symm per None None = refl

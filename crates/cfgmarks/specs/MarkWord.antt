@@ -9,7 +9,7 @@ behavior_word Theirs = 256
 behavior_word Ours = 512
 behavior_word MutuallyExclusive = 1024
 
--- a behaviour that is set, and that it is
+-- a behaviour, with the fact that one is set, as a number
 abbrev pub set_behavior_word : Option MergeBehavior → ℕ
 set_behavior_word None = 0
 set_behavior_word (Some b) = 4 + behavior_word b

@@ -1,4 +1,4 @@
--- A map of marks: each of its keys has marks, and a value or none. The entries stand in the order of their keys.
+-- A map of marks: each of its keys has marks, and may hold a value. The entries are in the order of their keys.
 use Rattle.std.specs.Prelude.{◌≡◌, ℕ, ◌+◌, true, false, ◌&&◌, not, if◌then◌else◌, List, Option, Some, None, is_some, is_none, unwrap_or, ◌⊎◌}
 use Rattle.std.specs.List.{filter_map}
 use Rattle.std.specs.Option.{option_map}
@@ -16,7 +16,7 @@ pub record Marks (K V : Type 0) : Type 0 where
   pub entries : List (K × Marked V)
   pub behavior : MergeBehavior
 
--- what a map stands for
+-- what a map represents
 abbrev pub marks : {K V : Type 0} → MarkMap K V → Marks K V
 marks m = record { entries = m.contents.entries; behavior = m.default_behavior }
 
@@ -46,7 +46,7 @@ module _ {K V : Type 0} where
   abbrev pub held_pair : K × Marked V → Option (K × V)
   held_pair e = option_map (λ v. (e.0, v)) e.1.value
 
-  -- the keys among entries that hold a value, each with its value, in order
+  -- among entries, the keys that hold a value, each with its value, in order
   abbrev pub held_among : List (K × Marked V) → List (K × V)
   held_among es = filter_map held_pair es
 
@@ -58,7 +58,7 @@ module _ {K V : Type 0} where
   abbrev pub unused_key : K × Marked V → Option K
   unused_key e = if is_some e.1.value && not e.1.used then Some e.0 else None
 
-  -- the keys with a value that aren't used, in order
+  -- the keys that hold a value and aren't used, in order
   abbrev pub unused_keys : Marks K V → List K
   unused_keys m = filter_map unused_key m.entries
 
@@ -79,7 +79,7 @@ module _ {K V : Type 0} where
     abbrev pub stored_at : Marks K V → K → Option K
     stored_at m k = lookup_key (is_at (cmp k)) m.entries
 
-    -- the marks of a key, which has none where it has no entry
+    -- the marks of a key; a key without an entry has none
     abbrev pub marks_at : Marks K V → K → Marked V
     marks_at m k = unwrap_or (entry_at m k) unmarked
 
@@ -87,7 +87,7 @@ module _ {K V : Type 0} where
     abbrev pub value_at : Marks K V → K → Option V
     value_at m k = (marks_at m k).value
 
-    -- the map with the marks of a key changed by f; a stored key stays, and a new one goes to its place
+    -- the map with the marks of a key changed by f; a stored key stays, and a new one is inserted in order
     abbrev pub changed : Marks K V → K → (Marked V → Marked V) → Marks K V
     changed m k f = record m { entries = insert_entry cmp m.entries k (f (marks_at m k)) }
 
@@ -95,7 +95,7 @@ module _ {K V : Type 0} where
     abbrev pub without : Marks K V → K → Marks K V
     without m k = record m { entries = remove_entry (is_at (cmp k)) m.entries }
 
-    -- the map after a change at a borrowed key: where the key has no entry, a clone of it becomes the stored one
+    -- the map after a change at a borrowed key: if the key has no entry, a clone of it becomes the stored one
     abbrev pub ChangesAt : (K → K → Type 0) → K → (Marked V → Marked V) → Marks K V → Marks K V → Type 0
     ChangesAt is_clone k f before after = (c : K) × ((c ≡ k) ⊎ is_clone k c) × (after ≡ changed before c f)
 

@@ -1,4 +1,4 @@
-//! Maps whose keys carry marks.
+//! Maps whose keys have marks.
 #![tactic(auto)]
 
 pub mod laws;

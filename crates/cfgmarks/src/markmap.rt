@@ -1,5 +1,5 @@
-//! A map whose keys carry marks: whether a key was used, whether it is required, and what merging does at it. A key
-//! may have marks and no value.
+//! A map whose keys have marks: whether a key was used, whether it is required, and what merging does with it. A key
+//! may have marks without a value.
 ghost use Rattle.std.specs.Prelude.{◌≡◌, [], is_some};
 ghost use Rattle.std.specs.Option.{option_copied};
 ghost use Rattle.cfgmarks.specs.declared.markmap.behavior.MergeBehavior.TheVariants.{MutuallyExclusive};
@@ -32,7 +32,7 @@ pub struct MarkMap<K: Ord, V> {
 impl<K: Ord + Clone, V: Drop> MarkMap<K, V> {
     ghost use Rattle.cfgmarks.specs.Marks.{marks, entry_at, marks_at, mark_word, value_at};
 
-    /// The map without keys, in which an unset behavior means `MutuallyExclusive`.
+    /// A map without keys, in which an unset behavior means `MutuallyExclusive`.
     pub fn new(alloc: Global) -> Self
         ensures { marks result ≡ record { entries = []; behavior = MutuallyExclusive } }
     {

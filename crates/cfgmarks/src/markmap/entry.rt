@@ -1,4 +1,4 @@
-//! A key's place in a map of marks, found once and used for several steps.
+//! A view of a key in a map of marks, looked up once and used for several steps.
 ghost use Rattle.std.specs.Prelude.{◌≡◌, true, is_some};
 ghost use Rattle.cfgmarks.specs.Marks.{marks, value_at};
 
@@ -7,16 +7,16 @@ mod vacant;
 
 use super::MarkMap;
 
-/// The place of a key, which holds a value or doesn't.
+/// A view of a key, which may hold a value.
 #[derive(Drop)]
 pub enum Entry<'a, K: Ord, V> {
     /// The key holds a value.
     Occupied(OccupiedEntry<'a, K, V>),
-    /// The key holds no value, even if it carries marks.
+    /// The key holds no value, though it may have marks.
     Vacant(VacantEntry<'a, K, V>),
 }
 
-/// The place of a key that holds a value.
+/// A view of a key that holds a value.
 #[derive(Drop)]
 pub struct OccupiedEntry<'a, K: Ord, V> {
     map: &'a mut MarkMap<K, V>,
@@ -24,7 +24,7 @@ pub struct OccupiedEntry<'a, K: Ord, V> {
     ghost held: { is_some (value_at K.cmp (marks map.now) key) ≡ true },
 }
 
-/// The place of a key that holds no value.
+/// A view of a key that holds no value.
 #[derive(Drop)]
 pub struct VacantEntry<'a, K: Ord, V> {
     map: &'a mut MarkMap<K, V>,
@@ -35,7 +35,7 @@ impl<K: Ord + Clone, V: Drop> MarkMap<K, V> {
     ghost use Rattle.cfgmarks.specs.Marks.{marks, value_at};
     ghost use Rattle.cfgmarks.specs.MarkEntry.{entry_map, entry_key, is_occupied};
 
-    /// The key's place. It takes no memory.
+    /// The view of a key. It allocates nothing.
     pub fn entry(&mut self, key: K) -> Entry<'_, K, V>
         ensures same_map { (entry_map result).ghost_name ≡ self.entry.ghost_name }
         ensures unchanged { (entry_map result).now ≡ self.old }

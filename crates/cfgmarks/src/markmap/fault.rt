@@ -8,7 +8,7 @@ use std::fmt::Debug;
 /// A conflict of two values.
 #[derive(Debug, Drop)]
 pub enum MergeError<K, V> {
-    /// Both maps hold a value at the key, and only one may. The value is the other map's.
+    /// Both maps hold a value at the key, and only one is allowed. The value is the other map's.
     Exclusivity(K, V),
 }
 
@@ -29,11 +29,11 @@ impl<K: Debug + Drop, V: Debug + Drop> Error for MergeError<K, V> {}
 /// Why merging stopped at a key.
 #[derive(Debug, Drop)]
 pub enum MergeFault<K, V, E> {
-    /// The key holds two values, and only one may be.
+    /// The key holds two values, and only one is allowed.
     Conflict(MergeError<K, Box<V>>),
-    /// The other map's value wasn't converted.
+    /// The other map's value couldn't be converted.
     Convert(K, E),
-    /// No memory is left.
+    /// Out of memory.
     OutOfMemory,
 }
 

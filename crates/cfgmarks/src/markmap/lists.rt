@@ -1,4 +1,4 @@
-//! The keys that were given and not used, and those that are required and not given.
+//! The keys that were given but not used, and those that are required but not given.
 ghost use Rattle.std.specs.Prelude.{◌≡◌, ◌≢◌, [], map, IfOk, OnErr};
 ghost use Rattle.std.specs.List.{AllZip};
 
@@ -8,8 +8,7 @@ use std::alloc::{AllocError, Global};
 impl<K: Ord + Clone, V: Drop> MarkMap<K, V> {
     ghost use Rattle.cfgmarks.specs.Marks.{marks, unused_keys, missing_keys};
 
-    /// Clones of the keys that hold a value and aren't marked as used, in order. Only where there is one is memory
-    /// taken.
+    /// Clones of the keys that hold a value and aren't marked as used, in order. It allocates only if there is one.
     pub fn unused(&self, alloc: Global) -> Result<Vec<K>, AllocError>
         ensures ok { IfOk result (λ keys. AllZip K.is_clone (unused_keys (marks self.now)) keys.items) }
         ensures not_empty { OnErr result (unused_keys (marks self.now) ≢ []) }
@@ -23,7 +22,7 @@ impl<K: Ord + Clone, V: Drop> MarkMap<K, V> {
         Ok(keys)
     }
 
-    /// The keys that are required and hold no value, in order. Only where there is one is memory taken.
+    /// The keys that are required and hold no value, in order. It allocates only if there is one.
     pub fn missing(&self, alloc: Global) -> Result<Vec<&K>, AllocError>
         ensures ok { IfOk result (λ keys. map (λ key. key.now) keys.items ≡ missing_keys (marks self.now)) }
         ensures not_empty { OnErr result (missing_keys (marks self.now) ≢ []) }

@@ -4,7 +4,7 @@ ghost use Rattle.cfgmarks.specs.MarkWord.{set_behavior_word};
 
 use super::MergeBehavior;
 
-/// A key's marks, and its value or none.
+/// A key's marks, and its value if it holds one.
 #[derive(Debug, Drop)]
 pub struct Marked<V> {
     pub(super) used: bool,
@@ -51,7 +51,7 @@ impl<V> Marked<V> {
         }
     }
 
-    /// Puts the value in, and lends it.
+    /// Sets the value, and lends it.
     pub(super) fn lend_value(&mut self, value: V) -> &mut V
     where
         V: Drop,
@@ -68,14 +68,14 @@ impl<V> Marked<V> {
         self.value.is_some() && !self.used
     }
 
-    /// Whether a value is required and there is none.
+    /// Whether a value is required and missing.
     pub(super) fn is_missing(&self) -> bool
         ensures { result ≡ (self.now.required && is_none self.now.value) }
     {
         self.required && self.value.is_none()
     }
 
-    /// The marks as one number: 1 for used, 2 for required, and 4 with a bit of its own for a behavior.
+    /// The marks as one number: 1 for used, 2 for required, and 4 plus a bit of its own for a behavior.
     pub(super) fn word(&self) -> u16
         ensures { result ≡ mark_word self.now }
     {
@@ -85,7 +85,7 @@ impl<V> Marked<V> {
     }
 }
 
-/// A behavior as a number, of which 0 is none.
+/// A behavior as a number; 0 if there is none.
 pub(super) fn behavior_word(behavior: Option<MergeBehavior>) -> u16
     ensures value { result ≡ set_behavior_word behavior }
     ensures bound { result ≤ 1028 }

@@ -12,8 +12,8 @@ impl<K: Ord + Clone, V: Drop> MarkMap<K, V> {
     ghost use Rattle.cfgmarks.specs.Marks.{set_required, set_behavior, set_value, ChangesAt, IsFaithful};
     ghost use Rattle.cfgmarks.specs.Inner.Marking.{set_mark};
 
-    /// Gives the key a value, and answers the value that it held. A stored key stays, and its marks too. Only a key
-    /// without an entry can be refused, for want of memory: key and value then come back.
+    /// Gives the key a value, and returns the value that it held. A stored key and its marks stay. Only a key without
+    /// an entry can be refused, if memory runs out: then the key and the value are returned.
     pub fn insert(&mut self, key: K, value: V) -> Result<Option<V>, (K, V)>
         ensures ok { OnOk result (marks self.new ≡ changed K.cmp (marks self.old) key (set_value value)) }
         ensures old { IfOk result (λ old. old ≡ value_at K.cmp (marks self.old) key) }
@@ -27,7 +27,7 @@ impl<K: Ord + Clone, V: Drop> MarkMap<K, V> {
         }
     }
 
-    /// Takes the key's entry out, marks and all, and answers the value that it held.
+    /// Removes the key's entry, with its marks, and returns the value that it held.
     pub fn remove(&mut self, key: &K) -> Option<V>
         ensures map { marks self.new ≡ without K.cmp (marks self.old) key.now }
         ensures value { result ≡ value_at K.cmp (marks self.old) key.now }
@@ -42,7 +42,7 @@ impl<K: Ord + Clone, V: Drop> MarkMap<K, V> {
         self.default_behavior = behavior;
     }
 
-    /// Marks the key as used. A key without an entry gets one, with a clone of the key, and only that takes memory.
+    /// Marks the key as used. A key without an entry gets one, with a clone of the key, and only that allocates.
     pub fn mark_used(&mut self, key: &K) -> Result<(), AllocError>
         requires { IsFaithful K.cmp K.is_clone }
         ensures ok { OnOk result (ChangesAt K.cmp K.is_clone key.now set_used (marks self.old) (marks self.new)) }
@@ -52,7 +52,7 @@ impl<K: Ord + Clone, V: Drop> MarkMap<K, V> {
         self.mark(key, Mark::Used)
     }
 
-    /// Marks the key as required. A key without an entry gets one, with a clone of the key, and only that takes memory.
+    /// Marks the key as required. A key without an entry gets one, with a clone of the key, and only that allocates.
     pub fn mark_required(&mut self, key: &K) -> Result<(), AllocError>
         requires { IsFaithful K.cmp K.is_clone }
         ensures ok { OnOk result (ChangesAt K.cmp K.is_clone key.now set_required (marks self.old) (marks self.new)) }
@@ -62,8 +62,8 @@ impl<K: Ord + Clone, V: Drop> MarkMap<K, V> {
         self.mark(key, Mark::Required)
     }
 
-    /// Sets what merging does at the key, in the place of what was set before. A key without an entry gets one, with a
-    /// clone of the key, and only that takes memory.
+    /// Sets what merging does with the key, replacing what was set before. A key without an entry gets one, with a
+    /// clone of the key, and only that allocates.
     pub fn set_merge_behavior(&mut self, key: &K, behavior: MergeBehavior) -> Result<(), AllocError>
         requires { IsFaithful K.cmp K.is_clone }
         ensures ok { OnOk result (ChangesAt K.cmp K.is_clone key.now (set_behavior behavior) (marks self.old)
@@ -74,7 +74,7 @@ impl<K: Ord + Clone, V: Drop> MarkMap<K, V> {
         self.mark(key, Mark::Merges(behavior))
     }
 
-    /// Marks the key where it has an entry, and answers whether it has one.
+    /// Marks the key if it has an entry, and returns whether it has one.
     pub(super) fn mark_entry(&mut self, key: &K, mark: Mark) -> bool
         ensures found { result ≡ is_some (entry_at K.cmp (marks self.old) key.now) }
         ensures map { marks self.new ≡ (if result then changed K.cmp (marks self.old) key.now
@@ -89,7 +89,7 @@ impl<K: Ord + Clone, V: Drop> MarkMap<K, V> {
         }
     }
 
-    /// Gives a key that has an entry a value, and answers the value that it held.
+    /// Gives a key that has an entry a value, and returns the value that it held.
     pub(super) fn replace_value(&mut self, key: &K, value: V) -> Option<V>
         requires { IsSome (entry_at K.cmp (marks self.old) key.now) }
         ensures map { marks self.new ≡ changed K.cmp (marks self.old) key.now (set_value value) }
@@ -98,7 +98,7 @@ impl<K: Ord + Clone, V: Drop> MarkMap<K, V> {
         self.contents.get_mut(key)?.value.replace(value)
     }
 
-    /// Gives a key that has an entry a value, and lends it. Where the key has none, the value comes back.
+    /// Gives a key that has an entry a value, and lends it. If the key has none, the value is returned.
     pub(super) fn put(&mut self, key: &K, value: V) -> Result<&mut V, V>
         ensures* writes_back { sem 𝓛 (lends_put K.row V.row K.Ord self.entry key.now result) }
         ensures value { IfOk result (λ lent. lent.now ≡ value) }
@@ -111,7 +111,7 @@ impl<K: Ord + Clone, V: Drop> MarkMap<K, V> {
         }
     }
 
-    /// Adds an entry without marks at a key that has none. A refused key comes back.
+    /// Adds an entry without marks for a key that has none. A refused key is returned.
     pub(super) fn add_unmarked(&mut self, key: K) -> Result<(), K>
         requires { entry_at K.cmp (marks self.old) key ≡ None }
         ensures ok { OnOk result (marks self.new ≡ changed K.cmp (marks self.old) key (λ _. unmarked)) }
@@ -124,7 +124,7 @@ impl<K: Ord + Clone, V: Drop> MarkMap<K, V> {
         }
     }
 
-    /// Marks the key. Where it has no entry, it gets one at a clone of it.
+    /// Marks the key. If it has no entry, it gets one with a clone of it.
     fn mark(&mut self, key: &K, mark: Mark) -> Result<(), AllocError>
         requires { IsFaithful K.cmp K.is_clone }
         ensures ok { OnOk result (ChangesAt K.cmp K.is_clone key.now (set_mark mark) (marks self.old)

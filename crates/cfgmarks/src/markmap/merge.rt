@@ -13,24 +13,23 @@ use std::alloc::Global;
 /// Why a key's entries weren't merged.
 #[derive(Drop)]
 enum Refusal<V, E> {
-    /// Two values where only one may be. This is the other map's.
+    /// Two values where only one is allowed. This is the other map's.
     Conflict(V),
-    /// The other map's value wasn't converted.
+    /// The other map's value couldn't be converted.
     Convert(E),
 }
 
 impl<K: Ord + Clone, V: Drop> MarkMap<K, V> {
-    /// Merges another map into this one, in the order of its keys. At a key that only the other map knows, its marks,
-    /// its behavior and its value are taken. Else the behavior here decides, and the other one isn't looked at:
+    /// Merges another map into this one, in the order of its keys. For a key that only the other map has, its marks,
+    /// its behavior and its value are taken. Otherwise the behavior set here decides, and the other one is ignored:
     ///
-    /// - `Theirs` joins the marks used and required, and takes the other value where there is one;
-    /// - `Ours` changes nothing where there is a value here, and else is as `Theirs`;
-    /// - `MutuallyExclusive` changes nothing where the other map holds no value, is as `Theirs` where this one holds
-    ///   none, and else is a conflict.
+    /// - `Theirs` joins the marks used and required, and takes the other value if there is one;
+    /// - `Ours` changes nothing if there is a value here, and otherwise is like `Theirs`;
+    /// - `MutuallyExclusive` changes nothing if the other map holds no value, is like `Theirs` if this one holds none,
+    /// and otherwise is a conflict.
     ///
-    /// A value that is taken or that conflicts is converted, and no other. After that only a new entry takes memory,
-    /// and a conflict, for its value. Where merging stops, exactly the keys below the one that it stopped at are
-    /// merged.
+    /// Exactly the values that are taken or that conflict are converted. Apart from that, only a new entry allocates,
+    /// and a conflict, for its value. If merging stops, exactly the keys below the one where it stopped are merged.
     pub fn merge_from<U: Drop, E: Drop, F: Fn(U) -> Result<V, E> + Drop>(
         &mut self,
         other: MarkMap<K, U>,
@@ -77,7 +76,7 @@ impl<K: Ord + Clone, V: Drop> MarkMap<K, V> {
         }
     }
 
-    /// Takes over one key's entry of another map, where there is none here.
+    /// Adopts one key's entry of another map, if there is none here.
     fn adopt<U: Drop, E: Drop, F: Fn(U) -> Result<V, E>>(
         &mut self,
         key: K,
@@ -106,7 +105,7 @@ impl<K: Ord + Clone, V: Drop> MarkMap<K, V> {
 }
 
 impl<V: Drop> Marked<V> {
-    /// Merges another map's marks and value into these, by the behavior that is set here, else by `default`.
+    /// Merges another map's marks and value into these, by the behavior that is set here, or else by `default`.
     fn merge<U: Drop, E: Drop, F: Fn(U) -> Result<V, E>>(
         &mut self,
         theirs: Marked<U>,
@@ -146,7 +145,7 @@ impl<V: Drop> Marked<V> {
         }
     }
 
-    /// Joins other marks, and takes their value, where the behavior doesn't forbid it. A forbidden value comes back.
+    /// Joins other marks, and takes their value unless the behavior forbids it. A forbidden value is returned.
     fn join(&mut self, theirs: Marked<V>, behavior: MergeBehavior) -> Result<(), V>
         ensures ok { OnOk result ((conflicts behavior self.old theirs ≡ false)
             × (self.new ≡ combined self.old theirs

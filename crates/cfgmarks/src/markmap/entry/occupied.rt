@@ -1,4 +1,4 @@
-//! The place of a key that holds a value.
+//! A view of a key that holds a value.
 ghost use Rattle.std.specs.Prelude.{◌≡◌, Some};
 ghost use Rattle.cfgmarks.specs.Marks.{mark_word, set_used, set_required, set_behavior, set_value};
 ghost use Rattle.cfgmarks.specs.MarkEntry.{occupied_marks, IsChanged};
@@ -37,7 +37,7 @@ impl<'a, K: Ord + Clone, V: Drop> OccupiedEntry<'a, K, V> {
         self.map.is_required(&self.key)
     }
 
-    /// Gives the key another value, and answers the value that it held.
+    /// Gives the key another value, and returns the value that it held.
     pub fn insert(&mut self, value: V) -> V
         ensures map { IsChanged K.cmp (set_value value) self.old self.new }
         ensures old { (occupied_marks K.cmp self.old).value ≡ Some result }
@@ -62,7 +62,7 @@ impl<'a, K: Ord + Clone, V: Drop> OccupiedEntry<'a, K, V> {
         self.mark(Mark::Required);
     }
 
-    /// Sets what merging does at the key, in the place of what was set before.
+    /// Sets what merging does with the key, replacing what was set before.
     pub fn set_merge_behavior(&mut self, behavior: MergeBehavior)
         ensures { IsChanged K.cmp (set_behavior behavior) self.old self.new }
     {

@@ -1,4 +1,4 @@
-//! The place of a key that holds no value.
+//! A view of a key that holds no value.
 ghost use Rattle.std.specs.Prelude.{◌≡◌, None, IsSome, IfOk, IfErr, OnOk, OnErr};
 ghost use Rattle.std.specs.Borrow.{sem};
 ghost use Rattle.std.specs.declared.cmp.Ordering.TheVariants.{Equal};
@@ -20,8 +20,8 @@ impl<'a, K: Ord + Clone, V: Drop> VacantEntry<'a, K, V> {
         &self.key
     }
 
-    /// Gives the key the value, and lends it. Only a key without an entry can be refused, for want of memory or where a
-    /// clone of it isn't equal to it: key and value then come back. A clone of such a key finds the entry again.
+    /// Gives the key the value, and lends it. Only a key without an entry can be refused, if memory runs out or a clone
+    /// of it isn't equal to it: then the key and the value are returned. A clone of such a key finds the entry again.
     pub fn insert(self, value: V) -> Result<&'a mut V, (K, V)>
         ensures* writes_back { sem 𝓛 (lends_value K.row V.row K.Ord self.entry result) }
         ensures value { IfOk result (λ lent. lent.now ≡ value) }
@@ -39,9 +39,9 @@ impl<'a, K: Ord + Clone, V: Drop> VacantEntry<'a, K, V> {
         }
     }
 
-    /// Gives the key the value, and answers the occupied entry. Only a key without an entry can be refused, for want
-    /// of memory or where a clone of it isn't equal to it: key and value then come back. A clone of such a key finds
-    /// the entry again.
+    /// Gives the key the value, and returns the occupied entry. Only a key without an entry can be refused, if memory
+    /// runs out or a clone of it isn't equal to it: then the key and the value are returned. A clone of such a key
+    /// finds the entry again.
     pub fn insert_entry(self, value: V) -> Result<OccupiedEntry<'a, K, V>, (K, V)>
         ensures* rests { sem 𝓛 (rests_if_refused K.row V.row K.Ord self.entry result) }
         ensures map { IfOk result (λ e. occupied_map e
@@ -59,8 +59,7 @@ impl<'a, K: Ord + Clone, V: Drop> VacantEntry<'a, K, V> {
         Ok(OccupiedEntry { map, key: place })
     }
 
-    /// Marks the key as required. Where it has no entry, it gets one with a clone of the key, and only that takes
-    /// memory.
+    /// Marks the key as required. If it has no entry, it gets one with a clone of the key, and only that allocates.
     pub fn mark_required(&mut self) -> Result<(), AllocError>
         requires { IsFaithful K.cmp K.is_clone }
         ensures place { IsSamePlace self.old self.new }
@@ -72,8 +71,8 @@ impl<'a, K: Ord + Clone, V: Drop> VacantEntry<'a, K, V> {
         self.map.mark_required(&self.key)
     }
 
-    /// Sets what merging does at the key, in the place of what was set before. Where it has no entry, it gets one with
-    /// a clone of the key, and only that takes memory.
+    /// Sets what merging does with the key, replacing what was set before. If it has no entry, it gets one with a clone
+    /// of the key, and only that allocates.
     pub fn set_merge_behavior(&mut self, behavior: MergeBehavior) -> Result<(), AllocError>
         requires { IsFaithful K.cmp K.is_clone }
         ensures place { IsSamePlace self.old self.new }
@@ -86,7 +85,7 @@ impl<'a, K: Ord + Clone, V: Drop> VacantEntry<'a, K, V> {
     }
 }
 
-/// A clone of the key. One that isn't equal to the key is refused as if there were no memory for it.
+/// A clone of the key. One that isn't equal to the key is refused as if memory had run out.
 fn copy_of<K: Ord + Clone>(key: &K) -> Result<K, AllocError>
     ensures { IfOk result (λ copy. K.cmp key.now copy ≡ Equal) }
 {
@@ -97,7 +96,7 @@ fn copy_of<K: Ord + Clone>(key: &K) -> Result<K, AllocError>
     }
 }
 
-/// Gives the key an entry where it has none, and answers a key that is equal to it. A refused key comes back.
+/// Gives the key an entry if it has none, and returns a key that is equal to it. A refused key is returned.
 fn ensure_entry<K: Ord + Clone, V: Drop>(map: &mut MarkMap<K, V>, key: K) -> Result<K, K>
     ensures place { IfOk result (λ place. K.cmp key place ≡ Equal) }
     ensures there { IfOk result (λ place. IsSome (entry_at K.cmp (marks map.new) place)) }
