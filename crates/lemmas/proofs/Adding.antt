@@ -6,7 +6,7 @@ abbrev pub Adds : {A : Type 0} → (A → Type 0) → (A → Type 0) → (A → 
 Adds {A} found old new = (x : A) → (new x ↔ (old x ⊎ found x))
 
 module _ {A : Type 0} {old new found : A → Type 0} where
-  -- what is found in other words
+  -- what was found, described differently
   pub adds_as : (found' : A → Type 0) → ((x : A) → found x → old x ⊎ found' x) → ((x : A) → found' x → old x ⊎ found x) → Adds found old new → Adds found' old new
   adds_as found' to from w x = (
     (λ h. elim ((w x).0 h) [ inl i ↦ inl i | inr i ↦ to x i ]),
@@ -26,7 +26,7 @@ module _ {A : Type 0} {old new found : A → Type 0} where
     ])),
   )
 
--- an element was exchanged for one that has more
+-- an element was replaced by one that has more
 pub set_adds : {A B : Type 0} (Has : A → B → Type 0) (found : B → Type 0) (xs : List A) (i : ℕ) (x d : A) → i < length xs
     → Adds found (Has (get_or xs i d)) (Has x) → (j : ℕ) → Adds (λ b. (j ≡ i) × found b) (Has (get_or xs j d)) (Has (get_or (slice_set xs i x) j d))
 set_adds Has found xs i x d lt adds j b = elim (cases_eq j i) [

@@ -2,7 +2,7 @@
 use Rattle.std.proofs.Common.{◌≡◌, List, [], ◌∷◌, map, Option, Some, None, option_map, refl, ap}
 use Rattle.std.specs.List.{AllZip}
 
--- a copy of what may be there
+-- a copy of an optional value
 abbrev pub AreCopies : {A : Type 0} → (A → A → Type 0) → Option A → Option A → Type 0
 AreCopies R None None = Unit {0}
 AreCopies R None (Some y) = ⊥

@@ -1,10 +1,10 @@
--- The element at a place, before and after a write.
+-- The element at an index, before and after a write.
 use Rattle.std.proofs.Common.{◌≡◌, ℕ, zero, suc, ◌<◌, ◌⊎◌, inl, inr, List, [], ◌∷◌, ◌++◌, length, get_or, slice_get, slice_set, replicate, Some, refl, sym, ap, ◌∙◌, ⊎_elim, arith}
 use Rattle.std.proofs.lemmas.Bool.{cases_lt}
 use Rattle.std.proofs.lemmas.List.{get_or_past, set-get_or, get_or_push, length_push}
 use Rattle.std.proofs.lemmas.Option.{get_or_from_slice_get, slice_get-get_or}
 
--- what isn't the default stands in the list
+-- an element other than the default is in the list
 pub within_from_get_or : {A : Type 0} (xs : List A) (i : ℕ) (d : A) → (get_or xs i d ≡ d → ⊥) → i < length xs
 within_from_get_or xs i d other = ⊎_elim (λ within. within) (λ past. absurd (other (get_or_past xs i d past))) (cases_lt i (length xs))
 
@@ -21,11 +21,11 @@ get_or-set (y ∷ xs) zero (suc j) x d = inl refl
 get_or-set (y ∷ xs) (suc i) zero x d = inl refl
 get_or-set (y ∷ xs) (suc i) (suc j) x d = elim (get_or-set xs i j x d) [ inl e ↦ inl e | inr h ↦ inr (ap suc h.0, h.1) ]
 
--- a write of what is there changes nothing
+-- writing the element that is already there changes nothing
 pub set-slice_get : {A : Type 0} (xs : List A) (i : ℕ) (x : A) → slice_get xs i ≡ Some x → slice_set xs i x ≡ xs
 set-slice_get xs i x e = ap (slice_set xs i) (sym (get_or_from_slice_get xs i x x e)) ∙ set-get_or xs i x
 
--- the last of a list that grew
+-- the last of a list after a push
 pub slice_get_push : {A : Type 0} (xs : List A) (x : A) (i : ℕ) → length xs ≡ i → slice_get (xs ++ x ∷ []) i ≡ Some x
 slice_get_push xs x i end = slice_get-get_or (xs ++ x ∷ []) i x (omega (arith, length_push xs x)) ∙ ap Some (get_or_push xs x x i end)
 

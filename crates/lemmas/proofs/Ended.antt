@@ -1,4 +1,4 @@
--- A list of what is there, behind which stands one that isn't.
+-- A list of present elements, followed by an absent one.
 use Rattle.std.proofs.Common.{◌≡◌, ℕ, zero, suc, List, [], ◌∷◌, ◌++◌, map, length, slice_get, Option, Some, None, refl, arith}
 
 module _ {A : Type 0} where

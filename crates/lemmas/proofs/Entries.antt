@@ -48,7 +48,7 @@ module _ {K X : Type 0} (cmp : K → K → Ordering) (total : IsTotalOrder cmp) 
         | Greater ↦ λ is. rw (sym (total.congr k q e.0 same), is) (ap (λ rest. e ∷ rest) (inserted_twice es k q w x same))
       ] refl
 
-  -- writing at a stored key is inserting at it
+  -- writing at a stored key is the same as inserting at it
   pub set_value_inserts : (es : List (K × X)) (k : K) (w : X) → IsStrictlySortedBy cmp (keys_of es) → IsSome (lookup (is_at (cmp k)) es)
       → set_value (is_at (cmp k)) es w ≡ insert_entry cmp es k w
   unfolding IsStrictlySortedBy
@@ -61,7 +61,7 @@ module _ {K X : Type 0} (cmp : K → K → Ordering) (total : IsTotalOrder cmp) 
         | Greater ↦ λ is found. ap (λ rest. e ∷ rest) (set_value_inserts es k w ordered.1 found)
       ] refl stored
 
-  -- among entries in order, those before k are found at the keys below k
+  -- among ordered entries, those before k are found at the keys below k
   pub lookup_before : (es fs : List (K × X)) (k : K) (x : X) → IsStrictlySortedBy cmp (keys_of (es ++ (k, x) ∷ fs)) → (q : K)
       → lookup (is_at (cmp q)) es ≡ (if is_lt (cmp q k) then lookup (is_at (cmp q)) (es ++ (k, x) ∷ fs) else None)
   unfolding IsStrictlySortedBy
@@ -86,7 +86,7 @@ module _ {K X : Type 0} (cmp : K → K → Ordering) (total : IsTotalOrder cmp) 
   pub found_here : (es fs : List (K × X)) (k : K) (x : X) → IsStrictlySortedBy cmp (keys_of (es ++ (k, x) ∷ fs)) → lookup (is_at (cmp k)) (es ++ (k, x) ∷ fs) ≡ Some x
   found_here es fs k x ordered = lookup_after_none (is_at (cmp k)) es ((k, x) ∷ fs) (none_before es fs k x ordered) ∙ rw (tied_itself total k)
 
-  -- an insertion stores its key, where none is equal to it
+  -- an insertion stores its key if no stored key is equal to it
   pub lookup_key_inserted : (es : List (K × X)) (k : K) (w : X) → lookup (is_at (cmp k)) es ≡ None → lookup_key (is_at (cmp k)) (insert_entry cmp es k w) ≡ Some k
   lookup_key_inserted [] k w none = rw (tied_itself total k)
   lookup_key_inserted (e ∷ es) k w none =

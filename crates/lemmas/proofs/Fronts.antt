@@ -1,4 +1,4 @@
--- Elements with those that stand before them.
+-- Elements with the prefix of the list before each.
 use Rattle.std.proofs.Common.{◌≡◌, Bool, ◌||◌, List, [], ◌∷◌, ◌++◌, All, refl, sym, ap, ◌∙◌, append_assoc, append-nil}
 use Rattle.std.specs.List.{list_any}
 use Rattle.std.proofs.lemmas.List.Elements.{All-nil, All-cons, All-head, All-tail}
@@ -20,7 +20,7 @@ list_any-with_fronts {A} p xs = go [] xs
     go front [] = refl
     go front (y ∷ rest) = ap (λ t. p y || t) (go (front ++ y ∷ []) rest)
 
--- of each element, whatever stands before it
+-- of each element, whatever precedes it
 pub All-with_fronts : {A : Type 0} (P : List A × A → Type 0) (Q : A → Type 0) → ((front : List A) (x : A) → Q x → P (front, x))
     → (xs : List A) → All Q xs → All P (with_fronts xs)
 All-with_fronts {A} P Q each xs h = go [] xs h

@@ -5,7 +5,7 @@ use Rattle.std.specs.Option.{option_to_list}
 use Rattle.std.proofs.lemmas.List.{map_push}
 use Rattle.std.proofs.lemmas.List.Elements.{filter_map-append}
 
--- what holds of the empty list, and with a list of it with one more element, holds of each list
+-- what holds of the empty list, and is preserved by a push, holds of each list
 pub from_pushes : {A : Type 0} (P : List A → Type 0) → P [] → ((xs : List A) (x : A) → P xs → P (xs ++ x ∷ [])) → (xs : List A) → P xs
 from_pushes {A} P none more xs = go [] xs none
   where
@@ -20,7 +20,7 @@ filter_map-push {A} {B} h xs x = filter_map-append h xs (x ∷ []) ∙ ap (λ l.
     go None = refl
     go (Some y) = refl
 
--- a walk over es, which shows what f makes of its items
+-- a walk over es that shows what f makes of its items
 module _ {A B : Type 0} (f : A → B) where
   -- one more item
   pub given_step : (es : List B) (ys : List A) (y : A) (it rest : List B) → es ≡ map f ys ++ it → it ≡ f y ∷ rest → es ≡ map f (ys ++ y ∷ []) ++ rest
@@ -31,10 +31,10 @@ module _ {A B : Type 0} (f : A → B) where
     behind : filter_map h (map f (ys ++ y ∷ [])) ≡ filter_map h (map f ys) ++ option_to_list (h (f y))
     behind = ap (filter_map h) (map_push f ys y) ∙ filter_map-push h (map f ys) (f y)
 
-    -- an item that h gives something of
+    -- an item for which h gives something
     pub picked : (c : C) → h (f y) ≡ Some c → filter_map h (map f (ys ++ y ∷ [])) ≡ filter_map h (map f ys) ++ c ∷ []
     picked c is = behind ∙ ap (λ o. filter_map h (map f ys) ++ option_to_list o) is
 
-    -- an item that h gives nothing of
+    -- an item for which h gives nothing
     pub passed_over : h (f y) ≡ None → filter_map h (map f (ys ++ y ∷ [])) ≡ filter_map h (map f ys)
     passed_over is = behind ∙ ap (λ o. filter_map h (map f ys) ++ option_to_list o) is ∙ append-nil (filter_map h (map f ys))

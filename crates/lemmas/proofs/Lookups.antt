@@ -14,13 +14,13 @@ lookup-map {K} {L} {X} {Y} p f g (e ∷ es) = go (p (f e.0)) (lookup-map p f g e
     go true rest = refl
     go false rest = rest
 
--- what holds of all keys holds of the one at a place
+-- what holds of all keys holds of the one at an index
 pub key_at : {K X : Type 0} (P : K → Type 0) (es fs : List (K × X)) (e : K × X) → AllByRecursion P (keys_of (es ++ e ∷ fs)) → P e.0
 key_at P [] fs e all = all.0
 key_at P (d ∷ es) fs e all = key_at P es fs e all.1
 
 module _ {K X : Type 0} (test : K → Bool) where
-  -- a key is found exactly where an entry's key passes
+  -- a key is found exactly if an entry's key passes the test
   pub found-lookup : (es : List (K × X)) → is_some (lookup test es) ≡ list_any (λ e. test e.0) es
   found-lookup es = is_some-lookup test es ∙ list_any-map test (λ (e : K × X). e.0) es
 
@@ -36,7 +36,7 @@ module _ {K X : Type 0} (test : K → Bool) where
   lookup_before_none [] fs none = none
   lookup_before_none (e ∷ es) fs none = ap (cond (test e.0) (Some e.1)) (lookup_before_none es fs none)
 
-  -- where an entry is found, its key is
+  -- if an entry is found, its key is
   pub found-lookup_key : (es : List (K × X)) → is_some (lookup_key test es) ≡ is_some (lookup test es)
   found-lookup_key [] = refl
   found-lookup_key (e ∷ es) =
@@ -45,7 +45,7 @@ module _ {K X : Type 0} (test : K → Bool) where
         | false ↦ found-lookup_key es
       ]
 
-  -- tests that agree find one key
+  -- tests that agree find the same key
   pub lookup_key_congr : (other : K → Bool) (es : List (K × X)) → ((k : K) → test k ≡ other k) → lookup_key test es ≡ lookup_key other es
   lookup_key_congr other [] same = refl
   lookup_key_congr other (e ∷ es) same = rw (same e.0, lookup_key_congr other es same)

@@ -1,4 +1,4 @@
--- Passes that tell whether they changed anything: where one did, more is there, and where none did, all is the same.
+-- Passes that report whether they changed anything: if one did, there is more, and if none did, everything is the same.
 use Rattle.std.proofs.Common.{◌≡◌, ℕ, ◌<◌, ◌||◌, Bool, true, false, arith, refl, sym, subst, true≢false}
 
 -- two steps grow if one of them does

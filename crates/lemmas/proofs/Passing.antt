@@ -1,4 +1,4 @@
--- The places of the elements that pass a test.
+-- The indices of the elements that pass a test.
 use Rattle.std.proofs.Common.{◌≡◌, ℕ, zero, suc, ◌<◌, get_or, Contains, subst, ◌+◌, Bool, true, false, cond, List, [], ◌∷◌, ◌++◌, map, length, All, if◌then◌else◌, refl, sym, ap, ◌∙◌, add-zero, zero-add, arith}
 use Rattle.std.specs.List.{list_any}
 use Rattle.std.proofs.lemmas.List.Elements.{All-nil, All-cons, All-head, All-tail, All-weaker}
@@ -34,7 +34,7 @@ module _ {A : Type 0} (p : A → Bool) where
   pub places-none : (xs : List A) → list_any p xs ≡ false → places p xs ≡ []
   places-none = places_from-none 0
 
--- the places where a test passes of which another says the same of each element
+-- the indices for two tests that agree on each element are the same
 pub places-same : {A : Type 0} (p q : A → Bool) (xs : List A) → All (λ x. p x ≡ q x) xs → places p xs ≡ places q xs
 places-same {A} p q = go 0
   where
@@ -51,7 +51,7 @@ places-map {A} p f = go 0
     go i [] = refl
     go i (x ∷ xs) = ap (λ others. cond (p (f x)) (i ∷ others) others) (go (i + 1) xs)
 
--- each is within the list, and that of an element that passes is among them
+-- each is within the list, and that of an element that passes the test is among them
 
 abbrev IsBelow : ℕ → ℕ → Type 0
 IsBelow n i = i < n

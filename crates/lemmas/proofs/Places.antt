@@ -1,4 +1,4 @@
--- The place of the first element that passes a test.
+-- The index of the first element that passes a test.
 use Rattle.std.proofs.Common.{◌≡◌, ℕ, ◌+◌, ◌<◌, Bool, true, false, cond, not, ◌||◌, nat_lt, List, [], ◌∷◌, ◌++◌, map, length, get_or, position, slice_get, Some, None, refl, sym, ap, ◌∙◌, arith, lt-ltb}
 use Rattle.std.specs.Cmp.{IsEquivalence}
 use Rattle.std.specs.List.{list_any, position_or_len, IsDistinct}
@@ -31,7 +31,7 @@ module _ {A : Type 0} (p : A → Bool) where
       go true h rest = refl
       go false h rest = ap (λ n. 1 + n) (rest h)
 
-  -- a place is found exactly where an element passes
+  -- an index is found exactly if an element passes
   pub found-position : (xs : List A) → nat_lt (position_or_len p xs) (length xs) ≡ list_any p xs
   found-position [] = refl
   found-position (x ∷ xs) = go (p x) (found-position xs)
@@ -48,11 +48,11 @@ module _ {A : Type 0} (p : A → Bool) where
       go true e = cc
       go false e = cc
 
-  -- the first place that passes is found, where there is one
+  -- the first index whose element passes is found, if there is one
   pub first_place : (xs : List A) → list_any p xs ≡ true → position p xs ≡ Some (position_or_len p xs)
   first_place xs some = ap (λ b. cond b (Some (position_or_len p xs)) None) (found-position xs ∙ some)
 
-  -- there is no place where none passes
+  -- there is no index if no element passes
   pub no_place : (xs : List A) → list_any p xs ≡ false → position p xs ≡ None
   no_place xs none = ap (λ b. cond b (Some (position_or_len p xs)) None) (found-position xs ∙ none)
 
@@ -66,7 +66,7 @@ module _ {A : Type 0} (p : A → Bool) where
       go true e = first_place (xs ++ x ∷ []) (all ∙ or_left _ _ e) ∙ ap Some (position_or_len-append xs (x ∷ []) e) ∙ sym (first_place xs e)
       go false e = no_place (xs ++ x ∷ []) (all ∙ (λ i. e i || (fails i || false))) ∙ sym (no_place xs e)
 
--- elements that differ are found where they stand
+-- elements that differ from each other are found at their own indices
 module _ {K : Type 0} {eq : K → K → Bool} (laws : IsEquivalence eq) where
   pub position_or_len-distinct : (xs : List K) (i : ℕ) (d : K) → IsDistinct eq xs → i < length xs → position_or_len (eq (get_or xs i d)) xs ≡ i
   position_or_len-distinct xs i d distinct within = position_or_len_is (eq (get_or xs i d)) xs i d (omega arith)

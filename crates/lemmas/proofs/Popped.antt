@@ -1,4 +1,4 @@
--- Lists that are gone through from their ends.
+-- Lists that are processed from their ends.
 use Rattle.std.proofs.Common.{◌≡◌, ℕ, zero, suc, ◌+◌, ◌<◌, ◌≤◌, List, [], ◌∷◌, ◌++◌, length, map, replicate, append_assoc, add-one, refl, sym, ap, ◌∙◌, arith}
 use Rattle.std.proofs.lemmas.List.{length-append, map-append}
 
@@ -20,7 +20,7 @@ pub none_left : {A : Type 0} (w : List A) → length w ≤ 0 → w ≡ []
 none_left [] h = refl
 none_left (t ∷ w) h = absurd (omega (arith, h))
 
--- the first one of the others goes behind those that came before
+-- moving the first of the rest to the end of those done changes nothing
 pub moved_one : {A B : Type 0} (f : A → B) (done rest all : List A) (x : A) → all ≡ x ∷ rest → map f (done ++ x ∷ []) ++ map f rest ≡ map f done ++ map f all
 moved_one f done rest all x e = ap (λ l. l ++ map f rest) (map-append f done (x ∷ [])) ∙ append_assoc (map f done) (f x ∷ []) (map f rest)
     ∙ ap (λ l. map f done ++ map f l) (sym e)
@@ -28,7 +28,7 @@ moved_one f done rest all x e = ap (λ l. l ++ map f rest) (map-append f done (x
 pub shorter : {A : Type 0} (rest all : List A) (x : A) → all ≡ x ∷ rest → length rest < length all
 shorter rest all x e = let long = ap length e in omega (arith, long)
 
--- one element more
+-- one more element
 pub replicate_more : {A : Type 0} (x : A) (n : ℕ) → replicate n x ++ x ∷ [] ≡ replicate (n + 1) x
 replicate_more {A} x n = go n ∙ ap (λ k. replicate k x) (sym (add-one n))
   where

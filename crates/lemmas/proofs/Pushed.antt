@@ -1,4 +1,4 @@
--- Lists with one more element at the end, where there is one or it is new.
+-- Lists with one more element at the end, if there is one or it is new.
 use Rattle.std.proofs.Common.{◌≡◌, Bool, true, false, List, [], ◌∷◌, ◌++◌, map, filter_map, slice_get, Option, Some, None, refl, ◌∙◌, append-nil}
 use Rattle.std.specs.Option.{option_or, option_map, option_to_list}
 use Rattle.std.proofs.lemmas.List.{map-append}

@@ -1,4 +1,4 @@
--- A `for` over an iterator that gives a known list: what was yielded so far, the item of this turn, and those behind it.
+-- A `for` over an iterator that gives a known list: what was yielded so far, the item of this turn, and those after it.
 use Rattle.std.proofs.Common.{◌≡◌, ℕ, ◌+◌, ◌<◌, false, List, [], ◌∷◌, ◌++◌, length, map, drop, get_or, All, Option, Some, refl, sym, ap, subst, ◌∙◌, append_assoc, arith}
 use Rattle.std.specs.Iterator.{AlwaysYields, Yields}
 use Rattle.std.specs.List.{list_any, IsDistinct}
@@ -10,7 +10,7 @@ use Rattle.std.proofs.lemmas.List.{map-append, take-append-drop, map_push, drop_
 use Rattle.std.proofs.lemmas.List.Folds.{list_any_none}
 use Rattle.std.proofs.lemmas.Map.Keys.{apart_from_distinct}
 
--- the same iterator, where f is shown of each item
+-- the same iterator, if f is shown of each item
 always : {S A B C : Type 0} (steps : S → Option A → S → Type 0) (v : A → B) (f : B → C) (ys : List B) (s : S) → AlwaysYields steps v s ys → AlwaysYields steps (λ x. f (v x)) s (map f ys)
 always steps v f [] s runs = runs
 always steps v f (y ∷ ys) s runs = (runs.0, λ x j step. let more = runs.1 x j step in (ap f more.0, always steps v f ys j more.1))
@@ -26,7 +26,7 @@ pushed_shown f xs ys x is = ap (map f) is ∙ map_push f xs x
 pub more_shown : {A B C : Type 0} (f : B → C) (v : A → B) (xs : List A) (x : A) → map f (map v xs) ++ f (v x) ∷ [] ≡ map f (map v (xs ++ x ∷ []))
 more_shown f v xs x = sym (ap (map f) (map_push v xs x) ∙ map_push f (map v xs) (v x))
 
--- among names that differ, one is none of those before it
+-- among names that differ from each other, one is none of those before it
 apart : (front : List (List ℕ)) (name : List ℕ) (behind : List (List ℕ)) → IsDistinct bytes_eq (front ++ name ∷ behind) → list_any (bytes_eq name) front ≡ false
 apart front name behind distinct = list_any_none (bytes_eq name) front (λ k d within.
     let names = front ++ name ∷ behind in
@@ -52,7 +52,7 @@ module _ {S A B : Type 0} {steps : S → Option A → S → Type 0} {v : A → B
       let rest : drop (length xs) all ≡ v x ∷ behind = drop_more all (length xs) (v x) here.0 ∙ ap (λ y. y ∷ behind) (sym here.1) in
       sym (take-append-drop (length xs) all) ∙ (λ i. sym (YieldsList-so_far road xs t yielded) i ++ rest i)
 
-  -- where all names differ, this item has none of those in front of it
+  -- if all names differ from each other, this item has none of those before it
   pub name_is_new : (front : List (List ℕ)) (name : B → List ℕ) → IsDistinct bytes_eq (front ++ map name all)
       → list_any (bytes_eq (name (v x))) (front ++ map name (map v xs)) ≡ false
   name_is_new front name distinct =

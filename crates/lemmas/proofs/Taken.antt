@@ -6,7 +6,7 @@ use Rattle.std.proofs.lemmas.List.Elements.{Contains-append_left, Contains-push,
 use Rattle.std.proofs.lemmas.List.FromFn.{length-enumerate_from, get_or-enumerate_from}
 use Rattle.std.proofs.lemmas.Option.{slice_get_within, get_or_from_slice_get}
 
--- what is among them, and the next
+-- what is among them, or is the next one
 pub contains_taken : {A : Type 0} (xs : List A) (n : ℕ) (x : A) → n < length xs → x ≡ get_or xs n x → (y : A) → Contains (take (n + 1) xs) y ↔ (Contains (take n xs) y ⊎ (y ≡ x))
 contains_taken xs n x lt is y = subst (λ l. Contains l y ↔ (Contains (take n xs) y ⊎ (y ≡ x))) (sym (take_more xs n x lt ∙ ap (λ z. take n xs ++ z ∷ []) (sym is))) (
   (λ h. elim (Contains-push_cases (take n xs) x y h) [ inl i ↦ inl i | inr e ↦ inr (sym e) ]),
@@ -24,12 +24,12 @@ one_more line xs n x within at =
     ∙ ap (λ e. flat_map line (take n xs ++ e ∷ [])) (sym at)
     ∙ sym (ap (flat_map line) (take_more xs n x within))
 
--- the element that is shown at a place
+-- the element that is shown at an index
 shown_there : {A : Type 0} (text : A → List ℕ) (o : Option A) (shown : List ℕ) → option_map text o ≡ Some shown → (x : A) × (o ≡ Some x) × (text x ≡ shown)
 shown_there text None shown e = let no : None ≡ Some shown = e in cc
 shown_there text (Some x) shown e = let same : Some (text x) ≡ Some shown = e in (x, refl, cc)
 
--- the same with places, where the text of the next is shown
+-- the same with indices, if the text of the next one is shown
 pub one_more_shown : {A : Type 0} (line : ℕ × A → List ℕ) (xs : List A) (n : ℕ) (text : List ℕ) → option_map (λ x. line (n, x)) (slice_get xs n) ≡ Some text
     → flat_map line (take n (enumerate_from 0 xs)) ++ text ≡ flat_map line (take (n + 1) (enumerate_from 0 xs))
 one_more_shown {A = A} line xs n text shown =

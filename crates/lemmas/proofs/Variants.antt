@@ -1,4 +1,4 @@
--- Of two values of an enum that the derived `==` takes for one, a view shows the same, if it does where they have fields.
+-- If the derived `==` equates two values of an enum, a view shows the same of both, provided that it does for the variants with fields.
 use Rattle.std.proofs.Common.{◌≡◌, refl, Bool, true, false, List, [], ◌∷◌, inl, inr}
 use Rattle.std.proofs.lemmas.Bool.{false≢true}
 use denote.Struct.Field.{Field}
@@ -6,7 +6,7 @@ use denote.Struct.Values.{Values}
 use denote.Enum.Declared.{Choice}
 use denote.Enum.Compared.{Each, by}
 
--- for each variant that has fields
+-- for each variant with fields
 abbrev pub ShowsSame : {X : Type 0} (Fss : List (List Field)) → Each Bool Fss → (Choice Fss → X) → Type 0
 ShowsSame [] each view = Unit {0}
 ShowsSame ([] ∷ Fss) each view = ShowsSame Fss each.1 (λ c. view (inr c))

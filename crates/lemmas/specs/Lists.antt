@@ -1,7 +1,7 @@
--- Words on lists that std lacks.
+-- Definitions on lists that std doesn't have.
 use Rattle.std.specs.Prelude.{ℕ, Bool, List, [], ◌∷◌, ◌++◌, ◌+◌, Option, Some, None, if◌then◌else◌}
 
--- each element with those that stand before it
+-- each element with the prefix of the list before it
 abbrev pub with_fronts_from : {A : Type 0} → List A → List A → List (List A × A)
 with_fronts_from front [] = []
 with_fronts_from front (x ∷ xs) = (front, x) ∷ with_fronts_from (front ++ x ∷ []) xs
@@ -9,7 +9,7 @@ with_fronts_from front (x ∷ xs) = (front, x) ∷ with_fronts_from (front ++ x 
 abbrev pub with_fronts : {A : Type 0} → List A → List (List A × A)
 with_fronts xs = with_fronts_from [] xs
 
--- the places of the elements that pass
+-- the indices of the elements that pass the test
 abbrev pub places_from : {A : Type 0} → ℕ → (A → Bool) → List A → List ℕ
 places_from i test [] = []
 places_from i test (x ∷ xs) = if test x then i ∷ places_from (i + 1) test xs else places_from (i + 1) test xs
@@ -17,11 +17,11 @@ places_from i test (x ∷ xs) = if test x then i ∷ places_from (i + 1) test xs
 abbrev pub places : {A : Type 0} → (A → Bool) → List A → List ℕ
 places test xs = places_from 0 test xs
 
--- with one more element at the end, where there is one
+-- with one more element at the end, if there is one
 abbrev pub pushed : {A : Type 0} → List A → Option A → List A
 pushed xs None = xs
 pushed xs (Some x) = xs ++ x ∷ []
 
--- with one more element at the end, where it isn't known yet
+-- with one more element at the end, if it isn't known yet
 abbrev pub pushed_unless : {A : Type 0} → Bool → List A → A → List A
 pushed_unless known xs x = if known then xs else xs ++ x ∷ []

@@ -1,2 +1,2 @@
-//! Lemmas on lists, options and entries that std lacks, each stated once. They stand in `proofs`.
+//! Lemmas on lists, options and entries that std doesn't have, each stated once. They are in `proofs`.
 #![tactic(auto)]
