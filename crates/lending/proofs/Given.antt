@@ -1,4 +1,4 @@
--- What holds of an answer holds of what it gave.
+-- What holds of a result holds of the value in it.
 use Rattle.std.proofs.Common.{◌≡◌, Result, Ok, IfOk, subst}
 use Rattle.std.specs.Prelude.{MatchResult}
 

@@ -1,4 +1,4 @@
-//! Who owns a value of any type, so that no other function drops one of a large type.
+//! Owners of values of any type, so that no other function drops a value of a large type.
 #![tactic(auto)]
 
 ghost use Rattle.std.specs.Prelude.{◌≡◌, ◌⊎◌, Err, IfErr, IfOk, IsErr, IsOk, Ok, OnErr, OnOk};
@@ -6,7 +6,7 @@ ghost use Rattle.std.specs.Fn.{FnOnceReturnsAt, FnOnceTakesAt};
 
 use std::alloc::AllocError;
 
-/// What `next` answers of the value, or the fault in its place.
+/// What `next` returns for the value, or the error instead of it.
 pub fn lend<T: Drop, E, R, F: FnOnce(&T) -> Result<R, E>>(
     made: Result<T, E>,
     next: F,
@@ -21,19 +21,19 @@ pub fn lend<T: Drop, E, R, F: FnOnce(&T) -> Result<R, E>>(
     }
 }
 
-/// What is made a copy part by part, in place of what it was: a part that is refused leaves no others to drop.
+/// What is made a copy part by part, in place: if a part fails, there are no other parts to drop.
 pub trait Refill: Drop {
-    // Holds of a value, and of one that was made its copy.
+    // Holds of a value and of one that was made its copy.
     ghost is_copy: { Self → Self → Type 0 };
 
-    // Holds of a value whose copies take no memory.
+    // Holds of a value whose copies allocate nothing.
     ghost is_infallible: { Self → Type 0 } = { λ _. ⊥ };
 
     /// Makes this a copy.
     ///
     /// # Errors
     ///
-    /// Want of memory.
+    /// `AllocError` if an allocation fails.
     fn refill(&mut self, from: &Self) -> Result<(), AllocError>
         ensures copied { OnOk result (is_copy from.now self.new) }
         ensures succeeds { is_infallible from.now → IsOk result };
@@ -43,7 +43,7 @@ pub trait Refill: Drop {
 ///
 /// # Errors
 ///
-/// Want of memory.
+/// `AllocError` if an allocation fails.
 pub fn refilled<T: Refill>(mut copy: T, from: &T) -> Result<T, AllocError>
     ensures copied { IfOk result (T.is_copy from.now) }
     ensures succeeds { T.is_infallible from.now → IsOk result }
@@ -52,12 +52,12 @@ pub fn refilled<T: Refill>(mut copy: T, from: &T) -> Result<T, AllocError>
     Ok(copy)
 }
 
-/// What all of them gave, or a refusal. A caller that asks for its parts before it looks at any has one way out, on
-/// which it owns nothing.
+/// All of their values, or an error. A caller that asks for all its parts before it looks at any of them has one error
+/// exit, on which it owns nothing.
 ///
 /// # Errors
 ///
-/// Want of memory, where one of them is that.
+/// `AllocError` if one of them is that.
 pub fn all<A: Drop, B: Drop, C: Drop, D: Drop>(
     a: Result<A, AllocError>,
     b: Result<B, AllocError>,
