@@ -1,4 +1,4 @@
--- Two lists of spans are told apart by `==` exactly where they are two.
+-- `==` distinguishes two lists of spans exactly if they differ.
 use Rattle.std.proofs.Common.{◌≡◌, ◌↔◌, ap, IsTrue, true, List, ◌==◌}
 use Rattle.std.proofs.lemmas.Bool.{and_from, and_parts, eq-eqb, eqb-true}
 use lib.Pointwise.{pointwise_decides}

@@ -5,13 +5,13 @@ use Rattle.cfgbase.specs.declared.span.Span.{Span}
 use Rattle.cfgbase.specs.declared.span.Location.{Location}
 use Rattle.cfgbase.specs.declared.span.Location.TheVariants as rust
 
--- a span of a text, the command line, or words
+-- a span of a text, the command line, or a description
 pub data Origin : Type 0 where
   InText : Span → Origin
   OnCommandLine : Origin
   InWords : List ℕ → Origin
 
--- a location of the code, without the memory that its words stand in
+-- a location of the code, without the memory that holds its description
 abbrev pub location_view : Location → Origin
 location_view (rust.Span span) = InText span
 location_view rust.CommandLine = OnCommandLine

@@ -1,4 +1,4 @@
--- When two spans are the same, and two lists of spans.
+-- When two spans are equal, and two lists of spans.
 use Rattle.std.specs.Prelude.{Bool, ◌==◌, ◌&&◌, List}
 use Rattle.std.specs.Cmp.{IsEquivalence}
 use Rattle.std.proofs.lemmas.Cmp.{and_equiv, lists_equiv, nat_eq_equiv, on_equiv}

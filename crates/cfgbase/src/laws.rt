@@ -1,5 +1,5 @@
-//! What `==`, `clone` and `hash` of the types of this crate compare, copy and feed. They are derived, so each law names
-//! the impl, as in `⟦<Span as PartialEq>⟧`, and holds of every value.
+//! What `==`, `clone` and `hash` of this crate's types compare, copy and feed. They are derived, so each law names the
+//! impl, as in `⟦<Span as PartialEq>⟧`, and holds for every value.
 
 ghost use Rattle.std.specs.Prelude.{◌≡◌, ◌↔◌, ◌++◌, IsTrue};
 ghost use Rattle.std.specs.Hash as fed;
@@ -12,8 +12,8 @@ ghost use Rattle.cfgbase.specs.declared.span.SpansKind.{SpansKind};
 use crate::span::{Location, Span, SpansKind};
 use std::hash::Hash;
 
-/// Spans are equal exactly where both of their ends are the same. A clone is its source, and takes no memory. A
-/// hash is fed the start, and then the end.
+/// Spans are equal exactly if both of their ends are. A clone equals its source and allocates nothing. A hash is fed
+/// the start, and then the end.
 pub fn spans_are_their_ends()
     ensures equal { (a b : Span) → IsTrue (⟦<Span as PartialEq>⟧.eq a b) ↔ (a ≡ b) }
     ensures clone { (a b : Span) → ⟦<Span as Clone>⟧.is_clone a b → b ≡ a }
@@ -21,8 +21,8 @@ pub fn spans_are_their_ends()
     ensures hash { (a : Span) → ⟦<Span as Hash>⟧.hash_input a ≡ fed.usize a.start ++ fed.usize a.end }
 {}
 
-/// Locations are equal exactly where they show the same: the same span, the command line, or the same words. A
-/// clone shows what its source does, and takes memory for words alone.
+/// Locations are equal exactly if they show the same: the same span, the command line, or the same description. A clone
+/// shows what its source does, and allocates only for a description.
 pub fn locations_are_what_they_show()
     ensures equal { (a b : Location)
         → IsTrue (⟦<Location as PartialEq>⟧.eq a b) ↔ (location_view a ≡ location_view b) }
@@ -32,7 +32,7 @@ pub fn locations_are_what_they_show()
     ensures cloned_command_line { ⟦<Location as Clone>⟧.is_infallible location.CommandLine }
 {}
 
-/// The two kinds of spans differ, and each is equal to itself. A clone is its source, and takes no memory.
+/// The two kinds of spans differ, and each is equal to itself. A clone equals its source and allocates nothing.
 pub fn spans_kinds_are_told_apart()
     ensures equal { (a b : SpansKind) → IsTrue (⟦<SpansKind as PartialEq>⟧.eq a b) ↔ (a ≡ b) }
     ensures clone { (a b : SpansKind) → ⟦<SpansKind as Clone>⟧.is_clone a b → b ≡ a }

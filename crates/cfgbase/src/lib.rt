@@ -1,4 +1,4 @@
-//! Spans of a text, where a value was given, and what the spans of an error or a warning stand for.
+//! Spans of a text, where a value was given, and what the spans of an error or a warning mean.
 #![tactic(auto)]
 
 pub mod laws;

@@ -28,7 +28,7 @@ impl Span {
         self.start
     }
 
-    /// The offset, in bytes, of what follows the span.
+    /// The offset, in bytes, right after the span.
     pub fn end(&self) -> usize
         ensures { result ≡ self.now.end }
     {
@@ -58,7 +58,7 @@ pub enum Location {
     Span(Span),
     /// On the command line.
     CommandLine,
-    /// Elsewhere, in the words of whoever gave it.
+    /// Elsewhere, as the caller describes it.
     Other(String),
 }
 
@@ -70,16 +70,16 @@ impl From<Span> for Location {
     }
 }
 
-/// What the spans of an error or a warning stand for.
+/// What the spans of an error or a warning mean.
 #[derive(Clone, Copy, Debug, PartialEq, Eq)]
 pub enum SpansKind {
-    /// The first is the place of the original, the others are the places of its duplicates.
+    /// The first is the span of the original, the others are those of its duplicates.
     DuplicationError,
-    /// Each is a place of the error.
+    /// Each is a span of the error.
     Error,
 }
 
-/// An error or a warning that tells the spans of the text that it speaks of.
+/// An error or a warning with the spans of the text that it is about.
 pub trait Spanned: Display {
     ghost spans: { Self → List Span };
 
@@ -89,7 +89,7 @@ pub trait Spanned: Display {
     fn spans(&self) -> &[Span]
         ensures { result.now ≡ spans self.now };
 
-    /// What the spans stand for.
+    /// What the spans mean.
     fn spanskind(&self) -> SpansKind
         ensures { result ≡ spanskind self.now };
 }
