@@ -1,4 +1,4 @@
--- Lists of bits that are union place by place.
+-- The union of lists of bits, bit by bit.
 use Rattle.std.proofs.Common.{◌≡◌, ◌↔◌, ◌⊎◌, inl, inr, true, sym, ◌∙◌, ℕ, suc, zero, ◌||◌, Bool, false, List, [], ◌∷◌, map, length, get_or, arith, refl, ap}
 use Rattle.std.specs.List.{zip}
 use Rattle.std.proofs.lemmas.Bool.{or_cases, or_left, or_right}

@@ -1,10 +1,10 @@
--- Words that are joined place by place.
+-- Words that are joined one by one.
 use Rattle.std.proofs.Common.{◌≡◌, ◌≢◌, ℕ, ◌+◌, ◌<◌, ◌≤◌, ◌==◌, ◌||◌, Bool, true, false, not, List, length, get_or, slice_set, MatchBool, bit_or, arith, refl, sym, ap, ◌∙◌, below_more, get_or-set_same, get_or-set_other, length-set}
 use Rattle.std.proofs.lemmas.Bool.{eqb-true, eqb-false}
 use Rattle.std.proofs.lemmas.List.{set-get_or}
 use Rattle.cfgindex.specs.BitWords.{AreJoined}
 
--- some word below i differs from that of a
+-- some word below i differs from the word of a
 abbrev pub Differs : List ℕ → List ℕ → ℕ → Type 0
 Differs a now i = (k : ℕ) × (k < i) × (get_or now k 0 ≢ get_or a k 0)
 
@@ -46,7 +46,7 @@ pub joining_grew : (i : ℕ) (a b now : List ℕ) (changed : Bool) → Joining i
 joining_grew i a b now true w = λ e. w.grew.2 (ap (λ l. get_or l w.grew.0 0) e)
 joining_grew i a b now false w = w.grew
 
--- the test tells whether two numbers differ
+-- the test says whether two numbers differ
 pub differ : (x y : ℕ) → MatchBool (not (x == y)) (x ≢ y) (x ≡ y)
 differ x y = go (x == y) (λ e. eqb-true x y e) (λ e. eqb-false x y e)
   where

@@ -1,4 +1,4 @@
--- Lists of bits in words: each bit by its place.
+-- Lists of bits in words: each bit by its index.
 use Rattle.std.proofs.Common.{◌≡◌, ◌≢◌, ◌↔◌, ℕ, ◌+◌, ◌-◌, ◌*◌, ◌/◌, ◌%◌, ◌^◌, ◌<◌, ◌≤◌, ◌==◌, ◌||◌, inl, inr, Bool, true, false, not, if◌then◌else◌, List, length, get_or, slice_get, slice_set, replicate, Option, Some, MatchBool, IsTrue, max, arith, refl, sym, ap, ◌∙◌, subst, ext_get_or, get_or-set_same, get_or-set_other, length-set}
 use Rattle.std.specs.Bool.{beq}
 use Rattle.std.specs.Int.{bit_at}
@@ -46,7 +46,7 @@ same_bit x y a b e = grind (arith, nat_tests)
 pub same_length : (n : ℕ) (a b : List ℕ) → AreWords n a → AreWords n b → length a ≡ length b
 same_length n a b isa isb = omega (arith, isa.enough, isa.few, isb.enough, isb.few)
 
--- words that have the same bits are the same: those that are spare are off
+-- words with the same bits are the same, since spare bits are off
 pub same_words : (n : ℕ) (words others : List ℕ) → AreWords n words → AreWords n others → bits_of words n ≡ bits_of others n → words ≡ others
 same_words n words others is are e = ext_get_or 0 words others (same_length n words others is are)
     (λ k h. same_from_bits_below 64 (get_or words k 0) (get_or others k 0) (is.fit k 0 h) (are.fit k 0 (subst (λ m. k < m) (same_length n words others is are) h))
@@ -57,7 +57,7 @@ same_words n words others is are e = ext_get_or 0 words others (same_length n wo
       | inr past ↦ is.spare k j lt past ∙ sym (are.spare k j lt past)
     ]))
 
--- a word was written in which one bit may differ
+-- a word was written in which one bit may have changed
 module _ (n : ℕ) (words : List ℕ) (i word new : ℕ) (bit : Bool) (is : AreWords n words) (lt : i < n) (read : word ≡ get_or words (i / 64) word)
     (here : bit_at new (i % 64) ≡ (if bit then 1 else 0)) (others : (k : ℕ) → k < 64 → k ≢ i % 64 → bit_at new k ≡ bit_at word k) (fits : new < 2 ^ 64) where
   within : i / 64 < length words
@@ -128,7 +128,7 @@ changed_bit true false o e = e
 changed_bit false true o e = e
 changed_bit false false o e = e
 
--- words that are joined place by place
+-- words that are joined one by one
 module _ (n : ℕ) (a b words : List ℕ) (isa : AreWords n a) (isb : AreWords n b) (w : AreJoined a b words) where
   as_long : length a ≡ length b
   as_long = same_length n a b isa isb
@@ -171,7 +171,7 @@ module _ (n : ℕ) (a b words : List ℕ) (isa : AreWords n a) (isb : AreWords n
   joined_changed true ne = λ e. ne (same_words n words a words_joined isa e)
   joined_changed false e = ap (λ l. bits_of l n) e
 
--- Words for one bit or more, all filled alike, the last of which has its spare bits off. b says what the bits are.
+-- Words for at least one bit, all filled alike, except that the last one has its spare bits off. b says what the bits are.
 module _ (len word last b : ℕ) (some : 0 < len) (fits : word < 2 ^ 64) (last_fits : last < 2 ^ 64)
     (full : (i : ℕ) → i < 64 → bit_at word i ≡ b) (used : (i : ℕ) → i ≤ (len - 1) % 64 → bit_at last i ≡ b)
     (unused : (i : ℕ) → (len - 1) % 64 < i → bit_at last i ≡ 0) where

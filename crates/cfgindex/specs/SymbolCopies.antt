@@ -1,11 +1,11 @@
--- What is copied of a symbol, and what a hash of it is fed, by what is of a stored number.
+-- What is copied of a symbol, and what a hash of it is fed, given both for a stored number.
 use Rattle.std.specs.Prelude.{ℕ, List, ◌++◌, pos}
 use Rattle.std.specs.Hash as fed
 use Rattle.cfgindex.specs.declared.idxnewtype.Symbol.{Symbol}
 use Rattle.cfgindex.specs.declared.idxnewtype.Symbol.TheVariants.{Rule, Token}
 
 module _ {T : Type 0} where
-  -- both are rules or both tokens, and the number of the second is a clone of that of the first
+  -- both are rules or both are tokens, and the number of the second is a clone of that of the first
   abbrev pub IsSymbolClone : (T → T → Type 0) → Symbol T → Symbol T → Type 0
   IsSymbolClone is_clone (Rule a) (Rule b) = is_clone a.0 b.0
   IsSymbolClone is_clone (Token a) (Token b) = is_clone a.0 b.0

@@ -1,5 +1,5 @@
 //! What `==`, order, `clone` and `hash` of indices and symbols compare, copy and feed. They are derived, so each law
-//! names the impl, as in `⟦<RIdx<T> as PartialEq>⟧`, and holds of every value.
+//! names the impl, as in `⟦<RIdx<T> as PartialEq>⟧`, and holds for every value.
 
 ghost use Rattle.std.specs.Prelude.{◌≡◌, ◌↔◌, Some, IsTrue};
 ghost use Rattle.std.specs.Ordering.{nat_cmp};
@@ -14,8 +14,8 @@ use crate::idxnewtype::{PIdx, RIdx, SIdx, Symbol, TIdx};
 use crate::storage::Storage;
 use std::hash::Hash;
 
-/// Rules are equal exactly where they store the same number, and are ordered by that number. A clone holds a clone
-/// of what is stored, and a hash is fed what a hash of that is.
+/// Rules are equal exactly if they store the same number, and are ordered by that number. A clone holds a clone of what
+/// is stored, and a hash is fed what the stored value feeds it.
 pub fn rules_are_their_numbers<T: Storage>()
     ensures equal { (a b : RIdx T) → IsTrue (⟦<RIdx<T> as PartialEq>⟧.eq a b) ↔ (a ≡ b) }
     ensures number { (a b : RIdx T) → (a ≡ b) ↔ (T.number a.0 ≡ T.number b.0) }
@@ -27,8 +27,8 @@ pub fn rules_are_their_numbers<T: Storage>()
     ensures hash { (a : RIdx T) → ⟦<RIdx<T> as Hash>⟧.hash_input a ≡ T.hash_input a.0 }
 {}
 
-/// Productions are equal exactly where they store the same number, and are ordered by that number. A clone holds a
-/// clone of what is stored, and a hash is fed what a hash of that is.
+/// Productions are equal exactly if they store the same number, and are ordered by that number. A clone holds a clone
+/// of what is stored, and a hash is fed what the stored value feeds it.
 pub fn productions_are_their_numbers<T: Storage>()
     ensures equal { (a b : PIdx T) → IsTrue (⟦<PIdx<T> as PartialEq>⟧.eq a b) ↔ (a ≡ b) }
     ensures number { (a b : PIdx T) → (a ≡ b) ↔ (T.number a.0 ≡ T.number b.0) }
@@ -40,8 +40,8 @@ pub fn productions_are_their_numbers<T: Storage>()
     ensures hash { (a : PIdx T) → ⟦<PIdx<T> as Hash>⟧.hash_input a ≡ T.hash_input a.0 }
 {}
 
-/// Places of symbols are equal exactly where they store the same number, and are ordered by that number. A clone
-/// holds a clone of what is stored, and a hash is fed what a hash of that is.
+/// Indices of symbols are equal exactly if they store the same number, and are ordered by that number. A clone holds a
+/// clone of what is stored, and a hash is fed what the stored value feeds it.
 pub fn places_are_their_numbers<T: Storage>()
     ensures equal { (a b : SIdx T) → IsTrue (⟦<SIdx<T> as PartialEq>⟧.eq a b) ↔ (a ≡ b) }
     ensures number { (a b : SIdx T) → (a ≡ b) ↔ (T.number a.0 ≡ T.number b.0) }
@@ -53,8 +53,8 @@ pub fn places_are_their_numbers<T: Storage>()
     ensures hash { (a : SIdx T) → ⟦<SIdx<T> as Hash>⟧.hash_input a ≡ T.hash_input a.0 }
 {}
 
-/// Tokens are equal exactly where they store the same number, and are ordered by that number. A clone holds a clone
-/// of what is stored, and a hash is fed what a hash of that is.
+/// Tokens are equal exactly if they store the same number, and are ordered by that number. A clone holds a clone of
+/// what is stored, and a hash is fed what the stored value feeds it.
 pub fn tokens_are_their_numbers<T: Storage>()
     ensures equal { (a b : TIdx T) → IsTrue (⟦<TIdx<T> as PartialEq>⟧.eq a b) ↔ (a ≡ b) }
     ensures number { (a b : TIdx T) → (a ≡ b) ↔ (T.number a.0 ≡ T.number b.0) }
@@ -66,8 +66,8 @@ pub fn tokens_are_their_numbers<T: Storage>()
     ensures hash { (a : TIdx T) → ⟦<TIdx<T> as Hash>⟧.hash_input a ≡ T.hash_input a.0 }
 {}
 
-/// Symbols are equal exactly where they are the same: rules or tokens of one index. A clone is of the same kind and
-/// holds a clone of what is stored. A hash is fed the kind, and then what a hash of the stored is.
+/// Symbols are equal exactly if they are the same: rules or tokens with the same index. A clone is of the same kind and
+/// holds a clone of what is stored. A hash is fed the kind, and then what the stored value feeds it.
 pub fn symbols_are_their_indices<T: Storage>()
     ensures equal { (a b : Symbol T) → IsTrue (⟦<Symbol<T> as PartialEq>⟧.eq a b) ↔ (a ≡ b) }
     ensures clone { (a b : Symbol T) → ⟦<Symbol<T> as Clone>⟧.is_clone a b ↔ IsSymbolClone T.is_clone a b }

@@ -3,9 +3,9 @@ ghost use Rattle.std.specs.Ordering.{nat_cmp};
 
 use std::hash::Hash;
 
-/// A type whose values store numbers from 0 up to `MAX`, each number once.
+/// A type whose values store the numbers from 0 up to `MAX`, each number once.
 pub trait Storage: Copy + Ord + Hash {
-    /// The greatest number that is stored.
+    /// The greatest number that can be stored.
     const MAX: usize;
 
     ghost MAX: { ℕ };
@@ -19,15 +19,15 @@ pub trait Storage: Copy + Ord + Hash {
         ensures range { result ≤ MAX }
         ensures limit { MAX < 2 ^ 32 };
 
-    /// The value that stores `n`, or `None` where `n` is past `MAX`.
+    /// The value that stores `n`, or `None` if `n` is greater than `MAX`.
     fn from_usize(n: usize) -> Option<Self>
         ensures fits { IsSome result ↔ (n ≤ MAX) }
         ensures value { IfSome result (λ x. number x ≡ n) };
 
-    // Two values of one number are the same.
+    // Two values of the same number are the same.
     ghost same: { (x y : Self) → number x ≡ number y → x ≡ y };
 
-    // Values are ordered as their numbers.
+    // Values are ordered like their numbers.
     ghost ordered: { (x y : Self) → Self.cmp x y ≡ nat_cmp (number x) (number y) };
 }
 

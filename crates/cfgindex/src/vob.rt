@@ -13,7 +13,7 @@ ghost use Rattle.cfgindex.specs.BitWords.{AreJoined, AreWords, bits_of};
 use std::alloc::{AllocError, Global};
 use std::marker::Model;
 
-/// A list of bits, whose length stays. They stand in words; bits of the last word past the length are off.
+/// A list of bits with a fixed length. The bits are in words; those of the last word beyond the length are off.
 #[derive(Debug, Drop)]
 pub struct Vob {
     len: usize,
@@ -36,7 +36,7 @@ impl Vob {
     ///
     /// # Errors
     ///
-    /// Want of memory.
+    /// `AllocError` if an allocation fails.
     pub fn from_elem(alloc: Global, bit: bool, len: usize) -> Result<Self, AllocError>
         ensures { IfOk result (λ bits. bits ≡ replicate len bit) }
     {
@@ -52,11 +52,11 @@ impl Vob {
         Ok(Vob { len, words })
     }
 
-    /// The first `len` bits of the words. Bits past them are off, and no word is spare.
+    /// The first `len` bits of the words. Further bits are off, and there is no spare word.
     ///
     /// # Errors
     ///
-    /// Want of memory.
+    /// `AllocError` if an allocation fails.
     pub fn from_words(alloc: Global, words: &[u64], len: usize) -> Result<Self, AllocError>
         requires { AreWords len words.now }
         ensures { IfOk result (λ bits. bits ≡ bits_of words.now len) }
@@ -67,7 +67,7 @@ impl Vob {
         })
     }
 
-    /// The words in which the bits stand, 64 in each, the lowest first. Bits of the last word past the length are off.
+    /// The words with the bits, 64 in each, the lowest first. Bits of the last word beyond the length are off.
     pub fn words(&self) -> &[u64]
         ensures words { AreWords (length self.now) result.now }
         ensures bits { bits_of result.now (length self.now) ≡ self.now }
@@ -82,7 +82,7 @@ impl Vob {
         self.len
     }
 
-    /// The bit at `i`, or `None` where `i` is not below the length.
+    /// The bit at `i`, or `None` if `i` is not below the length.
     pub fn get(&self, i: usize) -> Option<bool>
         ensures { result ≡ slice_get self.now i }
     {
@@ -93,7 +93,7 @@ impl Vob {
         }
     }
 
-    /// Makes the bit at `i` be `bit`, and tells whether that changed it.
+    /// Sets the bit at `i` to `bit`, and returns whether that changed it.
     pub fn set(&mut self, i: usize, bit: bool) -> bool
         requires { i < length self.old }
         ensures bits { self.new ≡ slice_set self.old i bit }
@@ -105,7 +105,7 @@ impl Vob {
         has_bit(word, i % 64) != bit
     }
 
-    /// Makes each bit be `bit`.
+    /// Sets each bit to `bit`.
     pub fn set_all(&mut self, bit: bool)
         ensures { self.new ≡ replicate (length self.old) bit }
     {
@@ -117,7 +117,7 @@ impl Vob {
         self.words[(self.len - 1) / 64] = word >> (63 - (self.len - 1) % 64);
     }
 
-    /// Turns on each bit that `other` has on, and tells whether that changed any.
+    /// Turns on each bit that `other` has on, and returns whether that changed any.
     pub fn or(&mut self, other: &Vob) -> bool
         requires { length self.old ≡ length other.now }
         ensures bits { self.new ≡ map (λ pair. pair.0 || pair.1) (zip self.old other.now) }
@@ -126,7 +126,7 @@ impl Vob {
         self.or_words(other.words())
     }
 
-    /// Turns on each bit that the words have on, and tells whether that changed any.
+    /// Turns on each bit that the words have on, and returns whether that changed any.
     pub fn or_words(&mut self, words: &[u64]) -> bool
         requires { AreWords (length self.old) words.now }
         ensures bits { self.new ≡ map (λ pair. pair.0 || pair.1) (zip self.old (bits_of words.now (length self.old))) }
@@ -153,14 +153,14 @@ impl Eq for Vob {
     ghost laws = { lists_equiv bool_eq_equiv };
 }
 
-/// The word whose bits are all on, or off.
+/// The word whose bits are all on, or all off.
 fn filled(bit: bool) -> u64
     ensures { result ≡ (if bit then 2 ^ 64 - 1 else 0) }
 {
     if bit { u64::MAX } else { 0 }
 }
 
-/// Makes each of the words be `word`.
+/// Sets each of the words to `word`.
 fn fill(words: &mut [u64], word: u64)
     ensures { words.new ≡ replicate (length words.old) word }
 {
@@ -187,7 +187,7 @@ pub fn with_bit(word: u64, i: usize, bit: bool) -> u64
     if bit { word | mask } else { word & !mask }
 }
 
-/// Turns on in each word the bits that the word at its place among the others has on, and tells whether that changed
+/// In each word, turns on the bits that are on in the other word with the same index, and returns whether that changed
 /// any.
 pub fn or_words(words: &mut [u64], others: &[u64]) -> bool
     requires { length words.old ≡ length others.now }

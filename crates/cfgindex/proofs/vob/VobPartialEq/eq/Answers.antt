@@ -8,7 +8,7 @@ use Rattle.cfgindex.specs.BitWords.{AreWords, bits_of}
 use Rattle.cfgindex.proofs.Words.{length-bits_of, same_words, decided}
 use Rattle.cfgindex.proofs.vob.VobPartialEq.eq.Goals as goal
 
--- two lists are the same exactly if they are as long and their words are the same
+-- two lists are equal exactly if their lengths and their words are
 module _ (len len' : ℕ) (words others : List ℕ) (x y : List Bool) (isa : AreWords len words) (isb : AreWords len' others)
     (ex : bits_of words len ≡ x) (ey : bits_of others len' ≡ y) where
   by_words : (r : Bool) → len ≡ len' → (IsTrue r ↔ (words ≡ others)) → (IsTrue r ↔ (x ≡ y))
@@ -23,7 +23,7 @@ module _ (len len' : ℕ) (words others : List ℕ) (x y : List Bool) (isa : Are
     (λ h. absurd (ne (sym (length-bits_of words len) ∙ ap length (ex ∙ h ∙ sym ey) ∙ length-bits_of others len'))),
   )
 
--- what tells whether two lists are the same is what compares them place by place
+-- what says whether two lists are equal compares them bit by bit
 compares : (r : Bool) (x y : List Bool) → (IsTrue r ↔ (x ≡ y)) → r ≡ pointwise beq x y
 compares r x y d = decided r (pointwise beq x y) (x ≡ y) d (slice_eq-Decides booleans_Decides x y (pointwise beq x y) refl)
 
