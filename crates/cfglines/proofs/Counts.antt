@@ -10,7 +10,7 @@ use Rattle.cfglines.specs.Characters.{IsCounted, begins_character, step}
 abbrev begun : List ℕ → ℕ
 begun bytes = count_by begins_character bytes
 
--- what begins in the first j bytes begins in the first i, or from there up to j
+-- what begins in the first j bytes begins in the first i, or from i up to j
 pub begun_up_to : (text : List ℕ) (i j : ℕ) → i ≤ j
     → count_by begins_character (take i text) + count_by begins_character (slice_range text i j) ≡ count_by begins_character (take j text)
 begun_up_to text i j order =
@@ -20,7 +20,7 @@ begun_up_to text i j order =
 pub begun-le : (text : List ℕ) (i : ℕ) → count_by begins_character (take i text) ≤ i
 begun-le text i = omega (arith, count_by-le-length begins_character (take i text), length-take i text)
 
--- the counts so far, of which the last is of what stands before the rest
+-- the counts so far, the last of which is for what precedes the rest
 pub record CountedTo (text rest counts : List ℕ) (last : ℕ) : Type 0 where
   pub some : 0 < length counts
   pub rest_is : rest ≡ drop ((length counts - 1) * step) text
@@ -35,7 +35,7 @@ counted_first text = record {
   each = λ k h. let first : k ≡ 0 = omega arith in rw first refl;
 }
 
--- a piece is a step long, or the last
+-- a piece is one step long, or the last
 piece_is : (piece rest left : List ℕ) → rest ≡ piece ++ left → length piece ≡ min step (length rest)
     → (piece ≡ take step rest) × (left ≡ drop step rest)
 piece_is piece rest left parts size =

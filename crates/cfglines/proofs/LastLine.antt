@@ -1,4 +1,4 @@
--- What `rsplit_once` at a newline says of a text's last line.
+-- What `rsplit_once` at a newline says about a text's last line.
 use Rattle.std.proofs.Common.{◌≡◌, ℕ, ◌+◌, ◌-◌, ◌<◌, ◌≤◌, true, false, not, Some, None, List, length, drop, get_or, ap, ne_eqb, eq-eqb, get_or-drop, length-drop, ◌∙◌, arith}
 use Rattle.std.proofs.lemmas.List.Sums.{suffix_len_is}
 use Rattle.std.proofs.lemmas.Str.Pattern.{NoCharPasses-char}
@@ -7,7 +7,7 @@ use Rattle.std.specs.Str.Pattern.{RFindsChar}
 use Rattle.cfglines.specs.Lines.{is_newline}
 use Rattle.cfglines.proofs.LineEnds.{is_other}
 
--- the last line begins at n, where no newline stands from n on, and one stands before n or n is the text's start
+-- the last line begins at n, if there is no newline from n on, and n is right after one or at the text's start
 after_last_is : (text : List ℕ) (n : ℕ) → n ≤ length text → ((k : ℕ) → n ≤ k → k < length text → is_newline (get_or text k 0) ≡ false)
     → (0 < n → is_newline (get_or text (n - 1) 0) ≡ true) → drop n text ≡ after_last is_newline text
 after_last_is text n within none newline =

@@ -1,4 +1,4 @@
--- Where the lines of a text begin and end, by the places of its newlines.
+-- Where the lines of a text begin and end, by the offsets of its newlines.
 use Rattle.std.proofs.Common.{⊎_elim, subst, get_or-append-add, ◌≡◌, ℕ, suc, ◌+◌, ◌-◌, ◌<◌, ◌≤◌, Bool, true, false, not, cond, if◌then◌else◌, List, [], ◌∷◌, ◌++◌, map, length, take, drop, get_or, ◌∙◌, ap, refl, length-take, length-drop, append-nil, add-zero, append_assoc, arith}
 use Rattle.std.proofs.lemmas.List.{reverse-append, get_or_append_left, get_or_push, length_push, length-take-le, map_push, take_more}
 use Rattle.std.proofs.Math.ListN.{get_or-map}
@@ -9,7 +9,7 @@ use Rattle.lemmas.proofs.Growing.{from_pushes}
 use Rattle.cfglines.specs.Lines.{is_newline, newlines_of, line_front, line_start, line_end}
 use Rattle.cfglines.proofs.Newlines.{newlines_of-append, newlines_of-split}
 
--- what one more byte adds to the places
+-- what one more byte adds to the offsets
 pub newlines_of-newline : (text : List ℕ) (byte : ℕ) → is_newline byte ≡ true → newlines_of (text ++ byte ∷ []) ≡ newlines_of text ++ length text ∷ []
 unfolding newlines_of
 newlines_of-newline text byte h = rw (newlines_of-append text (byte ∷ []), h) (ap (λ n. newlines_of text ++ n ∷ []) (add-zero _))
@@ -28,7 +28,7 @@ pub newlines_of-take_other : (text : List ℕ) (i : ℕ) → i < length text →
 newlines_of-take_other text i within other =
     rw (take_more text i 0 within, newlines_of-other (take i text) (get_or text i 0) other) refl
 
--- a text that begins at start adds its places to the old ones
+-- a text that begins at start adds its offsets to the old ones
 pub places_push : (places old : List ℕ) (start : ℕ) (text : List ℕ) (i : ℕ) → i < length text → is_newline (get_or text i 0) ≡ true
     → places ≡ old ++ map (λ place. start + place) (newlines_of (take i text))
     → places ++ (start + i) ∷ [] ≡ old ++ map (λ place. start + place) (newlines_of (take (i + 1) text))
@@ -38,7 +38,7 @@ places_push places old start text i within newline so_far =
 abbrev pub is_other : ℕ → Bool
 is_other byte = not (is_newline byte)
 
--- behind the last newline stand the bytes that end a text and are none
+-- after the last newline come the bytes that end a text, none of which is a newline
 record LastLine (text : List ℕ) : Type 0 where
   whole : length (newlines_of text) ≡ 0 → suffix_len is_other text ≡ length text
   behind : (last : ℕ) → length (newlines_of text) ≡ last + 1
@@ -96,7 +96,7 @@ line_start_some text b last some =
     rw (newlines_of-split text b) (get_or_append_left (newlines_of (take b text)) _ 0 last (omega arith)) in
     omega arith
 
--- the same in a text with one more byte in front
+-- the same in a text with one more byte before it
 first_newline-cons : (newline : Bool) (places : List ℕ) (first n : ℕ) → first ≡ get_or places 0 n
     → cond (not newline) (1 + first) 0 ≡ get_or ((if newline then 0 ∷ [] else []) ++ map suc places) 0 (suc n)
 first_newline-cons true places first n h = refl

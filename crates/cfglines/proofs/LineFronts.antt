@@ -1,4 +1,4 @@
--- The front of a place's line, from the line's start up to the place, is a piece of the text.
+-- The prefix of a line, from its start up to an offset, is a piece of the text.
 use Rattle.std.proofs.Common.{◌≡◌, ℕ, ◌+◌, ◌-◌, ◌<◌, ◌≤◌, false, List, length, take, drop, get_or, reverse, chars, count_by, ⊎_elim, subst, ◌∙◌, ap, sym, arith}
 use Rattle.std.proofs.lemmas.Bool.{cases_lt, eqb-true, not-false}
 use Rattle.std.proofs.lemmas.List.{drop-take, get_or-reverse, get_or-take, length-reverse}
@@ -11,7 +11,7 @@ use Rattle.cfglines.specs.Lines.{character_count, line_front, line_start}
 use Rattle.cfglines.proofs.Characters.{characters_begin}
 use Rattle.cfglines.proofs.LineEnds.{is_other, line_start-suffix_len, line_start-le}
 
--- a LF stands right before a line that isn't the first
+-- right before a line other than the first there is an LF
 pub before_line_start : (text : List ℕ) (b : ℕ) → 0 < line_start text b → get_or text (line_start text b - 1) 0 ≡ 10
 before_line_start text b behind =
     let front = take b text in
@@ -38,7 +38,7 @@ line_begins text b utf8 within =
     (λ first. subst (IsCharBoundary text) (omega arith) (IsCharBoundary-start text utf8))
     (cases_lt 0 (line_start text b))
 
--- the front of a place's line goes from the line's start up to the place
+-- the prefix of an offset's line goes from the line's start up to the offset
 pub line_front_is : (text : List ℕ) (b : ℕ) → b ≤ length text → line_front text b ≡ slice_range text (line_start text b) b
 unfolding line_front
 line_front_is text b within =
@@ -47,7 +47,7 @@ line_front_is text b within =
     ∙ (ap (λ n. drop (line_start text b) (take n text)) (omega arith)
     ∙ drop-take (line_start text b) (b - line_start text b) text)
 
--- so many characters begin in that front
+-- this many characters begin in that prefix
 pub front_begins : (text : List ℕ) (b : ℕ) → IsUtf8 text → IsCharBoundary text b
     → count_by begins_character (slice_range text (line_start text b) b) + 1 ≡ character_count text b
 front_begins text b utf8 place =

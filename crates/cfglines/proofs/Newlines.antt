@@ -1,4 +1,4 @@
--- Facts on the places of a text's newlines.
+-- Facts about the offsets of a text's newlines.
 use Rattle.std.proofs.Common.{◌≡◌, ℕ, suc, ◌+◌, ◌-◌, ◌<◌, ◌≤◌, Bool, true, false, cond, ltb, ltb-true, ltb-false, lt-ltb, if◌then◌else◌, ⊎_elim, List, [], ◌∷◌, ◌++◌, map, length, take, drop, get_or, All, count_by, sym, ◌∙◌, ap, refl, append_assoc, take-append-drop, length-append, length-take, length-drop, lt_of_le_of_lt, arith}
 use Rattle.std.proofs.lemmas.List.{map-append, length-map, get_or_append_left, get_or-append_right}
 use Rattle.std.proofs.lemmas.List.Elements.{All-nil, All-append, All-map}
@@ -22,7 +22,7 @@ newlines_of-append [] back = sym (map_fixed (λ place. 0 + place) (newlines_of b
 newlines_of-append (byte ∷ front) back =
     rw (newlines_of-append front back, map-append, map-suc-add (length front), append_assoc) refl
 
--- the places in what stands before b, and then those from b on
+-- the offsets in what precedes b, and then those from b on
 pub newlines_of-split : (text : List ℕ) (b : ℕ)
     → newlines_of text ≡ newlines_of (take b text) ++ map (λ place. length (take b text) + place) (newlines_of (drop b text))
 newlines_of-split text b = ap newlines_of (sym (take-append-drop b text)) ∙ newlines_of-append (take b text) (drop b text)
@@ -50,7 +50,7 @@ newlines_of-within (byte ∷ text) =
     one true = λ k d h. grind (arith, common_steps)
     one false = All-nil _
 
--- places below b come first, so a bisection finds how many there are
+-- offsets below b come first, so a bisection finds how many there are
 module _ (front back : List ℕ) (b : ℕ) (below : All (λ place. place < b) front) (above : All (λ place. b ≤ place) back) where
   pub IsPartitionedBy-append : IsPartitionedBy (λ place. ltb place b) (front ++ back)
   IsPartitionedBy-append i j d i_le_j within passes = ⊎_elim

@@ -1,4 +1,4 @@
--- What a refused feeding says.
+-- The message of a refused feed.
 use Rattle.std.specs.Prelude.{ℕ, List, codes}
 use Rattle.cfglines.specs.declared.newlinecache.FeedError.{FeedError}
 use Rattle.cfglines.specs.declared.newlinecache.FeedError.TheVariants.{TooLong, OutOfMemory}

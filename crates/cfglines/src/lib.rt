@@ -1,4 +1,4 @@
-//! Lines and columns of a text, which is fed in pieces or whole.
+//! Lines and columns of a text that is fed in pieces or all at once.
 #![tactic(auto)]
 
 pub mod newlinecache;

@@ -17,9 +17,9 @@ use std::marker::Model;
 /// Why a text was not fed.
 #[derive(Debug, Drop)]
 pub enum FeedError {
-    /// The fed text would have more bytes than a `usize` counts.
+    /// The whole text would have more bytes than a `usize` can count.
     TooLong,
-    /// No memory is left.
+    /// Out of memory.
     OutOfMemory,
 }
 
@@ -46,8 +46,8 @@ impl fmt::Display for FeedError {
 
 impl Error for FeedError {}
 
-/// The lines of a text that is fed in pieces. A cache does not keep the text: it holds how many bytes were fed,
-/// and the places of their newlines.
+/// The lines of a text that is fed in pieces. A cache does not keep the text: it holds how many bytes were fed, and the
+/// offsets of the newlines.
 #[derive(Drop)]
 pub struct NewlineCache {
     len: usize,
@@ -74,7 +74,7 @@ impl NewlineCache {
         }
     }
 
-    /// The cache of `text`. Only a newline takes memory.
+    /// The cache of `text`. Only newlines allocate.
     pub fn from_str(alloc: Global, text: &str) -> Result<Self, FeedError>
         ensures ok { IfOk result (λ cache. StandsFor cache text.now) }
         ensures err { IsOkUnless result FeedError.OutOfMemory }
@@ -85,8 +85,8 @@ impl NewlineCache {
         Ok(cache)
     }
 
-    /// The cache of the pieces joined. A text that is too long is refused at the first piece that makes it so. Only a
-    /// newline takes memory.
+    /// The cache of the concatenated pieces. A text that is too long is refused at the first piece that makes it so.
+    /// Only newlines allocate.
     pub fn from_pieces<'a, I: Iterator<Item = &'a str> + Drop>(
         alloc: Global,
         pieces: I,
@@ -107,7 +107,7 @@ impl NewlineCache {
         Ok(cache)
     }
 
-    /// Adds `text` to the end of the fed text. Only a newline takes memory.
+    /// Appends `text` to the fed text. Only newlines allocate.
     pub fn feed(&mut self, text: &str) -> Result<(), FeedError>
         ensures ok { OnOk result ((before : List ℕ) → StandsFor self.old before
             → StandsFor self.new (before ++ text.now)) }
@@ -123,7 +123,7 @@ impl NewlineCache {
         Ok(())
     }
 
-    /// The number of the byte's line, from 1, or `None` past the text's end.
+    /// The number of the byte's line, from 1, or `None` beyond the text's end.
     pub fn byte_to_line_num(&self, byte: usize) -> Option<usize>
         ensures { (text : List ℕ) → StandsFor self.now text
             → SomeIff result (byte ≤ length text) (line_number text byte) }
@@ -134,7 +134,7 @@ impl NewlineCache {
         Some(self.newlines_before(byte) + 1)
     }
 
-    /// The offset, in bytes, of the start of the byte's line, or `None` past the text's end.
+    /// The offset, in bytes, of the start of the byte's line, or `None` beyond the text's end.
     pub fn byte_to_line_byte(&self, byte: usize) -> Option<usize>
         ensures { (text : List ℕ) → StandsFor self.now text
             → SomeIff result (byte ≤ length text) (line_start text byte) }
@@ -145,8 +145,8 @@ impl NewlineCache {
         Some(self.line_start(byte))
     }
 
-    /// The number of the byte's line in the fed text `src`, and the byte's column in characters, both from 1. There
-    /// is none inside a character, past the text's end, or where `src` is not as long as the fed text.
+    /// The number of the byte's line in the fed text `src`, and the byte's column in characters, both from 1. `None`
+    /// inside a character, beyond the text's end, or if `src` is not as long as the fed text.
     pub fn byte_to_line_num_and_col_num(&self, src: &str, byte: usize) -> Option<(usize, usize)>
         requires { length src.now ≡ self.now.bytes → StandsFor self.now src.now }
         ensures { SomeIff result (StandsFor self.now src.now × IsCharBoundary src.now byte)
@@ -158,7 +158,7 @@ impl NewlineCache {
         Some((self.newlines_before(byte) + 1, column_of(src, byte)))
     }
 
-    /// Where the lines of a span start and end, in bytes: from the start of the line of the span's first byte up to
+    /// Where the lines of a span start and end, in bytes: from the start of the line with the span's first byte up to
     /// the first newline at or after the span's end, or up to the text's end.
     pub fn span_line_bytes(&self, span: Span) -> (usize, usize)
         ensures { (text : List ℕ) → StandsFor self.now text
@@ -169,7 +169,7 @@ impl NewlineCache {
         (self.line_start(span.start()), end)
     }
 
-    /// How many newlines the first bytes hold.
+    /// How many newlines precede the byte.
     fn newlines_before(&self, byte: usize) -> usize
         ensures value { (text : List ℕ) → StandsFor self.now text
             → result ≡ length (newlines_of (take byte text)) }
@@ -179,7 +179,7 @@ impl NewlineCache {
         self.newlines.partition_point(|place| *place < byte)
     }
 
-    /// The start of the byte's line, or of the last line past the text's end.
+    /// The start of the byte's line, or of the last line beyond the text's end.
     pub(crate) fn line_start(&self, byte: usize) -> usize
         ensures { (text : List ℕ) → StandsFor self.now text → result ≡ line_start text byte }
     {
@@ -190,7 +190,7 @@ impl NewlineCache {
     }
 }
 
-/// Adds the places of the text's newlines, where the text begins at `start`.
+/// Adds the offsets of the text's newlines, if the text begins at `start`.
 fn add_newlines(newlines: &mut Vec<usize>, start: usize, text: &str) -> Result<(), AllocError>
     requires { start + length text.now ≤ usize.MAX }
     ensures ok { OnOk result (newlines.new.items
@@ -225,7 +225,8 @@ fn column_of(text: &str, byte: usize) -> usize
     }
 }
 
-/// How many characters the byte's line has up to and with the one that the byte begins. The text's end counts as one.
+/// How many characters the byte's line has up to and including the one that the byte begins. The text's end counts as
+/// one.
 fn character_count(text: &str, byte: usize) -> usize
     requires { IsCharBoundary text.now byte }
     ensures { result ≡ character_count text.now byte }
@@ -233,14 +234,14 @@ fn character_count(text: &str, byte: usize) -> usize
     last_line(&text[..byte]).chars().count() + 1
 }
 
-/// Whether the byte is a LF right after a CR.
+/// Whether the byte is an LF right after a CR.
 pub(crate) fn ends_crlf(text: &[u8], byte: usize) -> bool
     ensures { result ≡ ends_crlf text.now byte }
 {
     byte > 0 && text.get(byte) == Some(&b'\n') && text.get(byte - 1) == Some(&b'\r')
 }
 
-/// What stands after the last newline.
+/// What follows the last newline.
 fn last_line(text: &str) -> &str
     ensures { result.now ≡ after_last is_newline text.now }
 {

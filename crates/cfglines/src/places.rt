@@ -11,11 +11,11 @@ use cfgbase::Span;
 use std::alloc::{AllocError, Global};
 use std::marker::Model;
 
-/// How many bytes lie between two counts.
+/// How many bytes are between two counts.
 const STEP: usize = 256;
 
-/// A text with the places of its newlines, and a count of the characters before each `STEP`th byte. So the column of a
-/// place is found in the time that a short text takes, however long its line is.
+/// A text with the offsets of its newlines, and a count of the characters before each `STEP`th byte. So finding the
+/// column of an offset takes no longer than in a short text, however long its line is.
 #[derive(Drop)]
 pub struct Places<'a> {
     text: &'a str,
@@ -38,11 +38,11 @@ impl<'a> Model for Places<'a> {
 }
 
 impl<'a> Places<'a> {
-    /// The places of a text.
+    /// The text with its offsets and counts.
     ///
     /// # Errors
     ///
-    /// Want of memory.
+    /// `AllocError` if an allocation fails.
     pub fn new(alloc: Global, text: &'a str) -> Result<Places<'a>, AllocError>
         ensures { IfOk result (λ places. places ≡ text.entry.now) }
     {
@@ -66,8 +66,8 @@ impl<'a> Places<'a> {
         self.text
     }
 
-    /// The number of the byte's line, and the byte's column in characters, both from 1. There is none inside a
-    /// character, or past the text's end.
+    /// The number of the byte's line, and the byte's column in characters, both from 1. `None` inside a character, or
+    /// beyond the text's end.
     pub fn line_and_column(&self, byte: usize) -> Option<(usize, usize)>
         ensures { SomeIff result (IsCharBoundary self.now byte) (line_number self.now byte, column self.now byte) }
     {
@@ -78,7 +78,7 @@ impl<'a> Places<'a> {
         Some((line, self.column(byte)))
     }
 
-    /// Where the lines of a span start and end, in bytes: from the start of the line of the span's first byte up to
+    /// Where the lines of a span start and end, in bytes: from the start of the line with the span's first byte up to
     /// the first newline at or after the span's end, or up to the text's end.
     pub fn span_line_bytes(&self, span: Span) -> (usize, usize)
         ensures { result ≡ (line_start self.now span.start, line_end self.now span.end) }
@@ -99,8 +99,8 @@ impl<'a> Places<'a> {
         }
     }
 
-    /// How many characters the byte's line has up to and with the one that the byte begins. The text's end counts as
-    /// one.
+    /// How many characters the byte's line has up to and including the one that the byte begins. The text's end counts
+    /// as one.
     fn character_count(&self, byte: usize) -> usize
         requires { IsCharBoundary self.now byte }
         ensures { result ≡ character_count self.now byte }

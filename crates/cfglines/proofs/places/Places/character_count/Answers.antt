@@ -13,7 +13,7 @@ begun_before-requires-2 c =
     let start = c.line_start-start.ensures _ (subst (StandsFor _) c.self.view_is c.self.invariant.1) in
     omega (arith, start, line_start-le c.args.self.now c.args.byte, c.requires.0)
 
--- what begins in the line's front begins before the place, and not before the line
+-- what begins in the line's prefix begins before the offset, and not before the line
 parts : (c : goal.After-begun_before-2)
     → c.begun_before-2.result + count_by begins_character (slice_range c.args.self.now (line_start c.args.self.now c.args.byte) c.args.byte)
     ≡ c.begun_before.result
