@@ -1,4 +1,4 @@
--- As many columns stand under a piece of a text as it has characters.
+-- A piece of a text has as many columns below it as characters.
 use Rattle.std.proofs.Common.{◌≡◌, ℕ, ◌==◌, Bool, true, false, if◌then◌else◌, cond, List, [], ◌∷◌, length, length-append, count_by, chars, ◌∙◌, refl, arith}
 use Rattle.std.proofs.lemmas.Bool.{cond_both, eqb-true}
 use Rattle.std.proofs.lemmas.List.Sums.{sum_by-cons}
@@ -8,7 +8,7 @@ use Rattle.cfglines.specs.Characters.{begins_character}
 use Rattle.cfglines.proofs.Characters.{begins_low, characters_begin}
 use Rattle.cfgrender.specs.Render.{under_front, under_span}
 
--- what is one column wide under a byte that begins a character, and none under another
+-- what is one column wide under a byte that begins a character, and empty under any other
 abbrev IsColumn : (ℕ → List ℕ) → Type 0
 IsColumn under = (byte : ℕ) → length (under byte) ≡ cond (begins_character byte) 1 0
 

@@ -1,4 +1,4 @@
--- Carets begin in the column of their place, and there are as many as characters under which they stand.
+-- Carets begin in the column of their span's start, and there are as many as characters above them.
 use Rattle.std.proofs.Common.{◌≡◌, ℕ, ◌+◌, ◌-◌, ◌<◌, ◌≤◌, Bool, true, false, if◌then◌else◌, List, [], ◌∷◌, length, take, drop, min, max, get_or, get_or-drop, length-take, chars, ⊎_elim, subst, refl, ◌∙◌, ap, sym, arith}
 use Rattle.std.proofs.Math.Utf8.{encodes}
 use Rattle.std.proofs.lemmas.Bool.{cases_eq, cases_lt}
@@ -14,7 +14,7 @@ use Rattle.cfgrender.specs.Render.{carets, shown_end, shown_front, shown_span, u
 use Rattle.cfgrender.proofs.Carets.{front_columns, span_columns}
 use Rattle.cfgrender.proofs.ShownLines.{line_end_bounds, shown_line_ends, crlf_bytes}
 
--- so many columns stand before what follows it
+-- this many columns precede the carets
 before : (text : List ℕ) (b : ℕ) → IsUtf8 text → IsCharBoundary text b
     → length (flat_map under_front (slice_range text (line_start text b) b)) + 1 ≡ character_count text b
 before text b utf8 place =
@@ -22,7 +22,7 @@ before text b utf8 place =
     let piece = IsUtf8-between text (line_start text b) b utf8 (line_start-le text b) begins place in
     ap (λ n. n + 1) (front_columns _ piece ∙ ap (λ front. length (chars front)) (sym (line_front_is text b place.0)))
 
--- a place that isn't the LF of a CR and a LF stands in the shown part of its line
+-- an offset other than that of an LF right after a CR is in the shown part of its line
 shown_up_to : (text : List ℕ) (b : ℕ) → b ≤ length text → ends_crlf text b ≡ false → min b (shown_end text b) ≡ b
 shown_up_to text b within other = by_its_end (ends_crlf text (line_end text b)) refl
   where
@@ -36,7 +36,7 @@ shown_up_to text b within other = by_its_end (ends_crlf text (line_end text b)) 
         (λ differ. omega arith)
         (cases_eq b (line_end text b))
 
--- of such a LF, the CR and it stand in one column
+-- such an LF is in the same column as its CR
 at_crlf : (text : List ℕ) (b : ℕ) → b ≤ length text → ends_crlf text b ≡ true
     → (line_start text (b - 1) ≡ line_start text b) × (min b (shown_end text b) ≡ b - 1)
 at_crlf text b within h =

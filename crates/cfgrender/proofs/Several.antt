@@ -1,10 +1,10 @@
--- What is read of several errors, one behind the other.
+-- What is printed of several errors, one after another.
 use Rattle.std.proofs.Common.{◌≡◌, ℕ, List, ◌∷◌, [], ◌++◌, sym, subst}
 use Rattle.cfgbase.specs.declared.span.Span.{Span}
 use Rattle.cfgbase.specs.declared.span.SpansKind.{SpansKind}
 use Rattle.cfgrender.specs.Render.{RendersEach, more, rendered}
 
--- behind what is read of the first ones stands what is read of the next
+-- what is printed of the next one follows what is printed of the first ones
 pub one_more : {A : Type 0} (Prints : A → List ℕ → Type 0) (spans : A → List Span) (kind : A → SpansKind) (name text : List ℕ)
     (shown next : List A) (error : A) (message out new : List ℕ)
     → RendersEach Prints spans kind name text shown out → Prints error message → shown ++ error ∷ [] ≡ next

@@ -10,7 +10,7 @@ use Rattle.cfglines.proofs.LineEnds.{is_other, line_start-le, line_end-position}
 use Rattle.cfglines.proofs.LineFronts.{before_line_start}
 use Rattle.cfgrender.specs.Render.{shown_end}
 
--- a line ends in the text, and not before the place
+-- a line ends in the text, and not before the offset
 pub line_end_bounds : (text : List ℕ) (b : ℕ) → b ≤ length text
     → (b ≤ line_end text b) × (line_end text b ≤ length text)
 line_end_bounds text b within =
@@ -20,7 +20,7 @@ line_end_bounds text b within =
     let back = length-drop b text in
     (omega arith, omega arith)
 
--- a LF stands where a line ends, unless the text ends there
+-- there is an LF where a line ends, unless the text ends there
 at_line_end : (text : List ℕ) (b : ℕ) → b ≤ length text → line_end text b < length text
     → get_or text (line_end text b) 0 ≡ 10
 at_line_end text b within inside =
@@ -32,7 +32,7 @@ at_line_end text b within inside =
     get_or-drop b text n 0 ∙ ap (λ i. get_or text i 0) (omega arith) in
     sym place ∙ eqb-true _ 10 (passes_at_first is_newline (drop b text) 0 (omega arith))
 
--- a LF right after a CR
+-- an LF right after a CR
 pub crlf_bytes : (text : List ℕ) (b : ℕ) → ends_crlf text b ≡ true
     → (0 < b) × (get_or text b 0 ≡ 10) × (get_or text (b - 1) 0 ≡ 13)
 crlf_bytes text b h =

@@ -1,4 +1,4 @@
--- What a person reads of an error: where it is and what it says, the line of the text, and carets under the span.
+-- What is printed of an error: where it is and what it says, the line of the text, and carets under the span.
 use Rattle.std.specs.Prelude.{ℕ, ◌-◌, Bool, ◌&&◌, ◌==◌, nat_le, if◌then◌else◌, List, [], ◌∷◌, ◌++◌, length, slice_index, min, codes}
 use Rattle.std.specs.List.{flat_map, slice_range}
 use Rattle.std.specs.Fmt.{decimal}
@@ -8,7 +8,7 @@ use Rattle.cfgbase.specs.declared.span.SpansKind.TheVariants.{DuplicationError, 
 use Rattle.cfglines.specs.Characters.{begins_character}
 use Rattle.cfglines.specs.Lines.{ends_crlf, line_number, line_start, line_end, column}
 
--- whether b is a place of the text: a character begins there, or the text ends
+-- whether b is a character boundary of the text: a character begins there, or the text ends
 abbrev pub is_place : List ℕ → ℕ → Bool
 is_place text b = nat_le b (length text) && begins_character (slice_index text b)
 
@@ -20,7 +20,7 @@ shown_end text b = if ends_crlf text (line_end text b) then line_end text b - 1 
 abbrev pub shown_line : List ℕ → ℕ → List ℕ
 shown_line text b = slice_range text (line_start text b) (shown_end text b)
 
--- the part of that line that stands before b
+-- the part of that line before b
 abbrev pub shown_front : List ℕ → ℕ → List ℕ
 shown_front text b = slice_range text (line_start text b) (min b (shown_end text b))
 
@@ -28,15 +28,15 @@ shown_front text b = slice_range text (line_start text b) (min b (shown_end text
 abbrev pub shown_span : List ℕ → Span → List ℕ
 shown_span text span = slice_range text span.start (min span.end (shown_end text span.start))
 
--- what stands under a byte before the span: a tab under a tab, and a space under any other character
+-- what is under a byte before the span: a tab under a tab, and a space under any other character
 abbrev pub under_front : ℕ → List ℕ
 under_front byte = if byte == 9 then codes "\t" else if begins_character byte then codes " " else []
 
--- what stands under a byte of the span: a caret under each character
+-- what is under a byte of the span: a caret under each character
 abbrev pub under_span : ℕ → List ℕ
 under_span byte = if begins_character byte then codes "^" else []
 
--- the carets under the shown part of a span: one where it shows nothing
+-- the carets under the shown part of a span: one if nothing of it is shown
 abbrev pub carets : List ℕ → List ℕ
 carets [] = codes "^"
 carets (byte ∷ bytes) = flat_map under_span (byte ∷ bytes)
@@ -50,28 +50,28 @@ excerpt text span = shown_line text span.start ++ (codes "\n"
 abbrev pub plain_line : List ℕ → List ℕ → List ℕ
 plain_line name words = name ++ (codes ": " ++ (words ++ codes "\n"))
 
--- the line `NAME:LINE:COLUMN: WORDS`, for the place b
+-- the line `NAME:LINE:COLUMN: WORDS`, for the offset b
 abbrev pub place_line : List ℕ → List ℕ → List ℕ → ℕ → List ℕ
 place_line name text words b = name ++ (codes ":" ++ (decimal (line_number text b)
     ++ (codes ":" ++ (decimal (column text b) ++ (codes ": " ++ (words ++ codes "\n"))))))
 
--- these words at a span: where it starts and the excerpt, or neither, if that is no place of the text
+-- this message at a span: where it starts and the excerpt, or neither if that is not a character boundary of the text
 unfoldable pub told : List ℕ → List ℕ → List ℕ → Span → List ℕ
 told name text words span = if is_place text span.start
     then place_line name text words span.start ++ excerpt text span
     else plain_line name words
 
--- what the spans behind the first one add: each is the place of a duplicate, or nothing is told of them
+-- what the spans after the first one add: each is a duplicate's, or nothing is printed for them
 abbrev pub told_also : SpansKind → List ℕ → List ℕ → List Span → List ℕ
 told_also DuplicationError name text spans = flat_map (told name text (codes "also here")) spans
 told_also Error name text spans = []
 
--- what is read, in a text of this name, of an error or a warning with this message and these spans, of this kind
+-- what is printed, in a text of this name, of an error or a warning with this message, these spans, and spans of this kind
 abbrev pub rendered : List ℕ → List ℕ → List ℕ → List Span → SpansKind → List ℕ
 rendered name text message [] kind = plain_line name message
 rendered name text message (span ∷ spans) kind = told name text message span ++ told_also kind name text spans
 
--- What is read of several, one behind the other, where `Prints` says of each what it prints.
+-- What is printed of several, one after another; `Prints` says what each prints.
 pub data RendersEach {A : Type 0} (Prints : A → List ℕ → Type 0) (spans : A → List Span) (kind : A → SpansKind) (name text : List ℕ)
     : List A → List ℕ → Type 0 where
   none : RendersEach Prints spans kind name text [] []

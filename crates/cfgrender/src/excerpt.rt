@@ -33,7 +33,7 @@ pub(crate) fn push_excerpt(
     out.push_str("\n")
 }
 
-/// Where the line of a place starts, and where the part of it that is shown ends.
+/// Where the line of an offset starts, and where its shown part ends.
 fn shown_line(places: &Places<'_>, at: usize) -> (usize, usize)
     requires { at ≤ length places.now }
     ensures value { result ≡ (line_start places.now at, shown_end places.now at) }
@@ -46,7 +46,7 @@ fn shown_line(places: &Places<'_>, at: usize) -> (usize, usize)
     (start, without_line_end(places.text().as_bytes(), end))
 }
 
-/// The place before a CR, where the line that ends at `end` ends in one and a LF.
+/// The offset of a CR right before the LF at `end`, or else `end`.
 fn without_line_end(text: &[u8], end: usize) -> usize
     ensures { result ≡ (if ends_crlf text.now end then end - 1 else end) }
 {
@@ -56,7 +56,7 @@ fn without_line_end(text: &[u8], end: usize) -> usize
     }
 }
 
-/// The bytes from `start` up to `end`, or none where `end` isn't behind `start`.
+/// The bytes from `start` up to `end`, or none if `end` isn't after `start`.
 fn piece(text: &[u8], start: usize, end: usize) -> &[u8]
     requires { end ≤ length text.now }
     ensures { result.now ≡ slice_range text.now start end }
@@ -64,7 +64,7 @@ fn piece(text: &[u8], start: usize, end: usize) -> &[u8]
     text.get(start..end).unwrap_or(&[])
 }
 
-/// Writes what stands under the line before the span.
+/// Writes what is under the line before the span.
 fn push_under_front(out: &mut String, front: &[u8]) -> Result<(), AllocError>
     ensures { OnOk result (string_bytes out.new ≡ string_bytes out.old ++ flat_map under_front front.now) }
 {
@@ -74,7 +74,7 @@ fn push_under_front(out: &mut String, front: &[u8]) -> Result<(), AllocError>
     Ok(())
 }
 
-/// What stands under a byte before the span.
+/// What is under a byte before the span.
 fn under_front(byte: u8) -> &'static str
     ensures { result.now ≡ under_front byte }
 {
@@ -107,7 +107,7 @@ fn push_under_span(out: &mut String, bytes: &[u8]) -> Result<(), AllocError>
     Ok(())
 }
 
-/// What stands under a byte of the span.
+/// What is under a byte of the span.
 fn under_span(byte: u8) -> &'static str
     ensures { result.now ≡ under_span byte }
 {

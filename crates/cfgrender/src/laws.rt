@@ -1,4 +1,4 @@
-//! Carets stand under the characters of a span: what an excerpt has to do with columns and characters.
+//! Carets are under the characters of a span: how an excerpt relates to columns and characters.
 
 ghost use Rattle.std.specs.Prelude.{◌≡◌, ◌+◌, ℕ, List, length, max};
 ghost use Rattle.std.specs.List.{flat_map};
@@ -7,14 +7,14 @@ ghost use Rattle.cfgbase.specs.declared.span.Span.{Span};
 ghost use Rattle.cfglines.specs.Lines.{column};
 ghost use Rattle.cfgrender.specs.Render.{carets, shown_front, shown_span, under_front};
 
-/// The first caret stands in the column that is told.
+/// The first caret is in the column that is printed.
 #[tactic(auto, using(crate::proofs::Columns::carets_begin_at_column))]
 pub fn carets_begin_at_column()
     ensures { (text : List ℕ) (b : ℕ) → IsUtf8 text → IsCharBoundary text b
         → length (flat_map under_front (shown_front text b)) + 1 ≡ column text b }
 {}
 
-/// There are as many carets as the shown part of a span has characters, and one where it has none.
+/// There are as many carets as the shown part of a span has characters, and one if it has none.
 #[tactic(auto, using(crate::proofs::Columns::carets_count_characters))]
 pub fn carets_count_characters()
     ensures { (text : List ℕ) (span : Span) → IsUtf8 text

@@ -7,13 +7,13 @@ use crate::source::Source;
 use cfgbase::Spanned;
 use std::alloc::{AllocError, Global};
 
-/// What a person reads of an error or a warning in a text of this name: the line and the column where its first span
-/// starts, what it says, and that line of the text with carets under the span. The places of duplicates follow, each
-/// in the same form. A span that starts at no place of the text is told without a line of it.
+/// What is printed of an error or a warning in a text of this name: the line and the column where its first span
+/// starts, what it says, and that line of the text with carets under the span. The spans of duplicates follow, each in
+/// the same form. A span that doesn't start at a character boundary of the text is printed without a line of it.
 ///
 /// # Errors
 ///
-/// Want of memory.
+/// `AllocError` if an allocation fails.
 pub fn render<E: Spanned>(
     alloc: Global,
     name: &str,
@@ -29,12 +29,12 @@ pub fn render<E: Spanned>(
     Ok(out)
 }
 
-/// What [`render`] answers of each of the errors or warnings, one behind the other. The lines of the text are found
-/// once for all of them.
+/// What [`render`] returns for each of the errors or warnings, one after another. The lines of the text are found once
+/// for all of them.
 ///
 /// # Errors
 ///
-/// Want of memory.
+/// `AllocError` if an allocation fails.
 pub fn render_all<E: Spanned>(
     alloc: Global,
     name: &str,
@@ -52,7 +52,7 @@ pub fn render_all<E: Spanned>(
     Ok(out)
 }
 
-/// Writes what is read of an error or a warning.
+/// Writes an error or a warning as [`render`] does.
 fn push_error<E: Spanned>(
     alloc: Global,
     out: &mut String,

@@ -1,4 +1,4 @@
-//! A text with its name, and what is told of its places.
+//! A text with its name, and what is printed about its spans.
 
 ghost use Rattle.std.specs.Prelude.{◌≡◌, ◌++◌, codes, string_bytes, IfOk, OnOk};
 ghost use Rattle.std.specs.List.{flat_map};
@@ -9,7 +9,7 @@ use cfgbase::{Span, SpansKind};
 use cfglines::Places;
 use std::alloc::{AllocError, Global};
 
-/// A text with its name and its places.
+/// A text with its name and the offsets of its lines.
 #[derive(Drop)]
 pub(crate) struct Source<'a> {
     name: &'a str,
@@ -26,7 +26,7 @@ impl<'a> Source<'a> {
         Ok(Source { name, places })
     }
 
-    /// Writes what is read of an error or a warning with this message, these spans and this kind.
+    /// Writes an error or a warning with this message, these spans, and spans of this kind.
     pub(crate) fn push_rendered(
         &self,
         out: &mut String,
@@ -45,7 +45,7 @@ impl<'a> Source<'a> {
         self.push_told_also(out, kind, others)
     }
 
-    /// Writes where the spans behind the first one are, if they are those of duplicates.
+    /// Writes where the spans after the first one are, if they are duplicates'.
     fn push_told_also(
         &self,
         out: &mut String,
@@ -73,7 +73,7 @@ impl<'a> Source<'a> {
         Ok(())
     }
 
-    /// Writes where a span starts, these words, and the excerpt.
+    /// Writes where a span starts, this message, and the excerpt.
     fn push_told(&self, out: &mut String, words: &str, span: Span) -> Result<(), AllocError>
         ensures { OnOk result (string_bytes out.new
             ≡ string_bytes out.old ++ told self.now.name.now self.now.places words.now span) }

@@ -3,7 +3,7 @@ use Rattle.std.specs.List.{flat_map}
 use Rattle.cfgrender.specs.Render.{under_front}
 use Rattle.cfgrender.proofs.excerpt.push_under_front.Given as goal
 
--- what stands under the bytes so far
+-- what is under the bytes so far
 abbrev pub invariant-loop-byte : goal.invariant-loop-byte
 invariant-loop-byte l = string_bytes l.out
     ≡ string_bytes l.initial.out ++ flat_map under_front (take l.byte-index l.front)

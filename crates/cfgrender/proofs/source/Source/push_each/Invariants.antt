@@ -3,7 +3,7 @@ use Rattle.std.specs.List.{flat_map}
 use Rattle.cfgrender.specs.Render.{told}
 use Rattle.cfgrender.proofs.source.Source.push_each.Given as goal
 
--- the places so far
+-- the spans so far
 abbrev pub invariant-loop-span : goal.invariant-loop-span
 invariant-loop-span l = string_bytes l.out
     ≡ string_bytes l.initial.out
