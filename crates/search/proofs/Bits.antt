@@ -1,4 +1,4 @@
--- Bits of a list: one is turned on, and how many are on.
+-- Bits of a list: turning one on, and how many are on.
 use Rattle.std.proofs.Common.{◌≡◌, ◌↔◌, ◌⊎◌, inl, inr, ℕ, ◌+◌, ◌<◌, ◌≤◌, Bool, true, false, cond, List, [], ◌∷◌, length, get_or, slice_set, count_by, arith, refl, suc, sym, ap, ◌∙◌, true≢false, get_or-set_same}
 use Rattle.std.proofs.lemmas.List.Sums.{sum_by-set, sum_by-cons}
 use Rattle.lemmas.proofs.Elements.{get_or-set}
@@ -27,7 +27,7 @@ one-fewer true false f = absurd (true≢false (sym (f refl)))
 one-fewer false true f = omega arith
 one-fewer false false f = omega arith
 
--- where each bit that is on is on in the other list too, no more are on
+-- if each bit that is on is also on in the other list, no more bits are on
 pub bits_on-fewer : (a b : List Bool) → ((k : ℕ) → get_or a k false ≡ true → get_or b k false ≡ true) → count_by (λ b. b) a ≤ count_by (λ b. b) b
 bits_on-fewer [] b f = omega arith
 bits_on-fewer (x ∷ a) [] f =
@@ -37,7 +37,7 @@ bits_on-fewer (x ∷ a) (y ∷ b) f =
     let h = bits_on-fewer a b (λ k on. f (suc k) on) in
     omega (arith, h, one-fewer x y (f 0), count-cons x a, count-cons y b)
 
--- and fewer, in another list of the same length
+-- and fewer, if the other list has the same length and differs
 pub bits_on-less : (a b : List Bool) → length a ≡ length b → ((k : ℕ) → get_or a k false ≡ true → get_or b k false ≡ true) → (b ≡ a → ⊥) → count_by (λ b. b) a < count_by (λ b. b) b
 bits_on-less [] [] e f ne = absurd (ne refl)
 bits_on-less [] (y ∷ b) e f ne = absurd (omega (arith, e))

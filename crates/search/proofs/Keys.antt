@@ -11,7 +11,7 @@ use Rattle.std.proofs.lemmas.Option.{slice_get-get_or}
 use Rattle.lemmas.proofs.Elements.{get_or-replicate_default}
 use Rattle.search.specs.Inner.Marks.{bits_at}
 
--- a key is the one that is looked for, or isn't
+-- a key is the one that is looked up, or isn't
 pub same_key : (k q : ℕ) → ((is_at (nat_cmp k) q ≡ true) × (k ≡ q)) ⊎ ((is_at (nat_cmp k) q ≡ false) × (k ≡ q → ⊥))
 same_key k q = by_ranked (k < q) (k ≡ q) (q < k) (nat_cmp k q) (ranked k q (nat_cmp k q) refl)
     (λ o h. inr (ap is_eq o, λ e. omega (arith, h, e)))
@@ -21,7 +21,7 @@ same_key k q = by_ranked (k < q) (k ≡ q) (q < k) (nat_cmp k q) (ranked k q (na
 pub itself_found : (k : ℕ) → is_at (nat_cmp k) k ≡ true
 itself_found k = elim (same_key k k) [ inl h ↦ h.0 | inr h ↦ absurd (h.1 refl) ]
 
--- bits of which none is on, and one bit that was turned on
+-- bits none of which is on, and one bit that was turned on
 pub no_bits : (n : ℕ) (s : BTreeSet ℕ) → s.keys ≡ [] → bits_at n s ≡ replicate n false
 no_bits n s none = sym (fill_by_all (contains nat_cmp s) (replicate n false) n false (length-replicate n false)
     (λ k lt. get_or-replicate_default n k false ∙ sym (ap (list_any (is_at (nat_cmp k))) none)))

@@ -1,4 +1,4 @@
--- What is reached step by step, and a search from its seeds to its end.
+-- What is reachable step by step, and a search from its seeds to its end.
 use Rattle.std.proofs.Common.{◌≡◌, ℕ, ◌+◌, ◌-◌, ◌<◌, ◌⊎◌, ◌↔◌, inl, inr, Bool, true, false, List, [], ◌∷◌, ◌++◌, Contains, get_or, slice_get, slice_set, length, Some, IsTrue, arith, refl, sym, ap, ◌∙◌, subst, true≢false, length-set}
 use Rattle.std.proofs.lemmas.List.{length-replicate, length_push}
 use Rattle.std.proofs.lemmas.List.Elements.{Contains-append_left, Contains-push, Contains-push_cases}
@@ -48,7 +48,7 @@ reaches_then Found Found' old mid new w v = record {
   once = let a = w.once in let b = v.once in omega (arith, a, b);
 }
 
--- one node: its bit was turned on, and it waits if that was off
+-- one node: its bit was turned on, and it is queued if the bit was off
 module _ (x : SearchState) (node : ℕ) (within : node < length x.reached) (bits : List Bool) (put : bits ≡ slice_set x.reached node true) where
   pub reaches_new : (waiting : List ℕ) → slice_get x.reached node ≡ Some false → waiting ≡ x.waiting ++ node ∷ []
       → Reaches (λ n. n ≡ node) x (record { reached = bits; waiting = waiting })
@@ -77,7 +77,7 @@ module _ (x : SearchState) (node : ℕ) (within : node < length x.reached) (bits
       back = ap (λ l. record { reached = l; waiting = x.waiting }) (sym (put ∙ set-slice_get x.reached node true on))
           ∙ ap (λ l. record { reached = bits; waiting = l }) (sym same)
 
--- what was reached first, of so many nodes, waits
+-- what was reached first, of so many nodes, is queued
 pub record Begun (nodes : ℕ) (Seed : ℕ → Type 0) (x : SearchState) : Type 0 where
   pub shape : length x.reached ≡ nodes
   pub seeds : (n : ℕ) → (IsReachedIn x n ↔ Seed n)
@@ -99,7 +99,7 @@ begun nodes Seed old new e v = record {
     none : (n : ℕ) → IsReachedIn (unsearched nodes) n → ⊥
     none n h = true≢false (sym h ∙ get_or-replicate_default nodes n false)
 
--- how much there is to do: each node that wasn't reached waits once
+-- how much there is left to do: each node that wasn't reached is queued once
 abbrev pub left_to_do : SearchState → ℕ
 left_to_do x = (length x.reached - count_reached x) + (length x.reached - count_reached x) + length x.waiting
 
@@ -114,7 +114,7 @@ less_to_do Found node old mid new same popped v =
     omega (arith, length_reached, count, length_waiting, grows, most, v.shape, v.once)
 
 module _ (nodes : ℕ) (Seed : ℕ → Type 0) (Leads : ℕ → ℕ → Type 0) where
-  -- What was reached is reached from the seeds. It waits, or it is Done, and what it leads to was reached.
+  -- What was reached is reachable from the seeds. It is queued, or it is Done, and what it leads to was reached.
   pub record Searching (Done : ℕ → Type 0) (x : SearchState) : Type 0 where
     pub shape : length x.reached ≡ nodes
     pub begins : (n : ℕ) → Seed n → IsReachedIn x n
@@ -132,14 +132,14 @@ module _ (nodes : ℕ) (Seed : ℕ → Type 0) (Leads : ℕ → ℕ → Type 0) 
   }
 
   module _ (Done : ℕ → Type 0) (node : ℕ) (old mid : SearchState) (w : Searching Done old) (popped : old.waiting ≡ mid.waiting ++ node ∷ []) where
-    -- a node that waited was reached
+    -- a queued node was reached
     pub popped_reached : IsReachedIn old node
     popped_reached = w.waits node (subst (λ l. Contains l node) (sym popped) (Contains-push mid.waiting node))
 
     pub popped_within : node < nodes
     popped_within = subst (λ m. node < m) w.shape (within_from_get_or old.reached node false (λ e. true≢false (sym popped_reached ∙ e)))
 
-    -- it waits no longer, and was gone through
+    -- it is no longer queued, and was visited
     pub search_goes_on : (new : SearchState) (Done' : ℕ → Type 0) → ((n : ℕ) → Done n → Done' n) → Done' node → mid.reached ≡ old.reached → Reaches (Leads node) mid new → Searching Done' new
     search_goes_on new Done' more done same v = record {
       shape = v.shape ∙ ap length same ∙ w.shape;
@@ -167,7 +167,7 @@ module _ (nodes : ℕ) (Seed : ℕ → Type 0) (Leads : ℕ → ℕ → Type 0) 
         forth : (n : ℕ) → IsReachedIn old n → IsReachedIn new n
         forth n h = (v.reached n).1 (inl (subst (λ l. IsTrue (get_or l n false)) (sym same) h))
 
-  -- where nothing waits, all that is reached was reached, and is done
+  -- if nothing is queued, everything reachable was reached, and is done
   pub search_ends : (Done : ℕ → Type 0) (x : SearchState) → Searching Done x → x.waiting ≡ [] → {n : ℕ} → Reached Seed Leads n → IsReachedIn x n × Done n
   search_ends Done x w none h = (reached h, (closed _ (reached h)).0)
     where

@@ -1,2 +1,2 @@
--- Words of clauses inside the crate, of its loops and helpers. No call that users make rests on them.
+-- Definitions for the crate's private clauses, of its loops and helpers. No public call depends on them.
 pub mod Marks

@@ -1,3 +1,3 @@
--- Who relies on the calls of this crate has to read these files; those in Inner have the words of private clauses.
+-- Users of this crate's calls have to read these files; those in Inner define what private clauses use.
 pub mod Reached
 pub mod Inner

@@ -1,4 +1,4 @@
-//! What a search goes along.
+//! The edges that a search follows.
 
 ghost use Rattle.std.specs.Prelude.{◌≡◌, ℕ, ◌<◌, length, OnOk};
 ghost use Rattle.search.specs.Reached.{Reaches};
@@ -7,19 +7,19 @@ use crate::marks::Marks;
 use crate::searching::Search;
 use std::alloc::AllocError;
 
-/// Nodes, each of which leads to some, for searches with such marks.
+/// Nodes, each of which leads to some others, for searches with such marks.
 pub trait Edges<M: Marks> {
     // How many nodes there are.
     ghost nodes: { Self → ℕ };
 
-    // To which nodes a node leads.
+    // Which nodes a node leads to.
     ghost leads: { Self → ℕ → ℕ → Type 0 };
 
-    /// Reaches all that the node leads to.
+    /// Reaches every node that the node leads to.
     ///
     /// # Errors
     ///
-    /// Want of memory.
+    /// `AllocError` if an allocation fails.
     fn reach_from(&self, node: usize, search: &mut Search<M>) -> Result<(), AllocError>
         requires node { node < nodes self.now }
         requires nodes { length search.old.reached ≡ nodes self.now }

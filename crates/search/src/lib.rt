@@ -1,4 +1,4 @@
-//! Which nodes are reached from some of them, where nodes are numbers and lead to others.
+//! Which nodes are reachable from some of them, where nodes are numbers and lead to others.
 #![tactic(auto)]
 
 mod edges;

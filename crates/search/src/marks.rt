@@ -17,11 +17,11 @@ pub trait Marks: Drop {
     fn is_marked(&self, number: usize) -> bool
         ensures { result ≡ slice_index_or (bits self.now) number false };
 
-    /// Marks the number, and tells whether it was not marked before.
+    /// Marks the number, and returns whether it was not marked before.
     ///
     /// # Errors
     ///
-    /// Want of memory.
+    /// `AllocError` if an allocation fails.
     fn mark(&mut self, number: usize) -> Result<bool, AllocError>
         requires { number < length (bits self.old) }
         ensures bits { OnOk result (bits self.new ≡ slice_set (bits self.old) number true) }
@@ -38,7 +38,7 @@ impl Marks for Bits {
         self.get(number).unwrap_or(false)
     }
 
-    /// Takes no memory.
+    /// Allocates nothing.
     fn mark(&mut self, number: usize) -> Result<bool, AllocError>
         requires { number < length self.old }
         ensures bits { OnOk result (self.new ≡ slice_set self.old number true) }
@@ -49,7 +49,7 @@ impl Marks for Bits {
     }
 }
 
-/// The numbers that are marked, of those below the bound.
+/// The marked numbers, all below a bound.
 #[derive(Drop)]
 pub struct Few {
     pub(crate) bound: usize,

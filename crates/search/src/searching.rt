@@ -10,7 +10,7 @@ use std::alloc::{AllocError, Global};
 use std::collections::BTreeSet;
 use std::marker::Model;
 
-/// A search through the numbers below a bound, its nodes. A node that was reached waits once, till it is gone through.
+/// A search through the numbers below a bound, its nodes. A node that was reached is queued once, until it is visited.
 #[derive(Drop)]
 pub struct Search<M: Marks = Bits> {
     reached: M,
@@ -26,11 +26,11 @@ impl<M: Marks> Model for Search<M> {
 }
 
 impl Search<Bits> {
-    /// A search that has reached nothing. It takes a bit for each node.
+    /// A search that has reached nothing. It uses a bit for each node.
     ///
     /// # Errors
     ///
-    /// Want of memory.
+    /// `AllocError` if an allocation fails.
     pub fn through(alloc: Global, nodes: usize) -> Result<Self, AllocError>
         ensures { IfOk result (λ x. x ≡ unsearched nodes) }
     {
@@ -42,7 +42,7 @@ impl Search<Bits> {
 }
 
 impl Search<Few> {
-    /// A search that has reached nothing. It takes memory for the nodes that it reaches alone, however many there are.
+    /// A search that has reached nothing. It uses memory only for the nodes that it reaches, however many there are.
     pub fn through_few(alloc: Global, nodes: usize) -> Self
         ensures { result ≡ unsearched nodes }
     {
@@ -64,11 +64,11 @@ impl<M: Marks> Search<M> {
         self.reached.is_marked(node)
     }
 
-    /// Reaches a node, which waits if it was not reached before.
+    /// Reaches a node, which is queued if it was not reached before.
     ///
     /// # Errors
     ///
-    /// Want of memory.
+    /// `AllocError` if an allocation fails.
     pub fn reach(&mut self, node: usize) -> Result<(), AllocError>
         requires { node < length self.old.reached }
         ensures { OnOk result (Reaches (λ n. n ≡ node) self.old self.new) }
@@ -79,7 +79,7 @@ impl<M: Marks> Search<M> {
         Ok(())
     }
 
-    /// A node that waits, which then waits no longer.
+    /// A queued node, which is then no longer queued.
     pub fn next(&mut self) -> Option<usize>
         ensures reached { self.new.reached ≡ self.old.reached }
         ensures waiting { MatchOption result (self.old.waiting ≡ [])
@@ -88,11 +88,11 @@ impl<M: Marks> Search<M> {
         self.waiting.pop()
     }
 
-    /// Goes through each node that waits, till none does.
+    /// Visits each queued node, until none is left.
     ///
     /// # Errors
     ///
-    /// Want of memory.
+    /// `AllocError` if an allocation fails.
     pub fn go_on<E: Edges<M>>(&mut self, edges: &E) -> Result<(), AllocError>
         requires nodes { length self.old.reached ≡ E.nodes edges.now }
         requires all_wait { (n : ℕ) → IsReachedIn self.old n ↔ Contains self.old.waiting n }
