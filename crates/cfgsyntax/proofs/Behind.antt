@@ -1,4 +1,4 @@
--- What is left behind the section of a text.
+-- The rest after the section of a text.
 use Rattle.std.proofs.Common.{◌≡◌, ℕ, ◌≤◌, false, List, Ok, Err, length, ap, subst, arith, length-append}
 use Rattle.std.specs.Str.{IsUtf8}
 use Rattle.cfgsection.specs.declared.section.header_fault.HeaderFault.{HeaderFault}

@@ -1,4 +1,4 @@
--- Each error of a text has a span, and its spans begin and end at places of the text.
+-- Each error of a text has a span, and its spans begin and end at character boundaries of the text.
 use Rattle.std.proofs.Common.{◌≡◌, ℕ, ◌<◌, Bool, true, false, cond, not, ◌||◌, List, [], ◌∷◌, ◌++◌, map, filter, length, All, get_or, slice_get, option_map, Option, Some, None, Ok, Err, Result, sym, subst, arith, true≢false, if◌then◌else◌}
 use Rattle.std.specs.List.{list_any}
 use Rattle.std.specs.Prelude.{IfSome}
@@ -46,7 +46,7 @@ use Rattle.cfgwords.proofs.NameStarts.{begins_as_name}
 abbrev pub IsErrorAt : List ℕ → GrammarError → Type 0
 IsErrorAt text = EachErrorSpan (IsPiece text)
 
--- what stopped a reading stands at places of the text
+-- what stopped a reading has its spans in the text
 abbrev IsStopAt : List ℕ → Option Stop → Type 0
 IsStopAt text None = Unit {0}
 IsStopAt text (Some (InSection errors)) = All (IsSectionErrorAt text) errors
@@ -56,7 +56,7 @@ file_stop_at : (text : List ℕ) (fault : Option Fault) → IfSome fault (λ f. 
 file_stop_at text None h = tt
 file_stop_at text (Some fault) h = h
 
--- What is declared again has a place.
+-- What is declared again has a span.
 
 filter_some : {A : Type 0} (p : A → Bool) (xs : List A) → list_any p xs ≡ true → 0 < length (filter p xs)
 filter_some p [] found = absurd (true≢false (sym found))
@@ -86,7 +86,7 @@ repeats_placed occurrences =
         subst (λ n. 0 < n) (sym (length-map (filter is occurrences) (λ (o : Occurrence). o.span)))
         (filter_some is occurrences (list_any_at is occurrences k d within (is_same_equivalence.refl o.what)))
 
--- The first error of several.
+-- The first of several errors.
 
 first_of_two : (P : GrammarError → Type 0) (first second : Option GrammarError) → IfSome first P → IfSome second P → IfSome (option_or first second) P
 first_of_two P (Some error) second h k = h
@@ -188,7 +188,7 @@ pub record IsReadAt (text : List ℕ) (items : List Item) (stop : Option Stop) :
   pub items_at : All (IsItemAt text) items
   pub stop_at : IsStopAt text stop
 
--- of the file behind the section
+-- of the file after the section
 file_read_at : (kind : YaccKind) (text rest : List ℕ) → IsUtf8 text → IsCut text rest → (items : List Item) (stop : Option Stop) → ReadsFile kind (length text) rest items stop
     → IsReadAt text items stop
 file_read_at kind text rest utf8 cut items stop reads =

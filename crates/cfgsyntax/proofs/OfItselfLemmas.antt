@@ -1,4 +1,4 @@
--- What is answered of a text that names its own kind.
+-- What is returned for a text that names its own kind.
 use Rattle.std.proofs.Common.{◌≡◌, ℕ, ◌<◌, List, length, All, Option, Some, None, Ok, Err, sym, subst, ap, ◌∙◌}
 use Rattle.std.proofs.lemmas.List.{length-map}
 use Rattle.cfgwords.specs.Places.{IsPiece}
@@ -27,7 +27,7 @@ no_memory text (Ok kind) = tt
 no_memory text (Err errors) = tt
 
 module _ (text : List ℕ) where
-  -- of a text whose section has this fault
+  -- for a text whose section has this fault
   pub refusal : (naming : Naming) (fault : HeaderFault) (shown : YaccFault) → IsNaming naming (Err fault) → IsFaultOf fault shown → AnswersNaming text naming (Err shown)
   refusal naming fault faults.OutOfMemory is same = no_memory text naming
   refusal naming (header.Errors errors) (faults.Errors shown) is same = subst (λ n. AnswersNaming text n (Err (faults.Errors shown))) (sym is) same
@@ -47,7 +47,7 @@ module _ (text : List ℕ) where
   pub parsed_as : (naming : Naming) (kind : YaccKind) (parsed : Parsed) → naming ≡ Ok kind → IsParsedAs kind text parsed → AnswersNaming text naming (Ok parsed)
   parsed_as naming kind parsed is h = subst (λ n. AnswersNaming text n (Ok parsed)) (sym is) h
 
-  -- by what named the kind as which it was read
+  -- by what named the kind that it was read as
   pub parsed_named : (default : YaccKind) (named : Option YaccKind) (read_as : YaccKind × KindSource) (parsed : Parsed) (kind : YaccKind)
       → IsKindIfNamed text (Ok named) → named ≡ Some kind → read_as ≡ (kind, sources.Section) → IsParsedAs read_as.0 text parsed → AnswersOr default text (Ok (parsed, read_as.1))
   parsed_named default named read_as parsed kind is some same it =

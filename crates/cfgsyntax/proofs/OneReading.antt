@@ -21,7 +21,7 @@ use Rattle.cfgsyntax.specs.Inner.Steps.{IsReadBehind, stop_view}
 use Rattle.cfgsyntax.specs.Reads.{Stop, InSection, InFile, ReadsBehind, Reads, HasOneReading}
 
 module _ (kind : YaccKind) (len : ℕ) where
-  -- what is read behind such a section, and where that stops
+  -- what is read after such a section, and where that stops
   abbrev pub items_behind : Result (List Entry × List ℕ) (List (ShownError Span)) → List Item
   items_behind (Ok (entries, rest)) = (computes (file kind len) rest).items
   items_behind (Err errors) = []
@@ -83,7 +83,7 @@ read_by kind text section made found is built stopped items stop reads =
       stopped ∙ ap (stop_behind kind (length text)) (sym is) ∙ same.1,
     )
 
--- where the file was read
+-- if the file was read
 pub read_on : {E : Type 0} (kind : YaccKind) (text rest : List ℕ) (len : ℕ) → len ≡ length text → (entries : List Entry) → section_of false text ≡ Ok (entries, rest)
     → (r : Result (GrammarAST × Option Stopped) E) → IfOk r (IsReadBehind kind len rest)
     → IfOk r (λ x. (items : List Item) (stop : Option Stop) → Reads kind text items stop → (syntax x.0 ≡ syntax_of items) × (option_map stop_view x.1 ≡ stop))

@@ -33,12 +33,12 @@ pub errors_read : (errors : List GrammarError) (made : Syntax) (found : Option S
     → errors ≡ all_errors made found → (made ≡ syntax_of items) × (found ≡ stop) → errors ≡ errors_of items stop
 errors_read errors made found items stop e same = e ∙ (λ i. all_errors (same.0 i) (same.1 i))
 
--- with one of its rules as the start it is as sound as before
+-- with another of its rules as the start it is as sound as before
 without_first : (first more : Option GrammarError) → option_or first more ≡ None → more ≡ None
 without_first None more e = e
 without_first (Some error) more e = cc
 
--- what is asked but of the start
+-- all checks except that of the start
 abbrev asked : Syntax → Option GrammarError
 asked s =
     option_or (first_error (rule_error s) s.rules)

@@ -1,4 +1,4 @@
--- What holds of each span of an error, which has one at least, and of whatever was parsed.
+-- What holds of each span of an error, which has at least one, and of everything that was parsed.
 use Rattle.std.specs.Prelude.{◌<◌, All, length}
 use Rattle.cfgbase.specs.declared.span.Span.{Span}
 use Rattle.cfgast.specs.Syntax.{EachSpan}
@@ -7,7 +7,7 @@ use Rattle.cfgerrors.specs.declared.error.YaccFault.{YaccFault}
 use Rattle.cfgerrors.specs.declared.error.YaccFault.TheVariants as faults
 use Rattle.cfgsyntax.specs.Parsed.{Parsed}
 
--- an error has a span, and P holds of each that it has
+-- an error has a span, and P holds of each of its spans
 pub record EachErrorSpan (P : Span → Type 0) (error : GrammarError) : Type 0 where
   pub some : 0 < length error.spans
   pub each : All P error.spans
@@ -17,7 +17,7 @@ pub record EachParsedSpan (P Q : Span → Type 0) (parsed : Parsed) : Type 0 whe
   pub errors : All (EachErrorSpan P) parsed.errors
   pub syntax : EachSpan P Q parsed.syntax
 
--- P holds of each span of the errors; want of memory has none.
+-- P holds of each span of the errors; running out of memory has none.
 abbrev pub EachFaultSpan : (Span → Type 0) → YaccFault → Type 0
 EachFaultSpan P faults.OutOfMemory = Unit {0}
 EachFaultSpan P (faults.Errors told) = All (EachErrorSpan P) told.items

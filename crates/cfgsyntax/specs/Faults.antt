@@ -1,5 +1,4 @@
--- The errors of a text: what it declares more than once, what stopped its reading, and then the first check that what was
--- read fails.
+-- The errors of a text: what it declares more than once, what stopped its reading, and then the first check that what was read fails.
 use Rattle.std.specs.Prelude.{List, [], ◌∷◌, ◌++◌, map, Option, Some, None}
 use Rattle.std.specs.Option.{option_to_list}
 use Rattle.cfgwords.specs.declared.fault.Fault.{Fault}
@@ -52,7 +51,7 @@ repeated_kind unique.Precedence = kinds.DuplicatePrecedence
 repeated_kind unique.AvoidInsert = kinds.DuplicateAvoidInsertDeclaration
 repeated_kind unique.ImplicitToken = kinds.DuplicateImplicitTokensDeclaration
 
--- the error for what is declared more than once, at all its places
+-- the error for what is declared more than once, at all its spans
 abbrev pub duplicate_error : Duplicate → GrammarError
 duplicate_error duplicate = record { kind = repeated_kind duplicate.what.kind; spans = duplicate.spans }
 

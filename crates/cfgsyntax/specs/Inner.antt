@@ -1,3 +1,3 @@
--- Definitions for clauses inside the crate, of its loops and helpers. No call that users make rests on them.
+-- Definitions for clauses inside the crate, of its loops and helpers. No public call depends on them.
 pub mod Steps
 pub mod Unfit

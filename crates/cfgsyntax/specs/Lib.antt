@@ -1,4 +1,4 @@
--- Who relies on the calls of this crate has to read these files; those in Inner have the definitions for private clauses.
+-- Users of this crate's calls have to read these files; those in Inner define what private clauses use.
 pub mod Faults
 pub mod Inner
 pub mod OfItself

@@ -1,4 +1,4 @@
--- What is answered of a text that names its own kind.
+-- What is returned for a text that names its own kind.
 use Rattle.std.specs.Prelude.{◌≡◌, ℕ, List, map, Option, Result, Ok, Err}
 use Rattle.cfgast.specs.Items.{Item}
 use Rattle.cfgast.specs.Syntax.{syntax_of}
@@ -13,20 +13,20 @@ use Rattle.cfgsyntax.specs.Faults.{errors_of}
 use Rattle.cfgsyntax.specs.Parsed.{Parsed}
 use Rattle.cfgsyntax.specs.Reads.{Stop, Reads, HasOneReading}
 
--- This was parsed from the text as a file of this kind: the text has one reading, and the syntax and the errors are that's.
+-- This was parsed from the text as a file of this kind: the text has one reading, and the syntax and the errors are those of that reading.
 pub record IsParsedAs (kind : YaccKind) (text : List ℕ) (parsed : Parsed) : Type 0 where
   pub one : HasOneReading kind text
   pub kind_is : parsed.kind ≡ kind
   pub syntax : (items : List Item) (stop : Option Stop) → Reads kind text items stop → parsed.syntax ≡ syntax_of items
   pub errors : (items : List Item) (stop : Option Stop) → Reads kind text items stop → parsed.errors ≡ errors_of items stop
 
--- of a text that names this kind
+-- for a text that names this kind
 abbrev pub AnswersKind : YaccKind → List ℕ → Result Parsed YaccFault → Type 0
 AnswersKind kind text (Ok parsed) = IsParsedAs kind text parsed
 AnswersKind kind text (Err faults.OutOfMemory) = Unit {0}
 AnswersKind kind text (Err (faults.Errors told)) = ⊥
 
--- of a text that names none, because of these errors
+-- for a text that names none, because of these errors
 abbrev pub AnswersErrors : List GrammarError → Result Parsed YaccFault → Type 0
 AnswersErrors errors (Ok parsed) = ⊥
 AnswersErrors errors (Err faults.OutOfMemory) = Unit {0}
@@ -36,11 +36,11 @@ abbrev pub AnswersNaming : List ℕ → Naming → Result Parsed YaccFault → T
 AnswersNaming text (Ok kind) result = AnswersKind kind text result
 AnswersNaming text (Err errors) result = AnswersErrors (map header_error errors) result
 
--- The text names a kind, or has errors that keep it from that, and this is the result.
+-- The text names a kind, or has errors that keep it from naming one, and this is the result.
 abbrev pub AnswersItself : List ℕ → Result Parsed YaccFault → Type 0
 AnswersItself text result = (NamesNoKind text → ⊥) × ((naming : Naming) × Names text naming × AnswersNaming text naming result)
 
--- of a text that is read as a file of this kind where it names none
+-- for a text that is read as a file of this kind if it names none
 abbrev pub AnswersOr : YaccKind → List ℕ → Result (Parsed × KindSource) YaccFault → Type 0
 AnswersOr default text (Ok (parsed, sources.Default)) = NamesNoKind text × IsParsedAs default text parsed
 AnswersOr default text (Ok (parsed, sources.Section)) = AnswersItself text (Ok parsed)

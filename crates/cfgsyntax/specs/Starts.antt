@@ -1,4 +1,4 @@
--- What was parsed, with another start, and why it isn't given one.
+-- What was parsed, with another start, or why it isn't given one.
 use Rattle.std.specs.Prelude.{◌≡◌, ℕ, List, true, false, codes}
 use Rattle.cfgwords.specs.FileWords.{Word}
 use Rattle.cfgast.specs.Building.{has_rule}
@@ -14,7 +14,7 @@ use Rattle.cfgsyntax.specs.declared.yacc.ast.start.StartFault.TheVariants as fau
 abbrev pub restarted : Parsed → Word → Parsed
 restarted parsed word = record parsed { syntax = started_at parsed.syntax word }
 
--- Memory is wanted only for the name of a rule.
+-- Memory can run out only for the name of a rule.
 abbrev pub IsStartFault : Syntax → List ℕ → StartFault → Type 0
 IsStartFault s name (faults.Modification error) = (error ≡ InvalidStartRule name) × (has_rule name s.rules ≡ false)
 IsStartFault s name faults.OutOfMemory = has_rule name s.rules ≡ true

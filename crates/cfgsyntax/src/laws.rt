@@ -1,11 +1,11 @@
-//! What `==` and `clone` of where a kind came from compare and copy: a law names the derived impls.
+//! What `==` and `clone` of kind sources compare and copy: a law names the derived impls.
 
 ghost use Rattle.std.specs.Prelude.{◌≡◌, ◌↔◌, IsTrue};
 ghost use Rattle.cfgsyntax.specs.declared.yacc.ast.source.KindSource.{KindSource};
 
 use crate::yacc::ast::KindSource;
 
-/// Sources of a kind are equal exactly where they are the same. A clone is its source, and takes no memory.
+/// Two kind sources are equal exactly if they are the same. A clone equals its source and allocates nothing.
 pub fn kind_sources_are_told_apart()
     ensures equal { (a b : KindSource) → IsTrue (⟦<KindSource as PartialEq>⟧.eq a b) ↔ (a ≡ b) }
     ensures clone { (a b : KindSource) → ⟦<KindSource as Clone>⟧.is_clone a b → b ≡ a }

@@ -1,4 +1,4 @@
-//! Yacc grammars as written: the text of a Yacc file, its syntax, and what is wrong with it.
+//! Yacc grammars as written: the text of a Yacc file, its syntax, and its errors.
 #![tactic(auto)]
 
 pub mod laws;

@@ -1,4 +1,4 @@
-//! The reading of a whole text: its section, and the file behind that.
+//! Reading a whole text: its section, and the file after that.
 
 ghost use Rattle.std.specs.Prelude.{◌≡◌, ◌≤◌, length, List, Option, IfOk, option_map};
 ghost use Rattle.cfgast.specs.Items.{Item};
@@ -26,7 +26,7 @@ pub(crate) enum Stopped {
     File(Fault),
 }
 
-/// What is left of a text after its section, which may be missing.
+/// The rest of a text after its section, which may be missing.
 pub(crate) fn after_section(alloc: Global, text: &str) -> Result<&str, HeaderFault>
     ensures { IsReadSection text.now result }
 {
@@ -34,15 +34,15 @@ pub(crate) fn after_section(alloc: Global, text: &str) -> Result<&str, HeaderFau
     Ok(rest)
 }
 
-/// What stopped the reading of a text, by what stopped that of its file.
+/// What stopped the reading of a text, given what stopped that of its file.
 fn stop_in_file(fault: Option<Fault>) -> Option<Stopped>
     ensures { option_map stop_view result ≡ option_map InFile fault }
 {
     fault.map(Stopped::File)
 }
 
-/// Reads what is left of a text of `len` bytes behind its section: what was read, and what stopped the reading, if
-/// anything did.
+/// Reads the rest of a text of `len` bytes after its section: what was read, and what stopped the reading, if anything
+/// did.
 fn read_behind(
     alloc: Global,
     kind: YaccKind,
@@ -56,8 +56,8 @@ fn read_behind(
     Ok((tree_of(syntax), stop_in_file(fault)))
 }
 
-/// Reads a text as a grammar file of the kind, by what is left of it after its section: what was read, and what stopped
-/// the reading, if anything did. After a section with errors nothing is read.
+/// Reads a text as a grammar file of the kind, given the rest after its section: what was read, and what stopped the
+/// reading, if anything did. After a section with errors nothing is read.
 pub(crate) fn read(
     alloc: Global,
     kind: YaccKind,

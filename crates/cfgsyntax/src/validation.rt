@@ -1,4 +1,4 @@
-//! Validation: whether what a syntax names is there.
+//! Validation: whether what a syntax names exists.
 
 ghost use Rattle.std.specs.Prelude.{◌≡◌, IfOk, map, option_map, string_bytes};
 ghost use Rattle.cfgast.specs.Building.{has_entry, has_name, has_rule};
@@ -18,30 +18,30 @@ use cfgerrors::{YaccGrammarError, error_at};
 use cfgtree::GrammarAST;
 use std::alloc::{AllocError, Global};
 
-/// What a check finds wrong. It borrows the name, so that to look for it takes no memory.
+/// What a check finds wrong. It borrows the name, so checks allocate nothing.
 #[derive(Drop)]
 pub(crate) enum Unfit<'a> {
     /// No rule is the start.
     NoStart,
-    /// The start, whose name and place these are, is no rule.
+    /// The start, with its name and span, is not a rule.
     Start(&'a str, Span),
-    /// No rule has the name that stands at this place.
+    /// No rule has the name at this span.
     Rule(&'a str, Span),
-    /// No token has the name that stands at this place, or, where the place is empty and at the text's front, the name
-    /// that a `%prec` gives.
+    /// No token has the name at this span, or, if the span is empty and at the text's start, the name that a `%prec`
+    /// gives.
     Token(&'a str, Span),
     /// The token of a `%prec` has no precedence.
     Precedence(&'a str),
-    /// The key of an `%epp`, with its place, is no token.
+    /// The key of an `%epp`, with its span, is not a token.
     PrintedForm(&'a str, Span),
 }
 
 impl Unfit<'_> {
-    /// The error that tells it.
+    /// The error for this finding.
     ///
     /// # Errors
     ///
-    /// Want of memory.
+    /// `AllocError` if an allocation fails.
     pub(crate) fn error(self, alloc: Global) -> Result<YaccGrammarError, AllocError>
         ensures { IfOk result (λ error. error ≡ unfit_error self.entry) }
     {
@@ -168,8 +168,8 @@ fn check_printed_forms(ast: &GrammarAST) -> Result<(), Unfit<'_>>
 }
 
 /// Validates a tree: that its start is a rule; rule by rule and production by production, that the token of a `%prec`
-/// is a token and has a precedence, and that what each symbol names is there; that each key of `%epp` is a token; and
-/// that what each symbol of `%expect-unused` names is there. It takes no memory.
+/// is a token and has a precedence, and that what each symbol names exists; that each key of `%epp` is a token; and
+/// that what each symbol of `%expect-unused` names exists. It allocates nothing.
 ///
 /// # Errors
 ///

@@ -1,4 +1,4 @@
--- What the steps of reading a text do, told by its section.
+-- What the steps of reading a text do, given its section.
 use Rattle.std.specs.Prelude.{◌≡◌, ℕ, false, List, map, Option, option_map, Result, Ok, Err}
 use denote.Ref.{Bor}
 use Rattle.reading.specs.Construct.{computes}
@@ -23,13 +23,13 @@ abbrev pub stop_view : Stopped → Stop
 stop_view (stops.Section errors) = InSection (errors_view errors.items)
 stop_view (stops.File fault) = InFile fault
 
--- what is left after the section of a text, or the errors of that
+-- the rest after the section of a text, or the section's errors
 abbrev pub IsReadSection : List ℕ → Result (Bor (List ℕ)) HeaderFault → Type 0
 IsReadSection text (Ok rest) = IsAfterSection text rest.now
 IsReadSection text (Err (header.Errors errors)) = section_of false text ≡ Err (errors_view errors.items)
 IsReadSection text (Err header.OutOfMemory) = Unit {0}
 
--- the tree of what is left behind it, and what stopped the reading
+-- the tree of the rest after it, and what stopped the reading
 abbrev pub IsReadBehind : YaccKind → ℕ → List ℕ → GrammarAST × Option Stopped → Type 0
 IsReadBehind kind len rest (tree, stop) = (syntax tree ≡ syntax_of (computes (file kind len) rest).items)
     × (option_map stop_view stop ≡ option_map InFile (stop_of (computes (file kind len) rest).outcome))

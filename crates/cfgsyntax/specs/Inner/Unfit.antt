@@ -1,4 +1,4 @@
--- What a check finds wrong, told as the error that validation answers of a syntax.
+-- What a check finds wrong, as the error that validation returns for a syntax.
 use Rattle.std.specs.Prelude.{Option, Some, None, Result, Ok, Err}
 use Rattle.cfgtree.specs.Check.{nowhere}
 use Rattle.cfgerrors.specs.Errors.{GrammarError, InvalidStartRule, UnknownRuleRef, UnknownToken, NoPrecForToken, UnknownEPP, NoStartRule, error_at}
@@ -13,7 +13,7 @@ unfit_error (unfit.Token name span) = error_at (UnknownToken name.now) span
 unfit_error (unfit.Precedence name) = error_at (NoPrecForToken name.now) nowhere
 unfit_error (unfit.PrintedForm name span) = error_at (UnknownEPP name.now) span
 
--- the error that a check of the code answers, if it fails
+-- the error that a check of the code returns, if it fails
 abbrev pub found : Result (Unit {0}) Unfit → Option GrammarError
 found (Ok _) = None
 found (Err unfit) = Some (unfit_error unfit)

@@ -38,7 +38,7 @@ pub use start::{ASTModificationError, StartFault};
 use std::alloc::{AllocError, Global};
 use std::marker::Model;
 
-/// The syntax of a Yacc file, of whatever was read of it, and the errors of the file.
+/// The syntax of what was read of a Yacc file, and the errors of the file.
 #[derive(Debug, Drop)]
 pub struct ASTWithValidityInfo {
     kind: YaccKind,
@@ -59,17 +59,17 @@ impl Model for ASTWithValidityInfo {
 }
 
 impl ASTWithValidityInfo {
-    /// Reads the text as a Yacc file of the kind, and validates what was read. What its section says counts for
-    /// nothing, but behind one with errors nothing is read.
+    /// Reads the text as a Yacc file of the kind, and validates what was read. What its section says is ignored, except
+    /// that nothing is read after a section with errors.
     ///
     /// The text has exactly one reading: the items that count as read, and what stopped the reading, if anything did.
     /// The syntax is what these items say. The errors are what is declared more than once, then the errors of the
     /// section or the fault that stopped the reading, if there are any, and then the first check that the syntax fails,
     /// if it fails one.
     ///
-    /// Each error has a span. Each span of the syntax and of an error begins and ends at a place of the text: where a
-    /// character begins, or where the text ends. But an action's span is as long as its trimmed text and begins behind
-    /// its brace, so it may end inside a character: it lies within the text.
+    /// Each error has a span. Each span of the syntax and of an error begins and ends at a character boundary of the
+    /// text: where a character begins, or where the text ends. But an action's span is as long as its trimmed text and
+    /// begins after its brace, so it may end inside a character: it only lies within the text.
     pub fn new(alloc: Global, kind: YaccKind, text: &str) -> Result<Self, AllocError>
         ensures one { HasOneReading kind text.now }
         ensures kind { IfOk result (λ parsed. parsed.kind ≡ kind) }
@@ -88,8 +88,8 @@ impl ASTWithValidityInfo {
     ///
     /// # Errors
     ///
-    /// Those of the section, which must be there; where it has none, one where it has no key `yacckind`, or what it
-    /// gives that isn't a kind; and want of memory. What is wrong behind the section is no error of this call.
+    /// Those of the section, which is required; if it has none, one error if it has no key `yacckind`, or if the key's
+    /// value is not a kind; and running out of memory. What is wrong after the section is not an error of this call.
     pub fn from_str(alloc: Global, text: &str) -> YaccGrammarResult<Self>
         ensures one { HasOneNaming text.now }
         ensures answer { (naming : Naming) → Names text.now naming → AnswersNaming text.now naming result }
@@ -104,13 +104,13 @@ impl ASTWithValidityInfo {
         Ok(ASTWithValidityInfo::read(alloc, kind, text, Ok(rest))?)
     }
 
-    /// Reads the text as a Yacc file of the kind that its section names. Where it has no section, or one without errors
+    /// Reads the text as a Yacc file of the kind that its section names. If it has no section, or one without errors
     /// that names no kind, it is read as a file of `default`, and the result says so.
     ///
     /// # Errors
     ///
-    /// Those of the section; where it has none, one where it gives `yacckind` what isn't a kind; and running out of
-    /// memory. What is wrong after the section is no error of this call.
+    /// Those of the section; if it has none, one error if the value of `yacckind` is not a kind; and running out of
+    /// memory. What is wrong after the section is not an error of this call.
     pub fn from_str_or(
         alloc: Global,
         default: YaccKind,
@@ -134,7 +134,7 @@ impl ASTWithValidityInfo {
         Ok((parsed, source))
     }
 
-    /// Reads the text as a Yacc file of the kind, by what is left of it after its section.
+    /// Reads the text as a Yacc file of the kind, given the rest after its section.
     fn read(
         alloc: Global,
         kind: YaccKind,
@@ -181,12 +181,12 @@ impl ASTWithValidityInfo {
         self.errors.as_slice()
     }
 
-    /// A copy with another start: the name and the span of the handed rule. The kind and the errors stay as they are,
-    /// and so does the rest of the syntax.
+    /// A copy with another start: the given rule's name and span. The kind and the errors stay as they are, and so does
+    /// the rest of the syntax.
     ///
     /// # Errors
     ///
-    /// `Modification`, of kind `InvalidStartRule`, exactly where no rule has the name; and want of memory.
+    /// `Modification`, of kind `InvalidStartRule`, exactly if no rule has the name; and running out of memory.
     pub fn clone_and_change_start_rule(&self, alloc: Global, rule: Rule) -> Result<Self, StartFault>
         ensures changed { IfOk result (λ parsed. parsed ≡ restarted self.now (named_view rule.name)) }
         ensures known { OnOk result (has_rule (string_bytes rule.name.0) self.now.syntax.rules ≡ true) }

@@ -13,7 +13,7 @@ use std::error::Error;
 use std::fmt;
 use std::marker::Model;
 
-/// A change that a syntax can't take.
+/// A change that a syntax doesn't permit.
 #[derive(Debug, Drop)]
 pub struct ASTModificationError {
     pub(super) kind: YaccGrammarErrorKind,
@@ -80,7 +80,7 @@ impl Clone for ASTModificationError {
 pub enum StartFault {
     /// No rule has the name: the kind is `InvalidStartRule`, with that name.
     Modification(ASTModificationError),
-    /// No memory is left.
+    /// Out of memory.
     OutOfMemory,
 }
 

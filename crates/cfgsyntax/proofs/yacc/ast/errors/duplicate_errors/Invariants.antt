@@ -5,7 +5,7 @@ use Rattle.cfgtree.specs.TreeView.{duplicate_view}
 use Rattle.cfgsyntax.specs.Faults.{duplicate_error}
 use Rattle.cfgsyntax.proofs.yacc.ast.errors.duplicate_errors.Given as goal
 
--- the errors so far, and those of what is left
+-- the errors so far, and those of the rest
 abbrev pub invariant-loop-what : goal.invariant-loop-what
 invariant-loop-what l =
     l.errors.items ++ map duplicate_error (map duplicate_view l.what-iterator)
