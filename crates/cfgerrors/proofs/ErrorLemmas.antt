@@ -1,4 +1,4 @@
--- Two errors are told apart by `==` exactly where callers see two.
+-- `==` distinguishes two errors exactly if callers see them differ.
 use Rattle.std.proofs.Common.{◌≡◌, ◌↔◌, ◌∙◌, refl, ap, sym, IsTrue, true, ℕ, List, String, Global, string_bytes, string_eq, ◌==◌, ◌&&◌, rules, eqb-true, eq-eqb}
 use Rattle.std.specs.Bool.{one_answer}
 use Rattle.std.proofs.lemmas.Bool.{and_from, and_parts, false≢true}
@@ -30,7 +30,7 @@ spanskind_itself : (a : SpansKind) → spanskinds.eq a a ≡ true
 spanskind_itself DuplicationError = refl
 spanskind_itself Error = refl
 
--- where the derived `==` finds two kinds the same, so do callers
+-- if the derived `==` finds two kinds the same, so do callers
 kind_view-eq : (x y : YaccGrammarErrorKind) → kinds.eq x y ≡ true → kind_view x ≡ kind_view y
 kind_view-eq x y h =
     sym (ap kind_view (enum.eta x))
@@ -55,7 +55,7 @@ kind_view-eq x y h =
 same_name : (x y : String Global) → string_bytes x ≡ string_bytes y → string_eq x y ≡ true
 same_name x y e = (bytes_decides (string_bytes x) (string_bytes y)).1 e
 
--- and where callers see the same, so does it
+-- and if callers see the same, so does it
 eq-kind_view : (x y : YaccGrammarErrorKind) → kind_view x ≡ kind_view y → kinds.eq x y ≡ true
 eq-kind_view rust.IllegalInteger rust.IllegalInteger e = refl
 eq-kind_view rust.IllegalName rust.IllegalName e = refl

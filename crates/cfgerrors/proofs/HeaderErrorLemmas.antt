@@ -1,4 +1,4 @@
--- Two kinds of errors are told apart by `==` exactly where callers see two.
+-- `==` distinguishes two kinds of errors exactly if callers see them differ.
 use Rattle.std.proofs.Common.{◌≡◌, ◌↔◌, IsTrue, refl, ap, true, ◌==◌, eqb-true, eq-eqb}
 use Rattle.std.specs.Str.{bytes_eq}
 use Rattle.std.proofs.lemmas.Bool.{and_from, and_parts, false≢true}
@@ -8,7 +8,7 @@ use Rattle.cfgerrors.specs.declared.header.HeaderErrorKind.TheVariants as rust
 use Rattle.cfgerrors.specs.contracts.header.HeaderErrorKindPartialEq.TheImpl.{ghosts as kinds}
 use Rattle.cfgerrors.specs.HeaderErrors.{ExpectedToken, UnexpectedToken, InvalidEntry, ConversionError, error_kind_view}
 
--- where the derived `==` finds two the same, so do callers
+-- if the derived `==` finds two the same, so do callers
 pub error_kind_view-eq : (x y : HeaderErrorKind) → kinds.eq x y ≡ true → error_kind_view x ≡ error_kind_view y
 error_kind_view-eq rust.MissingGrmtoolsSection rust.MissingGrmtoolsSection h = refl
 error_kind_view-eq rust.IllegalName rust.IllegalName h = refl
@@ -23,7 +23,7 @@ error_kind_view-eq (rust.ConversionError wanted cause) (rust.ConversionError oth
     λ i. ConversionError ((bytes_decides wanted.now other.now).0 both.0 i) ((bytes_decides cause.now why.now).0 both.1 i)
 error_kind_view-eq x y h = absurd (false≢true h)
 
--- and where callers see the same, so does it
+-- and if callers see the same, so does it
 pub eq-error_kind_view : (x y : HeaderErrorKind) → error_kind_view x ≡ error_kind_view y → kinds.eq x y ≡ true
 eq-error_kind_view rust.MissingGrmtoolsSection rust.MissingGrmtoolsSection e = refl
 eq-error_kind_view rust.IllegalName rust.IllegalName e = refl

@@ -1,4 +1,4 @@
--- `==` tells two warnings apart exactly where callers see two.
+-- `==` distinguishes two warnings exactly if callers see them differ.
 use Rattle.std.proofs.Common.{◌≡◌, ◌↔◌, refl, subst, IsTrue, true}
 use Rattle.std.proofs.lemmas.Bool.{false≢true, and_parts}
 use Rattle.cfgerrors.specs.declared.warning.YaccGrammarWarningKind.{YaccGrammarWarningKind}

@@ -45,7 +45,7 @@ error_text kinds.InvalidYaccKind = codes "Invalid yacc kind"
 error_text (kinds.Header kind spanskind) = codes "Error in '%grmtools' " ++ kind_text kind
 error_text kinds.StorageTooSmall = codes "Index type too small for this grammar"
 
--- of errors the text of each, in their order, with a line end between two of them
+-- the text of each error, in order, with a line end between two of them
 abbrev pub fault_text : YaccFault → List ℕ
 fault_text (Errors errors) = join_by (λ error. error_text error.kind) (codes "\n") errors.items
 fault_text OutOfMemory = codes "out of memory"

@@ -15,7 +15,7 @@ use Rattle.cfgerrors.specs.HeaderErrors.{ShownErrorKind, ShownError, error_kind_
 use Rattle.cfgerrors.specs.declared.error.YaccGrammarErrorKind.{YaccGrammarErrorKind}
 use Rattle.cfgerrors.specs.declared.error.YaccGrammarErrorKind.TheVariants as rust
 
--- what is wrong: the kinds of the code, with names as their bytes, and with what a kind in a section shows
+-- what is wrong: the kinds of the code, with names as their bytes, and with what a kind for a section shows
 pub data ErrorKind : Type 0 where
   IllegalInteger IllegalName IllegalString IncompleteRule IncompleteComment IncompleteAction : ErrorKind
   MissingColon MissingRightArrow MismatchedBrace NonEmptyProduction PrematureEnd ProductionNotTerminated : ErrorKind
@@ -37,7 +37,7 @@ pub record GrammarError : Type 0 where
 abbrev pub error_at : ErrorKind → Span → GrammarError
 error_at kind span = record { kind = kind; spans = span ∷ [] }
 
--- a kind of the code, without the memory that its name stands in
+-- a kind of the code, without the memory that holds its name
 abbrev pub kind_view : YaccGrammarErrorKind → ErrorKind
 kind_view rust.IllegalInteger = IllegalInteger
 kind_view rust.IllegalName = IllegalName
@@ -76,11 +76,11 @@ kind_view rust.InvalidYaccKind = InvalidYaccKind
 kind_view (rust.Header kind spanskind) = Header (error_kind_view kind) spanskind
 kind_view rust.StorageTooSmall = StorageTooSmall
 
--- an error in a section, as one of the whole file
+-- an error in a section, as an error of the whole file
 abbrev pub header_error : ShownError Span → GrammarError
 header_error error = record { kind = Header error.kind (header_spanskind error.kind); spans = error.locations }
 
--- what the spans of an error stand for
+-- what the spans of an error mean
 abbrev pub spanskind_of : ErrorKind → SpansKind
 spanskind_of DuplicatePrecedence = DuplicationError
 spanskind_of DuplicateAvoidInsertDeclaration = DuplicationError
@@ -112,7 +112,7 @@ kinds_decided = ErrorKind-discrete (List-discrete ℕ_discrete) ℕ_discrete sec
 abbrev pub same_kind : ErrorKind → ErrorKind → Bool
 same_kind a b = decide (kinds_decided a b)
 
--- it holds exactly of what is the same
+-- it holds exactly for kinds that are the same
 pub same_kind_iff : (a b : ErrorKind) → (same_kind a b ≡ true) ↔ (a ≡ b)
 same_kind_iff a b = decide_iff (kinds_decided a b)
 

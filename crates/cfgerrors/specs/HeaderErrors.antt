@@ -1,4 +1,4 @@
--- An error in a section as plain data. T is the type of places.
+-- An error in a section as plain data. T is the type of locations.
 use Rattle.std.specs.Prelude.{ℕ, List}
 use mathlib.Core.List.{List-discrete}
 use native.Mathlib.Decide.{ℕ_discrete}
@@ -24,7 +24,7 @@ pub record ShownError (T : Type 0) : Type 0 where
   pub kind : ShownErrorKind
   pub locations : List T
 
--- a kind of the code, without where its texts stand
+-- a kind of the code, without the memory that holds its texts
 abbrev pub error_kind_view : HeaderErrorKind → ShownErrorKind
 error_kind_view rust.MissingGrmtoolsSection = MissingGrmtoolsSection
 error_kind_view rust.IllegalName = IllegalName
@@ -37,7 +37,7 @@ error_kind_view (rust.ConversionError wanted cause) = ConversionError wanted.now
 abbrev pub error_view : {T : Type 0} → HeaderError T → ShownError T
 error_view error = record { kind = error_kind_view error.kind; locations = error.locations.items }
 
--- what the locations of an error stand for
+-- what the locations of an error mean
 abbrev pub spanskind_of : ShownErrorKind → SpansKind
 spanskind_of DuplicateEntry = DuplicationError
 spanskind_of _ = Error

@@ -8,7 +8,7 @@ use Rattle.cfgerrors.specs.declared.warning.YaccGrammarWarningKind.{YaccGrammarW
 use Rattle.cfgerrors.specs.contracts.warning.YaccGrammarWarningKindPartialEq.TheImpl.{ghosts as kinds}
 use Rattle.cfgerrors.specs.contracts.warning.YaccGrammarWarningKindEq.TheImpl.Laws.{laws-law}
 
--- what is odd, and where
+-- what the warning is, and where
 pub record GrammarWarning : Type 0 where
   pub kind : YaccGrammarWarningKind
   pub spans : List Span

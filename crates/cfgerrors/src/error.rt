@@ -18,8 +18,8 @@ use std::marker::Model;
 
 /// What is wrong with a Yacc file.
 ///
-/// Of the declarations `%token`, `%start`, `%left`, `%right`, `%nonassoc` and `%prec` are those of POSIX
-/// `yacc`, `%expect`, `%expect-rr`, `%empty` and `%parse-param` are Bison's, and the others grmtools's.
+/// Of the declarations, `%token`, `%start`, `%left`, `%right`, `%nonassoc` and `%prec` are those of POSIX `yacc`;
+/// `%expect`, `%expect-rr`, `%empty` and `%parse-param` are Bison's; and the others are grmtools's.
 #[derive(Clone, Debug, Drop, PartialEq, Eq)]
 pub enum YaccGrammarErrorKind {
     /// A number is missing, or too large.
@@ -34,29 +34,29 @@ pub enum YaccGrammarErrorKind {
     IncompleteComment,
     /// An action does not end.
     IncompleteAction,
-    /// The colon behind a rule's name is missing.
+    /// The colon after a rule's name is missing.
     MissingColon,
     /// The arrow before a rule's type is missing.
     MissingRightArrow,
-    /// A brace has no counterpart. The reader never answers this.
+    /// A brace has no counterpart. The reader never returns this.
     MismatchedBrace,
-    /// A production says `%empty` and is not empty.
+    /// A production has an `%empty` and is not empty.
     NonEmptyProduction,
     /// The text ends before the `%%` that opens the rules.
     PrematureEnd,
     /// Neither `|` nor `;` follows an action.
     ProductionNotTerminated,
-    /// There are programs. The reader never answers this.
+    /// There are programs. The reader never returns this.
     ProgramsNotSupported,
     /// No declaration begins like this.
     UnknownDeclaration,
-    /// No token follows a `%prec`. The reader never answers this.
+    /// No token follows a `%prec`. The reader never returns this.
     PrecNotFollowedByToken,
     /// The precedence of a token is declared more than once.
     DuplicatePrecedence,
-    /// A token stands more than once in `%avoid_insert`.
+    /// A token is more than once in `%avoid_insert`.
     DuplicateAvoidInsertDeclaration,
-    /// A token stands more than once in `%implicit_tokens`.
+    /// A token is more than once in `%implicit_tokens`.
     DuplicateImplicitTokensDeclaration,
     /// `%expect` is declared more than once.
     DuplicateExpectDeclaration,
@@ -70,27 +70,27 @@ pub enum YaccGrammarErrorKind {
     DuplicateEPP,
     /// A line, or the text, ends inside a declaration.
     ReachedEOL,
-    /// A string is not quoted, does not end, or escapes what is no quote.
+    /// A string is not quoted, does not end, or escapes something other than a quote.
     InvalidString,
     /// There is no rule to start from.
     NoStartRule,
     /// Neither a rule nor a token is named where one must be.
     UnknownSymbol,
-    /// The rule of this name, from which to start, is not in the grammar.
+    /// The start rule, of this name, is not in the grammar.
     InvalidStartRule(String),
-    /// The rule of this name is used, and is not in the grammar.
+    /// The rule of this name is used, but is not in the grammar.
     UnknownRuleRef(String),
-    /// The token of this name is used, and is not in the grammar.
+    /// The token of this name is used, but is not in the grammar.
     UnknownToken(String),
-    /// The token of this name is that of a `%prec`, and has no precedence.
+    /// The token of this name is used by a `%prec`, but has no precedence.
     NoPrecForToken(String),
-    /// The token of this name is that of an `%epp`, and is not in the grammar.
+    /// The token of this name has an `%epp`, but is not in the grammar.
     UnknownEPP(String),
-    /// This character is missing. The reader never answers this.
+    /// This character is missing. The reader never returns this.
     ExpectedInput(char),
-    /// There is no such kind of Yacc. The reader never answers this.
+    /// There is no such kind of Yacc. The reader never returns this.
     InvalidYaccKind,
-    /// This is wrong with the `%grmtools` section, and what the spans stand for.
+    /// What is wrong with the `%grmtools` section, and what the spans mean.
     Header(HeaderErrorKind, SpansKind),
     /// The index type cannot count the rules, tokens, productions or symbols.
     StorageTooSmall,
@@ -190,7 +190,7 @@ impl Model for YaccGrammarError {
 }
 
 impl YaccGrammarError {
-    /// An error at these spans. Of a duplicate the first is the original's, and the others its repeats'.
+    /// An error at these spans. For a duplicate, the first is the original's, and the others are its repeats'.
     pub fn new(kind: YaccGrammarErrorKind, spans: Vec<Span>) -> Self
         ensures { result ≡ record { kind = kind_view kind; spans = spans.items } }
     {
@@ -205,11 +205,11 @@ impl YaccGrammarError {
     }
 }
 
-/// An error at one span, as a reader makes it.
+/// An error at one span, as readers make it.
 ///
 /// # Errors
 ///
-/// There is no memory for the span.
+/// `AllocError` if an allocation fails.
 pub fn error_at(
     alloc: Global,
     kind: YaccGrammarErrorKind,
@@ -222,7 +222,7 @@ pub fn error_at(
     Ok(YaccGrammarError::new(kind, spans))
 }
 
-/// The error of a whole file that is one in its section, at the same spans. It takes no memory.
+/// An error in a section as an error of the whole file, at the same spans. It allocates nothing.
 impl From<HeaderError<Span>> for YaccGrammarError {
     ghost from_gives = { λ error whole. whole ≡ header_error (error_view error) };
 
@@ -303,7 +303,7 @@ impl Spanned for YaccGrammarError {
 pub enum YaccFault {
     /// The text has these errors, at least one.
     Errors(Vec<YaccGrammarError>),
-    /// There is no memory left. This says nothing of the text.
+    /// Out of memory. This says nothing about the text.
     OutOfMemory,
 }
 
@@ -348,5 +348,5 @@ impl<T: Drop> From<AllocFailed<T>> for YaccFault {
     }
 }
 
-/// What reading a Yacc file answers.
+/// The result of reading a Yacc file.
 pub type YaccGrammarResult<T> = Result<T, YaccFault>;

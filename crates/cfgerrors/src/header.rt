@@ -13,17 +13,17 @@ use std::fmt;
 /// What is wrong with a section.
 #[derive(Clone, Copy, Debug, PartialEq, Eq)]
 pub enum HeaderErrorKind {
-    /// There is no section where one must be.
+    /// A required section is missing.
     MissingGrmtoolsSection,
-    /// A name is missing, or a text between quotes does not close.
+    /// A name is missing, or a quoted text has no closing quote.
     IllegalName,
     /// This character is missing.
     ExpectedToken(char),
-    /// This character can't stand here. The text says what may be meant.
+    /// This character is not allowed here. The text says what may be meant.
     UnexpectedToken(char, &'static str),
     /// A key is given more than once.
     DuplicateEntry,
-    /// What is given for this can't be.
+    /// The value given for this is not allowed.
     InvalidEntry(&'static str),
     /// A value isn't of the type that the first text names. The second says why.
     ConversionError(&'static str, &'static str),
@@ -58,7 +58,7 @@ impl fmt::Display for HeaderErrorKind {
     }
 }
 
-/// Writes what is said of a character that can't stand where it does, under any options.
+/// Writes the message for a character that is not allowed where it is, with any formatting options.
 fn write_unexpected<W: fmt::Write>(
     f: &mut fmt::Formatter<W>,
     character: &str,
@@ -72,7 +72,7 @@ fn write_unexpected<W: fmt::Write>(
     f.write_str(" ")
 }
 
-/// Writes what is said of a value that isn't of the wanted type, under any options.
+/// Writes the message for a value of another type than the required one, with any formatting options.
 fn write_conversion<W: fmt::Write>(
     f: &mut fmt::Formatter<W>,
     wanted: &str,
@@ -90,12 +90,12 @@ fn write_conversion<W: fmt::Write>(
 pub struct HeaderError<T> {
     /// What is wrong.
     pub kind: HeaderErrorKind,
-    /// The places. Of a duplicate the first is the original's, and the others its repeats'.
+    /// Where it is wrong. For a duplicate, the first location is the original's, and the others are its repeats'.
     pub locations: Vec<T>,
 }
 
 impl<T> HeaderError<T> {
-    /// What the locations stand for.
+    /// What the locations mean.
     pub fn spanskind(&self) -> SpansKind
         ensures { result ≡ spanskind_of (error_kind_view self.now.kind) }
     {

@@ -1,5 +1,5 @@
 //! What `==` and `clone` of errors, and of kinds of warnings, compare and copy. They are derived, so each law names the
-//! impl, as in `⟦<YaccGrammarErrorKind as PartialEq>⟧`, and holds of every value.
+//! impl, as in `⟦<YaccGrammarErrorKind as PartialEq>⟧`, and holds for every value.
 
 ghost use Rattle.std.specs.Prelude.{◌≡◌, ◌↔◌, IsTrue};
 ghost use Rattle.std.specs.List.{AllZip};
@@ -14,8 +14,8 @@ use crate::error::YaccGrammarErrorKind;
 use crate::header::{HeaderError, HeaderErrorKind};
 use crate::warning::YaccGrammarWarningKind;
 
-/// Kinds of errors are equal exactly where they show the same: the same kind, with the same name or character where it
-/// holds one. A clone shows what its source does.
+/// Kinds of errors are equal exactly if they show the same: the same kind, with the same name or character if it has
+/// one. A clone shows what its source does.
 pub fn error_kinds_are_what_they_show()
     ensures equal { (a b : YaccGrammarErrorKind) → IsTrue (⟦<YaccGrammarErrorKind as PartialEq>⟧.eq a b)
         ↔ (kind_view a ≡ kind_view b) }
@@ -23,8 +23,8 @@ pub fn error_kinds_are_what_they_show()
         → kind_view b ≡ kind_view a }
 {}
 
-/// Kinds of errors in a section are equal exactly where they show the same: the same kind, with the same character and
-/// texts where it holds some. A clone is its source, and takes no memory.
+/// Kinds of errors in a section are equal exactly if they show the same: the same kind, with the same character and
+/// texts if it has some. A clone equals its source and allocates nothing.
 pub fn header_error_kinds_are_what_they_show()
     ensures equal { (a b : HeaderErrorKind) → IsTrue (⟦<HeaderErrorKind as PartialEq>⟧.eq a b)
         ↔ (error_kind_view a ≡ error_kind_view b) }
@@ -39,7 +39,7 @@ pub fn header_errors_are_cloned<T: Clone>()
         → AllZip T.is_clone a.locations.items b.locations.items }
 {}
 
-/// The two kinds of warnings differ, and each is equal to itself. A clone is its source.
+/// The two kinds of warnings differ, and each is equal to itself. A clone equals its source.
 pub fn warning_kinds_are_told_apart()
     ensures equal { (a b : YaccGrammarWarningKind)
         → IsTrue (⟦<YaccGrammarWarningKind as PartialEq>⟧.eq a b) ↔ (a ≡ b) }

@@ -1,5 +1,5 @@
-//! What is wrong with a Yacc file or with its section: errors, as readers make them; and what is odd about a grammar:
-//! warnings, as a tree makes them.
+//! What is wrong with a Yacc file or with its section: errors, as readers make them; and warnings about a grammar, as a
+//! tree makes them.
 #![tactic(auto)]
 
 pub mod error;

@@ -5,7 +5,7 @@ ghost use Rattle.std.specs.Fmt.{WritesOnOk, WritesStyledOnOk};
 
 use std::fmt;
 
-/// Writes a name between two texts, under any options.
+/// Writes a name between two texts, with any formatting options.
 pub(crate) fn write_parts<W: fmt::Write>(
     f: &mut fmt::Formatter<W>,
     before: &str,

@@ -1,4 +1,4 @@
-//! What is odd about a grammar, and where.
+//! Warnings about a grammar, and where they are.
 
 ghost use Rattle.std.specs.Prelude.{◌≡◌, ◌↔◌, IsTrue, IfOk, Some};
 ghost use Rattle.std.specs.Cmp.{partial_equiv_from_equiv};
@@ -11,12 +11,12 @@ use std::alloc::{AllocError, Global};
 use std::fmt;
 use std::marker::Model;
 
-/// What is odd about a grammar that is right.
+/// A warning about a grammar without errors.
 #[derive(Clone, Debug, Drop, PartialEq, Eq)]
 pub enum YaccGrammarWarningKind {
-    /// No row of productions reaches this rule from the start rule.
+    /// No sequence of productions reaches this rule from the start rule.
     UnusedRule,
-    /// No row of productions reaches this token from the start rule.
+    /// No sequence of productions reaches this token from the start rule.
     UnusedToken,
 }
 
@@ -33,7 +33,7 @@ impl fmt::Display for YaccGrammarWarningKind {
     }
 }
 
-/// A warning about a grammar: what is odd, and where.
+/// A warning about a grammar: its kind, and where.
 #[derive(Debug, Drop)]
 pub struct YaccGrammarWarning {
     kind: YaccGrammarWarningKind,
@@ -49,7 +49,7 @@ impl Model for YaccGrammarWarning {
 }
 
 impl YaccGrammarWarning {
-    /// What is odd.
+    /// The kind of the warning.
     pub fn kind(&self) -> &YaccGrammarWarningKind
         ensures { result.now ≡ self.now.kind }
     {
@@ -57,11 +57,11 @@ impl YaccGrammarWarning {
     }
 }
 
-/// A warning at one span, as a reader makes it.
+/// A warning at one span, as readers make it.
 ///
 /// # Errors
 ///
-/// There is no memory for the span.
+/// `AllocError` if an allocation fails.
 pub fn warning_at(
     alloc: Global,
     kind: YaccGrammarWarningKind,

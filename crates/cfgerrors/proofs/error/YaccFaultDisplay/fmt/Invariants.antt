@@ -4,7 +4,7 @@ use Rattle.std.specs.List.{flat_map}
 use Rattle.cfgerrors.specs.ErrorTexts.{error_text}
 use Rattle.cfgerrors.proofs.error.YaccFaultDisplay.fmt.Given as goal
 
--- behind the first error the others so far are written, each behind a line end
+-- after the first error, the others so far are written, each after a line end
 abbrev pub invariant-loop-error : goal.invariant-loop-error
 invariant-loop-error g l =
     let behind = flat_map (λ error. codes "\n" ++ error_text error.kind) (take l.error-index l.others) in
