@@ -1,4 +1,4 @@
--- What the parser of sections answers, by the section of its text.
+-- What the parser of sections returns, given the section of its text.
 use Rattle.std.proofs.Common.{◌≡◌, ℕ, Bool, List, length, map, Result, Ok, Err, Bor, Vec, Global, String, refl, sym, subst}
 use Rattle.std.specs.Str.{IsUtf8, IsCharBoundary}
 use Rattle.cfgbase.specs.declared.span.Span.{Span}
@@ -15,7 +15,7 @@ use Rattle.cfgsection.proofs.SectionOne.{section_answered}
 use Rattle.cfgsection.proofs.SectionPlaces.{IsSectionAt, section_at}
 use Rattle.cfgheader.specs.Headers.{AnswersSection, IsHeaderOf, IsSectionAnswer}
 
--- what is answered by the plain program is told by each reading
+-- what the plain program returns is what each reading gives
 by_readings : (required : Bool) (text : List ℕ) (result : Result (MarkMap (String Global) (HeaderValue Span) × ℕ) HeaderFault)
     → IsSectionAnswer (length text) result (section_of required text) → AnswersSection required text result
 by_readings required text result answer entries end is = subst (IsSectionAnswer (length text) result) (section_answered required text entries end is) answer
@@ -32,7 +32,7 @@ module _ (required : Bool) (text : List ℕ) where
       by_readings required text (Err (faults.Errors errors)) (subst (IsSectionAnswer (length text) (Err (faults.Errors errors))) (sym read) refl)
   fault_answers faults.OutOfMemory read = by_readings required text (Err faults.OutOfMemory) tt
 
-  -- the offset behind the section is a place of the text
+  -- the offset after the section is a character boundary of the text
   pub end_at : IsUtf8 text → (entries : List Entry) (rest : List ℕ) (offset : ℕ) → section_of required text ≡ Ok (entries, rest) → offset ≡ place (length text) rest
       → IsCharBoundary text offset
   end_at utf8 entries rest offset read at =

@@ -49,7 +49,7 @@ module _ {K X : Type 0} (cmp : K → K → Ordering) (total : IsTotalOrder cmp) 
       go true e = sym (lookup_congr cmp total (insert_entry cmp es k w) k q (equal_from (cmp k q) e)) ∙ lookup_inserted cmp total es k w
       go false e = lookup_inserted_other es k q w e
 
--- a value that is set at a key without marks shows as a value alone
+-- a value that is set at a key without marks shows as just the value
 set_shows : (o : Option (Marked (HeaderValue Span))) (g : Option (ShownHeaderValue Span)) → option_map marked_view o ≡ option_map bare_value g
     → (value : HeaderValue Span) → marked_view (set_value value (unwrap_or o unmarked)) ≡ bare_value (header_value_view value)
 set_shows None g e value = refl

@@ -1,4 +1,4 @@
--- The header of a section: what its entries give their keys, as a map of marks.
+-- The header of a section: what its entries give for their keys, as a map of marks.
 use Rattle.std.specs.Prelude.{◌≡◌, ℕ, Bool, List, Some, Result, Ok, Err, length, option_map, String, string_bytes}
 use Rattle.std.specs.String.{string_cmp}
 use Rattle.std.specs.declared.alloc.Global.{Global}
@@ -24,12 +24,13 @@ marked_view m = record { used = m.used; required = m.required; behavior = m.beha
 abbrev pub bare_value : ShownHeaderValue Span → Marked (ShownHeaderValue Span)
 bare_value value = record unmarked { value = Some value }
 
--- The header has the entries' keys and values and no others, no key has a mark, and the default behaviour is the usual one.
+-- The header has exactly the entries' keys and values, no key has a mark, and the default behaviour is the usual one.
 pub record IsHeaderOf (entries : List Entry) (header : MarkMap (String Global) (HeaderValue Span)) : Type 0 where
   pub holds : (key : String Global) → option_map marked_view (entry_at string_cmp (marks header) key) ≡ option_map bare_value (given entries (string_bytes key))
   pub behavior : (marks header).behavior ≡ MutuallyExclusive
 
--- What is answered of a section in a text of len bytes: a header and the offset behind it, or errors. Want of memory says nothing.
+-- What is returned for a section in a text of len bytes: a header and the offset after the section, or errors. Running out of memory says
+-- nothing.
 abbrev pub IsSectionAnswer : ℕ → Result (MarkMap (String Global) (HeaderValue Span) × ℕ) HeaderFault → Result (List Entry × List ℕ) (List (ShownError Span)) → Type 0
 IsSectionAnswer len (Ok (header, offset)) (Ok (entries, rest)) = IsHeaderOf entries header × (offset ≡ place len rest)
 IsSectionAnswer len (Ok answer) (Err errors) = ⊥
@@ -37,7 +38,7 @@ IsSectionAnswer len (Err faults.OutOfMemory) expected = Unit {0}
 IsSectionAnswer len (Err (faults.Errors errors)) (Ok expected) = ⊥
 IsSectionAnswer len (Err (faults.Errors errors)) (Err expected) = errors_view errors.items ≡ expected
 
--- What is answered of the section of a text is told by each of its readings, of which there is just one.
+-- What is returned for the section of a text is what its reading gives, of which there is exactly one.
 abbrev pub AnswersSection : Bool → List ℕ → Result (MarkMap (String Global) (HeaderValue Span) × ℕ) HeaderFault → Type 0
 AnswersSection required text result = (entries : List Entry) (end : Result (List ℕ) Fault) → IsSection required text entries end
     → IsSectionAnswer (length text) result (section_answer entries end)

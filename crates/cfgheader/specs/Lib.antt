@@ -1,2 +1,2 @@
--- Who relies on the calls of this crate has to read this file.
+-- Users of this crate's calls have to read this file.
 pub mod Headers

@@ -5,7 +5,7 @@ ghost use Rattle.cfgheader.specs.declared.parser.GrmtoolsSectionParser.{Grmtools
 
 use crate::parser::GrmtoolsSectionParser;
 
-/// A clone of a parser is its source, and takes no memory.
+/// A clone of a parser equals its source and allocates nothing.
 pub fn parsers_are_cloned<'a>()
     ensures clone { (a b : GrmtoolsSectionParser) → ⟦<GrmtoolsSectionParser<'a> as Clone>⟧.is_clone a b → b ≡ a }
     ensures cloned { (a : GrmtoolsSectionParser) → ⟦<GrmtoolsSectionParser<'a> as Clone>⟧.is_infallible a }

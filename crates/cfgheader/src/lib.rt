@@ -1,4 +1,4 @@
-//! The header of a `%grmtools` section: what its entries give their keys, as a marked map.
+//! The header of a `%grmtools` section: what its entries give for their keys, as a map of marks.
 #![tactic(auto)]
 
 pub mod laws;

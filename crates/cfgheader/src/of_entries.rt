@@ -12,10 +12,10 @@ use cfgmarks::markmap::MarkMap;
 use cfgsection::Entry;
 use std::alloc::{AllocError, Global};
 
-/// The keys of a section, in order.
+/// The keys of a section with their values, in the order of the keys.
 pub type Header<T> = MarkMap<String, HeaderValue<T>>;
 
-/// Gives an entry's key its value, with no mark.
+/// Gives an entry's key its value, without marks.
 fn put(header: &mut Header<Span>, entry: Entry) -> Result<(), AllocError>
     ensures { OnOk result (marks header.new
         ≡ changed string_cmp (marks header.old) entry.key

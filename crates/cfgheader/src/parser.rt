@@ -22,24 +22,24 @@ pub struct GrmtoolsSectionParser<'a> {
 }
 
 impl<'a> GrmtoolsSectionParser<'a> {
-    /// A parser of the text, in which a section must stand if it is required.
+    /// A parser of the text, which must have a section if `required`.
     pub fn new(src: &'a str, required: bool) -> Self
         ensures { (result.src.now ≡ src.now) × (result.required ≡ required) }
     {
         GrmtoolsSectionParser { src, required }
     }
 
-    /// Reads the section, and answers what it gives each of its keys, and the offset in bytes right behind its `}`.
-    /// Where there is no section and none is required, no key is given anything, and the offset is 0.
+    /// Reads the section, and returns what it gives for each of its keys, and the offset in bytes right after its `}`.
+    /// If there is no section and none is required, there are no keys, and the offset is 0.
     ///
-    /// The text's section has exactly one reading: the entries that count as read, and what is left behind it or what
-    /// stopped the reading. The offset is a place of the text: what is left of it begins there. So are the ends of each
-    /// span of an error.
+    /// The text's section has exactly one reading: the entries that count as read, and the rest after it or what
+    /// stopped the reading. The offset is a character boundary of the text, where that rest begins. So are both ends of
+    /// each span of an error.
     ///
     /// # Errors
     ///
-    /// An error for each key that is given more than once, in the order of the first repeats, with all its places, and
-    /// then the one that stopped the reading, if there is one; at least one. Or want of memory.
+    /// An error for each key that is given more than once, in the order of the first repeats, with all its spans, and
+    /// then the one that stopped the reading, if there is one; at least one error. Or running out of memory.
     pub fn parse(&self, alloc: Global) -> Result<(Header<Span>, usize), HeaderFault>
         ensures one { HasOneSection self.now.required self.now.src.now }
         ensures answer { AnswersSection self.now.required self.now.src.now result }
@@ -52,13 +52,13 @@ impl<'a> GrmtoolsSectionParser<'a> {
         Ok((header, self.src.len().saturating_sub(rest.len())))
     }
 
-    /// Reads the entry at an offset in bytes: its key in lower case, the key's place, its value, and the offset behind
-    /// the entry and the white space that follows it. That offset is a place of the text, where another entry may be
-    /// read, and the key's place is a piece of it, as is each span of an error.
+    /// Reads the entry at an offset in bytes: its key in lower case, the key's span, its value, and the offset after
+    /// the entry and the white space that follows it. That offset is a character boundary of the text, where another
+    /// entry may be read, and the key's span is a piece of the text, as is each span of an error.
     ///
     /// # Errors
     ///
-    /// The one error that stopped the reading, or want of memory.
+    /// The one error that stopped the reading, or running out of memory.
     pub fn parse_key_value(
         &self,
         alloc: Global,
