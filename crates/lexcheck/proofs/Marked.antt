@@ -1,4 +1,4 @@
--- Marks of the tokens whose names are given, one more name at a time, and what they say of a token.
+-- Marks of the tokens whose names are given, one more name at a time, and what they say about a token.
 use Rattle.std.proofs.Common.{◌≡◌, ℕ, ◌+◌, ◌<◌, ◌==◌, Bool, true, false, cond, not, ◌||◌, List, [], ◌∷◌, ◌++◌, length, map, take, get_or, slice_get, slice_set, replicate, Option, Some, None, IfSome, is_some, option_map, Bor, position, bytes_eq, refl, sym, ap, subst, ◌∙◌, arith}
 use Rattle.std.specs.List.{list_any}
 use Rattle.std.specs.Option.{option_map_or}
@@ -33,7 +33,7 @@ or_true : (b : Bool) → (b || true) ≡ true
 or_true true = refl
 or_true false = refl
 
--- the places among the first elements of a list, with one more
+-- the indices among the first elements of a list, with one more
 pub places_more : {A : Type 0} (p : A → Bool) (xs : List A) (n : ℕ) (x : A) → slice_get xs n ≡ Some x
     → places p (take (n + 1) xs) ≡ cond (p x) (places p (take n xs) ++ n ∷ []) (places p (take n xs))
 places_more p xs n x there =
@@ -44,7 +44,7 @@ places_more p xs n x there =
 pub nameless : NumberedToken
 nameless = record { name = None; span = None; precedence = None; printed = None; avoid_insert = false }
 
--- a place is found where some element passes
+-- an index is found if some element passes
 found_somewhere : {A : Type 0} (p : A → Bool) (xs : List A) → is_some (position p xs) ≡ list_any p xs
 found_somewhere p xs = go (list_any p xs) refl
   where
@@ -53,7 +53,7 @@ found_somewhere p xs = go (list_any p xs) refl
     go false e = ap is_some (no_place p xs e)
 
 module _ (g : Numbered) where
-  -- the positions of unknown names, with one more name
+  -- the indices of unknown names, with one more name
   pub unknown_more : (names : List (List ℕ)) (name : List ℕ) (n : ℕ) → length names ≡ n → (o : Option ℕ) → position (has_token_name name) g.tokens ≡ o
       → places (is_unknown (token_names g)) (names ++ name ∷ []) ≡ cond (is_some o) (places (is_unknown (token_names g)) names) (places (is_unknown (token_names g)) names ++ n ∷ [])
   unknown_more names name n counted o at =
@@ -115,7 +115,7 @@ module _ (g : Numbered) where
       go None has also = absurd (false≢true has)
       go (Some x) has also = (bytes_eq-Decides name x).0 has ∙ sym ((bytes_eq-Decides other x).0 also)
 
-  -- where a name is found, and that the token there has it
+  -- if a name is found, where it is, and that the token there has it
   pub found : (name : List ℕ) (k : ℕ) → position (has_token_name name) g.tokens ≡ Some k
       → (k < length g.tokens) × (has_token_name name (get_or g.tokens k nameless) ≡ true)
   found name k at = let is = position-Some (has_token_name name) g.tokens k nameless at in (is.0, is.1)
@@ -160,7 +160,7 @@ token_has_name tokens t (Some name) shown = go (slice_get tokens t) refl shown
         any_passes_from_place (has_token_name name.now) tokens t token there
         (ap (λ o. option_map_or (bytes_eq name.now) o false) is ∙ (bytes_eq-Decides name.now name.now).1 refl)
 
--- what is pushed shows as a number
+-- what is pushed, shown as a number
 pub pushed_shown : {A : Type 0} (number : A → ℕ) (passes : Bool) (xs : List A) (x : A) (shown : List ℕ) (n : ℕ) → map number xs ≡ shown → number x ≡ n
     → map number (cond passes (xs ++ x ∷ []) xs) ≡ cond passes (shown ++ n ∷ []) shown
 pushed_shown number true xs x shown n is here = map_push number xs x ∙ (λ i. is i ++ here i ∷ [])

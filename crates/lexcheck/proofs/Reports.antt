@@ -3,7 +3,7 @@ use Rattle.std.proofs.Common.{◌≡◌, ◌↔◌, Bool, List, [], ◌∷◌, r
 use Rattle.std.proofs.lemmas.Bool.{false≢true, and_from, and_parts}
 use Rattle.std.specs.Cmp.Lexicographic.{pointwise}
 
--- `==` of lists, where `==` of their elements holds of the same alone
+-- `==` of lists, if `==` of their elements holds only of the same
 pub lists_equal : {A : Type 0} (eq : A → A → Bool) → ((x y : A) → IsTrue (eq x y) ↔ (x ≡ y)) → (xs ys : List A) → IsTrue (pointwise eq xs ys) ↔ (xs ≡ ys)
 lists_equal eq same [] [] = (λ h. refl, λ e. refl)
 lists_equal eq same [] (y ∷ ys) = (λ h. absurd (false≢true h), λ e. absurd (cc))

@@ -1,2 +1,2 @@
--- Definitions for clauses inside the crate. No call that users make rests on them.
+-- Definitions for the crate's private clauses. No public call depends on them.
 pub mod Marks

@@ -1,5 +1,5 @@
--- Where the names that a lexer gives and those of tokens differ. A token has a name or none, and is here what it has. Names are the
--- same where their bytes are.
+-- Where a lexer's names and the names of tokens differ. A token is here represented by its name, if it has one. Names are the same if their
+-- bytes are.
 use Rattle.std.specs.Prelude.{ℕ, Bool, false, not, List, Option}
 use Rattle.std.specs.List.{list_any}
 use Rattle.std.specs.Option.{option_map_or}
@@ -14,14 +14,14 @@ is_name name token = option_map_or (bytes_eq name) token false
 abbrev pub is_unknown : List (Option (List ℕ)) → List ℕ → Bool
 is_unknown tokens name = not (list_any (is_name name) tokens)
 
--- the token has a name, and none of these is it; the end token has no name, so none gives it
+-- the token has a name that is none of these; the end token has no name, so it isn't missing
 abbrev pub is_missing : List (List ℕ) → Option (List ℕ) → Bool
 is_missing names token = option_map_or (λ name. not (list_any (bytes_eq name) names)) token false
 
--- the places of the names that no token has, in order: of a name that is there twice, both
+-- the indices of the names that no token has, in order; of a repeated name, each
 abbrev pub unknown_places : List (Option (List ℕ)) → List (List ℕ) → List ℕ
 unknown_places tokens names = places (is_unknown tokens) names
 
--- the tokens that have a name which isn't among these, in the order of their indices
+-- the tokens with a name that isn't among these, in the order of their indices
 abbrev pub missing_tokens : List (Option (List ℕ)) → List (List ℕ) → List ℕ
 missing_tokens tokens names = places (is_missing names) tokens

@@ -1,3 +1,3 @@
--- Who relies on the calls of this crate has to read this file; those in Inner have the definitions for private clauses.
+-- Users of this crate's calls have to read this file; those in Inner define what private clauses use.
 pub mod LexerNames
 pub mod Inner

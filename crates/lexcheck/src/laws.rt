@@ -1,5 +1,5 @@
 //! What `==` and `clone` of reports compare and copy. They are derived, so each law names the impl, as in
-//! `⟦<LexReport<S> as PartialEq>⟧`, and holds of every value.
+//! `⟦<LexReport<S> as PartialEq>⟧`, and holds for every value.
 
 ghost use Rattle.std.specs.Prelude.{◌≡◌, ◌↔◌, IsTrue};
 ghost use Rattle.std.specs.List.{AllZip};
@@ -9,8 +9,8 @@ use super::report::LexReport;
 use cfgrammar::Storage;
 use cfgrammar::laws::tokens_are_their_numbers;
 
-/// Reports are equal exactly where they have the same places and the same tokens. A clone has the places of its source,
-/// and clones of its tokens, in order.
+/// Reports are equal exactly if they have the same indices of names and the same tokens. A clone has the indices of its
+/// source, and clones of its tokens, in order.
 pub fn reports_are_what_they_hold<S: Storage>()
     ensures equal { (a b : LexReport S) → IsTrue (⟦<LexReport<S> as PartialEq>⟧.eq a b)
         ↔ ((a.unknown.items ≡ b.unknown.items) × (a.missing.items ≡ b.missing.items)) }

@@ -1,4 +1,4 @@
-//! Where the names that a lexer gives and those of a grammar's tokens differ.
+//! Where a lexer's names and the names of a grammar's tokens differ.
 
 ghost use Rattle.std.specs.Prelude.{◌≡◌, ◌++◌, ◌∷◌, [], true, if◌then◌else◌, map, option_map, IfOk, IfSome};
 ghost use Rattle.std.specs.Prelude.{OnOk};
@@ -13,21 +13,21 @@ use cfgrammar::{Storage, TIdx, Vob};
 use std::alloc::{AllocError, Global};
 use std::collections::HashMap;
 
-/// Where the names that a lexer gives and those of a grammar's tokens differ.
+/// Where a lexer's names and the names of a grammar's tokens differ.
 #[derive(Clone, Debug, Drop, PartialEq, Eq)]
 pub struct LexReport<S: Storage> {
-    /// The positions, among the names, of those that no token has, in order: of a repeated name, each.
+    /// The indices, in the list of names, of those that no token has, in order; of a repeated name, each.
     pub unknown: Vec<usize>,
     /// The tokens whose names aren't given, in the order of their indices. The end token has no name.
     pub missing: Vec<TIdx<S>>,
 }
 
-/// Compares the names that a lexer gives with those of a grammar's tokens, byte for byte. It takes time in proportion
-/// to the names and tokens.
+/// Compares a lexer's names with those of a grammar's tokens, byte for byte. It takes time proportional to the number
+/// of names and tokens.
 ///
 /// # Errors
 ///
-/// Out of memory.
+/// `AllocError` if an allocation fails.
 pub fn check<S: Storage>(
     alloc: Global,
     grm: &YaccGrammar<S>,
@@ -46,7 +46,7 @@ pub fn check<S: Storage>(
     Ok(LexReport { unknown, missing })
 }
 
-/// Marks the tokens whose names are given, and returns the positions of the names that no token has.
+/// Marks the tokens whose names are given, and returns the indices of the names that no token has.
 fn mark_given<'a, S: Storage>(
     alloc: Global,
     grm: &YaccGrammar<S>,
@@ -72,7 +72,7 @@ fn mark_given<'a, S: Storage>(
     Ok(unknown)
 }
 
-/// The tokens with names that aren't marked.
+/// The unmarked tokens with names.
 fn unmarked_tokens<'a, S: Storage>(
     alloc: Global,
     grm: &YaccGrammar<S>,
@@ -93,7 +93,7 @@ fn unmarked_tokens<'a, S: Storage>(
     Ok(missing)
 }
 
-/// Whether a token has a name that isn't marked: where its name is that of a token, that token's mark is off.
+/// Whether a token has a name that isn't marked: if its name is that of a token, that token's mark is off.
 fn is_unmarked<'a, S: Storage>(
     grm: &YaccGrammar<S>,
     tokens: &HashMap<&'a str, TIdx<S>>,

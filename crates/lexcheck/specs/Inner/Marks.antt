@@ -13,7 +13,7 @@ use Rattle.cfgrammar.specs.TIdx.{TIdx}
 abbrev pub names_token : Numbered → ℕ → List ℕ → Bool
 names_token g t name = option_map_or (λ k. k == t) (position (has_token_name name) g.tokens) false
 
--- a token is marked exactly where one of these names is its own
+-- a token is marked exactly if it has one of these names
 pub record AreMarks (g : Numbered) (names : List (List ℕ)) (marks : List Bool) : Type 0 where
   pub counted : length marks ≡ length g.tokens
   pub each : (t : ℕ) → t < length g.tokens → get_or marks t false ≡ list_any (names_token g t) names

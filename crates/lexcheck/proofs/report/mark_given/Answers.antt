@@ -16,7 +16,7 @@ set-requires g c =
     let at = sym (c.requires.map _) ∙ ap (option_map (λ (t : TIdx g.row.S.Denot). g.S.Storage.number t.0)) (sym c.in-Some.ensures.value) in
     omega (arith, c.to_usize.ensures.value, (found c.args.grm.now _ _ at).0, c.loop-place.invariant.1.counted)
 
--- the names before the next one, that one, and what holds of both
+-- the names before the next one, the next one, and what holds of both
 module _ (grm : Numbered) (all : List (Bor (List ℕ))) (place : ℕ) (within : place < length all) where
   abbrev before : List (List ℕ)
   before = take place (map (λ name. name.now) all)

@@ -4,7 +4,7 @@ use Rattle.cfgrammar.specs.TokenNames.{token_names}
 use Rattle.lexcheck.specs.LexerNames.{is_missing}
 use Rattle.lexcheck.proofs.report.unmarked_tokens.Given as goal
 
--- of the tokens before the next one the missing ones are there
+-- of the tokens before the next one, the missing ones are listed
 abbrev pub invariant-loop-tidx : goal.invariant-loop-tidx
 invariant-loop-tidx g l =
     (l.tidx-iterator.end ≡ length l.grm.tokens) × (l.tidx-iterator.start ≤ l.tidx-iterator.end)
