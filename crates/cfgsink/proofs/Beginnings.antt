@@ -1,4 +1,4 @@
--- A beginning that is written, of bytes in several pieces.
+-- A prefix that is written, of bytes in several pieces.
 use Rattle.std.specs.Prelude.{OnOk, OnErr}
 use Rattle.std.proofs.Common.{inl, inr, ◌≡◌, ℕ, ◌+◌, List, ◌++◌, length, take, Option, Result, Ok, Err, sym, ap, ◌∙◌, subst, arith, length-append}
 use lib.Seq.{take-append-le, take-append-add}
@@ -6,12 +6,12 @@ use Rattle.std.specs.Io.KnownBytes.{Appends}
 use Rattle.std.proofs.KnownBytes.{Appends-trans}
 use Rattle.cfgsink.specs.Sinks.{AppendsBeginning, AppendsOrFaults}
 
--- a beginning of the first piece
+-- a prefix of the first piece
 pub beginning_of_first : (a b : Option (List ℕ)) (xs ys : List ℕ) → AppendsBeginning a b xs → AppendsBeginning a b (xs ++ ys)
 beginning_of_first a b xs ys (n, within, appended) =
     (n, omega (arith, within, length-append xs ys), subst (Appends a b) (sym (take-append-le n xs ys (omega (arith, within)))) appended)
 
--- the first piece, and a beginning of what is behind it
+-- the first piece, and a prefix of what follows it
 pub beginning_behind : (a b c : Option (List ℕ)) (xs ys : List ℕ) → Appends a b xs → AppendsBeginning b c ys → AppendsBeginning a c (xs ++ ys)
 beginning_behind a b c xs ys first (n, within, appended) =
     (length xs + n, omega (arith, within, length-append xs ys), subst (Appends a c) (sym (take-append-add xs ys n)) (Appends-trans a b c xs (take n ys) first appended))
@@ -22,7 +22,7 @@ pub whole_or_faults : {A E : Type 0} (r : Result A E) (a b : Option (List ℕ)) 
 whole_or_faults (Ok x) a b f g xs appended same began more = inl (same, appended)
 whole_or_faults (Err e) a b f g xs appended same began more = inr (more, began)
 
--- a piece, and then one behind it
+-- a piece, and then one after it
 pub then_or_faults : (a b c : Option (List ℕ)) (f g h : ℕ) (xs ys : List ℕ) → Appends a b xs → g ≡ f → AppendsOrFaults b c g h ys → AppendsOrFaults a c f h (xs ++ ys)
 then_or_faults a b c f g h xs ys first same (inl (rest, appended)) = inl (rest ∙ same, Appends-trans a b c xs ys first appended)
 then_or_faults a b c f g h xs ys first same (inr (more, began)) = inr (more ∙ ap (λ n. n + 1) same, beginning_behind a b c xs ys first began)

@@ -1,4 +1,4 @@
--- What a report that was made adds to the sink that takes it, and what is counted and shown where it doesn't.
+-- What a report that was made adds to the sink that it is written to, and what is counted and shown if the sink fails.
 use Rattle.std.specs.Prelude.{◌≡◌, ℕ, List, Option, Result, Ok, Err, String, codes, string_bytes}
 use Rattle.std.specs.Global.{Global}
 use Rattle.std.specs.Io.KnownBytes.{Appends, Keeps}
@@ -13,13 +13,13 @@ faults_met (Ok outcome) = 0
 faults_met (Err faults.Write) = 1
 faults_met (Err faults.OutOfMemory) = 0
 
--- what `{}` prints of why a report was not told
+-- what `{}` prints of why a report failed
 abbrev pub fault_text : ReportFault → List ℕ
 fault_text faults.Write = codes "cannot write"
 fault_text faults.OutOfMemory = codes "out of memory"
 
--- What is added to the known bytes of a sink where this was made for it: all lines, or where it counted a fault a beginning of
--- them; nothing where memory had ended.
+-- What is added to the known bytes of a sink for which this was made: all lines, or a proper prefix of them if it counted a fault; nothing
+-- if memory ran out.
 abbrev pub WritesMade : {E : Type 0} → Result (Outcome × String Global) E → Option (List ℕ) → Option (List ℕ)
     → Result Outcome ReportFault → Type 0
 WritesMade (Ok made) old new (Ok outcome) = (outcome ≡ made.0) × Appends old new (string_bytes made.1)

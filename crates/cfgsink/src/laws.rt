@@ -1,5 +1,5 @@
 //! What `==` and `clone` of outcomes and faults compare and copy. They are derived, so each law names the impl, as in
-//! `⟦<Outcome as PartialEq>⟧`, and holds of every value.
+//! `⟦<Outcome as PartialEq>⟧`, and holds for every value.
 
 ghost use Rattle.std.specs.Prelude.{◌≡◌, ◌↔◌, IsTrue};
 ghost use Rattle.cfgsink.specs.declared.outcome.Outcome.{Outcome};
@@ -9,7 +9,7 @@ ghost use Rattle.cfgsink.specs.declared.sink.SinkFault.{SinkFault};
 use crate::outcome::{Outcome, ReportFault};
 use crate::sink::SinkFault;
 
-/// Outcomes and faults are equal exactly where they are the same. A clone is its source, and takes no memory.
+/// Two outcomes or faults are equal exactly if they are the same. A clone equals its source and allocates nothing.
 pub fn outcomes_are_told_apart()
     ensures equal { (a b : Outcome) → IsTrue (⟦<Outcome as PartialEq>⟧.eq a b) ↔ (a ≡ b) }
     ensures clone { (a b : Outcome) → ⟦<Outcome as Clone>⟧.is_clone a b → b ≡ a }

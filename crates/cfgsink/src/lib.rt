@@ -1,4 +1,4 @@
-//! What a program writes to: sinks that count their faults, and how a report ends that is written to one.
+//! What a program writes to: sinks that count their faults, and how a report that is written to one ends.
 #![tactic(auto)]
 
 pub mod laws;

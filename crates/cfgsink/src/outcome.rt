@@ -12,18 +12,18 @@ use std::fmt;
 /// How a report ended.
 #[derive(Clone, Copy, Debug, PartialEq, Eq)]
 pub enum Outcome {
-    /// The text is a grammar, and what was asked for is told of it.
+    /// The text is a grammar, and what was asked for is printed.
     Done,
-    /// The text has errors, and they are told.
+    /// The text has errors, and they are printed.
     Refused,
 }
 
-/// Why a report was not told.
+/// Why a report failed.
 #[derive(Clone, Copy, Debug, PartialEq, Eq)]
 pub enum ReportFault {
-    /// The sink did not take it whole.
+    /// The sink did not accept all of it.
     Write,
-    /// No memory is left.
+    /// Out of memory.
     OutOfMemory,
 }
 
@@ -56,12 +56,12 @@ impl From<SinkFault> for ReportFault {
     }
 }
 
-/// Writes the lines of a report that was made; where there was no memory for them, nothing.
+/// Writes the lines of a report that was made; if there was no memory for them, nothing.
 ///
 /// # Errors
 ///
-/// Want of memory, where that kept the report from being made. A fault of `out`, which then has a beginning of the
-/// lines.
+/// Running out of memory, if that kept the report from being made. A fault of `out`, which then has a proper prefix of
+/// the lines.
 pub fn write_report<W: Sink>(
     out: &mut W,
     made: Result<(Outcome, String), AllocError>,

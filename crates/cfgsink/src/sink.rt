@@ -10,7 +10,7 @@ use std::error::Error;
 use std::fmt;
 use std::io::Write;
 
-/// That a sink took no bytes.
+/// That a sink accepted no bytes.
 #[derive(Clone, Copy, Debug, PartialEq, Eq)]
 pub struct SinkFault;
 
@@ -24,24 +24,24 @@ impl fmt::Display for SinkFault {
 
 impl Error for SinkFault {}
 
-/// A taker of bytes that counts its faults.
+/// A receiver of bytes that counts its faults.
 pub trait Sink {
     ghost written: { Self → Option (List ℕ) };
 
     ghost faults_counted: { Self → ℕ };
 
-    /// Takes the first of these bytes, and answers how many.
+    /// Writes a prefix of these bytes, and returns its length in bytes.
     ///
     /// # Errors
     ///
-    /// A fault; no byte is then taken.
+    /// A fault; no byte is then written.
     fn write(&mut self, bytes: &[u8]) -> Result<usize, SinkFault>
         requires { faults_counted self.old < 2 ^ 64 - 1 }
         ensures bound { WritesAtMost result bytes.now }
         ensures bytes { WriteAppends (written self.old) (written self.new) result bytes.now }
         ensures faults { faults_counted self.new ≡ faults_counted self.old + faults_of result bytes.now };
 
-    /// How many writes answered a fault, or took nothing of a slice with bytes.
+    /// How many writes returned a fault, or wrote nothing of a slice with bytes.
     fn faults(&self) -> u64
         ensures { result ≡ faults_counted self.now };
 }
@@ -87,7 +87,7 @@ impl<W: Write> Sink for Counted<W> {
     }
 }
 
-/// Writes all bytes, as many at a time as the sink takes. Where it takes nothing, that is a fault too.
+/// Writes all bytes, as many at a time as the sink accepts. If it accepts none, that is a fault too.
 pub fn write_whole<W: Sink>(out: &mut W, bytes: &[u8]) -> Result<(), SinkFault>
     requires { W.faults_counted out.old < 2 ^ 64 - 1 }
     ensures ok { OnOk result (Appends (W.written out.old) (W.written out.new) bytes.now) }

@@ -5,7 +5,7 @@ use Rattle.std.specs.Io.KnownBytes.{Appends}
 use Rattle.std.proofs.KnownBytes.{Appends-trans}
 use Rattle.cfgsink.proofs.sink.write_whole.Goals as goal
 
--- a write that takes some bytes counts no fault
+-- a write that accepts some bytes counts no fault
 no_fault : (n handed before after : ℕ) → (n ≡ 0 → ⊥) → after ≡ before + (if n == 0 && nat_lt 0 handed then 1 else 0) → after ≡ before
 no_fault n handed before after some counts = grind (arith, nat_tests)
 

@@ -1,4 +1,4 @@
--- Each turn takes some bytes, and counts no fault.
+-- Each turn writes some bytes, and counts no fault.
 use Rattle.std.proofs.Common.{◌≡◌, ◌-◌, ◌≤◌, length, take}
 use Rattle.std.specs.Io.KnownBytes.{Appends}
 use Rattle.cfgsink.proofs.sink.write_whole.Given as goal
