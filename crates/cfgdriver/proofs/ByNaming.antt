@@ -1,4 +1,4 @@
--- What is answered for one naming of a text is answered for each.
+-- What is returned for one naming of a text is returned for each.
 use Rattle.std.proofs.Common.{List, ℕ, Result, ◌∙◌, subst, sym}
 use Rattle.cfgrammar.specs.Named.{HasOneNaming, Names, Naming}
 use Rattle.cfgrammar.specs.OfItself.{AnswersItself, AnswersNaming}

@@ -1,4 +1,4 @@
--- What is made of a text: of the errors for which it is refused, or of the grammar that it is.
+-- What is made of a text: of the errors for which it is refused, or of its grammar.
 use Rattle.std.specs.Prelude.{◌≡◌, ℕ, ◌⊎◌, Bool, true, false, List, [], Option, Some, None}
 use Rattle.cfgrammar.specs.Answer.{Found, Unnamed, WasRead, IsRefused, in_numbers}
 use Rattle.cfgrammar.specs.Errors.{GrammarError}
@@ -11,7 +11,7 @@ use Rattle.cfgrammar.specs.YaccKind.{YaccKind}
 use Rattle.cfgshell.specs.declared.words.KindArg.{KindArg}
 use Rattle.cfgshell.specs.declared.words.KindArg.TheVariants.{Named, Section}
 
--- what a text is found to be, as a file of the kind that is asked for, or else of the one that it names itself
+-- what a text is found to be, as a file of the requested kind, or else of the one that it names itself
 abbrev pub IsFound : KindArg → List ℕ → Found → Type 0
 IsFound (Named kind) text found = IsFoundAs kind text found
 IsFound Section text found = IsFoundItself text found
@@ -20,8 +20,8 @@ IsFound Section text found = IsFoundItself text found
 abbrev pub greatest : ℕ
 greatest = 4294967295
 
--- As what a text is read where this kind is asked for, if one is: as a file of the kind that is asked for; where none is, as one of
--- the kind that it names, and where it names none, as one of the default kind. The last part says whether that was so.
+-- What kind a text is read as, if this kind is requested, or none: as a file of the requested kind; without one, as a file of the kind that
+-- it names, and if it names none, as a file of the default kind. The last argument says whether that was so.
 pub data IsReadAs (default : YaccKind) (text : List ℕ) : Option KindArg → KindArg → Bool → Type 0 where
   asked : {kind : KindArg} → IsReadAs default text (Some kind) kind false
   itself : (NamesNoKind text → ⊥) → IsReadAs default text None Section false
@@ -31,7 +31,7 @@ pub data IsReadAs (default : YaccKind) (text : List ℕ) : Option KindArg → Ki
 abbrev pub IsMadeOfErrors : {Made : Type 0} → (List GrammarError → Made → Type 0) → Found → Made → Type 0
 IsMadeOfErrors OfErrors found made = (errors : List GrammarError) × IsRefused greatest found errors × OfErrors errors made
 
--- It is a grammar, which is what was read, where it has no errors and fits; and this is made of its syntax, and of that in numbers.
+-- It is a grammar, namely what was read, if that has no errors and fits; and this is made of its syntax, and of its numbered form.
 abbrev pub IsMadeOfGrammar : {Made : Type 0} → (Syntax → Numbered → Made → Type 0) → Found → Made → Type 0
 IsMadeOfGrammar OfGrammar (Unnamed errors) made = ⊥
 IsMadeOfGrammar OfGrammar (WasRead parsed) made =

@@ -28,10 +28,10 @@ pub trait TextReader<R> {
     // What may be made of a text that has these errors.
     ghost of_errors: { Self → List ℕ → List GrammarError → R → Type 0 };
 
-    // What may be made of a text that has this syntax, which is this grammar in numbers.
+    // What may be made of a text that has this syntax and this numbered grammar.
     ghost of_grammar: { Self → List ℕ → Syntax → Numbered → R → Type 0 };
 
-    /// Makes what it makes of a text that has these errors.
+    /// Makes the result for a text that has these errors.
     ///
     /// # Errors
     ///
@@ -45,7 +45,7 @@ pub trait TextReader<R> {
         requires { All (EachErrorSpan (IsPiece text.now)) errors.now }
         ensures { IfOk result (of_errors self.now text.now errors.now) };
 
-    /// Makes what it makes of a text that is this tree, and this grammar.
+    /// Makes the result for a text that has this tree and this grammar.
     ///
     /// # Errors
     ///
@@ -61,7 +61,7 @@ pub trait TextReader<R> {
         ensures { IfOk result (of_grammar self.now text.now (syntax ast.now) grammar.now) };
 }
 
-/// Reads a text as a file of the kind that is asked for, and returns what the reader makes of it.
+/// Reads a text as a file of the requested kind, and returns what the reader makes of it.
 ///
 /// # Errors
 ///
@@ -81,7 +81,7 @@ pub fn read_text<R, T: TextReader<R>>(
     }
 }
 
-/// Reads a text as [`read_text`] does, where a kind need not be asked for: a text that then names none is read as a
+/// Reads a text as [`read_text`] does, except that no kind need be requested: a text that then names none is read as a
 /// file of the default kind. The second part of the result says whether it was.
 ///
 /// # Errors
@@ -104,7 +104,7 @@ pub fn read_text_or<R, T: TextReader<R>>(
     }
 }
 
-/// What is made of a text for which no kind is asked, and whether it was read as a file of the default kind.
+/// What is made of a text for which no kind is requested, and whether it was read as a file of the default kind.
 fn read_unasked<R, T: TextReader<R>>(
     alloc: Global,
     default: YaccKind,
@@ -149,7 +149,7 @@ fn read_itself<R, T: TextReader<R>>(alloc: Global, text: &str, reader: &T) -> Re
     }
 }
 
-/// What is made of a text of which this was read.
+/// What is made of a text that reads as this.
 fn made_of<R, T: TextReader<R>>(
     alloc: Global,
     text: &str,
@@ -163,7 +163,7 @@ fn made_of<R, T: TextReader<R>>(
     lend(parsed, |parsed| made_of_parsed(alloc, text, parsed, reader))
 }
 
-/// What is made of a text of which this was read.
+/// What is made of a text that reads as this.
 fn made_of_parsed<R, T: TextReader<R>>(
     alloc: Global,
     text: &str,
@@ -181,7 +181,7 @@ fn made_of_parsed<R, T: TextReader<R>>(
     }
 }
 
-/// What `next` returns for a value that is owned here alone, since a function that drops a tree proves how.
+/// What `next` returns for a value that is owned only here, since a function that drops a tree has to prove how.
 fn lend<V: Drop, R, F: FnOnce(&V) -> R>(value: V, next: F) -> R
     requires { FnOnceTakesAt F.FnOnce next value }
     ensures { FnOnceReturnsAt F.FnOnce next value result }
