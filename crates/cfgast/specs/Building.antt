@@ -1,4 +1,4 @@
--- The same syntax, item by item: what one more item makes of each field. An item leaves the fields unchanged that it says nothing of.
+-- The same syntax, item by item: what one more item makes of each field. Fields that an item says nothing about stay unchanged.
 use Rattle.std.specs.Prelude.{ℕ, Bool, false, List, [], ◌∷◌, ◌++◌, map, fold, length, position, ◌==◌, Option, Some, None, option_map, if◌then◌else◌}
 use Rattle.std.specs.List.{list_any}
 use Rattle.std.specs.Option.{option_map_or, option_or}

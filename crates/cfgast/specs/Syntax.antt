@@ -98,7 +98,7 @@ head_name head = head.name.name
 abbrev pub is_named : {A : Type 0} → (A → List ℕ) → List ℕ → List A → Bool
 is_named name_of name xs = list_any (λ x. bytes_eq name (name_of x)) xs
 
--- each element once, at the first occurrence of the same element; and so for each name
+-- each element once, at its first occurrence; and so for each name
 abbrev pub each_once : {A : Type 0} → (A → A → Bool) → List A → List A
 each_once same xs = map (λ x. x.1) (filter (λ x. not (list_any (same x.1) x.0)) (with_fronts xs))
 

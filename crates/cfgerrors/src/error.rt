@@ -54,9 +54,9 @@ pub enum YaccGrammarErrorKind {
     PrecNotFollowedByToken,
     /// The precedence of a token is declared more than once.
     DuplicatePrecedence,
-    /// A token is more than once in `%avoid_insert`.
+    /// A token is given more than once in `%avoid_insert`.
     DuplicateAvoidInsertDeclaration,
-    /// A token is more than once in `%implicit_tokens`.
+    /// A token is given more than once in `%implicit_tokens`.
     DuplicateImplicitTokensDeclaration,
     /// `%expect` is declared more than once.
     DuplicateExpectDeclaration,

@@ -43,8 +43,8 @@ pub enum Value<T> {
 impl<T> Value<T> {
     ghost use Rattle.cfgkinds.specs.Values.{value_view, value_place};
 
-    /// The location that represents the value if it can't be used: of an array its opening bracket's, of a name that of
-    /// the name without its namespace, and of a name that is applied to another the other's.
+    /// The location that represents the value in an error: of an array its opening bracket's, of a name that of the
+    /// name without its namespace, and of a name that is applied to another the other's.
     pub fn primary_location(&self) -> &T
         ensures { result.now ≡ value_place (value_view self.now) }
     {

@@ -15,7 +15,7 @@ use Rattle.cfgmarks.specs.Inner.Marking.{set_mark}
 use Rattle.lemmas.proofs.Entries.{lookup_inserted, lookup_congr, inserted_twice, set_value_inserts}
 use Rattle.cfgmarks.specs.Marks.{Marks, entry_at, marks_at, unmarked, value_at, changed, set_value}
 
--- writing f's marks through a borrow of a key's entry changes the map just so
+-- writing f's marks through a borrow of a key's entry changes the map by f at that key
 pub changed_by_write : {K V : Type 0} (cmp : K → K → Ordering) → IsTotalOrder cmp → (m : Marks K V) (k : K) (x : Marked V) (f : Marked V → Marked V) (es : List (K × Marked V))
     → IsStrictlySortedBy cmp (keys_of m.entries) → entry_at cmp m k ≡ Some x → es ≡ map.set_value (is_at (cmp k)) m.entries (f x)
     → record { entries = es; behavior = m.behavior } ≡ changed cmp m k f

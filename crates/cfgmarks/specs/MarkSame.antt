@@ -22,7 +22,7 @@ module _ {K V : Type 0} (key_eq : K → K → Bool) (value_eq : V → V → Bool
   abbrev pub same_entries : List (K × Marked V) → List (K × Marked V) → Bool
   same_entries = pointwise (λ e f. key_eq e.0 f.0 && same_marked value_eq e.1 f.1)
 
-  -- so are the entries, and an unset behaviour means the same
+  -- the entries are equal, and an unset behaviour means the same
   abbrev pub same_marks : Marks K V → Marks K V → Bool
   same_marks m n = same_entries m.entries n.entries && (set_behavior_word (Some m.behavior) == set_behavior_word (Some n.behavior))
 

@@ -75,7 +75,7 @@ module _ (len : ℕ) where
     emits (PrintedFormDeclared token form)
     blank_here len true
 
-  -- an expected number, which item makes an item of
+  -- an expected number, as an item
   unfoldable pub number_declaration : (ℕ × Span → Item) → Strict (Unit {0})
   number_declaration item = do
     blank_here len false

@@ -1,4 +1,4 @@
--- What is printed for an offset, and if it is no character boundary.
+-- What is printed for a span that starts at a character boundary, and for one that doesn't.
 use Rattle.std.proofs.Common.{◌≡◌, ℕ, true, false, List, ◌++◌, length, slice_index, ⊎_elim, refl, arith}
 use Rattle.std.proofs.lemmas.Bool.{and_from, and_parts, cases_Bool, cases_lt, le-leb, leb-true, lt-ltb, ltb-true, or_left, or_right, or_cases}
 use Rattle.std.proofs.lemmas.List.{get_or_past}

@@ -7,9 +7,9 @@ use crate::source::Source;
 use cfgbase::Spanned;
 use std::alloc::{AllocError, Global};
 
-/// What is printed of an error or a warning in a text of this name: the line and the column where its first span
-/// starts, what it says, and that line of the text with carets under the span. The spans of duplicates follow, each in
-/// the same form. A span that doesn't start at a character boundary of the text is printed without a line of it.
+/// Renders an error or a warning in a text of this name: the line and the column where its first span starts, what it
+/// says, and that line of the text with carets under the span. The spans of duplicates follow, each in the same form. A
+/// span that doesn't start at a character boundary of the text is rendered without a line of it.
 ///
 /// # Errors
 ///
@@ -29,7 +29,7 @@ pub fn render<E: Spanned>(
     Ok(out)
 }
 
-/// What [`render`] returns for each of the errors or warnings, one after another. The lines of the text are found once
+/// Renders each of the errors or warnings as [`render`] does, one after another. The lines of the text are found once
 /// for all of them.
 ///
 /// # Errors

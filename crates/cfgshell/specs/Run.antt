@@ -1,6 +1,6 @@
--- What a run of the program does with its arguments: how it ends, and what its output gets. `Tells` says what a command's report on a text
--- is, and `TellsLexer` what a report on a lexer's names is, of a text and a list of names: what becomes of the known bytes of its sink, if
--- this is what it returns.
+-- What a run of the program does with its arguments: how it ends, and what its output gets. `Tells` relates a kind, a command and a text to
+-- the known bytes of the sink before and after the report, and to what the report returns; `TellsLexer` does so for a kind, a text and a
+-- list of names.
 use Rattle.std.specs.Prelude.{◌≡◌, ℕ, List, [], ◌∷◌, Option, Some, Result, Bool, true}
 use Rattle.std.specs.Str.{IsUtf8}
 use Rattle.std.specs.Io.KnownBytes.{Keeps}
@@ -51,7 +51,7 @@ module _ (TellsLexer : KindArg → List ℕ → List ℕ → Option (List ℕ) �
   HandlesTexts kind file names text list old new ending =
       WithText old new ending file text (WithText old new ending names list (EndsReported (TellsLexer kind text list) old new ending))
 
-  -- What it does with what its source, which is then `between`, returns for the first file: only if that is bytes, the second is read.
+  -- What it does with what its source, which is then `between`, returns for the first file: the second is read only if that is bytes.
   abbrev pub HandlesFirst : {S : Type 0} → KindArg → List ℕ → List ℕ → Input → (S → List ℕ → Input → S → Type 0) → S → S → Option (List ℕ) → Option (List ℕ) → Ending → Type 0
   HandlesFirst kind file names input.Unreadable Fetches between after old new ending = (after ≡ between) × EndsUnwritten (Unreadable file) old new ending
   HandlesFirst kind file names input.OutOfMemory Fetches between after old new ending = (after ≡ between) × EndsUnwritten NoMemory old new ending

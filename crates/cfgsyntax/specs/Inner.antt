@@ -1,3 +1,3 @@
--- Definitions for clauses inside the crate, of its loops and helpers. No public call depends on them.
+-- Definitions for the crate's private clauses, of its loops and helpers. No public call depends on them.
 pub mod Steps
 pub mod Unfit

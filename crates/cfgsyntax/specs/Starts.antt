@@ -14,7 +14,7 @@ use Rattle.cfgsyntax.specs.declared.yacc.ast.start.StartFault.TheVariants as fau
 abbrev pub restarted : Parsed → Word → Parsed
 restarted parsed word = record parsed { syntax = started_at parsed.syntax word }
 
--- Memory can run out only for the name of a rule.
+-- Memory can run out only if the name is a rule's.
 abbrev pub IsStartFault : Syntax → List ℕ → StartFault → Type 0
 IsStartFault s name (faults.Modification error) = (error ≡ InvalidStartRule name) × (has_rule name s.rules ≡ false)
 IsStartFault s name faults.OutOfMemory = has_rule name s.rules ≡ true

@@ -61,7 +61,7 @@ places_of-push done o what = filtered-push (λ (o : Occurrence). o.span) (λ o. 
 abbrev pub bare : Unique → Duplicate
 bare what = record { what = what; spans = [] }
 
--- an entry without spans: if its key exists, the entry keeps its index, and otherwise it is added at the end
+-- inserting an entry without spans: an existing key keeps its index, and a new one goes to the end
 module _ (k : Bor CodeUnique) (none : Vec Span Global) (empty : none.items ≡ []) where
   insert_bare : (es : List (Bor CodeUnique × Vec Span Global)) (us : List Unique) → map duplicate_view es ≡ map bare us
       → map duplicate_view (insert_entry same_key es k none) ≡ map bare (pushed_unless (list_any (is_same (key_view k)) us) us (key_view k))

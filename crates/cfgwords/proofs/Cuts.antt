@@ -62,7 +62,7 @@ cut_before front b rest ascii = record {
       (IsUtf8-drop (front ++ b ∷ rest) (length front) u (IsCharBoundary-before_ascii (front ++ b ∷ rest) (length front) (omega arith) (omega arith)));
 }
 
--- at the end, and what precedes an ASCII byte
+-- at the end; and what precedes an ASCII byte is in UTF-8
 pub cut_end : (text : List ℕ) → IsCut text []
 cut_end text = record { piece = text; whole = sym (append-nil text); utf8 = λ u. IsUtf8-nil }
 

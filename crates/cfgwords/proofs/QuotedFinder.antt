@@ -10,7 +10,7 @@ use Rattle.cfgwords.specs.declared.bytes.ByteClass.TheVariants as bytes
 use Rattle.cfgwords.specs.Bytes.{holds}
 use Rattle.cfgwords.specs.FileWords.{is_inside, IsQuoted, closed, quoted_of}
 
--- the parts of a quoted token, where the closing quote is
+-- the parts of a quoted token, split at the closing quote
 closed_parts : (quote first : ℕ) (others tail word rest : List ℕ) → closed quote first (others, tail) ≡ Some (word, rest)
     → (word ≡ first ∷ others) × (tail ≡ quote ∷ rest)
 closed_parts quote first others [] word rest e = cc

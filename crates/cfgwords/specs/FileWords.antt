@@ -50,7 +50,7 @@ pub record TokenText : Type 0 where
 abbrev pub IsToken : List ℕ → TokenText → List ℕ → Type 0
 IsToken text token rest = MatchBool token.quoted (IsQuoted text token.name rest) (IsIdentifier text token.name rest)
 
--- an integer: the longest run of digits, at least one, whose decimal value fits in a usize
+-- an integer: the longest run of digits, at least one, if its decimal value fits in a usize
 pub record IsInteger (text : List ℕ) (number : ℕ) (rest : List ℕ) : Type 0 where
   pub digits : List ℕ
   pub run : IsRunFrom bytes.Digit bytes.Digit text digits rest

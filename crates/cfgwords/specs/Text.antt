@@ -1,4 +1,5 @@
--- A text is a list of bytes in UTF-8. What is left of it names an offset; the offset in bytes is counted from the whole text's length.
+-- A text is a list of bytes in UTF-8. An offset is named by the suffix that begins there; in bytes it is the whole text's length less the
+-- suffix's.
 use Rattle.std.specs.Prelude.{ℕ, List, length, ◌+◌, ◌-◌}
 use Rattle.cfgbase.specs.declared.span.Span.{Span}
 use Rattle.cfgwords.specs.declared.fault.Fault.{Fault}

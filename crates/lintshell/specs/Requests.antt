@@ -32,8 +32,8 @@ abbrev pub asked_files : Wanted → List (List ℕ) → Asked
 asked_files wanted [] = Wrong
 asked_files wanted (file ∷ files) = Lint wanted
 
--- What these arguments ask for after those that wanted this, and whether a kind's name has to come first. The first argument decides that
--- asks for something else or is wrong.
+-- What these arguments ask for after those that wanted this; the flag says whether a kind's name has to come first. The first argument that
+-- asks for something else, or is wrong, decides.
 unfoldable pub words_ask : Bool → Wanted → List (List ℕ) → Asked
 words_ask true wanted [] = Wrong
 words_ask true wanted (word ∷ words) =

@@ -30,7 +30,7 @@ module _ {A : Type 0} (Finds : A → ℕ → Type 0) (things : List A) where
   pub each_all : (i : ℕ) (old new : SearchState) → length things ≤ i → Reaches (FoundBy Finds (take i things)) old new → Reaches (FoundBy Finds things) old new
   each_all i old new le w = subst (λ l. Reaches (FoundBy Finds l) old new) (take_all i things le) w
 
--- things find what the things find that they are shown as
+-- mapping the things first finds the same
 pub found_mapped : {A B : Type 0} (show : A → B) (Finds : B → ℕ → Type 0) (things : List A) (old new : SearchState)
     → Reaches (FoundBy (λ t. Finds (show t)) things) old new → Reaches (FoundBy Finds (map show things)) old new
 found_mapped {A} {B} show Finds things old new w = reaches_as _ _ old new

@@ -53,7 +53,7 @@ Grows = steps.Grows file_reader
 abbrev pub Builds : {l : Leaves} {G : Gives} {X : Type 0} → (X → ValueOf G) → Reader → Reader → Result X ReadFault → Construct Item Fault l G → Type 0
 Builds = steps.Builds file_reader
 
--- whether a part of a blank is here, and the rest after it
+-- whether there is a part of a blank here, and the rest after it
 abbrev pub IsPartHere : Bool → Reader → Result (Option (Bor (List ℕ))) ReadFault → Type 0
 IsPartHere lines reader (Ok part) = part_of lines (front_of reader.rest.now) ≡ Ok (option_map (λ rest. rest.now) part)
 IsPartHere lines reader (Err errors.OutOfMemory) = ⊥
@@ -62,13 +62,13 @@ IsPartHere lines reader (Err (errors.Fault fault)) = (kind : FaultKind) × (part
 abbrev pub text_view : CodeToken → TokenText
 text_view token = record { name = token.name.now; quoted = token.quoted }
 
--- whether a name is here, and the rest after it
+-- whether there is a name here, and the rest after it
 abbrev pub IsNameHere : Reader → Reader → Option CodeWord → Type 0
 IsNameHere old new (Some word) = (name_of old.rest.now ≡ Some (word.name.now, new.rest.now))
     × (word_at old.len old.rest.now word.name.now new.rest.now ≡ word_view word) × (new.len ≡ old.len) × (new.tree ≡ old.tree)
 IsNameHere old new None = (name_of old.rest.now ≡ None) × (new ≡ old)
 
--- whether a token is here, and the rest after it
+-- whether there is a token here, and the rest after it
 abbrev pub IsTokenHere : Reader → Reader → Option CodeToken → Type 0
 IsTokenHere old new (Some token) = (token_of old.rest.now ≡ Some (text_view token, new.rest.now))
     × (token_at old.len old.rest.now (text_view token) new.rest.now ≡ token_view token) × (new.len ≡ old.len) × (new.tree ≡ old.tree)
@@ -87,7 +87,7 @@ parts_view parts = record {
   end = parts.end;
 }
 
--- whether an action is here, and the rest after it
+-- whether there is an action here, and the rest after it
 abbrev pub IsActionHere : Reader → Reader → Option (Bor (List ℕ) × Span) → Type 0
 IsActionHere old new (Some action) = (action_of old.rest.now ≡ Some (action.0.now, new.rest.now))
     × (action_at old.len old.rest.now action.0.now new.rest.now ≡ (action.0.now, action.1)) × (new.len ≡ old.len) × (new.tree ≡ old.tree)

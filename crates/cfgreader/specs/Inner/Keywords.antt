@@ -43,7 +43,7 @@ abbrev pub IsRowHere : List (List ℕ × Declaration) → Reader → Reader → 
 IsRowHere table old new (Some found) = (first_of table old.rest.now ≡ Some (found, new.rest.now)) × (new.len ≡ old.len) × (new.tree ≡ old.tree)
 IsRowHere table old new None = (first_of table old.rest.now ≡ None) × (new ≡ old)
 
--- whether a declaration is here, and the rest after its keyword, from which what it declares is read
+-- whether there is a declaration here, and the rest after its keyword, where reading it continues
 abbrev pub IsKeywordHere : YaccKind → Reader → Reader → Option Declaration → Type 0
 IsKeywordHere kind old new (Some found) =
     (computes (declaration old.len kind) old.rest.now ≡ computes (then (declared old.len found).construct again) new.rest.now) × (new.len ≡ old.len) × (new.tree ≡ old.tree)

@@ -16,7 +16,7 @@ abbrev pub listed_in : ℕ → Listed → Strict (Unit {0})
 listed_in len listed.Tokens = listed_token len
 listed_in len listed.Unused = unused_symbol len
 
--- the beginning of a list that marks its tokens so
+-- the start of a list that marks its tokens so
 abbrev pub begun : Marking → Item
 begun markings.AvoidInsert = AvoidInsertBegun
 begun markings.ImplicitTokens = ImplicitTokensBegun
