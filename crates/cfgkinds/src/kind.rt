@@ -1,6 +1,6 @@
 //! The kinds of Yacc.
 
-/// What the actions of a grammar in Johnson's original notation are.
+/// What the actions of a grammar in Johnson's original notation represent.
 #[derive(Clone, Copy, Debug, PartialEq, Eq)]
 pub enum YaccOriginalActionKind {
     /// The user's own code.

@@ -22,8 +22,8 @@ pub struct LexReport<S: Storage> {
     pub missing: Vec<TIdx<S>>,
 }
 
-/// Compares a lexer's names with those of a grammar's tokens, byte for byte. It takes time proportional to the number
-/// of names and tokens.
+/// Compares a lexer's names with those of a grammar's tokens, byte for byte. It takes time proportional to the names
+/// and tokens.
 ///
 /// # Errors
 ///

@@ -36,7 +36,7 @@ impl Model for Answer {
 }
 
 impl Answer {
-    /// The result is this text.
+    /// The result whose output is this text.
     pub(crate) fn written(alloc: Global, text: &str) -> Result<Self, AllocError>
         ensures { IfOk result (λ answer. answer ≡ written text.now) }
     {
@@ -47,7 +47,7 @@ impl Answer {
         })
     }
 
-    /// The arguments are wrong.
+    /// The result of wrong arguments.
     pub(crate) fn refused(alloc: Global) -> Result<Self, AllocError>
         ensures { IfOk result (λ answer. answer ≡ refused) }
     {
@@ -58,7 +58,7 @@ impl Answer {
         })
     }
 
-    /// What was reported about files, with warnings denied or not.
+    /// The result for what was reported about files, with warnings denied or not.
     pub(crate) fn of_files(alloc: Global, tally: Tally, denies: bool) -> Result<Self, AllocError>
         ensures { IfOk result (λ answer. answer ≡ answer_of denies tally) }
     {

@@ -26,7 +26,7 @@ impl<K: Ord + Clone, V: Drop> MarkMap<K, V> {
     /// - `Theirs` joins the marks used and required, and takes the other value if there is one;
     /// - `Ours` changes nothing if there is a value here, and otherwise is like `Theirs`;
     /// - `MutuallyExclusive` changes nothing if the other map holds no value, is like `Theirs` if this one holds none,
-    /// and otherwise is a conflict.
+    ///   and otherwise is a conflict.
     ///
     /// Exactly the values that are taken or that conflict are converted. Apart from that, only a new entry allocates,
     /// and a conflict, for its value. If merging stops, exactly the keys below the one where it stopped are merged.
