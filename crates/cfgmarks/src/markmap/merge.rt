@@ -28,8 +28,8 @@ impl<K: Ord + Clone, V: Drop> MarkMap<K, V> {
     /// - `MutuallyExclusive` changes nothing if the other map holds no value, is like `Theirs` if this one holds none,
     ///   and otherwise is a conflict.
     ///
-    /// Exactly the values that are taken or that conflict are converted. Apart from that, only a new entry allocates,
-    /// and a conflict, for its value. If merging stops, exactly the keys below the one where it stopped are merged.
+    /// Exactly the values that are taken or that conflict are converted. After that, only a new entry allocates, and a
+    /// conflict, for its value. If merging stops, exactly the keys below the one where it stopped are merged.
     pub fn merge_from<U: Drop, E: Drop, F: Fn(U) -> Result<V, E> + Drop>(
         &mut self,
         other: MarkMap<K, U>,
