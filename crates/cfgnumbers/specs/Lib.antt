@@ -1,4 +1,4 @@
--- Who relies on a grammar in numbers has to read these files; those in Inner have words that stay between the crates.
+-- These files define grammars in numbers for all who rely on them; those in Inner are shared by the crates only.
 pub mod Fits
 pub mod Numbered
 pub mod Accessors
