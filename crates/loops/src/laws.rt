@@ -12,7 +12,7 @@ ghost use Rattle.loops.specs.declared.rows.Step.{Step};
 
 use crate::rows::Step;
 
-/// A rule has a path of unit steps to another exactly if a ⇒+ b: in one or more steps it derives the other rule only.
+/// A rule has a path of unit steps to another exactly if, in one or more steps, it derives the list of only that rule.
 pub fn alone_paths_are_derivations()
     ensures { (g : Grammar) (a b : ℕ) → AlonePath (HasProduction g) a b ↔ DerivesAlone (HasProduction g) a b }
 {}
