@@ -1,5 +1,4 @@
-//! What a person wants to know of a grammar file: what is wrong with it or odd about it, where, and why; and the
-//! program
+//! What users want to know about a grammar file: its errors and issues, where they are, and why; and the program
 //! `cfglint`, as a library.
 #![tactic(auto)]
 
