@@ -1,4 +1,4 @@
--- Who relies on the calls of this crate has to read these files; those in Inner have the words of private clauses.
+-- These files define the contracts of this crate's public calls; those in Inner are for private clauses only.
 pub mod Certificate
 pub mod Generator
 pub mod Inner
