@@ -1,4 +1,4 @@
-//! Errors of a text, line by line.
+//! Errors of a text, one per line.
 
 use cfgrammar::yacc::YaccGrammarError;
 use cfgrammar::{Places, Span, Spanned};
@@ -37,7 +37,7 @@ fn write_error(out: &mut Page, places: &Places<'_>, error: &YaccGrammarError) {
     writeln!(out, " {:?}: {error}", error.spanskind());
 }
 
-/// Where the first span starts, or 0 where there is none.
+/// Where the first span starts, or 0 if there are no spans.
 fn first_start(spans: &[Span]) -> usize {
     match spans.first() {
         Some(span) => span.start(),
@@ -45,7 +45,7 @@ fn first_start(spans: &[Span]) -> usize {
     }
 }
 
-/// Writes the line and the column of a byte.
+/// Writes the line and the column of a byte offset.
 fn write_place(out: &mut Page, places: &Places<'_>, byte: usize) {
     match places.line_and_column(byte) {
         Some((line, column)) => pen::numbers(out, (" ", line), (":", column)),
