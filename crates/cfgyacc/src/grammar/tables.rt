@@ -92,9 +92,9 @@ impl<S: Storage> YaccGrammar<S> {
     /// The text has exactly one reading. If that has no errors, and `S` can count the grammar, the result is the
     /// grammar of what was read.
     ///
-    /// Each error has a span. Each span of the grammar and of an error begins and ends at an offset where a character
-    /// of the text begins, or at the end of the text. The span of an action, which is as long as the trimmed text, lies
-    /// within the text. The span of anything added is (0,0).
+    /// Each error has a span. Each span of the grammar and of an error begins and ends at a character boundary of the
+    /// text. The span of an action, which is as long as the trimmed text, lies within the text. The span of anything
+    /// added is (0,0).
     ///
     /// # Errors
     ///
@@ -141,8 +141,8 @@ impl<S: Storage> YaccGrammar<S> {
         )
     }
 
-    /// The grammar of a syntax that was read. Its spans, and those of errors, begin and end at characters of the text
-    /// if those of the syntax and of its errors do, and those of actions lie within the text if the syntax's do.
+    /// The grammar of a syntax that was read. Its spans, and those of errors, begin and end at character boundaries of
+    /// the text if those of the syntax and of its errors do; those of actions lie within the text if the syntax's do.
     ///
     /// # Errors
     ///
