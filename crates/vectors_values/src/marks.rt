@@ -278,7 +278,7 @@ fn insert<K: Key>(
     }
 }
 
-/// Writes that memory ran out, and whether key and value were returned, or others.
+/// Returns that memory ran out. Writes before if the key and value that came back aren't those that were passed.
 fn refused<K: Key>(
     out: &mut Page,
     (key, value): &(K, u32),

@@ -7,9 +7,9 @@ use vectors_rows::page::Page;
 use vectors_rows::pen;
 use vectors_rows::row::Row;
 
-/// Writes that memory ran out while the line at this index merged the other map; and before that, if it is so, that the
-/// map isn't one into which exactly the keys below one of the other map's are merged. A row with a digest doesn't watch
-/// all keys, and isn't checked.
+/// Notes that memory ran out while the line at this index merged the other map. Writes before if the map isn't one into
+/// which exactly the keys below one of the other map's are merged. A row with a digest doesn't watch all keys, and
+/// isn't checked.
 pub(super) fn tell_stop<K: Key>(
     out: &mut Page,
     row: &Row<'_>,
