@@ -59,8 +59,8 @@ pub fn first_is_closed()
     ensures { (g : Grammar) → IsClosed (HasProduction g) (Empty (HasProduction g)) (First (HasProduction g)) }
 {}
 
-/// Which tokens a list of symbols begins with, symbol by symbol: those that the first symbol after any nullable rules
-/// begins with.
+/// A list of symbols derives the empty list, or a list that begins with a token, exactly if the equations of FIRST say
+/// so.
 pub fn lists_begin_symbol_by_symbol()
     ensures nullable { (g : Grammar) (a : List Sym)
         → Vanishes (Empty (HasProduction g)) a ↔ Derives (HasProduction g) a [] }
@@ -92,15 +92,14 @@ pub fn closed_sets_hold_follow()
         → (r t : ℕ) → MayFollow g r t → IsTrue (follow r t) }
 {}
 
-/// Which tokens follow a rule, as derivations show it, is closed under the productions, and the end token follows the
-/// start rule.
+/// What derivations show of FOLLOW is closed under the productions, and the end token follows the start rule.
 pub fn follow_is_closed()
     ensures closed { (g : Grammar)
         → IsFollowClosed (HasProduction g) (Empty (HasProduction g)) (First (HasProduction g)) (MayFollow g) }
     ensures end { (g : Grammar) (t : ℕ) → t + 1 ≡ g.tokens → MayFollow g 0 t }
 {}
 
-/// A rule has at most one least cost, and its sentences of that cost are those such that no other costs less.
+/// A rule has at most one least cost, and its sentences of that cost are its minimal sentences.
 pub fn minimal_sentences_cost_the_least()
     ensures least { (g : Grammar) (cost : ℕ → ℕ) (r : ℕ) (w : List ℕ) → Minimal (HasProduction g) cost r w
         → Least (HasProduction g) cost r (cost_of cost w) }
@@ -110,7 +109,7 @@ pub fn minimal_sentences_cost_the_least()
         → Least (HasProduction g) cost r d → c ≡ d }
 {}
 
-/// A rule with a greatest cost has no other greatest cost, no least cost above it, and no unbounded costs.
+/// A rule with a greatest cost has no other, no least cost above it, and no unbounded costs.
 pub fn a_greatest_cost_bounds()
     ensures bounded { (g : Grammar) (cost : ℕ → ℕ) (r c : ℕ) → Greatest (HasProduction g) cost r c
         → Unbounded (HasProduction g) cost r → ⊥ }
