@@ -1,4 +1,4 @@
--- FOLLOW sets: the tokens that come next at a position of a production, and how they are gathered.
+-- FOLLOW sets: the next tokens at a position of a production, and how they are gathered.
 use Rattle.std.proofs.Common.{◌≡◌, ◌↔◌, ℕ, ◌+◌, ◌<◌, ◌≤◌, ◌⊎◌, inl, inr, Bool, true, false, List, [], ◌∷◌, drop, get_or, slice_set, length, replicate, All, refl, sym, ap, ◌∙◌, subst, true≢false, length-set}
 use Rattle.std.proofs.lemmas.List.{drop_all, length-replicate}
 use Rattle.lemmas.proofs.Elements.{get_or-replicate_default}
@@ -62,7 +62,7 @@ module _ (gives : ℕ → Type 0) (old none new : List Bool) (bare : none ≡ re
     (λ h. (w.tokens t).1 (inr h)),
   )
 
--- The tokens that come next before the n-th symbol: all that did at the start, and only what does now or later, as sets grow.
+-- The next tokens before the n-th symbol: all that came next at the start, and only what comes next now or later, as sets grow.
 pub record Fronting {S : Type 0} (number : S → ℕ) (rule : ℕ) (symbols : List Sym) (n wide : ℕ) (old new : FollowSets) (front : Front S)
     (tokens : List Bool) : Type 0 where
   pub fits : (g : Grammar) → All (IsSymbolOf g) symbols → IsFrontOf number g front
@@ -73,7 +73,7 @@ pub record Fronting {S : Type 0} (number : S → ℕ) (rule : ℕ) (symbols : Li
       → Behind x rule (drop n symbols) t
 
 module _ {S : Type 0} (number : S → ℕ) (rule : ℕ) where
-  -- before a symbol that isn't nullable, what it begins with comes next
+  -- before a symbol that isn't nullable, the next tokens are what it begins with
   pub steps_over : (x : FollowSets) (symbol : Symbol S) (front : Front S) (tokens : List Bool)
       → is_empty_symbol x.firsts (sym_of number symbol) ≡ false
       → StepsBack number x rule (sym_of number symbol) front tokens (fronts.Symbol symbol) tokens
@@ -84,7 +84,7 @@ module _ {S : Type 0} (number : S → ℕ) (rule : ℕ) where
     long = refl;
   }
 
-  -- before a nullable symbol, what comes next after it is gathered too
+  -- before a nullable symbol, the next tokens after it are gathered too
   pub steps_through : (x : FollowSets) (s : Sym) (front : Front S) (tokens mid tokens' : List Bool) → is_empty_symbol x.firsts s ≡ true
       → length mid ≡ length tokens → ((t : ℕ) → (IsGathered mid t ↔ FrontGives number x rule tokens front t))
       → Gathers (BeginsList x (s ∷ [])) mid tokens' → StepsBack number x rule s front tokens fronts.Gathered tokens'

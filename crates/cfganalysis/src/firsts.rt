@@ -272,7 +272,7 @@ impl<S: Storage> Analysis<S> for GrowingFirsts<S> {
     }
 }
 
-/// The FIRST sets to which no production has anything to add.
+/// Grows the FIRST sets until no production has anything to add.
 ///
 /// # Errors
 ///

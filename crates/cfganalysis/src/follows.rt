@@ -73,12 +73,12 @@ impl<S: Storage> YaccFollows<S> {
     }
 }
 
-/// The tokens that come next at a position of a production.
+/// The next tokens at a position of a production.
 #[derive(Drop)]
 enum Front<S: Storage> {
     /// What follows the production's rule: the position is the end of the production.
     End,
-    /// What the symbol begins with: it is next, and isn't nullable.
+    /// What the next symbol begins with, which isn't nullable.
     Symbol(Symbol<S>),
     /// What was gathered in a list of bits: the next symbol is nullable.
     Gathered,
@@ -100,7 +100,7 @@ impl<'a, S: Storage> Model for GrowingFollows<'a, S> {
 }
 
 impl<'a, S: Storage> GrowingFollows<'a, S> {
-    /// Adds what the symbol begins with to the FOLLOW set of `before`. Returns whether the set grew.
+    /// Adds what the symbol begins with to the FOLLOW set of the rule before it. Returns whether the set grew.
     fn put_first(&mut self, before: RIdx<S>, symbol: Symbol<S>) -> bool
         requires { (g : Grammar) × FitFollows g self.old × (S.number before.0 < g.rules)
             × IsSymbolOf g (sym_of S.number symbol) }
@@ -126,7 +126,7 @@ impl<'a, S: Storage> GrowingFollows<'a, S> {
             .join_row(usize::from(before), usize::from(rule))
     }
 
-    /// Adds the tokens that come next to the FOLLOW set of `before`. Returns whether the set grew.
+    /// Adds the next tokens to the FOLLOW set of the rule before them. Returns whether the set grew.
     fn put_front(
         &mut self,
         rule: RIdx<S>,
@@ -148,7 +148,7 @@ impl<'a, S: Storage> GrowingFollows<'a, S> {
         }
     }
 
-    /// If the symbol is a rule, adds the tokens that come next to its FOLLOW set, and queues the rule if the set grew.
+    /// If the symbol is a rule, adds the next tokens to its FOLLOW set, and queues the rule if the set grew.
     fn put_behind(
         &mut self,
         rule: RIdx<S>,
@@ -187,7 +187,7 @@ impl<'a, S: Storage> GrowingFollows<'a, S> {
         };
     }
 
-    /// Replaces what was gathered by the tokens that come next.
+    /// Replaces what was gathered by the next tokens.
     fn gather_front(&self, rule: RIdx<S>, front: &Front<S>, gathered: &mut Vob)
         requires { (g : Grammar) × FitFollows g self.now × (S.number rule.0 < g.rules)
             × IsFrontOf S.number g front.now × (length gathered.old ≡ g.tokens) }
@@ -208,7 +208,7 @@ impl<'a, S: Storage> GrowingFollows<'a, S> {
         }
     }
 
-    /// The tokens that come next before the symbol, given those after it. If the symbol is nullable, they are gathered.
+    /// The next tokens before the symbol, given those after it. If the symbol is nullable, they are gathered.
     fn front_before(
         &self,
         rule: RIdx<S>,
@@ -277,7 +277,7 @@ impl<'a, S: Storage> Model for FollowAnalysis<'a, S> {
 }
 
 impl<'a, S: Storage> FollowAnalysis<'a, S> {
-    /// Sets in which the end token follows the start rule, and that are empty otherwise.
+    /// The initial sets: the end token follows the start rule, and all other sets are empty.
     fn new(
         alloc: Global,
         firsts: &'a YaccFirsts<S>,
@@ -336,7 +336,7 @@ impl<'a, S: Storage> Analysis<S> for FollowAnalysis<'a, S> {
     }
 }
 
-/// The FOLLOW sets to which no production has anything to add.
+/// Grows the FOLLOW sets until no production has anything to add.
 ///
 /// # Errors
 ///

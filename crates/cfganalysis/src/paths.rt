@@ -13,7 +13,7 @@ use search::{Edges, Marks, Search};
 use std::alloc::{AllocError, Global};
 use std::marker::PhantomData;
 
-/// Visits the symbol, if it is a rule.
+/// Queues the symbol, if it is a rule.
 fn reach_symbol<S: Storage, M: Marks>(
     search: &mut Search<M>,
     symbol: Symbol<S>,
@@ -27,7 +27,7 @@ fn reach_symbol<S: Storage, M: Marks>(
     }
 }
 
-/// Visits the rules among the symbols.
+/// Queues the rules among the symbols.
 ///
 /// # Errors
 ///
@@ -47,7 +47,7 @@ fn reach_symbols<S: Storage, M: Marks>(
     Ok(())
 }
 
-/// Visits the rules that the productions contain.
+/// Queues the rules that the productions contain.
 ///
 /// # Errors
 ///
