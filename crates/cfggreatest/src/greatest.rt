@@ -14,8 +14,8 @@ use std::alloc::{AllocError, Global};
 /// `None` if for every number some sentence costs more, and an error if the rule is unproductive, or if its greatest
 /// cost is more than 65535.
 ///
-/// A cyclic rule may still have a greatest cost: its costs are unbounded exactly if it meets a growing cycle, that is,
-/// a rule that derives itself beside tokens that cost something.
+/// A cyclic rule may still have a greatest cost: costs are unbounded exactly if the rule meets a growing cycle, that
+/// is, a rule x that derives u x v in one or more steps, where u and v derive tokens that cost something.
 ///
 /// # Errors
 ///
