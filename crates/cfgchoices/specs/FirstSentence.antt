@@ -11,6 +11,6 @@ use Rattle.derivation.specs.Costs.{Minimal}
 abbrev pub dictionary : List ℕ → List ℕ → Ordering
 dictionary = slice_cmp nat_cmp
 
--- a minimal sentence that no other minimal sentence of the rule comes before
+-- the lexicographically first minimal sentence of the rule
 abbrev pub FirstMinimal : (ℕ → List Sym → Type 0) → (ℕ → ℕ) → ℕ → List ℕ → Type 0
 FirstMinimal P cost r w = Minimal P cost r w × ((v : List ℕ) → Minimal P cost r v → dictionary w v ≡ Greater → ⊥)

@@ -34,7 +34,7 @@ module _ (P : ℕ → List Sym → Type 0) (cost : ℕ → ℕ) where
     pub tight : CostsAsItsRule r symbols level
     pub less : (q d : ℕ) → Contains symbols (Rule q) → Least P cost q d → d < level
 
-  -- zero or more chain productions lead from rule r to a rule that has a base production which makes the word
+  -- zero or more chain productions lead from r to a rule with a base production that makes the word of minimal sentences
   pub record IsHandedDown (r : ℕ) (w : List ℕ) : Type 0 where
     pub owner : ℕ
     pub symbols : List Sym
