@@ -1,4 +1,4 @@
--- These files define the contracts of this crate's public calls; those in Inner are for private clauses only.
+-- Users of this crate's calls rely on these definitions; those in Inner are only for private clauses.
 pub mod Sentences
 pub mod DerivedBy
 pub mod Inner

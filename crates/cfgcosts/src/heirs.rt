@@ -91,7 +91,7 @@ pub(crate) fn last_heirs<S: Storage, T: Tables<S>>(
         AreHeirs S.number (T.grammar tables.now) kinds.now (rules_of S.number heirs.items)) }
 {
     let mut heirs = only_heirs(alloc, tables, kinds)?;
-    // Each turn goes twice as far as the one before, and no chain is longer than a number of 32 bits.
+    // Each iteration doubles how far an entry has come, and no chain is too long to be counted in 32 bits.
     for _turn in 0..32 {
         if !go_on(&mut heirs) {
             return Ok(heirs);

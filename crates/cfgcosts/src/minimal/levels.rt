@@ -14,7 +14,7 @@ use search::{Few, Search};
 use std::alloc::{AllocError, Global};
 
 impl<'a, S: Storage, T: Tables<S>> SentenceGenerator<'a, S, T> {
-    /// Lists a base production, or visits the rule that a chain production leads to.
+    /// Lists a base production; for a chain production, queues the rule that it leads to.
     ///
     /// # Errors
     ///
@@ -44,7 +44,7 @@ impl<'a, S: Storage, T: Tables<S>> SentenceGenerator<'a, S, T> {
         }
     }
 
-    /// Visits the rules that the rule's chain productions lead to, and lists its base productions.
+    /// Queues the rules that the rule's chain productions lead to, and lists its base productions.
     ///
     /// # Errors
     ///
