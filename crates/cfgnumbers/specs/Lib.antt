@@ -1,4 +1,4 @@
--- These files define grammars in numbers for all who rely on them; those in Inner are shared by the crates only.
+-- Users of grammars in numbers rely on these definitions; those in Inner are only used between the crates.
 pub mod Fits
 pub mod Numbered
 pub mod Accessors
