@@ -63,7 +63,7 @@ module _ (g : Numbered) where
   TellsUnusable p (Some finding) = IsUnusable p × (q : ℕ) × IsFirstWithout (nth_production (core g) p).symbols q × (finding ≡ unusable g p q)
   TellsUnusable p None = IsUnusable p → ⊥
 
-  -- a cyclic rule of the file: it derives itself in one or more steps, so each of its sentences has infinitely many parse trees
+  -- a cyclic rule of the file, each of whose sentences has infinitely many parse trees
   pub record IsOwnHeir (r : ℕ) : Type 0 where
     pub ours : rules_added ≤ r
     pub derives : DerivesItself (HasProduction (core g)) r

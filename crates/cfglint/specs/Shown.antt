@@ -24,7 +24,7 @@ pub record ShownFinding : Type 0 where
   pub spans : List Span
   pub text : List ℕ
 
--- what the spans stand for: for a repeated production, both spans are shown
+-- what the spans mean: for a repeated production, both are shown
 abbrev pub spanskind_of : FindingKind → SpansKind
 spanskind_of RepeatedProduction = DuplicationError
 spanskind_of _ = Error
@@ -81,7 +81,7 @@ module _ (g : Numbered) where
       let symbols = (nth_production (core g) step.production).symbols in
       codes " ->" ++ (vanishing (take step.place symbols) ++ (codes " " ++ (rule_name step.rule ++ vanishing (drop (step.place + 1) symbols))))
 
-  -- that the rule derives itself, by this path of steps
+  -- that the rule is cyclic, by this path of steps
   abbrev pub derives_itself : ℕ → List Step → ShownFinding
   derives_itself r row = record {
     kind = DerivesItself;

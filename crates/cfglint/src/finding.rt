@@ -19,7 +19,7 @@ pub enum FindingKind {
     NoSentence,
     /// No sentence of the production's rule uses it, since it contains an unproductive rule.
     UnusableProduction,
-    /// The rule derives itself in one or more steps, so each of its sentences has infinitely many parse trees.
+    /// The rule is cyclic, so each of its sentences has infinitely many parse trees.
     DerivesItself,
     /// The rule has an earlier production with the same symbols, so each sentence by one of the two has two parse
     /// trees.

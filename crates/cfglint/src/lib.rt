@@ -1,5 +1,4 @@
-//! What users want to know about a grammar file: its errors and issues, where they are, and why; and the program
-//! `cfglint`, as a library.
+//! The errors and issues of a grammar file, where they are, and why; and the program `cfglint`, as a library.
 #![tactic(auto)]
 
 mod added;

@@ -89,7 +89,7 @@ fn loops_of(alloc: Global, grammar: &YaccGrammar<u32>) -> Result<Vec<Option<Vec<
     shortest_loops(alloc, &steps)
 }
 
-/// The finding that the rule derives itself, by this cycle.
+/// The finding that the rule is cyclic, by this cycle.
 fn own_heir(
     alloc: Global,
     grammar: &YaccGrammar<u32>,
