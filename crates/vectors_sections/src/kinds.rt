@@ -7,8 +7,8 @@ use vectors_rows::page::Page;
 use vectors_rows::pen;
 use vectors_rows::row::{Row, numbers};
 
-/// Writes a line for each error that the row names: its kind, its spans, what they stand for, and its text. A kind with
-/// a name has the row's text as its name, or else `µ`.
+/// Writes a line for each error that the row names: its kind, its spans, what they mean, and its text. A kind with a
+/// name has the row's text as its name, or else `µ`.
 pub fn tell(out: &mut Page, row: &Row<'_>, text: &str) {
     let held = if text.is_empty() { "µ" } else { text };
     if row.first("show") == Some("without-memory") {
@@ -80,7 +80,7 @@ fn write_error(out: &mut Page, error: &YaccGrammarError) {
     out.push('\n');
 }
 
-/// Writes the kind of an error, its spans, and what they stand for.
+/// Writes the kind of an error, its spans, and what they mean.
 pub(crate) fn write_parts(out: &mut Page, error: &YaccGrammarError) {
     write!(out, "    {:?}", error.kind());
     pen::spans(out, error.spans());

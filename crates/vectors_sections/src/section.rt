@@ -127,7 +127,7 @@ fn parse_entry(out: &mut Page, text: &str, place: usize)
     }
 }
 
-/// Writes a line for each error: its kind, its spans, what they stand for, and its text.
+/// Writes a line for each error: its kind, its spans, what they mean, and its text.
 fn write_errors(out: &mut Page, errors: &[HeaderError<Span>]) {
     for (index, error) in errors.iter().enumerate() {
         out.push_str(if index == 0 { " " } else { "    " });
