@@ -15,7 +15,7 @@ pub fn write_errors(out: &mut Page, text: &str, errors: &[YaccGrammarError]) {
 }
 
 /// Writes a line for each error: its kind, its spans, the line and the column of the first span's start, what the spans
-/// stand for, and its text.
+/// mean, and its text.
 pub fn write_error_lines(out: &mut Page, text: &str, errors: &[YaccGrammarError]) {
     match Places::new(out.alloc, text) {
         Ok(places) => write_placed_errors(out, &places, errors),
