@@ -29,7 +29,7 @@ error_line text error = first_place text error.spans ++ (error_text error.kind +
 abbrev pub error_lines : List ℕ → List GrammarError → List ℕ
 error_lines text errors = flat_map (error_line text) errors
 
--- a warning's line, likewise
+-- a warning's line: its position and its text
 abbrev pub warning_line : List ℕ → GrammarWarning → List ℕ
 warning_line text warning = first_place text warning.spans ++ (warning_text warning.kind ++ codes "\n")
 
