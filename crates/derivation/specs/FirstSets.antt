@@ -16,11 +16,11 @@ Begins E F [] t = ⊥
 Begins E F (Rule r ∷ a) t = F r t ⊎ (E r × Begins E F a t)
 Begins E F (Token u ∷ a) t = u ≡ t
 
--- a rule has whatever this list of symbols gives it
+-- the rule is nullable if these symbols all are, and begins with whatever tokens they begin with
 pub record Covers (E : ℕ → Type 0) (F : ℕ → ℕ → Type 0) (rule : ℕ) (symbols : List Sym) : Type 0 where
   pub empty : Vanishes E symbols → E rule
   pub first : (t : ℕ) → Begins E F symbols t → F rule t
 
--- each rule has whatever its productions give it
+-- this is so for each rule and the symbols of each of its productions
 abbrev pub IsClosed : (ℕ → List Sym → Type 0) → (ℕ → Type 0) → (ℕ → ℕ → Type 0) → Type 0
 IsClosed P E F = (r : ℕ) (symbols : List Sym) → P r symbols → Covers E F r symbols

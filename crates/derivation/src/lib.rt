@@ -44,7 +44,7 @@ pub fn trees_are_derivations()
         → Derives (HasProduction g) a (map Token w) ↔ Yields (HasProduction g) a w }
 {}
 
-/// Sets that are closed under the productions contain whatever derivations show.
+/// FIRST sets that are closed under the productions contain whatever derivations show.
 pub fn closed_sets_hold_first()
     ensures empty { (g : Grammar) (empty : ℕ → Bool) (first : ℕ → ℕ → Bool)
         → IsClosed (HasProduction g) (λ r. IsTrue (empty r)) (λ r t. IsTrue (first r t))
@@ -54,7 +54,7 @@ pub fn closed_sets_hold_first()
         → (r t : ℕ) → First (HasProduction g) r t → IsTrue (first r t) }
 {}
 
-/// What derivations show is closed under the productions, so it is the least of the closed sets.
+/// The FIRST sets that derivations show are closed under the productions, so they are the least closed ones.
 pub fn first_is_closed()
     ensures { (g : Grammar) → IsClosed (HasProduction g) (Empty (HasProduction g)) (First (HasProduction g)) }
 {}
@@ -69,7 +69,7 @@ pub fn lists_begin_symbol_by_symbol()
         ↔ ((rest : List Sym) × Derives (HasProduction g) a (Token t ∷ rest)) }
 {}
 
-/// What sets closed under the productions say of a derived list, they also say of the list that derives it.
+/// What closed FIRST sets say of a derived list, they also say of the list that derives it.
 pub fn closed_sets_hold_before_derivations()
     ensures empty { (g : Grammar) (empty : ℕ → Bool) (first : ℕ → ℕ → Bool)
         → IsClosed (HasProduction g) (λ r. IsTrue (empty r)) (λ r t. IsTrue (first r t))
@@ -82,7 +82,7 @@ pub fn closed_sets_hold_before_derivations()
         → Begins (λ r. IsTrue (empty r)) (λ r t. IsTrue (first r t)) a t }
 {}
 
-/// Sets that are closed under the productions contain whatever follows a rule, if the end token follows the start rule.
+/// FOLLOW sets that are closed under the productions, with the end token for the start rule, contain whatever follows.
 pub fn closed_sets_hold_follow()
     ensures { (g : Grammar) (empty : ℕ → Bool) (first follow : ℕ → ℕ → Bool)
         → IsClosed (HasProduction g) (λ r. IsTrue (empty r)) (λ r t. IsTrue (first r t))
@@ -92,7 +92,7 @@ pub fn closed_sets_hold_follow()
         → (r t : ℕ) → MayFollow g r t → IsTrue (follow r t) }
 {}
 
-/// What derivations show of FOLLOW is closed under the productions, and the end token follows the start rule.
+/// The FOLLOW sets that derivations show are closed under the productions, and the end token follows the start rule.
 pub fn follow_is_closed()
     ensures closed { (g : Grammar)
         → IsFollowClosed (HasProduction g) (Empty (HasProduction g)) (First (HasProduction g)) (MayFollow g) }
@@ -109,7 +109,7 @@ pub fn minimal_sentences_cost_the_least()
         → Least (HasProduction g) cost r d → c ≡ d }
 {}
 
-/// A rule with a greatest cost has no other, no least cost above it, and no unbounded costs.
+/// A rule with a greatest cost has no other and no least cost above it, and its costs aren't unbounded.
 pub fn a_greatest_cost_bounds()
     ensures bounded { (g : Grammar) (cost : ℕ → ℕ) (r c : ℕ) → Greatest (HasProduction g) cost r c
         → Unbounded (HasProduction g) cost r → ⊥ }
@@ -130,7 +130,8 @@ pub fn growing_cycles_unbound()
         → GrowingCycle (HasProduction g) cost x → Unbounded (HasProduction g) cost r }
 {}
 
-/// If no other sentence costs less, the sentence's cost is the least cost; if no other costs more, the greatest.
+/// If no sentence of a rule costs less than this one, its cost is the rule's least cost; if none costs more, the
+/// greatest.
 pub fn extreme_sentences_cost_the_extremes()
     ensures least { (g : Grammar) (cost : ℕ → ℕ) (r : ℕ) (w : List ℕ) → Sentence (HasProduction g) r w
         → ((v : List ℕ) → Sentence (HasProduction g) r v → cost_of cost w ≤ cost_of cost v)

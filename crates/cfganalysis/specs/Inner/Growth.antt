@@ -41,8 +41,8 @@ module _ {X : Type 0} (holds : Grammar → X → Type 0) (covers : X → Product
 
   -- for a rule: its set has no more in the second sets than in the first
   module _ (no_more : ℕ → X → X → Type 0) where
-    -- a production was added: the sets contain what it gives, and still what each other production gives, except productions that depend on
-    -- a rule whose set grew
+    -- what a production gives was added, and the sets still contain what each other production gives, except productions that depend on a
+    -- rule whose set grew
     pub record TakesIn (p : Production) (old new : X) (gained : ℕ → Type 0) : Type 0 where
       pub sound : (g : Grammar) → IsGrammar g → Contains g.productions p → holds g old → holds g new
       pub no_less : bits old ≤ bits new
@@ -51,7 +51,7 @@ module _ {X : Type 0} (holds : Grammar → X → Type 0) (covers : X → Product
       pub closed : ((r : ℕ) → rests_on p r → gained r → ⊥) → covers new p
       pub stays : (q : Production) → ((r : ℕ) → rests_on q r → gained r → ⊥) → covers old q → covers new q
 
-    -- a production was added, and the productions that depend on a rule whose set grew wait, as do those that waited before
+    -- what a production gives was added, and the productions that depend on a rule whose set grew wait, as do those that waited before
     pub record TakesInto (p : Production) (users : List (List ℕ)) (old new : X) (waiting waiting' : List Bool) : Type 0 where
       pub sound : (g : Grammar) → IsGrammar g → Contains g.productions p → holds g old → holds g new
       pub no_less : bits old ≤ bits new
