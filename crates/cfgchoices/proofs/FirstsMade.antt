@@ -17,7 +17,7 @@ use Rattle.cfgleast.proofs.Generated.{some_answered}
 use Rattle.cfgchoices.proofs.Tight.{least_of, minimal_made, one_cost}
 
 module _ (x : CostTables) (n : ℕ) (is : IsGenerator x n) (grammar : IsGrammar x.grammar) (l : Choices) (k : ℕ) (state : Choosing x l k) where
-  -- a chain production and the rule that it leads to cost the same
+  -- rules that chain productions link cost the same
   along_cost : {a b : ℕ} → Along (HasHeir x) a b → (c d : ℕ) → cost_answer x a ≡ Some c → cost_answer x b ≡ Some d → c ≡ d
   along_cost {a = a} here c d e f = one_cost x a c d e f
   along_cost {a = a} (next {b = b} link rest) c d e f =

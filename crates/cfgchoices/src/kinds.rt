@@ -15,7 +15,7 @@ use cfgleast::walk::{TOO_LARGE, walk};
 use cfgtables::Tables;
 use std::alloc::{AllocError, Global};
 
-/// What a production is to its rule.
+/// The kind of a production.
 #[derive(Clone, Copy)]
 pub enum Kind<S> {
     /// Not optimal: it costs more than its rule, or the rule costs nothing, or has no cost to return.

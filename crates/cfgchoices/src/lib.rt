@@ -1,4 +1,4 @@
-//! What productions are to the least costs of their rules, and the production that makes each rule's first minimal
+//! The kinds of productions by the least costs of their rules, and the production that makes each rule's first minimal
 //! sentence.
 #![tactic(auto)]
 
