@@ -15,8 +15,8 @@ pub trait Tables<S: Storage> {
     // The grammar.
     ghost grammar: { Self → Grammar };
 
-    /// The number of rules. The tables are those of a grammar whose rules, tokens and productions, and the symbols of
-    /// each production, can be counted by `S`.
+    /// The number of rules. The tables are those of a grammar that `S` can count, including the symbols of each
+    /// production.
     fn rules_len(&self) -> RIdx<S>
         ensures value { S.number result.0 ≡ (grammar self.now).rules }
         ensures content { IsGrammar (grammar self.now) }

@@ -20,8 +20,7 @@ pub trait Productions<S: Storage> {
     // How often productions were opened in total.
     ghost opened_all: { Self → ℕ };
 
-    /// The number of rules. The content is a grammar whose rules, tokens and productions, and the symbols of each
-    /// production, can be counted by `S`.
+    /// The number of rules. The content is a grammar that `S` can count, including the symbols of each production.
     fn rules_len(&self) -> RIdx<S>
         ensures value { S.number result.0 ≡ (content self.now).rules }
         ensures content { IsGrammar (content self.now) }
