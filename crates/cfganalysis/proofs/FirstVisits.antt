@@ -1,4 +1,4 @@
--- FIRST sets: what begins lists, when the sets are complete, and a visit, in which what a production gives is added symbol by symbol.
+-- FIRST sets: what lists begin with, when the sets are complete, and a visit, which adds what a production gives symbol by symbol.
 use Rattle.std.proofs.Common.{◌≡◌, ℕ, suc, inl, inr, true, false, List, [], ◌∷◌, ◌++◌, Contains, arith, refl, sym, ◌∙◌, true≢false, Bool, get_or, length, ap, subst, length-set, ◌+◌, ◌<◌, ◌≤◌, ◌⊎◌, ◌||◌, take, drop, slice_set, IsTrue, MatchBool, get_or-set_same}
 use Rattle.std.proofs.lemmas.List.{get_or_default, length-replicate, take_more, take-append-drop, take_all, set-get_or}
 use Rattle.std.proofs.lemmas.Bool.{cases_eq, or_parts}
@@ -29,11 +29,11 @@ module _ (E : ℕ → Type 0) (F : ℕ → ℕ → Type 0) where
   begins_past (Token u ∷ a) b t v h = absurd v
   begins_past (Rule r ∷ a) b t v h = inr (v.0, begins_past a b t v.1 h)
 
--- what stands in a list's rest stands in the list
+-- what is in a list's rest is in the list
 contains_rest : (s : Sym) (a : List Sym) (x : Sym) → Contains a x → Contains (s ∷ a) x
 contains_rest s a x h = (suc h.0, omega (arith, h.1), h.2)
 
--- what is so of the list's rules is enough
+-- what is true of the list's rules is enough
 pub vanishes_among : (E E' : ℕ → Type 0) (a : List Sym) → ((r : ℕ) → Contains a (Rule r) → E r → E' r) → Vanishes E a → Vanishes E' a
 vanishes_among E E' [] f h = tt
 vanishes_among E E' (Token u ∷ a) f h = absurd h
@@ -49,7 +49,7 @@ begins_among E E' F F' (Rule r ∷ a) t f k (inr h) = inr (
   begins_among E E' F F' a t (λ q j. f q (contains_rest (Rule r) a (Rule q) j)) (λ q j. k q (contains_rest (Rule r) a (Rule q) j)) h.1,
 )
 
--- the tests are the facts
+-- the tests say what is true
 pub vanishes_alone : (x : FirstSets) (s : Sym) → is_empty_symbol x s ≡ true → VanishesBy x (s ∷ [])
 vanishes_alone x (Rule r) e = (e, tt)
 vanishes_alone x (Token u) e = absurd (true≢false (sym e))
@@ -63,7 +63,7 @@ module _ (g : Grammar) (rule : ℕ) (symbols : List Sym) (has : HasProduction g 
   closed : Covers (Empty (HasProduction g)) (First (HasProduction g)) rule symbols
   closed = derived_closed (HasProduction g) rule symbols has
 
-  -- what the production's symbols begin with is shown by derivations
+  -- what the production's symbols begin with is what derivations show
   pub say_first : (x new : FirstSets) (gives : ℕ → ℕ → Type 0) (changed : Bool) → SayFirsts g x → new.epsilons ≡ x.epsilons
       → Joins gives x.firsts new.firsts changed → ((r t : ℕ) → gives r t → (r ≡ rule) × BeginsBy x symbols t) → SayFirsts g new
   say_first x new gives changed say same joins given = record {
@@ -86,7 +86,7 @@ module _ (g : Grammar) (rule : ℕ) (symbols : List Sym) (has : HasProduction g 
     ];
   }
 
--- sets in which nothing is say nothing wrong
+-- empty sets say nothing wrong
 pub say_none : (g : Grammar) (rules tokens : ℕ) → rules ≡ g.rules → tokens ≡ g.tokens → SayFirsts g (no_firsts rules tokens)
 say_none g rules tokens e h = record {
   fits = record {
@@ -97,7 +97,7 @@ say_none g rules tokens e h = record {
   empty = λ r on. absurd (true≢false (sym on ∙ get_or-replicate_default rules r false));
 }
 
--- sets that say nothing wrong, to which no production adds, are exact
+-- sets that say nothing wrong, to which no production has anything to add, are exact
 pub are_firsts : (g : Grammar) (x : FirstSets) → SayFirsts g x → CoversEach HaveFirstsOf g x → AreFirsts g x
 are_firsts g x say covered = record {
   fits = say.fits;
@@ -109,12 +109,12 @@ are_firsts g x say covered = record {
     closed r symbols has = subst (λ (p : Production). Covers (IsEpsilon x) (IsAmongFirsts x) p.rule p.symbols)
         (get_or_default g.productions has.0 _ _ has.1 ∙ has.2) (covered has.0 has.1)
 
--- what begins the symbol was put into the rule's set
+-- what the symbol begins with was added to the rule's set
 pub record Puts (rule : ℕ) (s : Sym) (old new : FirstSets) (changed : Bool) : Type 0 where
   pub epsilons : new.epsilons ≡ old.epsilons
   pub joins : Joins (λ r t. (r ≡ rule) × BeginsBy old (s ∷ []) t) old.firsts new.firsts changed
 
--- no set but the rule's grew, and that by what its production gives
+-- no set but the rule's grew, and that only by what its production gives
 pub record Grown (rule : ℕ) (symbols : List Sym) (old new : FirstSets) (changed : Bool) : Type 0 where
   pub sound : (g : Grammar) → IsGrammar g → HasProduction g rule symbols → SayFirsts g old → SayFirsts g new
   pub more : changed ≡ true → count_firsts old < count_firsts new
@@ -122,18 +122,18 @@ pub record Grown (rule : ℕ) (symbols : List Sym) (old new : FirstSets) (change
   pub others : (r t : ℕ) → IsAmongFirsts new r t → IsAmongFirsts old r t ⊎ (r ≡ rule)
   pub kept : (r t : ℕ) → IsAmongFirsts old r t → IsAmongFirsts new r t
 
--- what begins the first n symbols was put into the rule's set
+-- what the first n symbols begin with was added to the rule's set
 pub record Walked (rule : ℕ) (symbols : List Sym) (n : ℕ) (old new : FirstSets) (changed : Bool) : Type 0 where
   pub epsilons : new.epsilons ≡ old.epsilons
   pub growth : Grown rule symbols old new changed
   pub given : (t : ℕ) → BeginsBy old (take n symbols) t → IsAmongFirsts new rule t
 
--- and they vanish
+-- in addition, these symbols are nullable
 pub record Visits (rule : ℕ) (symbols : List Sym) (n : ℕ) (old new : FirstSets) (changed : Bool) : Type 0 where
   pub vanished : VanishesBy old (take n symbols)
   pub walked : Walked rule symbols n old new changed
 
--- the whole production was taken in
+-- all that the production gives was added
 record Taken (rule : ℕ) (symbols : List Sym) (old new : FirstSets) (changed : Bool) : Type 0 where
   growth : Grown rule symbols old new changed
   given : (t : ℕ) → BeginsBy old symbols t → IsAmongFirsts new rule t
@@ -141,12 +141,12 @@ record Taken (rule : ℕ) (symbols : List Sym) (old new : FirstSets) (changed : 
   kept_empty : (r : ℕ) → IsEpsilon old r → IsEpsilon new r
   given_empty : VanishesBy old symbols → IsEpsilon new rule
 
--- what gained is the rule's set, and only where something changed
+-- only the rule's set grew, and only if something changed
 abbrev pub GainsRule : ℕ → Bool → ℕ → Type 0
 GainsRule rule changed r = (r ≡ rule) × (changed ≡ true)
 
 module _ (rule : ℕ) (symbols : List Sym) (old new : FirstSets) (changed : Bool) (w : Taken rule symbols old new changed) where
-  -- of a production that rests on nothing that gained, what the sets gave it before is all
+  -- a production that depends on no set that grew gives no more than the sets had given it before
   covered : (q : Production) → ((r : ℕ) → HoldsRule q r → GainsRule rule changed r → ⊥) → ((t : ℕ) → BeginsBy old q.symbols t → IsAmongFirsts new q.rule t)
       → (VanishesBy old q.symbols → IsEpsilon new q.rule) → HaveFirstsOf new q
   covered q none first empty = record {
@@ -177,7 +177,7 @@ module _ (rule : ℕ) (symbols : List Sym) (old new : FirstSets) (changed : Bool
     stays = λ q none had. covered q none (λ t h. w.growth.kept q.rule t (had.first t h)) (λ h. w.kept_empty q.rule (had.empty h));
   }
     where
-      -- had the rule no more than before, there would be no more in all
+      -- if the rule had no more than before, there would be no more in all
       gained : (r : ℕ) → GainsRule rule changed r → HasNoMoreFirsts r old new → ⊥
       gained r h none =
           let more = w.growth.more h.1 in
@@ -233,7 +233,7 @@ module _ (rule : ℕ) (symbols : List Sym) where
     unchanged : d ≡ false → new ≡ mid
     unchanged e = same_sets mid new one.epsilons (one.joins.same e)
 
-    -- the front still vanishes, so what begins the symbol begins the production
+    -- the prefix is still nullable, so what the symbol begins with begins the production
     begins_symbols : (t : ℕ) → BeginsBy mid (s ∷ []) t → BeginsBy mid symbols t
     begins_symbols t h = subst (λ l. BeginsBy mid l t) (take-append-drop (n + 1) symbols)
         (begins_front _ _ (take (n + 1) symbols) (drop (n + 1) symbols) t (subst (λ l. BeginsBy mid l t) (sym longer)
@@ -257,7 +257,7 @@ module _ (rule : ℕ) (symbols : List Sym) where
       ]);
     }
 
-    -- the symbol is an empty rule, or it isn't
+    -- the symbol is a nullable rule, or it isn't
     tested : (b : Bool) → is_empty_symbol new s ≡ b → is_empty_symbol old s ≡ b
     tested b e = subst (λ l. is_empty_symbol (record { firsts = old.firsts; epsilons = l }) s ≡ b) (one.epsilons ∙ w.walked.epsilons) (test_by s e)
       where
@@ -272,7 +272,7 @@ module _ (rule : ℕ) (symbols : List Sym) where
       walked = walked;
     }
 
-    -- at a symbol that is no empty rule the visit ends
+    -- the visit ends at a symbol that isn't a nullable rule
     pub visits_end : is_empty_symbol new s ≡ false
         → TakesIn SayFirsts HaveFirstsOf count_firsts HoldsRule HasNoMoreFirsts (record { rule = rule; symbols = symbols }) old new (GainsRule rule (c || d))
     visits_end e = takes rule symbols old new (c || d) (record {
@@ -291,7 +291,7 @@ module _ (rule : ℕ) (symbols : List Sym) where
         stays : VanishesBy old (take (n + 1) symbols) → ⊥
         stays v = stays_alone old s (tested false e) (vanishes_parts _ (take n symbols) (s ∷ []) (subst (λ l. VanishesBy old l) longer v)).1
 
-  -- all symbols vanish, and the rule was put among the empty ones
+  -- all symbols are nullable, and the rule was marked as nullable
   pub visits_all : (g : Grammar) (n : ℕ) (old mid new : FirstSets) (c d : Bool) → IsGrammar g → HasProduction g rule symbols → SayFirsts g old
       → length symbols ≤ n → Visits rule symbols n old mid c → new ≡ with_epsilon mid rule
       → MatchBool d (epsilon_bit mid rule ≡ false) (epsilon_bit mid rule ≡ true)
@@ -340,7 +340,7 @@ module _ (rule : ℕ) (symbols : List Sym) where
       unchanged e = put ∙ ap (λ l. record { firsts = mid.firsts; epsilons = l })
           (ap (λ b. slice_set mid.epsilons rule b) (sym (on d e was)) ∙ set-get_or mid.epsilons rule false)
 
--- the rule waits where its set gained
+-- the rule waits if its set grew
 gains_rule : (rule : ℕ) (p : Production) (old new : FirstSets) (changed : Bool) (gained : ℕ → Type 0) → ((r : ℕ) → gained r → GainsRule rule changed r)
     → ((r : ℕ) → GainsRule rule changed r → gained r) → TakesIn SayFirsts HaveFirstsOf count_firsts HoldsRule HasNoMoreFirsts p old new (GainsRule rule changed)
     → TakesIn SayFirsts HaveFirstsOf count_firsts HoldsRule HasNoMoreFirsts p old new gained

@@ -1,4 +1,4 @@
--- Numbers of openings fit, since rules, tokens and productions are counted by an index type.
+-- The numbers of openings fit, since rules, tokens and productions are counted by an index type.
 use Rattle.std.proofs.Common.{◌≡◌, ℕ, ◌+◌, ◌*◌, ◌<◌, ◌≤◌, length, arith}
 use Rattle.std.proofs.lemmas.Nat.{mul-le}
 use Rattle.derivation.specs.Grammar.{Grammar, IsGrammar}
@@ -25,7 +25,7 @@ can_visit g places most is e h lt small = record {
   all_small = product_fits (length g.productions) (most_openings g) most (omega arith) lt small;
 }
 
--- productions that were not opened were not opened often
+-- productions that were not opened were opened few times
 pub still_few : (most : ℕ) (g : Grammar) (opened : ℕ → ℕ) (all : ℕ) → ((q : ℕ) → q < length g.productions → opened q ≡ 0) → all ≡ 0
     → AreOpenedAtMost most g opened all
 still_few most g opened all fresh none = record { each = λ q lt. let h = fresh q lt in omega (arith, h); together = omega (arith, none) }

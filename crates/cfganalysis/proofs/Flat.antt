@@ -1,4 +1,4 @@
--- Tables of bits in one list of words: a write to the words of a row leaves the other rows.
+-- Tables of bits in one list of words: a write to the words of one row leaves the other rows as they are.
 use Rattle.std.proofs.Common.{◌≡◌, ◌≢◌, ℕ, ◌+◌, ◌-◌, ◌*◌, ◌/◌, ◌%◌, ◌^◌, ◌<◌, ◌≤◌, ◌==◌, ◌||◌, ◌⊎◌, bit_or, inl, inr, Bool, true, false, not, All, List, Vec, [], length, get_or, slice_set, replicate, MatchBool, IsTrue, arith, refl, sym, ap, ◌∙◌, subst, ext_get_or, get_or-set_same, get_or-set_other, length-set}
 use Rattle.std.specs.List.{between}
 use Rattle.std.specs.Vec.{with_items}
@@ -18,7 +18,7 @@ use Rattle.cfganalysis.specs.Inner.Flat.{AreRows, JoinsWords, table_of, words_of
 use Rattle.cfganalysis.specs.Inner.Joined.{GrewTo, joined}
 use Rattle.cfganalysis.proofs.Joins.{joins_list}
 
--- rows don't reach into each other
+-- rows don't overlap
 below_row : (n a b : ℕ) → a < b → a * n + n ≤ b * n
 below_row n a b lt = row_fits a n b n lt (omega arith)
 
@@ -168,7 +168,7 @@ module _ (rows columns n : ℕ) (words : List ℕ) (is : AreRows rows columns n 
       bit_was = ap (λ l. get_or l column false) (row_is r lt) ∙ get_or-bits_of (words_of n words r) columns column false lt'
           ∙ sym (word_bit_read (words_of n words r) columns column word (is.each r lt) lt' word_is)
 
--- no bit of words that are zero is on
+-- if all words are zero, no bit is on
 module _ (columns : ℕ) (zeros : List ℕ) (zero : (k : ℕ) → get_or zeros k 0 ≡ 0) (enough : columns ≤ length zeros * 64) (few : length zeros * 64 < columns + 64) where
   words_none : AreWords columns zeros
   words_none = record {
@@ -216,7 +216,7 @@ module _ (rows columns n : ℕ) (enough : columns ≤ n * 64) (few : n * 64 < co
       high : length (table_of rows columns n (replicate (rows * n) 0)).rows ≡ rows
       high = length-map-range_with_len (λ row. bits_of (words_of n (replicate (rows * n) 0) row) columns) 0 rows
 
--- Words from one place on are joined, as far as a walk has come, with as many from another place on.
+-- The words from one index on are joined with as many from another, up to where a loop has come.
 pub record JoiningAt (to from many i : ℕ) (old now : List ℕ) (changed : Bool) : Type 0 where
   pub long : length now ≡ length old
   pub joining : Joining i (between to (to + many) old) (between from (from + many) old) (between to (to + many) now) changed
@@ -259,7 +259,7 @@ module _ (to from many : ℕ) (old : List ℕ) (fits : to + many ≤ length old)
     grew = joining_grew i _ _ _ changed w.joining;
   }
 
--- what is known of a row by the table
+-- what the table says of a row
 module _ (rows columns n : ℕ) (words : List ℕ) (is : AreRows rows columns n words) (x : Table) (view : table_of rows columns n words ≡ x) where
   pub rows_are : rows ≡ length x.rows
   rows_are = sym (height rows columns n words is) ∙ ap (λ y. length y.rows) view

@@ -1,4 +1,4 @@
--- FOLLOW sets: what a production puts behind its rules, place by place; how they begin, and when they are complete.
+-- FOLLOW sets: what a production adds to the sets of its rules, symbol by symbol; the initial sets, and when they are complete.
 use Rattle.std.proofs.Common.{◌≡◌, ◌↔◌, ℕ, ◌+◌, ◌<◌, ◌≤◌, ◌⊎◌, inl, inr, Bool, true, false, List, [], ◌∷◌, drop, slice_set, length, arith, refl, sym, ap, ◌∙◌, subst, true≢false, zero, suc, length-set, ◌-◌}
 use Rattle.std.proofs.lemmas.List.{drop_all, get_or_default}
 use Rattle.derivation.specs.Grammar.{Sym, Rule, Token, Grammar, IsGrammar, HasProduction, Production}
@@ -17,7 +17,7 @@ use Rattle.cfganalysis.specs.Inner.Waiting.{waits, Waits, NoneWaits}
 use Rattle.cfganalysis.proofs.Joins.{count_of-fewer, bit-no_bits, IsTable-no_bits, joins_bit}
 use Rattle.cfganalysis.specs.Follows.{AreFollows}
 
--- a symbol that is no rule has nothing behind it
+-- nothing is added for a symbol that is no rule
 pub nothing_behind : (u : ℕ) (gives : ℕ → Type 0) (x : FollowSets) (waiting : List Bool) → PutsBehind (λ r t. (Rule r ≡ Token u) × gives t) x x waiting waiting
 nothing_behind u gives x waiting = record {
   firsts = refl;
@@ -41,7 +41,7 @@ module _ (q : ℕ) (gives : ℕ → Type 0) (old new : FollowSets) (changed : Bo
     (λ h. (w.joins.bits r t).1 (elim h [ inl i ↦ inl i | inr i ↦ let e : r ≡ q = cc (i.0) in inr (e, i.1) ])),
   )
 
-  -- the rule's set gained, and it waits
+  -- the rule's set grew, and the rule waits
   pub rule_behind : (n : ℕ) (waiting' : List Bool) → changed ≡ true → n ≡ q → n < length waiting → waiting' ≡ slice_set waiting n true
       → PutsBehind (λ r t. (Rule r ≡ Rule q) × gives t) old new waiting waiting'
   rule_behind n waiting' on is lt put = record {
@@ -59,7 +59,7 @@ module _ (q : ℕ) (gives : ℕ → Type 0) (old new : FollowSets) (changed : Bo
     ];
   }
     where
-      -- had the rule no more than before, there would be no more in all
+      -- if the rule had no more than before, there would be no more in all
       grew : (r : ℕ) → r ≡ q → HasNoMoreFollows r old new → ⊥
       grew r e none =
           let more = w.joins.more on in
@@ -69,7 +69,7 @@ module _ (q : ℕ) (gives : ℕ → Type 0) (old new : FollowSets) (changed : Bo
           ]) in
           omega (arith, more, all)
 
-  -- it had all that already
+  -- the set contained all of it already
   pub same_behind : changed ≡ false → PutsBehind (λ r t. (Rule r ≡ Rule q) × gives t) old new waiting waiting
   same_behind off = record {
     firsts = w.firsts;
@@ -83,8 +83,7 @@ module _ (q : ℕ) (gives : ℕ → Type 0) (old new : FollowSets) (changed : Bo
     told = λ r t h. inl (subst (λ x. HasBit x r t) (w.joins.same off) h);
   }
 
--- What the symbols from the n-th on have behind them was put there. Where later on the rule's set is still as it was,
--- they are covered then.
+-- What follows the symbols from the n-th on was added. They stay covered later, as long as the rule's set is as it was.
 pub record Flowing (rule : ℕ) (symbols : List Sym) (n : ℕ) (old new : FollowSets) (none waiting : List Bool) : Type 0 where
   pub sound : (g : Grammar) → IsGrammar g → HasProduction g rule symbols → SayFollows g old → SayFollows g new
   pub firsts : new.firsts ≡ old.firsts
@@ -97,20 +96,20 @@ pub record Flowing (rule : ℕ) (symbols : List Sym) (n : ℕ) (old new : Follow
   pub closed : (x : FollowSets) → x.firsts ≡ old.firsts → ((r t : ℕ) → HasBit new.follows r t → HasBit x.follows r t)
       → ((t : ℕ) → HasBit x.follows rule t → HasBit old.follows rule t) → FlowIn x rule (drop n symbols)
 
--- what stands behind a symbol stands there still where its rule has gained
+-- what follows a symbol still follows it after its rule's set grew
 pub behind_grow : (old new : FollowSets) (rule : ℕ) (a : List Sym) (t : ℕ) → new.firsts ≡ old.firsts
     → (HasBit old.follows rule t → HasBit new.follows rule t) → Behind old rule a t → Behind new rule a t
 behind_grow old new rule a t e grow (inl b) = inl (subst (λ f. Begins (IsEpsilon f) (IsAmongFirsts f) a t) (sym e) b)
 behind_grow old new rule a t e grow (inr b) = inr (subst (λ f. Vanishes (IsEpsilon f) a) (sym e) b.0, grow b.1)
 
--- the rest of a list flows as the list does
+-- the equations hold for a suffix of a list if they hold for the list
 flows_drop : (E : ℕ → Type 0) (F W : ℕ → ℕ → Type 0) (k : ℕ → Type 0) (n : ℕ) (a : List Sym) → Flows E F W a k → Flows E F W (drop n a) k
 flows_drop E F W k zero a h = h
 flows_drop E F W k (suc n) [] h = h
 flows_drop E F W k (suc n) (Token u ∷ a) h = flows_drop E F W k n a h
 flows_drop E F W k (suc n) (Rule q ∷ a) h = flows_drop E F W k n a h.2
 
--- what stands behind a rule in a production may follow it
+-- what follows a rule in a production may follow the rule
 may_follow : (g : Grammar) (rule : ℕ) (rest : List Sym) (x : FollowSets) (s : Sym) (r t : ℕ) → SayFollows g x
     → Flows (Empty (HasProduction g)) (First (HasProduction g)) (MayFollow g) (s ∷ rest) (MayFollow g rule)
     → Rule r ≡ s → Behind x rule rest t → MayFollow g r t
@@ -135,7 +134,7 @@ flow_at : (x : FollowSets) (rule : ℕ) (s : Sym) (rest : List Sym) → ((r t : 
 flow_at x rule (Token u) rest had h = h
 flow_at x rule (Rule q) rest had h = ((λ t b. had q t refl (inl b)), (λ v t b. had q t refl (inr (v, b))), h)
 
--- the equations hold of larger sets too, where no more flows from the rule
+-- the equations also hold for larger sets, if no more comes from the rule
 flows_grow : (E : ℕ → Type 0) (F W W' : ℕ → ℕ → Type 0) (k k' : ℕ → Type 0) (a : List Sym) → ((r t : ℕ) → W r t → W' r t) → ((t : ℕ) → k' t → k t)
     → Flows E F W a k → Flows E F W' a k'
 flows_grow E F W W' k k' [] f back h = h
@@ -160,7 +159,7 @@ module _ (rule : ℕ) (symbols : List Sym) where
     closed = λ y e f back. subst (λ l. FlowIn y rule l) (sym (drop_all n symbols le)) tt;
   }
 
-  -- What is put behind a symbol stands behind it now; and what stood behind it at the start is put there.
+  -- What is added for a symbol now follows it; and what followed it at the start is added.
   pub flowing_one : (n : ℕ) (s : Sym) (rest : List Sym) (gives : ℕ → Type 0) (old mid new : FollowSets) (none waiting waiting' : List Bool)
       → drop n symbols ≡ s ∷ rest → rest ≡ drop (n + 1) symbols → Flowing rule symbols (n + 1) old mid none waiting
       → ((t : ℕ) → Behind old rule rest t → gives t) → ((t : ℕ) → gives t → Behind mid rule rest t)
@@ -232,7 +231,7 @@ firsts_closed g x are r symbols has =
       first = λ t h. (are.first r t).1 (d.first t (begins_map _ _ _ _ (λ q i. (are.empty q).0 i) (λ q u i. (are.first q u).0 i) symbols t h));
     }
 
--- sets that say nothing wrong, to which no production adds, are exact
+-- sets that say nothing wrong, to which no production has anything to add, are exact
 pub are_follows : (g : Grammar) (x : FollowSets) → SayFollows g x → CoversEach HaveFollowsOf g x → AreFollows g x.follows
 are_follows g x say covered = record {
   fits = say.fits;
@@ -252,7 +251,7 @@ are_follows g x say covered = record {
     flows r symbols has = subst (λ (p : Production). FlowIn x p.rule p.symbols)
         (get_or_default g.productions has.0 _ _ has.1 ∙ has.2) (covered has.0 has.1)
 
--- at first the end token stands behind the start rule, and nothing else anywhere
+-- at first the end token follows the start rule, and nothing else follows anything
 pub say_start : (g : Grammar) (f : FirstSets) (rules tokens : ℕ) → IsGrammar g → AreFirsts g f → rules ≡ g.rules → tokens ≡ g.tokens
     → SayFollows g (record { firsts = f; follows = with_bit (no_bits rules tokens) 0 (tokens - 1) })
 say_start g f rules tokens is are e h =

@@ -1,4 +1,4 @@
--- FOLLOW sets: what stands at a front of a production, and what is gathered there.
+-- FOLLOW sets: the next tokens at a position of a production, and how they are gathered.
 use Rattle.std.proofs.Common.{◌≡◌, ◌↔◌, ℕ, ◌+◌, ◌<◌, ◌≤◌, ◌⊎◌, inl, inr, Bool, true, false, List, [], ◌∷◌, drop, get_or, slice_set, length, replicate, All, refl, sym, ap, ◌∙◌, subst, true≢false, length-set}
 use Rattle.std.proofs.lemmas.List.{drop_all, length-replicate}
 use Rattle.lemmas.proofs.Elements.{get_or-replicate_default}
@@ -20,7 +20,7 @@ use Rattle.cfganalysis.specs.Inner.GrowingFollows.{FollowSets, BeginsList, Vanis
 use Rattle.cfganalysis.proofs.FirstVisits.{begins_front, begins_past, vanishes_alone, stays_alone}
 use Rattle.cfganalysis.proofs.FollowVisits.{behind_grow}
 
--- sets that have all that others have
+-- sets that contain all that others contain
 abbrev pub Grows : FollowSets → FollowSets → Type 0
 Grows x y = (r t : ℕ) → HasBit x.follows r t → HasBit y.follows r t
 
@@ -42,13 +42,13 @@ gathers_row gives row old new wide put to from = record {
       (adds_as gives (λ t h. inr (to t h)) (λ t h. inr (from t h)) (union_adds old row wide));
 }
 
--- what begins a rule
+-- what a rule begins with
 pub gathers_rule : (x : FollowSets) (r : ℕ) (old new : List Bool) → length old ≡ length (row_of x.firsts.firsts r)
     → new ≡ joined old (row_of x.firsts.firsts r) → Gathers (BeginsList x (Rule r ∷ [])) old new
 gathers_rule x r old new wide put = gathers_row _ (row_of x.firsts.firsts r) old new wide put (λ t h. inl h)
     (λ t h. elim h [ inl i ↦ i | inr i ↦ absurd i.1 ])
 
--- gathered where nothing was
+-- gathered when nothing was gathered before
 module _ (gives : ℕ → Type 0) (old none new : List Bool) (bare : none ≡ replicate (length old) false) (w : Gathers gives none new) where
   pub anew_long : length new ≡ length old
   anew_long = w.long ∙ ap length bare ∙ length-replicate (length old) false
@@ -62,8 +62,7 @@ module _ (gives : ℕ → Type 0) (old none new : List Bool) (bare : none ≡ re
     (λ h. (w.tokens t).1 (inr h)),
   )
 
--- What stands at a front before the n-th symbol: all that stood behind its place at the start, and nothing but what stands
--- there now, or later, as sets grow.
+-- The next tokens before the n-th symbol: all that came next at the start, and only what comes next now or later, as sets grow.
 pub record Fronting {S : Type 0} (number : S → ℕ) (rule : ℕ) (symbols : List Sym) (n wide : ℕ) (old new : FollowSets) (front : Front S)
     (tokens : List Bool) : Type 0 where
   pub fits : (g : Grammar) → All (IsSymbolOf g) symbols → IsFrontOf number g front
@@ -74,7 +73,7 @@ pub record Fronting {S : Type 0} (number : S → ℕ) (rule : ℕ) (symbols : Li
       → Behind x rule (drop n symbols) t
 
 module _ {S : Type 0} (number : S → ℕ) (rule : ℕ) where
-  -- at a symbol that doesn't vanish stands what begins it
+  -- before a symbol that isn't nullable, the next tokens are what it begins with
   pub steps_over : (x : FollowSets) (symbol : Symbol S) (front : Front S) (tokens : List Bool)
       → is_empty_symbol x.firsts (sym_of number symbol) ≡ false
       → StepsBack number x rule (sym_of number symbol) front tokens (fronts.Symbol symbol) tokens
@@ -85,7 +84,7 @@ module _ {S : Type 0} (number : S → ℕ) (rule : ℕ) where
     long = refl;
   }
 
-  -- at one that vanishes is gathered what stands behind it too
+  -- before a nullable symbol, the next tokens after it are gathered too
   pub steps_through : (x : FollowSets) (s : Sym) (front : Front S) (tokens mid tokens' : List Bool) → is_empty_symbol x.firsts s ≡ true
       → length mid ≡ length tokens → ((t : ℕ) → (IsGathered mid t ↔ FrontGives number x rule tokens front t))
       → Gathers (BeginsList x (s ∷ [])) mid tokens' → StepsBack number x rule s front tokens fronts.Gathered tokens'

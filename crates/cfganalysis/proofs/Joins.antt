@@ -13,7 +13,7 @@ use Rattle.cfganalysis.specs.Inner.Joined.{GrewTo, joined}
 pub row_wide : (rows columns : ℕ) (x : Table) → IsTable rows columns x → (r : ℕ) → r < rows → length (row_of x r) ≡ columns
 row_wide rows columns x is r h = All-get_or (λ row. length row ≡ columns) x.rows r [] (subst (λ n. r < n) (sym is.height) h) is.all_wide
 
--- no bit of a table with no bit on is on
+-- in a table with no bit on, no bit is on
 pub bit-no_bits : (rows columns r k : ℕ) → bit (no_bits rows columns) r k ≡ false
 bit-no_bits zero columns r k = refl
 bit-no_bits (suc n) columns zero k = get_or-replicate_default columns k false
@@ -41,7 +41,7 @@ rows-fewer (x ∷ xs) (y ∷ ys) f =
 pub count_of-fewer : (x y : Table) → ((r k : ℕ) → bit x r k ≡ true → bit y r k ≡ true) → count_of x ≤ count_of y
 count_of-fewer x y f = rows-fewer x.rows y.rows f
 
--- a row was exchanged for one with more bits on, or for the same
+-- a row was replaced by one with more bits on, or stayed the same
 module _ (x : Table) (row : ℕ) (l : List Bool) (gives : ℕ → Type 0) (within : row < length x.rows) (long : length l ≡ length (row_of x row))
     (adds : (k : ℕ) → (IsTrue (get_or l k false) ↔ (HasBit x row k ⊎ gives k))) where
   joins_row : (changed : Bool) → (changed ≡ true → bits_on (row_of x row) < bits_on l) → (changed ≡ false → l ≡ row_of x row)

@@ -1,4 +1,4 @@
--- The productions that rest on rules: one noted more, with the rules among its symbols, and those let wait that rest on one.
+-- The productions that depend on rules: a further one is noted for the rules among its symbols, and those that depend on a rule are queued.
 use Rattle.std.proofs.Common.{◌≡◌, ◌↔◌, ℕ, ◌+◌, ◌<◌, ◌≤◌, ◌⊎◌, inl, inr, Bool, true, false, List, [], ◌∷◌, ◌++◌, Contains, map, take, get_or, length, slice_set, Vec, Global, refl, sym, ap, ◌∙◌, subst, true≢false, length-set, get_or-set_other, Result, Ok, Err, IfOk, arith}
 use Rattle.std.proofs.lemmas.Bool.{cases_eq}
 use Rattle.std.proofs.lemmas.List.{get_or-map, map-set, length-map, take_all}
@@ -26,7 +26,7 @@ notes_one users rule p lt = record {
   )) r);
 }
 
--- a list of the code is what is shown of it
+-- a list in the code is what its view shows
 pub row_shown : (lists : List (Vec ℕ Global)) (users : List (List ℕ)) (rule : ℕ) (x : Vec ℕ Global) → map (λ list. list.items) lists ≡ users → rule < length users
     → x ≡ get_or lists rule x → x.items ≡ users_of users rule
 row_shown lists users rule x shown lt is =
@@ -34,7 +34,7 @@ row_shown lists users rule x shown lt is =
     sym (ap (λ l. get_or l rule []) (sym shown)
     ∙ get_or-map items lists rule x [] (subst (λ n. rule < n) (sym (ap length shown) ∙ length-map lists items) lt) ∙ ap items (sym is))
 
--- the same of lists of the code
+-- the same for lists in the code
 pub notes_pushed : (lists : List (Vec ℕ Global)) (users : List (List ℕ)) (rule p : ℕ) (was now : Vec ℕ Global) → map (λ list. list.items) lists ≡ users
     → rule < length users → was ≡ get_or lists rule was → now.items ≡ was.items ++ p ∷ []
     → Notes p (λ r. r ≡ rule) users (map (λ list. list.items) (slice_set lists rule now))
@@ -68,7 +68,7 @@ notes_then p rests rests' old mid new w v = record {
       (adds_then (w.users r) (v.users r));
 }
 
--- the first n productions of a list were let wait
+-- the first n productions of a list were queued
 pub record LetsWaitFront (list : List ℕ) (n : ℕ) (old new : List Bool) : Type 0 where
   pub shape : length new ≡ length old
   pub waits : (q : ℕ) → (Waits new q ↔ (Waits old q ⊎ Contains (take n list) q))
@@ -97,7 +97,7 @@ module _ (list : List ℕ) where
         w.waits;
   }
 
--- between two rules that gained: the productions that rest on those that are done wait
+-- between two rules whose sets grew: the productions that depend on the rules done so far wait
 pub record LettingWait (users : List (List ℕ)) (gained left : List Bool) (old new : List Bool) : Type 0 where
   pub shape : length new ≡ length old
   pub fewer : (r : ℕ) → Waits left r → Waits gained r
@@ -160,7 +160,7 @@ notes_token p u x = notes_none p _ x (λ r e. not_token r e)
 pub notes_rule : (p q : ℕ) (old new : List (List ℕ)) → Notes p (λ r. r ≡ q) old new → Notes p (λ r. Rule r ≡ Rule q) old new
 notes_rule p q old new w = notes_as p _ _ old new (λ r e. ap Rule e) (λ r e. cc) w
 
--- with those among the first n
+-- the production was noted for the rules among the first n symbols
 abbrev pub NotesFront : ℕ → List Sym → ℕ → List (List ℕ) → List (List ℕ) → Type 0
 NotesFront p a n old new = Notes p (λ r. Contains (take n a) (Rule r)) old new
 
@@ -176,7 +176,7 @@ module _ (p : ℕ) (a : List Sym) where
   pub front_all : (n : ℕ) (old new : List (List ℕ)) → length a ≤ n → NotesFront p a n old new → Notes p (λ r. Contains a (Rule r)) old new
   front_all n old new le w = subst (λ l. Notes p (λ r. Contains l (Rule r)) old new) (take_all n a le) w
 
--- a call that may be refused noted the production with a rule
+-- a call that may fail noted the production for a rule
 pub rule_noted : {T E : Type 0} (result : Result T E) (p n q : ℕ) (s : Sym) (old new : List (List ℕ)) → n ≡ q → s ≡ Rule q
     → IfOk result (λ _. Notes p (λ r. r ≡ n) old new) → IfOk result (λ _. Notes p (λ r. Rule r ≡ s) old new)
 rule_noted (Err e) p n q s old new is at h = tt

@@ -1,4 +1,4 @@
--- Rules are reached by references as paths lead to them.
+-- Rules are reachable by references exactly as paths lead to them.
 use Rattle.std.proofs.Common.{◌≡◌, ℕ, ◌<◌, List, Contains, All, length, refl, sym, ap, ◌∙◌, subst}
 use Rattle.std.proofs.lemmas.List.{get_or_default}
 use Rattle.std.proofs.lemmas.List.Elements.{All-get_or, Contains-get_or}
@@ -32,7 +32,7 @@ found_rules symbols old new w = reaches_as _ _ old new
     w
 
 module _ (g : Grammar) (rule : ℕ) (places : List ℕ) (are : ArePlacesOf g rule places) where
-  -- what a rule's productions hold is what the rule does
+  -- the rules that a rule's productions contain are those that the rule leads to in one reference
   pub held_by_rule : (old new : SearchState) → Reaches (FoundBy (HeldIn g) places) old new → Reaches (Holds (HasProduction g) rule) old new
   held_by_rule old new w = reaches_as _ _ old new (λ r h. to r h) (λ r h. from r h) w
     where

@@ -1,4 +1,4 @@
--- A stack in which each number stands at most once: one number more, and one less.
+-- A stack that contains each number at most once: one number more, and one less.
 use Rattle.std.proofs.Common.{◌≡◌, ℕ, ◌+◌, ◌<◌, Bool, true, false, cond, eqb, List, [], ◌∷◌, ◌++◌, length, get_or, slice_set, slice_get, Some, count_by, arith, refl, sym, ap, ◌∙◌, subst, true≢false, length-set, replicate, zero, suc, eq-eqb, get_or-set_same, get_or-set_other, inl, inr}
 use Rattle.std.proofs.lemmas.Bool.{cases_eq, ne_eqb}
 use Rattle.std.proofs.lemmas.List.{length_push, set-get_or, set-set}
@@ -20,7 +20,7 @@ pub bits_on-none : (bound : ℕ) → bits_on (replicate bound false) ≡ 0
 bits_on-none zero = refl
 bits_on-none (suc n) = let e = sum_by-cons (λ (b : Bool). cond b 1 0) false (replicate n false) in omega (arith, e, bits_on-none n)
 
--- how often a number waits, where one is let wait
+-- how often a number waits after one was pushed
 turned : (x : List Bool) (n m : ℕ) → n < length x → waits x n ≡ false → ◌≡◌ {A = ℕ} (cond (waits (slice_set x n true) m) 1 0) (cond (waits x m) 1 0 + cond (eqb n m) 1 0)
 turned x n m lt off = elim (cases_eq m n) [
   | inl e ↦
@@ -43,7 +43,7 @@ stack_none bound = record {
 }
 
 module _ (x : List Bool) (stack : List ℕ) (is : IsStack x stack) where
-  -- where a number doesn't wait there is room for it
+  -- if a number doesn't wait, there is room for it
   pub stack_room : (n : ℕ) → n < length x → slice_get x n ≡ Some false → length stack < length x
   stack_room n lt off =
       let e = bits_on-set x n lt (get_or_from_slice_get x n false false off) in
@@ -60,11 +60,11 @@ module _ (x : List Bool) (stack : List ℕ) (is : IsStack x stack) where
       here : waits x n ≡ false
       here = get_or_from_slice_get x n false false off
 
-  -- a number that waits isn't put there again
+  -- a number that waits isn't pushed again
   pub stack_again : (n : ℕ) → slice_get x n ≡ Some true → IsStack (slice_set x n true) stack
   stack_again n on = subst (λ l. IsStack l stack) (sym (set-slice_get x n true on)) is
 
-  -- where the stack is empty no number waits
+  -- if the stack is empty, no number waits
   pub stack_empty : stack ≡ [] → NoneWaits x
   stack_empty e n = off (waits x n) (sym (is.once n) ∙ ap (λ l. count_by (λ m. eqb m n) l) e)
     where

@@ -1,4 +1,4 @@
--- Visits: a production is opened and taken in, and those that rest on what gained wait.
+-- Visits: a production is opened and what it gives is added, and the productions that depend on sets that grew are queued.
 use Rattle.std.proofs.Common.{◌≡◌, ℕ, ◌+◌, ◌-◌, ◌*◌, ◌^◌, ◌<◌, ◌≤◌, ◌≢◌, ◌⊎◌, inl, inr, Bool, true, false, cond, List, [], Contains, get_or, length, replicate, arith, refl, sym, ap, ◌∙◌, subst, below_more, true≢false, length-set, get_or-set_same, get_or-set_other}
 use Rattle.std.proofs.Math.Nat.{mul-le-mul_left, mul-add, mul-one, mul_comm}
 use Rattle.std.proofs.lemmas.Bool.{cases_eq, cases_lt, false_from_ne_true}
@@ -15,11 +15,11 @@ use Rattle.cfgtables.proofs.Placed.{same_production, at_place}
 use Rattle.lemmas.proofs.Contained.{contains_none}
 use Rattle.cfganalysis.proofs.Stacking.{bits_on-clear, bits_on-none}
 
--- a number doesn't wait and waits
+-- a bit can't be both on and off
 both : {b : Bool} → b ≡ true → b ≡ false → ⊥
 both on off = true≢false (sym on ∙ off)
 
--- bits of which each that is on was on
+-- lists in which the same bits are on are equal
 same_bits : (x y : List Bool) → length y ≡ length x → ((q : ℕ) → Waits x q → Waits y q) → ((q : ℕ) → Waits y q → Waits x q) → y ≡ x
 same_bits x y long to from = ext_get_or false y x long (λ q lt. alike (waits y q) (waits x q) (from q) (to q))
   where
@@ -28,7 +28,7 @@ same_bits x y long to from = ext_get_or false y x long (λ q lt. alike (waits y 
     alike false true f h = h refl
     alike false false f h = refl
 
--- one opening more is in the bounds where the bits that are on became more
+-- one more opening is within the bounds if more bits are on
 few_after : (o m m' : ℕ) (b b' : Bool) → o + cond b 1 0 ≤ m + 1 → m ≤ m' → (b' ≡ true → (b ≡ true) ⊎ (m < m')) → o + cond b' 1 0 ≤ m' + 1
 few_after o m m' b false few le was = let z = few in omega (arith, z, le, at_least b)
   where
@@ -44,7 +44,7 @@ few_after o m m' b true few le was = elim (was refl) [
 one_more : (n m : ℕ) → n * (m + 1) ≡ n * m + n
 one_more n m = mul-add n m 1 ∙ ap (λ k. n * m + k) (mul-one n)
 
--- as many productions wait as there are, at most, and only where bits were turned on more wait
+-- at most all productions wait, and more of them than before only if bits were turned on
 together_after : (all n m m' w w' places : ℕ) → all + w ≤ n + places * m → m ≤ m' → w' ≤ places → (m < m') ⊎ (w' ≡ w) → all + w' ≤ n + places * m'
 together_after all n m m' w w' places h le most (inl lt) =
     let product : places * (m + 1) ≤ places * m' = mul-le-mul_left places (omega (arith, lt)) in
@@ -53,7 +53,7 @@ together_after all n m m' w w' places h le most (inr e) =
     let product : places * m ≤ places * m' = mul-le-mul_left places le in
     omega (arith, h, e, product)
 
--- less is left to do where bits were turned on, or else fewer productions wait
+-- less is left to do if bits were turned on, or else if fewer productions wait
 abbrev left : ℕ → ℕ → ℕ → ℕ → ℕ
 left most places bits waiting = (most - bits) * (places + 1) + waiting
 
@@ -228,14 +228,14 @@ module _ {X : Type 0} (holds : Grammar → X → Type 0) (covers : X → Product
 
   module _ (g : Grammar) (n : ℕ) (x : X) (users : List (List ℕ)) (waiting gained : List Bool) (o : ℕ → ℕ) (a : ℕ)
       (w : Visited holds covers bits rests_on g n x users waiting gained o a) where
-    -- one opening more can be counted
+    -- one more opening can be counted
     pub all_below : (most : ℕ) → n < length g.productions → bits x ≤ most → length g.productions * (most + 1) < 2 ^ 128 - 1 → a < 2 ^ 128 - 1
     all_below most lt bound small =
         let product : length g.productions * bits x ≤ length g.productions * most = mul-le-mul_left (length g.productions) bound in
         let h = w.together in
         omega (arith, h, product, one_more (length g.productions) most, lt, small)
 
-    -- also where a production waits
+    -- also if a production waits
     pub all_again : (most m : ℕ) (rest : List Bool) → n ≡ length g.productions → WaitsNoMore m waiting rest → bits x ≤ most
         → length g.productions * (most + 1) < 2 ^ 128 - 1 → a < 2 ^ 128 - 1
     all_again most m rest top leaves bound small =
@@ -244,7 +244,7 @@ module _ {X : Type 0} (holds : Grammar → X → Type 0) (covers : X → Product
         let less = bits_on-clear waiting m (within_from_get_or waiting m false (λ e. both leaves.waited e)) leaves.waited in
         omega (arith, h, product, one_more (length g.productions) most, top, less, small)
 
-    -- what is noted has a place among those that wait
+    -- what is noted is a number below the bound of those that can wait
     pub noted_within : (rests : ℕ → Type 0) (users' : List (List ℕ)) → n < length g.productions → Notes n rests users users'
         → (r q : ℕ) → Contains (users_of users' r) q → q < length waiting
     noted_within rests users' lt notes r q h = let e = w.places in elim ((notes.users r q).0 h) [
@@ -308,7 +308,7 @@ module _ {X : Type 0} (holds : Grammar → X → Type 0) (covers : X → Product
         less = ap (λ l. bits_on l + 1) leaves.rest
             ∙ bits_on-clear waiting m (within_from_get_or waiting m false (λ e. both leaves.waited e)) leaves.waited
 
-    -- what there was of openings, where each production was visited or the visits ended at one
+    -- the number of openings when every production was visited, or when the visits ended at one
     pub few_opened : (most : ℕ) → bits x ≤ most → n ≤ length g.productions → AreOpenedAtMost (most + 1) g o a
     few_opened most bound le = record {
       each = λ q lt. elim (cases_lt q n) [
@@ -321,7 +321,7 @@ module _ {X : Type 0} (holds : Grammar → X → Type 0) (covers : X → Product
           omega (arith, h, product, one_more (length g.productions) most, le);
     }
 
-    -- the same where one was opened and then refused
+    -- the same when one was opened and then an allocation failed
     pub few_refused : (g' : Grammar) (o' : ℕ → ℕ) (a' most : ℕ) → bits x ≤ most → n < length g.productions → OpensOne n g g' o o' a a'
         → AreOpenedAtMost (most + 1) g o' a'
     few_refused g' o' a' most bound here one = record {
@@ -339,7 +339,7 @@ module _ {X : Type 0} (holds : Grammar → X → Type 0) (covers : X → Product
           omega (arith, h, e, product, one_more (length g.productions) most, here);
     }
 
-    -- where no production waits, all are covered
+    -- if no production waits, all are covered
     pub visited_all : n ≡ length g.productions → NoneWaits waiting → CoversEach covers g x
     visited_all e none q lt = w.covered q (omega (arith, e, lt)) (none q)
 

@@ -1,8 +1,8 @@
--- The rules that productions hold.
+-- The rules that productions contain.
 use Rattle.std.specs.Prelude.{ℕ, Contains}
 use Rattle.derivation.specs.Grammar.{Rule, Grammar}
 use Rattle.cfgtables.specs.Openings.{nth_production}
 
--- the production at this place holds the rule
+-- the production with this number contains the rule
 abbrev pub HeldIn : Grammar → ℕ → ℕ → Type 0
 HeldIn g place r = Contains (nth_production g place).symbols (Rule r)

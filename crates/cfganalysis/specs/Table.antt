@@ -5,7 +5,7 @@ pub record Table : Type 0 where
   pub columns : ℕ
   pub rows : List (List Bool)
 
--- so many rows of so many columns
+-- this many rows, with this many columns each
 pub record IsTable (rows columns : ℕ) (x : Table) : Type 0 where
   pub width : x.columns ≡ columns
   pub height : length x.rows ≡ rows
@@ -28,15 +28,15 @@ bits_on bits = count_by (λ b. b) bits
 abbrev pub count_of : Table → ℕ
 count_of x = sum_by bits_on x.rows
 
--- with no bit on
+-- a table with no bit on
 abbrev pub no_bits : ℕ → ℕ → Table
 no_bits rows columns = record { columns = columns; rows = replicate rows (replicate columns false) }
 
--- with this bit on
+-- the table with this bit turned on
 abbrev pub with_bit : Table → ℕ → ℕ → Table
 with_bit x row column = record { columns = x.columns; rows = slice_set x.rows row (slice_set (row_of x row) column true) }
 
--- the bits that are given were turned on, and no others
+-- the given bits were turned on, and no others
 pub record Joins (gives : ℕ → ℕ → Type 0) (old new : Table) (changed : Bool) : Type 0 where
   pub shape : (rows columns : ℕ) → IsTable rows columns old → IsTable rows columns new
   pub bits : (row column : ℕ) → (HasBit new row column ↔ (HasBit old row column ⊎ gives row column))

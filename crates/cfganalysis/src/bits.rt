@@ -8,7 +8,7 @@ use cfgindex::Vob;
 use std::alloc::{AllocError, Global};
 use std::marker::Model;
 
-/// A table of bits, whose rows have one length.
+/// A table of bits, whose rows all have the same length.
 #[derive(Debug, Drop)]
 pub struct BitTable {
     columns: usize,
@@ -27,11 +27,11 @@ impl Model for BitTable {
 }
 
 impl BitTable {
-    /// The rows of a table of words, each in a list of its own.
+    /// Copies each row of a table of words into a list of bits.
     ///
     /// # Errors
     ///
-    /// Want of memory.
+    /// Out of memory.
     pub(crate) fn from_words(alloc: Global, table: &WordTable) -> Result<Self, AllocError>
         ensures { IfOk result (λ x. x ≡ table.now) }
     {
@@ -43,7 +43,7 @@ impl BitTable {
         Ok(BitTable { columns, rows })
     }
 
-    /// How many columns there are.
+    /// The number of columns.
     pub fn columns(&self) -> usize
         ensures { result ≡ self.now.columns }
     {
@@ -58,7 +58,7 @@ impl BitTable {
         &self.rows[row]
     }
 
-    /// Whether a bit is on; past the table's ends none is.
+    /// Whether a bit is on. Outside the table, no bit is.
     pub fn is_set(&self, row: usize, column: usize) -> bool
         ensures { result ≡ bit self.now row column }
     {
@@ -68,7 +68,7 @@ impl BitTable {
         }
     }
 
-    /// Turns on a bit, and tells whether it was off.
+    /// Turns on a bit. Returns whether it was off.
     pub fn set(&mut self, row: usize, column: usize) -> bool
         requires row { row < length self.old.rows }
         requires column { column < self.old.columns }

@@ -1,4 +1,4 @@
-//! FIRST: the tokens that rules begin with, and the rules that are empty (Aho, Lam, Sethi and Ullman, 4.4.2).
+//! FIRST: the tokens that rules begin with, and the rules that are nullable (Aho, Lam, Sethi and Ullman, 4.4.2).
 
 ghost use Rattle.std.specs.Prelude.{◌≡◌, ◌<◌, ◌^◌, ◌↔◌, ℕ, [], ◌∷◌, All, Contains, false};
 ghost use Rattle.std.specs.Prelude.{true, length, map, IfOk, IsTrue, MatchBool};
@@ -25,7 +25,7 @@ use cfgtables::{CountedTables, Productions, Tables};
 use std::alloc::{AllocError, Global};
 use std::marker::{Model, PhantomData};
 
-/// For each rule the tokens that begin a list of symbols which it derives, and whether it derives the empty list.
+/// For each rule, the tokens that begin a list of symbols that it derives, and whether it derives the empty list.
 #[derive(Debug, Drop)]
 pub struct YaccFirsts<S: Storage> {
     firsts: BitTable,
@@ -46,7 +46,7 @@ impl<S: Storage> YaccFirsts<S> {
     ///
     /// # Errors
     ///
-    /// Want of memory.
+    /// Out of memory.
     pub fn new<T: Tables<S>>(alloc: Global, tables: &T) -> Result<Self, AllocError>
         ensures { IfOk result (AreFirsts (T.grammar tables.now)) }
     {
@@ -54,7 +54,7 @@ impl<S: Storage> YaccFirsts<S> {
         firsts_over(alloc, &mut productions)
     }
 
-    /// The tokens that the rule begins with, a bit for each.
+    /// The tokens that the rule begins with, as a bit for each token.
     pub fn firsts(&self, rule: RIdx<S>) -> &Vob
         requires { S.number rule.0 < length self.now.firsts.rows }
         ensures { result.now ≡ row_of self.now.firsts (S.number rule.0) }
@@ -69,14 +69,14 @@ impl<S: Storage> YaccFirsts<S> {
         self.firsts.is_set(usize::from(rule), usize::from(token))
     }
 
-    /// Whether the rule is empty.
+    /// Whether the rule is nullable.
     pub fn is_epsilon_set(&self, rule: RIdx<S>) -> bool
         ensures { IsTrue result ↔ IsEpsilon self.now (S.number rule.0) }
     {
         self.is_empty(usize::from(rule))
     }
 
-    /// Puts the token into the rule's set, and tells whether it was there.
+    /// Adds the token to the rule's set. Returns whether it was in the set already.
     pub fn set(&mut self, rule: RIdx<S>, token: TIdx<S>) -> bool
         requires rule { S.number rule.0 < length self.old.firsts.rows }
         requires token { S.number token.0 < self.old.firsts.columns }
@@ -86,14 +86,14 @@ impl<S: Storage> YaccFirsts<S> {
         !self.firsts.set(usize::from(rule), usize::from(token))
     }
 
-    /// Whether the rule of this number is empty.
+    /// Whether the rule with this number is nullable.
     fn is_empty(&self, rule: usize) -> bool
         ensures { result ≡ epsilon_bit self.now rule }
     {
         self.epsilons.get(rule).unwrap_or(false)
     }
 
-    /// Whether the symbol is an empty rule.
+    /// Whether the symbol is a nullable rule.
     pub(crate) fn is_empty_symbol(&self, symbol: Symbol<S>) -> bool
         ensures { result ≡ is_empty_symbol self.now (sym_of S.number symbol) }
     {
@@ -104,7 +104,7 @@ impl<S: Storage> YaccFirsts<S> {
     }
 }
 
-/// Notes a production with the symbol, if that is a rule.
+/// Notes that a production depends on the symbol, if that is a rule.
 fn note_symbol<S: Storage>(
     production: usize,
     symbol: Symbol<S>,
@@ -119,11 +119,11 @@ fn note_symbol<S: Storage>(
     }
 }
 
-/// Notes a production with the rules among its symbols.
+/// Notes that a production depends on the rules among its symbols.
 ///
 /// # Errors
 ///
-/// Want of memory.
+/// Out of memory.
 pub fn note_rules<S: Storage>(
     production: usize,
     symbols: &[Symbol<S>],
@@ -157,7 +157,7 @@ impl<S: Storage> Model for GrowingFirsts<S> {
 }
 
 impl<S: Storage> GrowingFirsts<S> {
-    /// Sets in which nothing is.
+    /// Empty sets.
     fn new(alloc: Global, rules: usize, tokens: usize) -> Result<Self, AllocError>
         requires rules { rules < 2 ^ 32 }
         requires tokens { tokens < 2 ^ 32 }
@@ -170,7 +170,7 @@ impl<S: Storage> GrowingFirsts<S> {
         })
     }
 
-    /// The sets, each in a list of bits of its own.
+    /// The finished sets, with a list of bits for each rule.
     fn into_sets(self, alloc: Global) -> Result<YaccFirsts<S>, AllocError>
         ensures { IfOk result (λ x. x ≡ self) }
     {
@@ -181,7 +181,7 @@ impl<S: Storage> GrowingFirsts<S> {
         })
     }
 
-    /// Whether the symbol is an empty rule.
+    /// Whether the symbol is a nullable rule.
     fn is_empty_symbol(&self, symbol: Symbol<S>) -> bool
         ensures { result ≡ is_empty_symbol self.now (sym_of S.number symbol) }
     {
@@ -191,7 +191,7 @@ impl<S: Storage> GrowingFirsts<S> {
         }
     }
 
-    /// Puts what begins the symbol into the rule's set, and tells whether that changed anything.
+    /// Adds the tokens that the symbol begins with to the rule's set. Returns whether the set grew.
     fn put_first(&mut self, rule: RIdx<S>, symbol: Symbol<S>) -> bool
         requires { (g : Grammar) × FitsGrammar g self.old × (S.number rule.0 < g.rules)
             × IsSymbolOf g (sym_of S.number symbol) }
@@ -205,7 +205,7 @@ impl<S: Storage> GrowingFirsts<S> {
         }
     }
 
-    /// Puts the rule among the empty ones, and tells whether it was not there.
+    /// Marks the rule as nullable. Returns whether it wasn't marked before.
     fn put_epsilon(&mut self, rule: RIdx<S>) -> bool
         requires { S.number rule.0 < length self.old.epsilons }
         ensures bits { self.new ≡ with_epsilon self.old (S.number rule.0) }
@@ -215,7 +215,7 @@ impl<S: Storage> GrowingFirsts<S> {
         self.epsilons.set(usize::from(rule), true)
     }
 
-    /// Adds what a production gives, and tells whether the rule's set gained.
+    /// Adds what a production gives. Returns whether the rule's set grew.
     fn take_in(&mut self, rule: RIdx<S>, symbols: &[Symbol<S>]) -> bool
         requires { (g : Grammar) × IsGrammar g × SayFirsts g self.old
             × Contains g.productions (shown S.number rule symbols.now) }
@@ -272,11 +272,11 @@ impl<S: Storage> Analysis<S> for GrowingFirsts<S> {
     }
 }
 
-/// FIRST sets to which no production adds.
+/// Grows the FIRST sets until no production has anything to add.
 ///
 /// # Errors
 ///
-/// Want of memory.
+/// Out of memory.
 fn grow_all<S: Storage, P: Productions<S>>(
     alloc: Global,
     productions: &mut P,
@@ -300,7 +300,7 @@ fn grow_all<S: Storage, P: Productions<S>>(
 ///
 /// # Errors
 ///
-/// Want of memory.
+/// Out of memory.
 pub fn firsts_over<S: Storage, P: Productions<S>>(
     alloc: Global,
     productions: &mut P,

@@ -1,4 +1,4 @@
-//! FOLLOW: the tokens that stand right after rules (Aho, Lam, Sethi and Ullman, 4.4.2).
+//! FOLLOW: the tokens that come right after rules (Aho, Lam, Sethi and Ullman, 4.4.2).
 
 ghost use Rattle.std.specs.Prelude.{◌≡◌, ◌-◌, ◌^◌, ◌<◌, ◌≤◌, ◌↔◌, ℕ, [], ◌∷◌, Contains, length, IfOk, IsTrue};
 ghost use Rattle.derivation.specs.Grammar.{Grammar, IsGrammar, IsSymbolOf, Rule};
@@ -27,8 +27,8 @@ use cfgtables::{CountedTables, Productions, Tables};
 use std::alloc::{AllocError, Global};
 use std::marker::{Model, PhantomData};
 
-/// For each rule the tokens that stand right after it in what some rule derives. The end token stands after a rule
-/// where the start rule derives a list that ends in it.
+/// For each rule, the tokens that come right after it in any list that some rule derives. The end token follows a rule
+/// if the start rule derives a list that ends in the rule.
 #[derive(Debug, Drop)]
 pub struct YaccFollows<S: Storage> {
     follows: BitTable,
@@ -48,7 +48,7 @@ impl<S: Storage> YaccFollows<S> {
     ///
     /// # Errors
     ///
-    /// Want of memory.
+    /// Out of memory.
     pub fn new<T: Tables<S>>(alloc: Global, tables: &T) -> Result<Self, AllocError>
         ensures { IfOk result (AreFollows (T.grammar tables.now)) }
     {
@@ -57,7 +57,7 @@ impl<S: Storage> YaccFollows<S> {
         follows_over(alloc, &mut productions, &firsts)
     }
 
-    /// The tokens that follow the rule, a bit for each.
+    /// The tokens that follow the rule, as a bit for each token.
     pub fn follows(&self, rule: RIdx<S>) -> &Vob
         requires { S.number rule.0 < length self.now.rows }
         ensures { result.now ≡ row_of self.now (S.number rule.0) }
@@ -73,18 +73,18 @@ impl<S: Storage> YaccFollows<S> {
     }
 }
 
-/// What stands behind a place of a production.
+/// The next tokens at a position of a production.
 #[derive(Drop)]
 enum Front<S: Storage> {
-    /// What follows the production's rule: the place is the production's end.
+    /// What follows the production's rule: the position is the end of the production.
     End,
-    /// What begins the symbol, which doesn't vanish.
+    /// What the next symbol begins with, which isn't nullable.
     Symbol(Symbol<S>),
-    /// What was gathered in a row of tokens: the symbol at the place vanishes.
+    /// What was gathered in a list of bits: the next symbol is nullable.
     Gathered,
 }
 
-/// FOLLOW sets that grow, beside the FIRST sets.
+/// FOLLOW sets that grow, with the FIRST sets that they are computed from.
 #[derive(Drop)]
 struct GrowingFollows<'a, S: Storage> {
     firsts: &'a YaccFirsts<S>,
@@ -100,7 +100,7 @@ impl<'a, S: Storage> Model for GrowingFollows<'a, S> {
 }
 
 impl<'a, S: Storage> GrowingFollows<'a, S> {
-    /// Puts what begins the symbol behind the rule, and tells whether that changed anything.
+    /// Adds what the symbol begins with to the FOLLOW set of the rule before it. Returns whether the set grew.
     fn put_first(&mut self, before: RIdx<S>, symbol: Symbol<S>) -> bool
         requires { (g : Grammar) × FitFollows g self.old × (S.number before.0 < g.rules)
             × IsSymbolOf g (sym_of S.number symbol) }
@@ -115,7 +115,7 @@ impl<'a, S: Storage> GrowingFollows<'a, S> {
         }
     }
 
-    /// Puts what follows the rule behind the other, and tells whether that changed anything.
+    /// Adds what follows the rule to the FOLLOW set of `before`. Returns whether the set grew.
     fn put_follows(&mut self, before: RIdx<S>, rule: RIdx<S>) -> bool
         requires { (g : Grammar) × FitFollows g self.old × (S.number before.0 < g.rules)
             × (S.number rule.0 < g.rules) }
@@ -126,7 +126,7 @@ impl<'a, S: Storage> GrowingFollows<'a, S> {
             .join_row(usize::from(before), usize::from(rule))
     }
 
-    /// Puts what stands at the front behind the rule before it, and tells whether that changed anything.
+    /// Adds the next tokens to the FOLLOW set of the rule before them. Returns whether the set grew.
     fn put_front(
         &mut self,
         rule: RIdx<S>,
@@ -148,7 +148,7 @@ impl<'a, S: Storage> GrowingFollows<'a, S> {
         }
     }
 
-    /// Puts what stands at the front behind the symbol before it where that is a rule, which waits if its set gained.
+    /// If the symbol is a rule, adds the next tokens to its FOLLOW set, and queues the rule if the set grew.
     fn put_behind(
         &mut self,
         rule: RIdx<S>,
@@ -175,7 +175,7 @@ impl<'a, S: Storage> GrowingFollows<'a, S> {
         }
     }
 
-    /// Gathers what begins the symbol, beside what was gathered.
+    /// Adds what the symbol begins with to what was gathered.
     fn gather_first(&self, symbol: Symbol<S>, gathered: &mut Vob)
         requires { (g : Grammar) × FitFollows g self.now × (length gathered.old ≡ g.tokens)
             × IsSymbolOf g (sym_of S.number symbol) }
@@ -187,7 +187,7 @@ impl<'a, S: Storage> GrowingFollows<'a, S> {
         };
     }
 
-    /// Gathers what stands at the front, and nothing else.
+    /// Replaces what was gathered by the next tokens.
     fn gather_front(&self, rule: RIdx<S>, front: &Front<S>, gathered: &mut Vob)
         requires { (g : Grammar) × FitFollows g self.now × (S.number rule.0 < g.rules)
             × IsFrontOf S.number g front.now × (length gathered.old ≡ g.tokens) }
@@ -208,7 +208,7 @@ impl<'a, S: Storage> GrowingFollows<'a, S> {
         }
     }
 
-    /// The front before the symbol, where the other stands behind it. What no longer stands at one symbol is gathered.
+    /// The next tokens before the symbol, given those after it. If the symbol is nullable, they are gathered.
     fn front_before(
         &self,
         rule: RIdx<S>,
@@ -230,8 +230,8 @@ impl<'a, S: Storage> GrowingFollows<'a, S> {
         Front::Gathered
     }
 
-    /// Puts what a production gives behind its rules, from its end on; those whose sets gained wait. So each of its
-    /// symbols is looked at once, however many of them vanish.
+    /// Propagates FOLLOW through a production from right to left, and queues the rules whose sets grew. Each symbol is
+    /// visited once, however many of them are nullable.
     fn take_in(
         &mut self,
         rule: RIdx<S>,
@@ -258,7 +258,7 @@ impl<'a, S: Storage> GrowingFollows<'a, S> {
     }
 }
 
-/// FOLLOW sets that grow, and a row of tokens for what a visit gathers.
+/// FOLLOW sets that grow, and the tokens that a visit gathers.
 #[derive(Drop)]
 struct FollowAnalysis<'a, S: Storage> {
     sets: GrowingFollows<'a, S>,
@@ -277,7 +277,7 @@ impl<'a, S: Storage> Model for FollowAnalysis<'a, S> {
 }
 
 impl<'a, S: Storage> FollowAnalysis<'a, S> {
-    /// Sets in which the end token stands after the start rule, and nothing else.
+    /// The initial sets: the end token follows the start rule, and all other sets are empty.
     fn new(
         alloc: Global,
         firsts: &'a YaccFirsts<S>,
@@ -336,11 +336,11 @@ impl<'a, S: Storage> Analysis<S> for FollowAnalysis<'a, S> {
     }
 }
 
-/// FOLLOW sets to which no production adds.
+/// Grows the FOLLOW sets until no production has anything to add.
 ///
 /// # Errors
 ///
-/// Want of memory.
+/// Out of memory.
 fn grow_all<S: Storage, P: Productions<S>>(
     alloc: Global,
     productions: &mut P,
@@ -362,11 +362,11 @@ fn grow_all<S: Storage, P: Productions<S>>(
     Ok(analysis.sets.follows)
 }
 
-/// The FOLLOW sets of the productions, by their FIRST sets.
+/// The FOLLOW sets of the productions, given their FIRST sets.
 ///
 /// # Errors
 ///
-/// Want of memory.
+/// Out of memory.
 pub fn follows_over<S: Storage, P: Productions<S>>(
     alloc: Global,
     productions: &mut P,

@@ -13,26 +13,26 @@ use std::alloc::AllocError;
 
 /// Sets of tokens, one for each rule, that grow by what productions give.
 pub trait Analysis<S: Storage> {
-    // They are sets of the grammar, and what they say is so.
+    // These are sets of the grammar, and what they say is true.
     ghost holds: { Grammar → Self → Type 0 };
 
-    // They have all that the production gives.
+    // The sets contain all that the production gives.
     ghost covers: { Self → Production → Type 0 };
 
     // How many bits are on.
     ghost bits: { Self → ℕ };
 
-    // What the production gives depends on the set of the rule.
+    // What the production gives depends on the rule's set.
     ghost rests_on: { Production → ℕ → Type 0 };
 
     // The rule's set has no more in the second sets than in the first.
     ghost no_more: { ℕ → Self → Self → Type 0 };
 
-    /// Notes the production of this number with the rules that it rests on.
+    /// Notes that the production with this number depends on the sets of some rules.
     ///
     /// # Errors
     ///
-    /// Want of memory.
+    /// Out of memory.
     fn note(
         &self,
         production: usize,
@@ -43,18 +43,18 @@ pub trait Analysis<S: Storage> {
         requires { CanNote users.old (shown S.number rule symbols.now) }
         ensures { IfOk result (λ _. Notes production (rests_on (shown S.number rule symbols.now)) users.old users.new) };
 
-    /// Adds what a production gives, and lets the rules wait whose sets gained.
+    /// Adds what a production gives, and queues the rules whose sets grew.
     fn visit(&mut self, rule: RIdx<S>, symbols: &[Symbol<S>], gained: &mut Waiting)
         requires { CanTakeIn holds self.old gained.old (shown S.number rule symbols.now) }
         ensures takes { TakesIn holds covers bits rests_on no_more
             (shown S.number rule symbols.now) self.old self.new (Waits gained.new) }
         ensures rules { length gained.new ≡ length gained.old };
 
-    // No more bits are on than there are.
+    // The number of bits that are on is at most the number of bits.
     ghost bounded: { (g : Grammar) (x : Self) → holds g x → bits x ≤ g.rules * (g.tokens + 1) };
 }
 
-/// Takes in a production: adds what it gives, and lets those wait that rest on a rule whose set gained.
+/// Adds what a production gives, and queues the productions that depend on a rule whose set grew.
 pub(crate) fn take_in<S: Storage, A: Analysis<S>>(
     analysis: &mut A,
     work: &mut Work,

@@ -1,5 +1,4 @@
-//! Analyses of grammars: the sets of tokens that rules begin with, those of tokens that follow them, and paths from
-//! rule to rule.
+//! Analyses of grammars: FIRST and FOLLOW sets, and paths from rule to rule.
 #![tactic(auto)]
 
 pub mod bits;

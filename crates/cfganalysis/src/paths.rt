@@ -1,4 +1,4 @@
-//! Paths from rule to rule, by references.
+//! Paths from rule to rule along references.
 
 ghost use Rattle.std.specs.Prelude.{◌≡◌, ◌<◌, ◌↔◌, All, Contains, length, map, IfOk, IsTrue, OnOk};
 ghost use Rattle.derivation.specs.Grammar.{Grammar, HasProduction, IsSymbolOf, Rule};
@@ -13,7 +13,7 @@ use search::{Edges, Marks, Search};
 use std::alloc::{AllocError, Global};
 use std::marker::PhantomData;
 
-/// Reaches the symbol, if it is a rule.
+/// Queues the symbol, if it is a rule.
 fn reach_symbol<S: Storage, M: Marks>(
     search: &mut Search<M>,
     symbol: Symbol<S>,
@@ -27,11 +27,11 @@ fn reach_symbol<S: Storage, M: Marks>(
     }
 }
 
-/// Reaches the rules among the symbols.
+/// Queues the rules among the symbols.
 ///
 /// # Errors
 ///
-/// Want of memory.
+/// Out of memory.
 fn reach_symbols<S: Storage, M: Marks>(
     search: &mut Search<M>,
     symbols: &[Symbol<S>],
@@ -47,11 +47,11 @@ fn reach_symbols<S: Storage, M: Marks>(
     Ok(())
 }
 
-/// Reaches the rules that the productions hold.
+/// Queues the rules that the productions contain.
 ///
 /// # Errors
 ///
-/// Want of memory.
+/// Out of memory.
 pub fn reach_held<S: Storage, T: Tables<S>, M: Marks>(
     search: &mut Search<M>,
     tables: &T,
@@ -70,7 +70,7 @@ pub fn reach_held<S: Storage, T: Tables<S>, M: Marks>(
     Ok(())
 }
 
-/// The rules of a grammar, each of which leads to those that its productions hold.
+/// The rules of a grammar, each of which leads to those that its productions contain.
 #[derive(Drop)]
 struct References<'a, S: Storage, T: Tables<S>> {
     tables: &'a T,
@@ -89,12 +89,12 @@ impl<'a, S: Storage, T: Tables<S>, M: Marks> Edges<M> for References<'a, S, T> {
     }
 }
 
-/// Whether one rule leads to another by one or more references: a production of it holds the other, or holds a rule
-/// that leads to it.
+/// Whether one rule leads to another in one or more references: one of its productions contains the other rule, or
+/// contains a rule that leads to it.
 ///
 /// # Errors
 ///
-/// Want of memory.
+/// Out of memory.
 pub fn has_path<S: Storage, T: Tables<S>>(
     alloc: Global,
     tables: &T,

@@ -1,5 +1,5 @@
-//! Visits of productions, till none gives more. A production is visited again only where the set of a rule that it
-//! rests on has gained (Nielson, Nielson and Hankin, Principles of Program Analysis, 6.1).
+//! Visits productions until none has anything to add. A production is visited again only if the set of a rule that it
+//! depends on has grown (Nielson, Nielson and Hankin, Principles of Program Analysis, 6.1).
 
 ghost use Rattle.std.specs.Prelude.{◌≡◌, ℕ, ◌+◌, ◌-◌, ◌^◌, ◌<◌, length, IfOk, MatchBool, OnErr, OnOk};
 ghost use Rattle.derivation.specs.Grammar.{IsGrammar};
@@ -13,11 +13,11 @@ use cfgindex::{PIdx, Storage, to_storage};
 use cfgtables::Productions;
 use std::alloc::{AllocError, Global};
 
-/// Opens a production for the first time: notes it with the rules that it rests on, and takes it in.
+/// Opens a production for the first time: notes the rules that it depends on, and adds what it gives.
 ///
 /// # Errors
 ///
-/// Want of memory, where the production was opened and nothing taken in.
+/// Out of memory: the production was opened, but nothing was added.
 fn visit_first<S: Storage, P: Productions<S>, A: Analysis<S>>(
     productions: &mut P,
     analysis: &mut A,
@@ -48,7 +48,7 @@ fn visit_first<S: Storage, P: Productions<S>, A: Analysis<S>>(
 ///
 /// # Errors
 ///
-/// Want of memory.
+/// Out of memory.
 fn visit_each<S: Storage, P: Productions<S>, A: Analysis<S>>(
     productions: &mut P,
     analysis: &mut A,
@@ -73,7 +73,7 @@ fn visit_each<S: Storage, P: Productions<S>, A: Analysis<S>>(
     Ok(())
 }
 
-/// Opens a production that waits, and takes it in. It tells whether one waited.
+/// Opens a production that waits, and adds what it gives. Returns whether one waited.
 fn visit_next<S: Storage, P: Productions<S>, A: Analysis<S>>(
     productions: &mut P,
     analysis: &mut A,
@@ -101,11 +101,11 @@ fn visit_next<S: Storage, P: Productions<S>, A: Analysis<S>>(
     true
 }
 
-/// Visits of productions, till none gives more.
+/// Visits productions until none has anything to add.
 ///
 /// # Errors
 ///
-/// Want of memory.
+/// Out of memory.
 pub fn visit_all<S: Storage, P: Productions<S>, A: Analysis<S>>(
     alloc: Global,
     productions: &mut P,

@@ -1,4 +1,4 @@
-//! A stack in which each number stands at most once.
+//! A stack that contains each number at most once.
 
 ghost use Rattle.std.specs.Prelude.{◌≡◌, ◌<◌, true, false, length, replicate, slice_set, IfOk, MatchOption};
 ghost use Rattle.cfganalysis.specs.Inner.Waiting.{NoneWaits, WaitsNoMore};
@@ -7,8 +7,7 @@ use cfgindex::Vob;
 use std::alloc::{AllocError, Global};
 use std::marker::Model;
 
-/// Numbers below a bound that wait, last come, first served. A number that waits already isn't put there again, and
-/// keeps its place.
+/// Numbers below a bound that wait; the last one added comes first. Adding a number that waits already changes nothing.
 #[derive(Drop)]
 pub struct Waiting {
     bits: Vob,
@@ -27,11 +26,11 @@ impl Model for Waiting {
 }
 
 impl Waiting {
-    /// A stack for numbers below the bound, in which none waits. Nothing that is done with it later wants memory.
+    /// An empty stack for numbers below the bound. No later call allocates.
     ///
     /// # Errors
     ///
-    /// Want of memory.
+    /// Out of memory.
     pub fn new(alloc: Global, bound: usize) -> Result<Self, AllocError>
         ensures { IfOk result (λ x. x ≡ replicate bound false) }
     {
@@ -41,7 +40,7 @@ impl Waiting {
         })
     }
 
-    /// Lets the number wait, before all that wait already.
+    /// Pushes the number, unless it waits already.
     pub fn put(&mut self, number: usize)
         requires { number < length self.old }
         ensures { self.new ≡ slice_set self.old number true }
@@ -51,7 +50,7 @@ impl Waiting {
         }
     }
 
-    /// The number that came last, which then waits no longer.
+    /// Pops the number that was pushed last.
     pub fn next(&mut self) -> Option<usize>
         ensures { MatchOption result (NoneWaits self.old × (self.new ≡ self.old))
             (λ n. WaitsNoMore n self.old self.new) }

@@ -1,4 +1,4 @@
-//! Tables of bits that grow, in words.
+//! Tables of bits that grow, stored in words.
 
 ghost use Rattle.std.specs.Prelude.{◌≡◌, ◌⊎◌, ◌+◌, ◌<◌, ◌≤◌, ◌^◌, All, false, true, length, slice_index_or};
 ghost use Rattle.std.specs.Prelude.{IfOk, IsTrue, MatchBool};
@@ -11,8 +11,8 @@ use cfgindex::{Vob, vob};
 use std::alloc::{AllocError, Global};
 use std::marker::Model;
 
-/// A table of bits, whose rows have one length. They stand in one list of words, as many for each row; bits of a row's
-/// last word past the columns are off.
+/// A table of bits, whose rows all have the same length. They are stored in one list, with the same number of words for
+/// each row; the bits of a row's last word after the last column are off.
 #[derive(Drop)]
 pub(crate) struct WordTable {
     rows: usize,
@@ -37,7 +37,7 @@ impl WordTable {
     ///
     /// # Errors
     ///
-    /// Want of memory.
+    /// Out of memory.
     pub(crate) fn new(alloc: Global, rows: usize, columns: usize) -> Result<Self, AllocError>
         requires rows { rows < 2 ^ 32 }
         requires columns { columns < 2 ^ 32 }
@@ -53,14 +53,14 @@ impl WordTable {
         })
     }
 
-    /// How many rows there are.
+    /// The number of rows.
     pub(crate) fn rows(&self) -> usize
         ensures { result ≡ length self.now.rows }
     {
         self.rows
     }
 
-    /// How many columns there are.
+    /// The number of columns.
     pub(crate) fn columns(&self) -> usize
         ensures columns { result ≡ self.now.columns }
         ensures wide { All (λ row. length row ≡ result) self.now.rows }
@@ -77,7 +77,7 @@ impl WordTable {
         part(self.words.as_slice(), row * self.row_words, self.row_words)
     }
 
-    /// Turns on a bit, and tells whether it was off.
+    /// Turns on a bit. Returns whether it was off.
     pub(crate) fn set(&mut self, row: usize, column: usize) -> bool
         requires row { row < length self.old.rows }
         requires column { column < self.old.columns }
@@ -90,7 +90,7 @@ impl WordTable {
         !vob::has_bit(word, column % 64)
     }
 
-    /// Turns on in a row each bit that `bits` has on, and tells whether that changed any.
+    /// Turns on each bit of the row that is on in `bits`. Returns whether that changed any.
     pub(crate) fn join(&mut self, row: usize, bits: &Vob) -> bool
         requires row { row < length self.old.rows }
         requires columns { length bits.now ≡ self.old.columns }
@@ -103,7 +103,7 @@ impl WordTable {
         )
     }
 
-    /// Turns on in a row each bit that the other row has on, and tells whether that changed any.
+    /// Turns on each bit of the row that is on in the other row. Returns whether that changed any.
     pub(crate) fn join_row(&mut self, row: usize, other: usize) -> bool
         requires row { row < length self.old.rows }
         requires other { other < length self.old.rows }
@@ -114,7 +114,7 @@ impl WordTable {
     }
 }
 
-/// So many of the words from one on.
+/// `many` words, starting with the one at `from`.
 fn part(words: &[u64], from: usize, many: usize) -> &[u64]
     requires { from + many ≤ length words.now }
     ensures { result.now ≡ between from (from + many) words.now }
@@ -122,7 +122,7 @@ fn part(words: &[u64], from: usize, many: usize) -> &[u64]
     &words[from..from + many]
 }
 
-/// Turns on in the words from `to` on the bits that others have on, and tells whether that changed any.
+/// Turns on, in the words from `to` on, the bits that are on in the others. Returns whether that changed any.
 fn join_list(words: &mut [u64], to: usize, others: &[u64]) -> bool
     requires { to + length others.now ≤ length words.old }
     ensures { JoinsWords to (length others.now) others.now words.old words.new result }
@@ -130,7 +130,7 @@ fn join_list(words: &mut [u64], to: usize, others: &[u64]) -> bool
     vob::or_words(&mut words[to..to + others.len()], others)
 }
 
-/// Turns on in the words from `to` on the bits that as many words from `from` on have on, and tells whether that
+/// Turns on, in the `many` words from `to` on, the bits that are on in those from `from` on. Returns whether that
 /// changed any.
 fn join_words(words: &mut [u64], to: usize, from: usize, many: usize) -> bool
     requires to { to + many ≤ length words.old }

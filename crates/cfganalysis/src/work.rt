@@ -8,7 +8,7 @@ use crate::waiting::Waiting;
 use std::alloc::{AllocError, Global};
 use std::marker::Model;
 
-/// For each rule the productions that rest on it, by their numbers: what they give depends on the rule's set.
+/// For each rule, the numbers of the productions that depend on it: what they give depends on the rule's set.
 #[derive(Drop)]
 pub struct Users {
     lists: Vec<Vec<usize>>,
@@ -23,11 +23,11 @@ impl Model for Users {
 }
 
 impl Users {
-    /// Lists for so many rules, on which nothing rests.
+    /// Empty lists for this many rules.
     ///
     /// # Errors
     ///
-    /// Want of memory.
+    /// Out of memory.
     pub fn new(alloc: Global, rules: usize) -> Result<Self, AllocError>
         ensures { IfOk result (λ x. x ≡ replicate rules []) }
     {
@@ -38,11 +38,11 @@ impl Users {
         Ok(Users { lists })
     }
 
-    /// Notes that a production rests on the rule.
+    /// Notes that a production depends on the rule.
     ///
     /// # Errors
     ///
-    /// Want of memory.
+    /// Out of memory.
     pub fn note(&mut self, rule: usize, production: usize) -> Result<(), AllocError>
         requires { rule < length self.old }
         ensures { IfOk result (λ _. Notes production (λ r. r ≡ rule) self.old self.new) }
@@ -51,7 +51,7 @@ impl Users {
         Ok(())
     }
 
-    /// Lets the productions wait that rest on the rule.
+    /// Queues the productions that depend on the rule.
     fn let_wait(&self, rule: usize, waiting: &mut Waiting)
         requires rule { rule < length self.now }
         requires within { (p : ℕ) → Contains (users_of self.now rule) p → p < length waiting.old }
@@ -66,22 +66,22 @@ impl Users {
 /// The work that an analysis has left.
 #[derive(Drop)]
 pub(crate) struct Work {
-    /// The productions that rest on each rule.
+    /// The productions that depend on each rule.
     pub(crate) users: Users,
 
     /// The productions that wait.
     pub(crate) waiting: Waiting,
 
-    /// The rules that gained by the last visit.
+    /// The rules whose sets grew in the last visit.
     pub(crate) gained: Waiting,
 }
 
 impl Work {
-    /// Work on so many rules and productions, of which none is there yet.
+    /// Work for this many rules and productions, with nothing noted or waiting yet.
     ///
     /// # Errors
     ///
-    /// Want of memory.
+    /// Out of memory.
     pub(crate) fn new(alloc: Global, rules: usize, productions: usize) -> Result<Self, AllocError>
         ensures users { IfOk result (λ x. x.users ≡ replicate rules []) }
         ensures waiting { IfOk result (λ x. x.waiting ≡ replicate productions false) }
@@ -94,7 +94,7 @@ impl Work {
         })
     }
 
-    /// Lets the productions wait that rest on rules that gained, and forgets these.
+    /// Queues the productions that depend on rules whose sets grew, and empties the list of these rules.
     pub(crate) fn let_users_wait(&mut self)
         requires gained { length self.old.gained ≡ length self.old.users }
         requires within { (r p : ℕ) → Contains (users_of self.old.users r) p → p < length self.old.waiting }

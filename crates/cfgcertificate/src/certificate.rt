@@ -1,4 +1,4 @@
-//! A certificate of least costs, and what checks it.
+//! A certificate of least costs, and its checks.
 
 ghost use Rattle.std.specs.Prelude.{◌≡◌, ◌↔◌, ℕ, ◌<◌, ◌≤◌, List, All, EachIndex, IfSome};
 ghost use Rattle.std.specs.Prelude.{IsTrue, MatchOption, Some, None, length, map, min, option_map, slice_index};
@@ -35,7 +35,7 @@ fn cost_of_symbol<S: Storage>(costs: &[u8], least: &[Option<u16>], symbol: Symbo
     }
 }
 
-/// What the symbols cost together, where each has a cost, cut down to `TOO_LARGE`.
+/// What the symbols cost in total, if each has a cost, cut down to `TOO_LARGE`.
 fn cut_sum<S: Storage>(costs: &[u8], least: &[Option<u16>], symbols: &[Symbol<S>]) -> Option<u32>
     requires { All (IsListed (length least.now) (length costs.now)) (map (sym_of S.number) symbols.now) }
     ensures { result
@@ -49,7 +49,8 @@ fn cut_sum<S: Storage>(costs: &[u8], least: &[Option<u16>], symbols: &[Symbol<S>
     Some(sum)
 }
 
-/// Whether the production's sum is past 65535, or its rule costs at most the sum, where its rules all have a cost.
+/// Whether the production's sum is more than 65535, or its rule costs at most the sum, if the rules in it all have a
+/// cost.
 fn is_covered<S: Storage>(
     costs: &[u8],
     least: &[Option<u16>],
@@ -73,11 +74,11 @@ fn is_covered<S: Storage>(
     }
 }
 
-/// Whether no sentence costs less than `least` says of its rule, as each production shows.
+/// Whether no sentence costs less than `least` says for its rule, as each production shows.
 ///
-/// `costs` has the cost of each token, and `least` a cost of each rule, or `None` where no sentence of the rule costs
-/// 65535 or less. The answer is true exactly where for each production whose rules all have a cost, the sum of its
-/// symbols' costs is past 65535, or its rule has a cost of at most that sum.
+/// `costs` has the cost of each token, and `least` a cost for each rule, or `None` if no sentence of the rule costs
+/// 65535 or less. The result is true exactly if for each production whose rules all have a cost, the sum of its
+/// symbols' costs is more than 65535, or its rule has a cost of at most that sum.
 pub fn check_least<S: Storage, T: Tables<S>>(grm: &T, costs: &[u8], least: &[Option<u16>]) -> bool
     requires costs { length costs.now ≡ (T.grammar grm.now).tokens }
     requires least { length least.now ≡ (T.grammar grm.now).rules }
@@ -106,7 +107,7 @@ fn choice_at<S: Storage>(choices: &[Option<(PIdx<S>, u32)>], rule: usize) -> Opt
     choices[rule]
 }
 
-/// Whether a rule has a choice with a number below `number`; a token needs none.
+/// Whether the symbol is a rule that has a choice with a number less than `number`, or a token, which needs none.
 fn is_chosen_below<S: Storage>(
     choices: &[Option<(PIdx<S>, u32)>],
     symbol: Symbol<S>,
@@ -124,7 +125,7 @@ fn is_chosen_below<S: Storage>(
     }
 }
 
-/// Whether the rules among the symbols have choices with numbers below `number`.
+/// Whether the rules among the symbols have choices with numbers less than `number`.
 fn are_chosen_below<S: Storage>(
     choices: &[Option<(PIdx<S>, u32)>],
     symbols: &[Symbol<S>],
@@ -152,7 +153,7 @@ fn is_production_of<S: Storage, T: Tables<S>>(grm: &T, rule: usize, p: PIdx<S>) 
     p.0.to_usize() < grm.prods_len().0.to_usize() && grm.prod_to_rule(p).0.to_usize() == rule
 }
 
-/// Whether the symbols cost just this together.
+/// Whether the symbols cost exactly this in total.
 fn costs_just<S: Storage>(
     costs: &[u8],
     least: &[Option<u16>],
@@ -168,7 +169,7 @@ fn costs_just<S: Storage>(
     }
 }
 
-/// Whether the rule has a choice that shows its cost, where it has a cost.
+/// Whether the rule has a choice that shows its cost, if it has a cost.
 fn is_reached<S: Storage, T: Tables<S>>(
     grm: &T,
     costs: &[u8],
@@ -197,10 +198,10 @@ fn is_reached<S: Storage, T: Tables<S>>(
     costs_just(costs, least, symbols, cost) && are_chosen_below(choices, symbols, number)
 }
 
-/// Whether each cost of `least` is what a sentence of its rule costs, as the choices show.
+/// Whether each cost in `least` is the cost of a sentence of its rule, as the choices show.
 ///
-/// A choice is a production and a number. The answer is true exactly where each rule with a cost has a choice of a
-/// production of its own, whose symbols cost just that, and whose rules all have choices with lesser numbers.
+/// A choice is a production and a number. The result is true exactly if each rule with a cost has a choice of one of
+/// its productions, whose symbols cost exactly that, and whose rules all have choices with lesser numbers.
 pub fn check_reached<S: Storage, T: Tables<S>>(
     grm: &T,
     costs: &[u8],

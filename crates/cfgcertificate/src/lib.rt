@@ -1,4 +1,4 @@
-//! Checks of least costs: a table that passes both is true, whoever made it.
+//! Checks of least costs: a table that passes both is true, wherever it comes from.
 #![tactic(auto)]
 
 pub mod certificate;

@@ -1,4 +1,4 @@
--- Whether rules have one production at most that costs just what they do, as it is found going through the productions.
+-- Whether rules have at most one optimal production, as a pass over the productions finds it.
 use Rattle.std.proofs.Common.{◌≡◌, ℕ, ◌+◌, ◌<◌, ◌⊎◌, inl, inr, Bool, true, false, List, get_or, length, slice_set, arith, sym, ap, ◌∙◌, subst, true≢false}
 use Rattle.std.proofs.lemmas.Bool.{cases_lt}
 use Rattle.std.proofs.lemmas.List.{get_or_default, get_or-set_same, length-set}
@@ -12,7 +12,7 @@ module _ {S : Type 0} (kinds : List (Kind S)) (g : Grammar) where
   abbrev rule_of : ℕ → ℕ
   rule_of p = (nth_production g p).rule
 
-  -- of the first n productions: which rules have one that counts, and which have two
+  -- among the first n productions: which rules have an optimal one, and which have two
   pub record AloneSoFar (n : ℕ) (alone seen : List Bool) : Type 0 where
     pub flags : length alone ≡ g.rules
     pub rules : length seen ≡ g.rules
@@ -32,7 +32,7 @@ module _ {S : Type 0} (kinds : List (Kind S)) (g : Grammar) where
     old_or_new : (p : ℕ) → p < n + 1 → (p < n) ⊎ (p ≡ n)
     old_or_new p lt = elim (cases_lt p n) [ inl less ↦ inl less | inr ge ↦ inr (omega (arith, lt, ge)) ]
 
-    -- the new one isn't of the rule, or doesn't count
+    -- the new one isn't of the rule, or isn't optimal
     other : (r p : ℕ) → (IsCounted kinds n → rule_of n ≡ r → ⊥) → p < n + 1 → IsCounted kinds p → rule_of p ≡ r → p < n
     other r p not lt counts is = elim (old_or_new p lt) [ inl less ↦ less | inr same ↦ absurd (not (subst (IsCounted kinds) same counts) (ap rule_of (sym same) ∙ is)) ]
 
@@ -52,7 +52,7 @@ module _ {S : Type 0} (kinds : List (Kind S)) (g : Grammar) where
       was : get_or seen (rule_of n) false ≡ b
       was = ap (λ r. get_or seen r false) (sym at) ∙ get_or_default seen i false b (subst (λ m. i < m) (sym a.rules) within) ∙ sym read
 
-      -- the rule has another one
+      -- the rule has another one already
       pub alone_second : b ≡ true → AloneSoFar (n + 1) (slice_set alone i false) seen
       alone_second e = record {
         flags = length-set alone i false ∙ a.flags;

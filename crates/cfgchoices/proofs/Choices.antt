@@ -1,4 +1,4 @@
--- What choices give for two lists of symbols they give for the lists joined, and they give no more than one list of tokens.
+-- What choices give for two lists of symbols, they give for the concatenation, and they give at most one list of tokens.
 use Rattle.std.proofs.Common.{◌≡◌, ℕ, List, [], ◌∷◌, ◌++◌, Contains, refl, sym, ap, subst, ◌∙◌, append-nil, append_assoc}
 use Rattle.std.proofs.lemmas.Option.{same_Some}
 use Rattle.lemmas.proofs.Contained.{contains_first, contains_later}
@@ -8,7 +8,7 @@ use Rattle.cfgleast.specs.Generator.{CostTables}
 use Rattle.cfgchoices.specs.Inner.Choices.{ChoicesGive, empty, token, free, chosen}
 
 module _ (x : CostTables) where
-  -- what they give for the rule in front, and for the others
+  -- what they give for the first rule, and for the other symbols
   pub record Given (r : ℕ) (a : List Sym) (w : List ℕ) : Type 0 where
     pub front : List ℕ
     pub back : List ℕ

@@ -1,4 +1,4 @@
--- Choices for first sentences, made one by one: a rule's production is chosen when its rules are free or have choices.
+-- Choices for first sentences, made one by one: a rule's production is chosen when its rules cost nothing or have choices.
 use Rattle.std.proofs.Common.{◌≡◌, ℕ, zero, suc, ◌+◌, ◌<◌, ◌≤◌, inl, inr, List, [], ◌∷◌, ◌++◌, slice_set, Option, Some, None, All, Contains, append-nil, arith, refl, sym, ap, subst, ◌∙◌}
 use Rattle.std.proofs.lemmas.Option.{same_Some}
 use Rattle.std.specs.Prelude.{IfSome, IsSomeAnd, cond, is_some}
@@ -37,7 +37,7 @@ module _ (x : CostTables) where
   ready_kept l l' keeps q m n le (inl free) = inl free
   ready_kept l l' keeps q m n le (inr some) = inr (some_kept l l' keeps q m n le some)
 
-  -- one rule more
+  -- one more rule has a choice
   module _ (l : Choices) (n r p : ℕ) (state : Choosing x l n) (unset : rule_choice l r ≡ None) (within : r < x.grammar.rules) (tight : IsTight x p)
       (owner : (nth_production x.grammar p).rule ≡ r) (ready : (q : ℕ) → Contains (nth_production x.grammar p).symbols (Rule q) → IsReady x l n q) where
     abbrev pub later : Choices
@@ -117,7 +117,7 @@ module _ (x : CostTables) where
     pub gives_ready : (m : ℕ) (a : List Sym) → ((q : ℕ) → Contains a (Rule q) → IsReady x l m q) → (w : List ℕ) × ChoicesGive (by x l) a w
     gives_ready m a all = choices_row (by x l) a (λ q h. ready_rule (suc m) m (omega arith) q (all q h))
 
-  -- a production that hands on is ready when its heir has a choice
+  -- a chain production is ready when the rule that it leads to has a choice
   pub heir_ready : (l : Choices) (p q m : ℕ) → IsHeir x p q → IsSomeAnd (rule_choice l q) (λ choice. choice.1 < m)
       → (s : ℕ) → Contains (nth_production x.grammar p).symbols (Rule s) → IsReady x l m s
   heir_ready l p q m heir some s h = elim (others_free x (hands_heir x p q heir) s h) [
@@ -125,7 +125,7 @@ module _ (x : CostTables) where
     | inr free ↦ inl (some_answered (rule_cost x.least s) 0 free (omega arith))
   ]
 
-  -- it makes what the choices give for its heir: the others cost nothing
+  -- it gives what the choices give for that rule: the others cost nothing
   module _ (l : Choices) where
     free_first : (s : Sym) (a : List Sym) (w : List ℕ) → CostsNothing x s → IsPaid (token_cost x) s → ChoicesGive (by x l) (s ∷ a) w → ChoicesGive (by x l) a w
     free_first (Token t) a w free some given = let none : token_cost x t ≡ 0 = same_Some _ _ free in absurd (omega (arith, none, some))

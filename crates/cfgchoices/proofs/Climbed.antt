@@ -1,5 +1,5 @@
--- Levels by rising cost: what holds at the beginning of a level, when its own productions are offered, when all was chosen that was
--- offered, and at the end.
+-- Levels by increasing cost: what is true when a level begins, when its base productions are candidates, when all candidates are used up,
+-- and at the end.
 use Rattle.std.proofs.Common.{◌≡◌, ℕ, ◌+◌, ◌<◌, ◌≤◌, inl, inr, cond, List, [], get_or, length, replicate, Option, Some, None, Contains, arith, sym, ap, subst, ◌∙◌}
 use Rattle.std.specs.Prelude.{count_by, is_some}
 use Rattle.std.proofs.lemmas.Bool.{cases_lt}
@@ -69,7 +69,7 @@ module _ (k : Known) (n : ℕ) (is : IsKnown k n) (f : Offers) (c : ℕ) (climbe
     floor = λ r has costs several. absurd (let lt = climbed.younger r c has costs in omega (arith, lt));
   }
 
-  -- its own productions were offered
+  -- its base productions are candidates
   module _ (m : ℕ) (f' : Offers) (offering : Offering k f') (adds : Adds x (IsOwnAt x c) m begun f') where
     kept : (q : ℕ) → IsHandled x f q → IsHandled x f' q
     kept q h = adds.handles q (inl h)
@@ -80,7 +80,7 @@ module _ (k : Known) (n : ℕ) (is : IsKnown k n) (f : Offers) (c : ℕ) (climbe
       hands = λ q r heir has. kept q (climbed.going.hands q r heir (subst (λ l. HasChoice l r) adds.choices has));
     }
 
-    -- and all was chosen
+    -- and all candidates are used up
     pub climbed_more : (f'' : Offers) → Going k f'' → waiting f'' ≡ 0 → ((q : ℕ) → IsHandled x f' q → IsHandled x f'' q) → f''.cost ≡ f'.cost → Climbed k f'' (c + 1)
     climbed_more f'' going none handles same = record {
       going = going;

@@ -1,4 +1,4 @@
--- Two words that are compared token by token, from their first on.
+-- Two words that are compared token by token, from the first on.
 use Rattle.std.proofs.Common.{◌≡◌, ℕ, true, false, List, [], ◌∷◌, Option, Some, None, refl, sym, ap, subst, ◌∙◌, true≢false}
 use Rattle.std.specs.Prelude.{MatchOption}
 use Rattle.std.specs.Option.{option_cmp}
@@ -12,11 +12,11 @@ use Rattle.cfgchoices.specs.Inner.Choices.{ChoicesGive}
 use Rattle.cfgchoices.specs.Inner.Offers.{FirstTokensAre}
 use Rattle.cfgchoices.proofs.Pending.{token_front}
 
--- the word ends, or goes on behind its first token
+-- the word ends, or continues after its first token
 abbrev pub Begins : {X : Type 0} → (X → ℕ) → (List ℕ → Type 0) → List ℕ → Option X → Type 0
 Begins number Rest w token = MatchOption token (w ≡ []) (λ t. (v : List ℕ) × (w ≡ number t ∷ v) × Rest v)
 
--- words of which these are left to compare
+-- words of which these suffixes are left to compare
 pub record Rests (One Other : List ℕ → Type 0) (u v : List ℕ) : Type 0 where
   pub one : List ℕ
   pub other : List ℕ
@@ -24,12 +24,12 @@ pub record Rests (One Other : List ℕ → Type 0) (u v : List ℕ) : Type 0 whe
   pub second : Other other
   pub same : dictionary u v ≡ dictionary one other
 
--- words differ here, or these are left to compare
+-- the words differ here, or these suffixes are left to compare
 pub record Next (One Other : List ℕ → Type 0) (u v : List ℕ) (o : Ordering) : Type 0 where
   pub differs : is_ne o ≡ true → o ≡ dictionary u v
   pub goes_on : is_ne o ≡ false → Rests One Other u v
 
--- some words are left
+-- some words are left to compare
 module _ {One Other G H : List ℕ → Type 0} (all : (u v : List ℕ) → G u → H v → Rests One Other u v) (one : (u : List ℕ) × G u) (other : (v : List ℕ) × H v) where
   pub some_first : (w : List ℕ) × One w
   some_first = let r = all one.0 other.0 one.1 other.1 in (r.one, r.first)
@@ -53,7 +53,7 @@ module _ {X : Type 0} (number : X → ℕ) (cmp : X → X → Ordering) (shown :
       let whole : dictionary u v ≡ ordering_then (nat_cmp (number t) (number s)) (dictionary u' v') = ap (λ w. dictionary w v) h ∙ ap (dictionary (number t ∷ u')) k in
       whole ∙ ap (λ o. ordering_then o (dictionary u' v')) (sym (shown t s))
 
-  -- a token of each
+  -- one token of each
   pub next : (t : X) (other : Option X) (u v : List ℕ) (r : Rests One Other u v) → Begins number One' r.one (Some t) → Begins number Other' r.other other → Next One' Other' u v (option_cmp cmp (Some t) other)
   next t None u v r h k = record {
     differs = λ e.
@@ -73,7 +73,7 @@ module _ {X : Type 0} (number : X → ℕ) (cmp : X → X → Ordering) (shown :
   ended None u v r h k = let whole : dictionary r.one r.other ≡ dictionary [] [] = ap (λ w. dictionary w r.other) h ∙ ap (dictionary []) k in sym (r.same ∙ whole)
   ended (Some s) u v r h k = let whole : dictionary r.one r.other ≡ dictionary [] (number s ∷ k.0) = ap (λ w. dictionary w r.other) h ∙ ap (dictionary []) k.1 in sym (r.same ∙ whole)
 
--- rows that begin with different tokens
+-- lists that begin with different tokens
 pub first_differ : (x : CostTables) (a b : List Sym) (ordering : Ordering) (f : FirstTokensAre a b ordering) → is_ne ordering ≡ true → (u v : List ℕ) → ChoicesGive x a u → ChoicesGive x b v
     → ordering ≡ dictionary u v
 first_differ x a b ordering f ne u v h k =

@@ -1,5 +1,4 @@
--- Where no production that costs just what its rule does makes less than the choice of its rule, the choices give each rule its first
--- minimal sentence.
+-- If no optimal production gives less than the choice of its rule, the choices give each rule its first minimal sentence.
 use Rattle.std.proofs.Common.{◌≡◌, ℕ, zero, suc, ◌<◌, ◌≤◌, inl, inr, List, [], ◌∷◌, Option, Some, None, All, Contains, append-nil, arith, refl, sym, ap, subst, ◌∙◌}
 use Rattle.std.proofs.lemmas.Option.{same_Some}
 use Rattle.std.specs.Prelude.{IfSome}
@@ -40,7 +39,7 @@ none_first : (v : List ℕ) → dictionary [] v ≡ Greater → ⊥
 none_first [] g = let no : ◌≡◌ {A = Ordering} Equal Greater = g in cc
 none_first (t ∷ v) g = let no : ◌≡◌ {A = Ordering} Less Greater = g in cc
 
--- what isn't after what isn't after a word isn't after it
+-- `not after` is transitive
 pub not_after : (u v w : List ℕ) → (dictionary u v ≡ Greater → ⊥) → (dictionary v w ≡ Greater → ⊥) → dictionary u w ≡ Greater → ⊥
 not_after u v w h k g = by_order (dictionary u v)
     (λ less. by_order (dictionary v w)
@@ -72,7 +71,7 @@ module _ (x : CostTables) (walks : Walks x) (grammar : IsGrammar x.grammar) wher
   pub costly : (q d : ℕ) → rule_cost x.least q ≡ Some d → 0 < d → cost_answer x q ≡ Some 0 → ⊥
   costly q d e some none = let is : d ≡ 0 = same_Some _ _ (sym e ∙ (answered_some (rule_cost x.least q) 0 none).0) in omega (arith, is, some)
 
-  -- the choices give something for a row that has a cost, if they do for its rules
+  -- the choices give something for a list that has a cost, if they do for its rules
   gives_row : (a : List Sym) (s : ℕ) → sum_of sums a ≡ Some s → s ≤ 65535
       → ((q d : ℕ) → Contains a (Rule q) → rule_cost x.least q ≡ Some d → d ≤ 65535 → (w : List ℕ) × ChoicesGive x (Rule q ∷ []) w) → (w : List ℕ) × ChoicesGive x a w
   gives_row a s e small one = choices_row x a (λ q h. let part = part_at sums a h.0 (Rule q) s h.1 h.2 e in one q part.value h part.is (omega (arith, part.within, small)))
@@ -99,7 +98,7 @@ module _ (x : CostTables) (walks : Walks x) (grammar : IsGrammar x.grammar) wher
     | inr free ↦ gives_free q d f free
   ])
 
-  -- the choice by which something is given
+  -- the choice that gives something
   pub opens_by : (q d p m : ℕ) → rule_cost x.least q ≡ Some d → d ≤ 65535 → (cost_answer x q ≡ Some 0 → ⊥) → choice_answer x q ≡ Some (p, m) → Opens x q d p m
   opens_by q d p m e small paid answer = elim (cases_lt 0 d) [
     | inl some ↦

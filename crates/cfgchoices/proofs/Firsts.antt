@@ -1,4 +1,4 @@
--- No minimal sentence begins another, so the first sentences of a row's symbols make the first of the row.
+-- No minimal sentence is a proper prefix of another, so the first sentences of a list's symbols make the first sentence of the list.
 use Rattle.std.proofs.Common.{◌≡◌, ℕ, ◌<◌, List, [], ◌∷◌, ◌++◌, All, arith, refl, sym, ap, subst, ◌∙◌}
 use Rattle.std.specs.declared.cmp.Ordering.{Ordering}
 use Rattle.std.specs.declared.cmp.Ordering.TheVariants.{Less, Equal, Greater}
@@ -13,7 +13,7 @@ use Rattle.cfgchoices.specs.FirstSentence.{FirstMinimal, dictionary}
 use Rattle.cfgchoices.proofs.Lengths.{IsPaid, dear_back, dear_empty, sentence_dear}
 use Rattle.std.proofs.lemmas.Map.Lookups.{exact_bytes}
 
--- what stands first by a difference does so with anything behind it
+-- what is less by a difference is still less with anything appended
 less_front : (u u' w w' : List ℕ) → dictionary u u' ≡ Less → ((z : List ℕ) → u' ≡ u ++ z → z ≡ []) → dictionary (u ++ w) (u' ++ w') ≡ Less
 less_front [] [] w w' e h = absurd (let no : ◌≡◌ {A = Ordering} Equal Less = e in cc)
 less_front [] (y ∷ u') w w' e h = absurd (let no : y ∷ u' ≡ [] = h (y ∷ u') refl in cc)
@@ -44,7 +44,7 @@ module _ (P : ℕ → List Sym → Type 0) (cost : ℕ → ℕ) (paid : (r : ℕ
       let both = sum_by-append cost u z in
       dear_empty cost z (dear_back cost u z (sentence_dear P cost paid r (u ++ z) k.0)) (omega (arith, low, both))
 
-  -- a row whose parts don't come behind those of another, and don't begin them, doesn't come behind the other
+  -- a list doesn't come after another if none of its parts comes after the other's part or is a proper prefix of it
   pub row_before : (G H : ℕ → List ℕ → Type 0)
       → ((r : ℕ) (u u' : List ℕ) → G r u → H r u' → (dictionary u u' ≡ Greater → ⊥) × ((z : List ℕ) → u' ≡ u ++ z → z ≡ []))
       → {a : List Sym} {w v : List ℕ} → Split G a w → Split H a v → dictionary w v ≡ Greater → ⊥

@@ -1,4 +1,4 @@
--- When all own productions were gone through, each rule that costs something has a choice, and a walk by the choices ends.
+-- When all base productions were used, each rule that costs something has a choice, and a walk by the choices ends.
 use Rattle.std.proofs.Common.{◌≡◌, ℕ, ◌<◌, ◌≤◌, [], Option, Some, None, arith, refl, sym, ap, subst, ◌∙◌}
 use Rattle.std.proofs.lemmas.Option.{same_Some}
 use Rattle.derivation.specs.Grammar.{IsGrammar}
@@ -17,7 +17,7 @@ use Rattle.cfgleast.proofs.Generated.{some_answered}
 use Rattle.cfgchoices.proofs.Tight.{least_of, minimal_made, one_cost}
 
 module _ (x : CostTables) (n : ℕ) (is : IsGenerator x n) (grammar : IsGrammar x.grammar) (l : Choices) (k : ℕ) (state : Choosing x l k) where
-  -- heirs cost as much as what hands on to them
+  -- rules that chain productions link cost the same
   along_cost : {a b : ℕ} → Along (HasHeir x) a b → (c d : ℕ) → cost_answer x a ≡ Some c → cost_answer x b ≡ Some d → c ≡ d
   along_cost {a = a} here c d e f = one_cost x a c d e f
   along_cost {a = a} (next {b = b} link rest) c d e f =

@@ -1,4 +1,4 @@
--- Lists that are gone through: what stands before the next production was offered.
+-- A pass over a list: the productions before the next one were added to the candidates.
 use Rattle.std.proofs.Common.{◌≡◌, ℕ, ◌+◌, ◌-◌, ◌<◌, ◌≤◌, inl, inr, length, Option, Some, None, arith, refl, sym, subst, ◌∙◌}
 use Rattle.std.proofs.lemmas.Bool.{cases_lt}
 use Rattle.cfgindex.specs.declared.idxnewtype.PIdx.{PIdx}
@@ -93,7 +93,7 @@ module _ {S : Type 0} (number : S → ℕ) (x : CostTables) (listed : Listed S) 
       go None first place = omega (arith, place)
       go (Some q) first place = omega (arith, first.0, place)
 
--- what could be offered still can
+-- what could be a candidate still can
 pub offered_still : (k : Known) (Is : ℕ → Type 0) (n : ℕ) (f f' : Offers) → Adds k.tables Is n f f' → (q : ℕ) → IsOffered k f.choices f.number f.cost q → IsOffered k f'.choices f'.number f'.cost q
 offered_still k Is n f f' a q o = subst (λ c. IsOffered k f'.choices f'.number c q) (sym a.cost)
     (subst (λ m. IsOffered k f'.choices m f.cost q) (sym a.number) (subst (λ l. IsOffered k l f.number f.cost q) (sym a.choices) o))

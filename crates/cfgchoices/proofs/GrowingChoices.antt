@@ -1,4 +1,4 @@
--- Choices that are made one by one: what they give stays.
+-- Choices that are made one by one: what they give stays the same.
 use Rattle.std.proofs.Common.{◌≡◌, ℕ, inl, inr, List, slice_set, Option, Some, None, sym, ap, ◌∙◌}
 use Rattle.lemmas.proofs.Elements.{get_or-set}
 use Rattle.derivation.specs.Grammar.{Sym}
@@ -7,7 +7,7 @@ use Rattle.cfgchoices.specs.Inner.Choices.{ChoicesGive, empty, token, free, chos
 use Rattle.cfgchoices.specs.Inner.Offers.{Choices, by}
 use Rattle.cfgleast.specs.Generator.{CostTables, cost_answer, choice_answer, where_some}
 
--- each choice is still there
+-- each choice is kept
 abbrev pub Keeps : Choices → Choices → Type 0
 Keeps l l' = (q : ℕ) (choice : ℕ × ℕ) → rule_choice l q ≡ Some choice → rule_choice l' q ≡ Some choice
 

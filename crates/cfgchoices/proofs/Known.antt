@@ -1,4 +1,4 @@
--- What the kinds of the productions tell: which are tight, and which hand on to a rule.
+-- What the kinds of the productions say: which are optimal, and which lead to a rule.
 use Rattle.std.proofs.Common.{◌≡◌, ℕ, ◌<◌, ◌⊎◌, inl, inr, List, Bool, true, false, get_or, length, Some, sym, subst}
 use Rattle.derivation.specs.Grammar.{IsGrammar}
 use Rattle.cfgtables.specs.Openings.{nth_production}

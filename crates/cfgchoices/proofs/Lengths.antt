@@ -1,4 +1,4 @@
--- Where each token costs something, a word has at most as many tokens as it costs.
+-- If each token costs something, a word has at most as many tokens as it costs.
 use Rattle.std.proofs.Common.{◌≡◌, ℕ, ◌<◌, ◌≤◌, List, [], ◌∷◌, ◌++◌, length, All, arith}
 use Rattle.std.specs.Prelude.{slice_index}
 use Rattle.std.proofs.lemmas.List.Elements.{All-nil, All-cons, All-head, All-tail, All-weaker, All-contains, All-get_or}

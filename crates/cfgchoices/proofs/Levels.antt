@@ -1,4 +1,4 @@
--- The minimal sentences of a rule are those that own productions make of the rules that it hands on to.
+-- The minimal sentences of a rule are those that base productions make, of the rules that chain productions lead to from it.
 use Rattle.std.proofs.Common.{◌≡◌, ℕ, ◌+◌, ◌<◌, ◌≤◌, ◌⊎◌, inl, inr, List, [], ◌∷◌, ◌++◌, append-nil, All, Contains, arith, refl, sym, ap, subst, ◌∙◌}
 use Rattle.std.proofs.lemmas.Bool.{cases_lt}
 use Rattle.std.proofs.lemmas.List.Sums.{sum_by-append}
@@ -23,7 +23,7 @@ module _ (P : ℕ → List Sym → Type 0) (cost : ℕ → ℕ) where
   abbrev Cut : List Sym → List ℕ → Type 0
   Cut = Split (Minimal P cost)
 
-  -- minimal sentences of a row's symbols cost the same, whichever they are
+  -- minimal sentences of a list's symbols cost the same, whichever they are
   pub same_cost : {a : List Sym} {w v : List ℕ} → Cut a w → Cut a v → cost_of cost w ≡ cost_of cost v
   same_cost done done = refl
   same_cost (itself {t = t} {w = w} s) (itself {w = v} k) = cost_of-token cost t w ∙ ap (λ n. cost t + n) (same_cost s k) ∙ sym (cost_of-token cost t v)
@@ -38,14 +38,14 @@ module _ (P : ℕ → List Sym → Type 0) (cost : ℕ → ℕ) where
   pub trees_of_cut : {a : List Sym} {w : List ℕ} → Cut a w → Yields P a w
   trees_of_cut s = trees_from_split P (Split-map (Minimal P cost) (IsYielded P) (λ r u m. trees_from_derivation P (Rule r ∷ []) u m.0) s)
 
-  -- a production that costs as its rule makes minimal sentences of minimal sentences
+  -- an optimal production makes minimal sentences of minimal sentences
   pub made_minimal : (r : ℕ) (symbols : List Sym) (c : ℕ) (w : List ℕ) → CostsAsItsRule P cost r symbols c → Cut symbols w → Minimal P cost r w
   made_minimal r symbols c w tight s = (
     derivation_from_trees P (opened tight.has (trees_of_cut s) empty (sym (append-nil w))),
     (λ v d. let least = tight.least.1 v d in let same = same_cost s tight.parts in omega (arith, least, same, tight.is)),
   )
 
-  -- a row costs at least what a rule in it does
+  -- a list costs at least what a rule in it does
   pub at_least : {a : List Sym} {w : List ℕ} (q d : ℕ) → Cut a w → Contains a (Rule q) → Least P cost q d → d ≤ cost_of cost w
   at_least q d done h l = absurd (contains_none (Rule q) h)
   at_least q d (itself {t = t} {a = a} {w = w} s) h l = elim (contains_cases (Token t) (Rule q) a h) [
@@ -66,7 +66,7 @@ module _ (P : ℕ → List Sym → Type 0) (cost : ℕ → ℕ) where
     pub rule_nothing : (r : ℕ) (u : List ℕ) → Sentence P r u → cost_of cost u ≤ 0 → u ≡ []
     rule_nothing r u s none = dear_empty cost u (sentence_dear P cost paid r u s) none
 
-    -- a minimal sentence of a rule in a row that costs no more is a sentence of the row
+    -- a minimal sentence of a rule in a list that costs no more is a sentence of the list
     handed_back : {a : List Sym} {v : List ℕ} (b c : ℕ) (w : List ℕ) → Cut a v → All (IsPaid cost) a → Contains a (Rule b) → Least P cost b c → cost_of cost v ≤ c
         → Minimal P cost b w → Cut a w
     handed_back b c w done all h l small m = absurd (contains_none (Rule b) h)
@@ -103,7 +103,7 @@ module _ (P : ℕ → List Sym → Type 0) (cost : ℕ → ℕ) where
     pub handed_down_minimal : (r : ℕ) (w : List ℕ) → IsHandedDown P cost r w → Minimal P cost r w
     handed_down_minimal r w h = along_back w h.leads (made_minimal h.owner h.symbols h.own.level w h.own.tight h.parts)
 
-    -- the parts of a row's least word are minimal
+    -- the parts of a list's least word are minimal
     module _ (F : ℕ → List ℕ → Type 0) where
       abbrev pub IsMinimalAnd : ℕ → List ℕ → Type 0
       IsMinimalAnd r w = Minimal P cost r w × F r w
@@ -125,7 +125,7 @@ module _ (P : ℕ → List Sym → Type 0) (cost : ℕ → ℕ) where
           )
           (minimal_parts s (λ v t. let le = low (u ++ v) (trees_join P tree t) in let two = sum_by-append cost u v in omega (arith, le, both, two))) e
 
-      -- a rule of the row that costs as much as the whole, and its part is the whole
+      -- a rule of the list costs as much as the whole, and its part is the whole
       record Heir (a : List Sym) (w : List ℕ) (c : ℕ) : Type 0 where
         rule : ℕ
         among : Contains a (Rule rule)

@@ -1,4 +1,4 @@
--- Lists of productions, to whose fronts productions are put from the last one down.
+-- Lists of productions, built by prepending productions from the last one down.
 use Rattle.std.proofs.Common.{◌≡◌, ℕ, ◌+◌, ◌<◌, ◌≤◌, ◌⊎◌, inl, inr, List, get_or, length, replicate, slice_set, Option, Some, None, arith, sym, ap, subst, ◌∙◌}
 use Rattle.std.proofs.lemmas.Option.{same_Some}
 use Rattle.std.proofs.lemmas.Bool.{cases_lt}
@@ -17,7 +17,7 @@ module _ {S : Type 0} (number : S → ℕ) (Is : ℕ → ℕ → Type 0) (n : �
   at_or_behind : (p : ℕ) → n ≤ p → (n + 1 ≤ p) ⊎ (p ≡ n)
   at_or_behind p le = elim (cases_lt n p) [ inl lt ↦ inl (omega (arith, lt)) | inr ge ↦ inr (omega (arith, le, ge)) ]
 
-  -- a list in which n isn't
+  -- a list without n
   wider : (k : ℕ) → (Is k n → ⊥) → (o : Option (PIdx S)) → IsFirstFrom number (Is k) (n + 1) o → IsFirstFrom number (Is k) n o
   wider k not None none = λ p le i. elim (at_or_behind p le) [ inl behind ↦ none p behind i | inr same ↦ not (subst (Is k) same i) ]
   wider k not (Some p) (from, is, first) = (
@@ -36,7 +36,7 @@ module _ {S : Type 0} (number : S → ℕ) (Is : ℕ → ℕ → Type 0) (n : �
     kept : (p : ℕ) → n + 1 ≤ p → get_or (slice_set next i o) p None ≡ get_or next p None
     kept p behind = get_or-set_other next i p o None (λ e. omega (arith, behind, e, at))
 
-    -- n comes into another list
+    -- n is put into another list
     pub listed_elsewhere : ((k : ℕ) → Is k n → ⊥) → AreListed number Is n firsts (slice_set next i o)
     listed_elsewhere not = record {
       first = λ k. wider k (not k) (get_or firsts k None) (listed.first k);
@@ -46,7 +46,7 @@ module _ {S : Type 0} (number : S → ℕ) (Is : ℕ → ℕ → Type 0) (n : �
       ];
     }
 
-    -- n comes to the front of list k, which is read and written at these places
+    -- n becomes the first of list k, which is read and written at these indices
     pub listed_first : (k j m : ℕ) (p : PIdx S) → number p.0 ≡ n → Is k n → ((l : ℕ) → Is l n → l ≡ k) → k < length firsts → n < length next → j ≡ k → m ≡ k → o ≡ get_or firsts j o
         → AreListed number Is n (slice_set firsts m (Some p)) (slice_set next i o)
     listed_first k j m p here is only within there read written old = subst (λ m. AreListed number Is n (slice_set firsts m (Some p)) (slice_set next i o)) (sym written) (record {
@@ -82,7 +82,7 @@ listed_none number Is n lists firsts next below none = record {
   behind = λ k p le h. let lt = below k p h in absurd (omega (arith, le, lt));
 }
 
--- what an own production costs, as the list of the code tells it
+-- what a base production costs, as the list of the code says
 pub own_cost_told : (x : CostTables) (n : ℕ) → IsGenerator x n → (p i c : ℕ) (own : HasNoHeir x p) (o : Option ℕ) → i ≡ owner x p → o ≡ get_or x.least i o → o ≡ Some c → own.tight.cost ≡ c
 own_cost_told x n is p i c own o at read some =
     let within = subst (λ m. owner x p < m) (sym is.settled.chosen.costs) (answered_within x n is (owner x p) own.tight.cost own.tight.rule) in

@@ -1,4 +1,4 @@
--- Productions that are offered: what the choices make of them, and what one choice more changes.
+-- Candidates: what the choices give for them, and what one more choice changes.
 use Rattle.std.proofs.Common.{◌≡◌, ℕ, ◌+◌, ◌<◌, ◌⊎◌, inl, inr, Bool, true, false, List, [], ◌∷◌, get_or, length, Option, Some, None, All, append-nil, arith, refl, sym, ap, subst, ◌∙◌, true≢false}
 use Rattle.std.specs.Prelude.{IsSomeAnd}
 use Rattle.std.specs.declared.cmp.Ordering.{Ordering}
@@ -56,7 +56,7 @@ module _ (x : CostTables) where
     first = subst (λ r. NotAfter x l (Rule r ∷ []) (row x q)) s.same (not_after_both l (Rule (owner x p) ∷ []) (row x p) (row x q) d.given d.first s.before);
   }
 
-  -- what waits goes on to wait
+  -- what waits still waits
   pub handled_wider : (f f' : Offers) → f'.choices ≡ f.choices → ((q : ℕ) → Waits f q → Waits f' q) → (q : ℕ) → IsHandled x f q → IsHandled x f' q
   handled_wider f f' same wider q (inl done) = inl (subst (λ l. IsDone x l q) (sym same) done)
   handled_wider f f' same wider q (inr (p, waits, stands)) = inr (p, wider p waits, subst (λ l. StandsFor x l p q) (sym same) stands)
@@ -69,7 +69,7 @@ module _ (x : CostTables) where
     choice_given r h = gives_ready x l n state n (Rule r ∷ [])
         (λ q among. let same : Rule r ≡ Rule q = contains_one (Rule r) (Rule q) among in let is : r ≡ q = cc in subst (IsReady x l n) is (chosen_ready r h))
 
-    -- the choice of a rule makes what is given for the rule, and no more
+    -- the choice of a rule gives what is given for the rule, and no more
     pub rule_gives : (r p m : ℕ) → rule_choice l r ≡ Some (p, m) → (w : List ℕ) → ChoicesGive (by x l) (row x p) w → ChoicesGive (by x l) (Rule r ∷ []) w
     rule_gives r p m e w h =
         let c = (state.each r p m e).0 in
@@ -101,7 +101,7 @@ module _ (k : Known) (n : ℕ) (is : IsKnown k n) where
   abbrev x : CostTables
   x = k.tables
 
-  -- where the rule has a choice, a production that is offered is done
+  -- if the rule has a choice, a candidate of it is done
   pub was_chosen : (f : Offers) (p : ℕ) → Level k f → IsOffered k f.choices f.number f.cost p → HasChoice f.choices (owner x p) → IsDone x f.choices p
   was_chosen f p level offered has = go (is_alone k (owner x p)) refl
     where
@@ -205,7 +205,7 @@ module _ (k : Known) (n : ℕ) (is : IsKnown k n) where
           );
     }
 
-    -- what hands on to the rule can be offered
+    -- the chain productions that lead to the rule can be candidates
     pub heir_offered : (q : ℕ) → IsHeir x q (owner x p) → IsOffered k chosen (f.number + 1) f.cost q
     heir_offered q heir = record {
       tight = heir.tight;

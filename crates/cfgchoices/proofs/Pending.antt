@@ -1,4 +1,4 @@
--- Rows of symbols that pend, the first one last: what the choices make of them, token by token.
+-- Lists of pending symbols, the first one last: what the choices give for them, token by token.
 use Rattle.std.proofs.Common.{◌≡◌, ℕ, ◌+◌, ◌<◌, ◌≤◌, get_or, length, List, [], ◌∷◌, ◌++◌, map, reverse, Option, Some, None, arith, refl, sym, ap, subst, ◌∙◌}
 use Rattle.std.proofs.lemmas.Option.{same_Some}
 use Rattle.cfgindex.specs.declared.idxnewtype.PIdx.{PIdx}
@@ -61,13 +61,13 @@ pub last_shown : {S : Type 0} (number : S → ℕ) (items rest : List (Symbol S)
 last_shown number items rest symbol is e f =
     ap (map (sym_of number)) e ∙ map-append (sym_of number) rest (symbol ∷ []) ∙ ap (λ s. map (sym_of number) rest ++ sym_of number s ∷ []) f
 
--- and symbols that are put behind others, turned
+-- and symbols that are appended in reverse
 pub turned_shown : {S : Type 0} (number : S → ℕ) (pending rest symbols : List (Symbol S)) (a : List Sym) → pending ≡ rest ++ reverse symbols → map (sym_of number) symbols ≡ a
     → map (sym_of number) pending ≡ map (sym_of number) rest ++ reverse a
 turned_shown number pending rest symbols a e is = ap (map (sym_of number)) e ∙ map-append (sym_of number) rest (reverse symbols)
     ∙ ap (λ l. map (sym_of number) rest ++ l) (map_reverse (sym_of number) symbols ∙ ap reverse is)
 
--- an entry of a list of the code, in numbers
+-- an entry of a list of the code, as a number
 pub entry_shown : {A B : Type 0} (f : A → B) (xs : List A) (i r : ℕ) (d o : A) (e : B) → i ≡ r → r < length xs → get_or xs i d ≡ o → get_or (map f xs) r e ≡ f o
 entry_shown f xs i r d o e at within is = get_or-map f xs r d e within ∙ ap f (ap (λ n. get_or xs n d) (sym at) ∙ is)
 
@@ -75,7 +75,7 @@ pub choice_shown : {S : Type 0} (number : S → ℕ) (xs : List (Option (PIdx S 
     → rule_choice (map (choice_of number) xs) r ≡ choice_of number o
 choice_shown number xs i r d o = entry_shown (choice_of number) xs i r d o None
 
--- what pends now makes the same, in no more steps
+-- the symbols that are pending now give the same, in no more steps
 pub record GoesOn (x : CostTables) (l : Choices) (old pending : List Sym) : Type 0 where
   pub same : (w : List ℕ) → Pends x l old w → Pends x l pending w
   pub left : left_to_open x l pending ≤ left_to_open x l old
@@ -120,14 +120,14 @@ module _ (x : CostTables) (l : Choices) (n : ℕ) (state : Choosing x l n) (rest
       let turned = sum_by-IsPermutation size (row x p) (reverse (row x p)) (IsPermutation-reverse (row x p)) in
       omega (arith, all, one, new, turned)
 
-  -- a rule that has no choice is passed over
+  -- a rule that has no choice is skipped
   pub goes_on_free : (old : List Sym) (r : ℕ) → rule_choice l r ≡ None → GoesOn x l old (rest ++ Rule r ∷ []) → GoesOn x l old rest
   goes_on_free old r none g = record {
     same = λ w h. free_front (by x l) r (reverse rest) w none (first_pending (Rule r) w (g.same w h));
     left = omega (arith, g.left, symbol_less (Rule r));
   }
 
-  -- another one is replaced by what was chosen for it
+  -- another rule is replaced by what was chosen for it
   pub goes_on_opened : (old : List Sym) (r p m : ℕ) → rule_choice l r ≡ Some (p, m) → GoesOn x l old (rest ++ Rule r ∷ []) → GoesOn x l old (rest ++ reverse (row x p))
   goes_on_opened old r p m e g =
       let c = (state.each r p m e).0 in record {

@@ -1,4 +1,4 @@
--- The place of a production among others that are in order, the greatest first, and what waits when it was put there.
+-- The index of a production among others in descending order, and what waits after it was inserted.
 use Rattle.std.proofs.Common.{◌≡◌, ◌↔◌, ℕ, ◌+◌, ◌<◌, ◌≤◌, ◌⊎◌, inl, inr, true, false, List, [], ◌∷◌, ◌++◌, get_or, length, map, take, drop, slice_set, Option, Some, None, Contains, arith, refl, sym, ap, subst, ◌∙◌, true≢false}
 use Rattle.std.proofs.lemmas.Option.{same_Some}
 use Rattle.std.specs.List.{insert}
@@ -43,7 +43,7 @@ pub insert_shown : {A B : Type 0} (f : A → B) (xs : List A) (at : ℕ) (y : A)
 insert_shown f xs at y = map-append f (take at xs) (y ∷ drop at xs) ∙ ap (λ l. l ++ f y ∷ map f (drop at xs)) (sym (take-map f at xs))
     ∙ ap (λ l. take at (map f xs) ++ f y ∷ l) (sym (drop-map f at xs))
 
--- a row in order, where what stands below `low` isn't before the production, nor behind it what stands from `high` on
+-- a sorted list, where nothing below `low` comes before the production, and nothing from `high` on comes after it
 pub record Between (k : Known) (f : Offers) (p low high : ℕ) : Type 0 where
   pub within : high ≤ length f.level
   pub ordered : low ≤ high
@@ -109,7 +109,7 @@ module _ (k : Known) (f : Offers) (level : Level k f) (p : ℕ) (offered : IsOff
     to_back e = back_half k f level p mine low high middle b from to
         (subst (λ i. NotAfter k.tables f.choices (row k.tables p) (row k.tables i)) (sym at) (λ u v h k greater. true≢false (sym (ap is_lt (told v u k h ∙ nat_list_cmp_total.antisymm v u ∙ ap ordering_reverse greater)) ∙ e)))
 
--- one more waits, or one that stands for it
+-- one more waits, or one that gives nothing greater does
 module _ (k : Known) (f : Offers) (o : Offering k f) (p : ℕ) (offered : IsOffered k f.choices f.number f.cost p) where
   abbrev level : Level k f
   level = o.level
@@ -230,7 +230,7 @@ module _ (k : Known) (f : Offers) (o : Offering k f) (p : ℕ) (offered : IsOffe
       together = let long = length-insert f.level at p within in omega (arith, long);
     }
 
--- the code's lists, when a production was put in, in numbers
+-- the code's lists as numbers, after a production was inserted
 pub put_shown : {S : Type 0} (number : S → ℕ) (level : List (PIdx S)) (foremost : List (Option (PIdx S))) (f : Offers) (at i r : ℕ) (p : PIdx S) → i ≡ r
     → (level' : List (PIdx S)) → level' ≡ insert level at p
     → ◌≡◌ {A = Offers} (record { choices = f.choices; number = f.number; cost = f.cost; ready = f.ready; level = insert (places_of number level) at (number p.0); foremost = slice_set (map (place_of number) foremost) r (Some (number p.0)) })

@@ -1,4 +1,4 @@
--- Rows in order stay so where an element is put between those that don't come behind it and those before which it comes.
+-- Sorted lists stay sorted if an element is inserted after those it doesn't come before, and before those that don't come before it.
 use Rattle.std.proofs.Common.{ℕ, ◌+◌, ◌-◌, ◌<◌, ◌≤◌, inl, inr, List, length, get_or, arith, sym, subst, ◌≡◌}
 use Rattle.std.specs.List.{insert}
 use Rattle.std.proofs.lemmas.Bool.{cases_lt}

@@ -6,7 +6,7 @@ use Rattle.derivation.specs.Sentence.{Sentence}
 use Rattle.derivation.specs.Tree.{Yields, empty, token, opened}
 use Rattle.derivation.proofs.Trees.{trees_from_derivation}
 
--- what holds of the symbols of productions, and so of tokens among them, holds of the leaves
+-- what is true of the symbols of productions, and so of the tokens among them, is true of the leaves
 module _ (P : ℕ → List Sym → Type 0) (Is : Sym → Type 0) (holds : (r : ℕ) (symbols : List Sym) → P r symbols → All Is symbols) where
   pub leaves_are : {a : List Sym} {w : List ℕ} → Yields P a w → All Is a → All (λ t. Is (Token t)) w
   leaves_are empty all = All-nil (λ t. Is (Token t))

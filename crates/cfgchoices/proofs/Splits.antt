@@ -1,4 +1,4 @@
--- Words cut into what the symbols of a row stand for, and induction over parse trees by such cuts.
+-- Words split into one part for each symbol of a list, and induction over parse trees by such splits.
 use Rattle.std.proofs.Common.{ℕ, List, [], ◌∷◌, append-nil, sym, subst, ◌∙◌}
 use Rattle.derivation.specs.Grammar.{Sym, Rule}
 use Rattle.derivation.specs.Tree.{Yields, empty, token, opened}
@@ -27,8 +27,8 @@ module _ (P : ℕ → List Sym → Type 0) where
   trees_from_split (itself s) = token (trees_from_split s)
   trees_from_split (part {r = r} {a = a} h s e) = subst (Yields P (Rule r ∷ a)) (sym e) (trees_join P h (trees_from_split s))
 
-  -- what holds of a rule and a word, if it holds of the rules and parts of one of the rule's productions, holds of all
-  -- that rules yield
+  -- what is true of a rule and a word, if it is true of the rules and parts of one of the rule's productions, is true of all that rules
+  -- yield
   module _ (F : ℕ → List ℕ → Type 0) where
     abbrev pub IsYieldedAnd : ℕ → List ℕ → Type 0
     IsYieldedAnd r w = IsYielded r w × F r w

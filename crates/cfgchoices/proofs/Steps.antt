@@ -1,4 +1,4 @@
--- What the choices make of symbols, in numbers: how many tokens, and how many rules are replaced on the way.
+-- What the choices give for symbols, in numbers: how many tokens, and how many rules are replaced on the way.
 use Rattle.std.proofs.Common.{◌≡◌, ℕ, zero, suc, ◌+◌, ◌<◌, List, [], ◌∷◌, Option, Some, None, All, arith, refl, ap, ◌∙◌}
 use Rattle.std.specs.Prelude.{IfSome, sum_by}
 use Rattle.std.proofs.lemmas.List.Sums.{sum_by-cons}
@@ -9,7 +9,7 @@ use Rattle.cfgleast.specs.Certificate.{rule_choice}
 use Rattle.cfgchoices.specs.Inner.FirstChoices.{IsNotAbove}
 pub use Rattle.cfgchoices.specs.Inner.Offers.{steps, steps_of}
 
--- elements that count the same have one sum
+-- sums of equal terms are equal
 sum_by-same : {X : Type 0} (Q : X → Type 0) (f g : X → ℕ) → ((x : X) → Q x → f x ≡ g x) → (xs : List X) → All Q xs → sum_by f xs ≡ sum_by g xs
 sum_by-same Q f g same [] all = refl
 sum_by-same Q f g same (x ∷ xs) all =
@@ -82,7 +82,7 @@ module _ (g : Grammar) (choices : List (Option (ℕ × ℕ))) (each : ℕ) where
             (λ s lt. same s (lower n choice.1 s (omega (arith, h)) lt) (lower m choice.1 s (omega (arith, k)) lt))
             (nth_production g choice.0).symbols (below r choice.0 choice.1 e))
 
-    -- a rule takes what its symbols take, and `each`
+    -- a rule takes as many steps as its symbols, and `each`
     pub steps_opened : (n r p m : ℕ) → rule_choice choices r ≡ Some (p, m) → m < n
         → size n (Rule r) ≡ sum_by (size n) (nth_production g p).symbols + each
     unfolding steps

@@ -1,4 +1,4 @@
--- A production that was offered is taken out, and what is left till nothing is offered.
+-- A candidate is removed, and what is left until there are no candidates.
 use Rattle.std.proofs.Common.{◌≡◌, ℕ, ◌+◌, ◌-◌, ◌*◌, ◌<◌, ◌≤◌, ◌⊎◌, inl, inr, true, false, true≢false, Option, Some, slice_set, List, [], ◌∷◌, ◌++◌, get_or, length, map, None, Contains, arith, refl, sym, ap, subst, ◌∙◌}
 use Rattle.std.proofs.Math.Seq.{get_or-append_seam}
 use Rattle.std.proofs.lemmas.List.{get_or_append_left, get_or_default, length-map, length_push, map-append, map-set}
@@ -163,7 +163,7 @@ module _ (k : Known) (p : ℕ) (f f' : Offers) (t : Takes k p f f') where
         pub number_fits : f'.number + 1 ≤ k.tables.grammar.rules
         number_fits = few k.tables _ (f'.number + 1) (choosing k n is f' p t.level t.next unset within)
 
-        -- and what hands on to the rule is offered
+        -- and the chain productions that lead to the rule are candidates
         module _ (f'' : Offers) (adds : Adds k.tables (λ q. IsHeir k.tables q (owner k.tables p)) (length k.tables.grammar.productions) now f'') where
           pub chosen_handles : (q : ℕ) → IsHandled k.tables f q → IsHandled k.tables f'' q
           chosen_handles q h = adds.handles q (inl (handled_chosen k n is f' p t.level t.next unset within q (taken_handled q h)))
@@ -188,7 +188,7 @@ module _ (k : Known) (p : ℕ) (f f' : Offers) (t : Takes k p f f') where
                   let whole : (r - a) * (c + 1) ≡ ((r - b) + 1) * (c + 1) = ap (λ d. d * (c + 1)) one in
                   spread (r - b) c w v ((r - a) * (c + 1)) whole all
 
--- lists of the code, in numbers, one taken from the end
+-- lists of the code as numbers, after the last element was removed
 pub last_taken : {S : Type 0} (number : S → ℕ) (items rest : List (PIdx S)) (p : PIdx S) → items ≡ rest ++ p ∷ [] → places_of number items ≡ places_of number rest ++ number p.0 ∷ []
 last_taken number items rest p e = ap (places_of number) e ∙ map-append (λ (q : PIdx _). number q.0) rest (p ∷ [])
 
@@ -196,7 +196,7 @@ last_taken number items rest p e = ap (places_of number) e ∙ map-append (λ (q
 pub entry_within : {A B : Type 0} (f : A → B) (items : List A) (rules i r : ℕ) → length (map f items) ≡ rules → i ≡ r → i < rules → r < length items
 entry_within f items rules i r listed at lt = let len = length-map items f in omega (arith, len, listed, at, lt)
 
--- whether a rule has a choice, as the code tells it
+-- whether a rule has a choice, as the code says
 module _ {S : Type 0} (number : S → ℕ) (items : List (Option (PIdx S × ℕ))) (i r : ℕ) (at : i ≡ r) (within : r < length items) where
   pub unset_shown : (o : Option (PIdx S × ℕ)) → o ≡ get_or items i o → is_some o ≡ false → rule_choice (map (choice_of number) items) r ≡ None
   unset_shown None is e = choice_shown number items i r None None at within (sym is)

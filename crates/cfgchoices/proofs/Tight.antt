@@ -1,4 +1,4 @@
--- What the generator's tables tell of productions that cost what their rules do, and what derivations tell of them.
+-- What the cost tables say of optimal productions, and what derivations say of them.
 use Rattle.std.proofs.Common.{◌≡◌, ℕ, ◌<◌, ◌≤◌, ◌⊎◌, inl, inr, List, [], ◌∷◌, ◌++◌, length, get_or, Option, Some, None, Result, Ok, Err, All, Contains, arith, refl, sym, ap, subst, ◌∙◌}
 use Rattle.std.proofs.lemmas.Option.{none-some, same_Some}
 use Rattle.std.proofs.lemmas.Bool.{cases_lt}
@@ -32,16 +32,16 @@ use Rattle.cfgleast.proofs.Generated.{answered_some, some_answered, reads_cost, 
 use Rattle.cfgchoices.proofs.Lengths.{IsPaid, productions_paid}
 use Rattle.cfgchoices.proofs.Levels.{at_least, handed_down_minimal, minimal_handed_down, rule_nothing}
 
--- where a rule has no cost, the row has none
+-- if a rule has no cost, the list has none
 pub stops_none : (cost : ℕ → ℕ) (settled : ℕ → Option ℕ) (symbols : List Sym) (r n : ℕ) (x : Partial) → StopsAt cost settled symbols r x → sum_of (symbol_cost cost settled) symbols ≡ Some n → ⊥
 stops_none cost settled symbols r n x stop e =
     let part = part_at (symbol_cost cost settled) symbols x.taken (Rule r) n stop.taken stop.symbol e in none-some _ (sym stop.unset ∙ part.is)
 
--- a rule and its production cost the same, whoever tells it
+-- a rule and its production have one cost, whichever table gives it
 pub one_cost : (x : CostTables) (r c d : ℕ) → cost_answer x r ≡ Some c → cost_answer x r ≡ Some d → c ≡ d
 one_cost x r c d e f = same_Some _ _ (sym e ∙ f)
 
--- Where a rule in a row costs as much as the row, nothing else in it costs anything.
+-- If a rule in a list costs as much as the list, nothing else in it costs anything.
 module _ (x : CostTables) where
   abbrev costs : Sym → Option ℕ
   costs = symbol_cost (token_cost x) (rule_cost x.least)
@@ -88,12 +88,12 @@ module _ (x : CostTables) where
     | inr behind ↦ others_free hands s behind
   ]
 
--- a production is tight whatever is chosen
+-- a production is optimal whatever is chosen
 pub tight_whatever : (x : CostTables) (choices : List (Option (ℕ × ℕ))) (p : ℕ) → IsTight x p
     → IsTight (record { grammar = x.grammar; costs = x.costs; least = x.least; choices = choices }) p
 tight_whatever x choices p t = record { place = t.place; cost = t.cost; positive = t.positive; rule = t.rule; sum = t.sum }
 
--- what a production is to its rule is told by its symbols, where the rule has a cost that is answered and isn't 0
+-- the symbols of a production determine its kind, if its rule has a cost to return that isn't 0
 module _ (x : CostTables) (p c : ℕ) (place : p < length x.grammar.productions) (rule : rule_cost x.least (nth_production x.grammar p).rule ≡ Some c) where
   cost_is : (tight : IsTight x p) → tight.cost ≡ c
   cost_is tight = same_Some _ _ (sym (answered_some (rule_cost x.least (nth_production x.grammar p).rule) tight.cost tight.rule).0 ∙ rule)
@@ -121,7 +121,7 @@ module _ (x : CostTables) (p c : ℕ) (place : p < length x.grammar.productions)
       same = some_answered (rule_cost x.least (number r.0)) c h.2 (omega (arith, small)) ∙ ap Some (sym (cost_is (tight_now h.0)));
     }
 
--- the kind that is read of a production
+-- the kind that is read for a production
 module _ {S : Type 0} (number : S → ℕ) (x : CostTables) where
   pub kind_read : (listed : List (Kind S)) (p i : ℕ) (kind : Kind S) → AreKinds number x listed → i ≡ p → p < length x.grammar.productions → kind ≡ get_or listed i kind → IsKind number x p kind
   kind_read listed p i kind are at within is =
@@ -134,7 +134,7 @@ answered_within x n is q c e =
     let known = (answered_some (rule_cost x.least q) c e).0 in
     subst (λ m. q < m) is.settled.chosen.costs (within_from_get_or x.least q None (λ none. let never : None ≡ Some c = sym none ∙ known in cc))
 
--- a production has one heir at most
+-- a production leads to at most one rule
 pub one_heir : (x : CostTables) (p q r : ℕ) → IsHeir x p q → IsHeir x p r → q ≡ r
 one_heir x p q r h k = elim (others_free x (hands_heir x p q h) r k.among) [
   | inl same ↦ same
@@ -175,7 +175,7 @@ module _ (x : CostTables) (n : ℕ) (is : IsGenerator x n) (grammar : IsGrammar 
             some_answered (rule_cost x.least r) c (e ∙ ap Some one) small
       ]
 
-  -- a row that has a cost has minimal sentences of that cost
+  -- a list that has a cost has minimal sentences of that cost
   pub cut_of_sum : (a : List Sym) (m : ℕ) → sum_of sums a ≡ Some m → m ≤ 65535 → (w : List ℕ) × Cut a w × (cost_of cost w ≡ m)
   cut_of_sum [] m e small = let is : 0 ≡ m = cc in ([], done, is)
   cut_of_sum (Token t ∷ a) m e small =
@@ -214,7 +214,7 @@ module _ (x : CostTables) (n : ℕ) (is : IsGenerator x n) (grammar : IsGrammar 
         is = costs;
       }
 
-  -- a production that costs as its rule, with its place
+  -- an optimal production, with its number
   pub record Placed (r : ℕ) (symbols : List Sym) (c : ℕ) : Type 0 where
     pub place : ℕ
     pub production : nth_production x.grammar place ≡ record { rule = r; symbols = symbols }
@@ -273,7 +273,7 @@ module _ (x : CostTables) (n : ℕ) (is : IsGenerator x n) (grammar : IsGrammar 
   along_told here = here
   along_told (next {a = a} {b = b} h k) = next (heir_told a b h) (along_told k)
 
-  -- what is made of minimal sentences by an own production below the rule is a minimal sentence of the rule
+  -- what a base production below the rule makes of minimal sentences is a minimal sentence of the rule
   pub own_makes : (r p : ℕ) (w : List ℕ) → IsOwnBelow x r p → Cut (nth_production x.grammar p).symbols w → IsMinimal x r w
   own_makes r p w below cut = handed_down_minimal P cost paid r w (record {
     owner = (nth_production x.grammar p).rule;
@@ -306,7 +306,7 @@ module _ (x : CostTables) (n : ℕ) (is : IsGenerator x n) (grammar : IsGrammar 
       let part = part_at sums (nth_production x.grammar p).symbols h.0 (Rule s) tight.cost h.1 h.2 tight.sum in
       (part.value, some_answered (rule_cost x.least s) part.value part.is (omega (arith, part.within, known.1)))
 
-  -- a minimal sentence of a rule that costs something is made by an own production below the rule
+  -- a minimal sentence of a rule that costs something is made by a base production below the rule
   pub record IsMade (r : ℕ) (w : List ℕ) : Type 0 where
     pub place : ℕ
     pub below : IsOwnBelow x r place
@@ -361,7 +361,7 @@ module _ (x : CostTables) (n : ℕ) (is : IsGenerator x n) (grammar : IsGrammar 
         parts = subst (λ (q : Production). Cut q.symbols w) (sym same) down.parts;
       }
 
-  -- a rule that costs nothing has the empty sentence alone
+  -- the only minimal sentence of a rule that costs nothing is the empty one
   pub minimal_free : (r : ℕ) (w : List ℕ) → cost_answer x r ≡ Some 0 → IsMinimal x r w → w ≡ []
   minimal_free r w e m =
       let least = least_is_one P cost r 0 (cost_of cost w) (least_of r 0 e) (minimal_costs_least P cost r w m) in
@@ -374,7 +374,7 @@ module _ (x : CostTables) (n : ℕ) (is : IsGenerator x n) (grammar : IsGrammar 
       let none = rule_nothing P cost paid r w s (omega (arith, costs)) in
       subst (IsMinimal x r) none (s, λ v t. subst (λ k. k ≤ cost_of cost v) (sym costs) (least.1 v t))
 
--- what is handed on to is a rule of the grammar
+-- the rule that a chain production leads to is a rule of the grammar
 pub heirs_are_rules : {S : Type 0} (number : S → ℕ) (x : CostTables) (list : List (Kind S)) (n : ℕ) → IsGenerator x n
     → ((p : ℕ) → p < length list → IsKind number x p (get_or list p kinds.Slack)) → HasRulesAsHeirs number x.grammar list
 heirs_are_rules number x list n is each p heir e = elim (cases_lt p (length list)) [

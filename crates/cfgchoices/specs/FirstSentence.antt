@@ -7,10 +7,10 @@ use Rattle.std.specs.Cmp.Lexicographic.{slice_cmp}
 use Rattle.derivation.specs.Grammar.{Sym}
 use Rattle.derivation.specs.Costs.{Minimal}
 
--- the order of a dictionary, by the numbers of the tokens; a beginning comes first
+-- lexicographic order, by the numbers of the tokens; a prefix comes first
 abbrev pub dictionary : List ℕ → List ℕ → Ordering
 dictionary = slice_cmp nat_cmp
 
--- before each other minimal sentence of the rule
+-- the lexicographically first minimal sentence of the rule
 abbrev pub FirstMinimal : (ℕ → List Sym → Type 0) → (ℕ → ℕ) → ℕ → List ℕ → Type 0
 FirstMinimal P cost r w = Minimal P cost r w × ((v : List ℕ) → Minimal P cost r v → dictionary w v ≡ Greater → ⊥)

@@ -1,18 +1,18 @@
--- Rules of one least cost: sentences of that cost are handed on from rule to rule, until a production makes them of sentences that cost
--- less.
+-- Rules of one least cost: chain productions pass sentences of that cost from rule to rule; a base production makes them of sentences that
+-- cost less.
 use Rattle.std.specs.Prelude.{◌≡◌, ℕ, ◌<◌, List, Contains}
 use Rattle.derivation.specs.Grammar.{Sym, Rule}
 use Rattle.derivation.specs.Sentence.{cost_of}
 use Rattle.derivation.specs.Costs.{Least, Minimal}
 use Rattle.cfgchoices.specs.Splits.{Split}
 
--- by any number of links, none too
+-- a chain of zero or more links
 pub data Along (Link : ℕ → ℕ → Type 0) : ℕ → ℕ → Type 0 where
   here : {a : ℕ} → Along Link a a
   next : {a b c : ℕ} → Link a b → Along Link b c → Along Link a c
 
 module _ (P : ℕ → List Sym → Type 0) (cost : ℕ → ℕ) where
-  -- a production that costs just what its rule does: minimal sentences of its symbols together cost that
+  -- an optimal production: it costs c like its rule, since minimal sentences of its symbols cost that in total
   pub record CostsAsItsRule (r : ℕ) (symbols : List Sym) (c : ℕ) : Type 0 where
     pub has : P r symbols
     pub least : Least P cost r c
@@ -20,7 +20,7 @@ module _ (P : ℕ → List Sym → Type 0) (cost : ℕ → ℕ) where
     pub parts : Split (Minimal P cost) symbols word
     pub is : cost_of cost word ≡ c
 
-  -- by such a production the rule hands on to one that costs as much
+  -- a chain production of rule a leads to rule b, which costs as much
   pub record HandsOn (a b : ℕ) : Type 0 where
     pub symbols : List Sym
     pub level : ℕ
@@ -28,13 +28,13 @@ module _ (P : ℕ → List Sym → Type 0) (cost : ℕ → ℕ) where
     pub among : Contains symbols (Rule b)
     pub same : Least P cost b level
 
-  -- such a production is its rule's own if each rule in it costs less
+  -- a base production: optimal, and each rule in it costs less
   pub record IsOwn (r : ℕ) (symbols : List Sym) : Type 0 where
     pub level : ℕ
     pub tight : CostsAsItsRule r symbols level
     pub less : (q d : ℕ) → Contains symbols (Rule q) → Least P cost q d → d < level
 
-  -- a rule that the first one hands on to, by others too, or that itself, makes the word by a production of its own
+  -- zero or more chain productions lead from r to a rule with a base production that makes the word of minimal sentences
   pub record IsHandedDown (r : ℕ) (w : List ℕ) : Type 0 where
     pub owner : ℕ
     pub symbols : List Sym

@@ -1,4 +1,4 @@
--- Who relies on the calls of this crate has to read these files; those in Inner have the words of private clauses.
+-- Users of this crate's calls rely on these definitions; those in Inner are only for private clauses.
 pub mod Splits
 pub mod Levels
 pub mod FirstSentence

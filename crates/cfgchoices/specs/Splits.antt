@@ -1,8 +1,8 @@
--- Words cut into what the symbols of a row stand for.
+-- Words split into one part for each symbol of a list.
 use Rattle.std.specs.Prelude.{◌≡◌, ℕ, List, [], ◌∷◌, ◌++◌}
 use Rattle.derivation.specs.Grammar.{Sym, Rule, Token}
 
--- each token stands for itself, each rule for a part of which F holds
+-- a token's part is the token itself, and a rule's part satisfies F
 pub data Split (F : ℕ → List ℕ → Type 0) : List Sym → List ℕ → Type 0 where
   done : Split F [] []
   itself : {t : ℕ} {a : List Sym} {w : List ℕ} → Split F a w → Split F (Token t ∷ a) (t ∷ w)

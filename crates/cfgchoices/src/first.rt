@@ -1,4 +1,4 @@
-//! The production by which each rule's first minimal sentence is made, found level by level, by rising cost.
+//! The production that makes each rule's first minimal sentence, found level by level, by increasing cost.
 
 mod compare;
 mod levels;

@@ -1,4 +1,4 @@
-//! What productions are to their rules, where they cost just what these do: found once, for each production.
+//! The kinds of productions, found once for each production: base, chain, or not optimal.
 
 ghost use Rattle.std.specs.Prelude.{◌≡◌, ℕ, ◌<◌, All, Contains, IfOk, MatchOption, Some, length, map, slice_index};
 ghost use Rattle.cfgtables.specs.NumberedSymbols.{sym_of};
@@ -15,14 +15,14 @@ use cfgleast::walk::{TOO_LARGE, walk};
 use cfgtables::Tables;
 use std::alloc::{AllocError, Global};
 
-/// What a production is to its rule.
+/// The kind of a production.
 #[derive(Clone, Copy)]
 pub enum Kind<S> {
-    /// It costs more than its rule does, or that costs nothing, or has no cost that is answered.
+    /// Not optimal: it costs more than its rule, or the rule costs nothing, or has no cost to return.
     Slack,
-    /// It costs just what its rule does, and each rule in it costs less.
+    /// A base production: it costs just what its rule does, and each rule in it costs less.
     Own,
-    /// It costs just what its rule does, and so does this rule in it.
+    /// A chain production: it costs just what its rule does, and so does this rule in it.
     HandsOn(RIdx<S>),
 }
 
@@ -59,7 +59,7 @@ fn first_of_cost<S: Storage>(
     None
 }
 
-/// What a production of these symbols is to its rule, which has this cost.
+/// The kind of a production with these symbols, whose rule has this cost.
 fn row_kind<S: Storage>(
     costs: &[u8],
     least: &[Option<u32>],
@@ -91,7 +91,7 @@ fn row_kind<S: Storage>(
     }
 }
 
-/// What the production is to its rule.
+/// The kind of the production.
 fn kind_of<S: Storage, T: Tables<S>>(
     tables: &T,
     costs: &[u8],
@@ -113,11 +113,11 @@ fn kind_of<S: Storage, T: Tables<S>>(
     }
 }
 
-/// What each production is to its rule.
+/// The kind of each production.
 ///
 /// # Errors
 ///
-/// Want of memory.
+/// Out of memory.
 pub fn kinds<S: Storage, T: Tables<S>>(
     alloc: Global,
     tables: &T,

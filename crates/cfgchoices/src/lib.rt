@@ -1,5 +1,5 @@
-//! What productions are to the least costs of their rules, and the production by which each rule's first minimal
-//! sentence is made.
+//! The kinds of productions by the least costs of their rules, and the production that makes each rule's first minimal
+//! sentence.
 #![tactic(auto)]
 
 pub mod first;

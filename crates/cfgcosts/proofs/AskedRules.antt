@@ -1,4 +1,4 @@
--- The rules whose sentences those of a rule are made of are found by a search along own productions.
+-- The rules that a rule's sentences are made of are found by a search along base productions.
 use Rattle.std.proofs.Common.{◌≡◌, ◌↔◌, ℕ, inl, inr, List, [], ◌∷◌, ◌++◌, Some, Contains, refl, sym, ap, subst}
 use Rattle.std.specs.List.Sorted.{IsPermutation}
 use Rattle.std.proofs.lemmas.List.Sorted.{Contains-permutation, IsPermutation-sym}
@@ -14,7 +14,7 @@ use Rattle.lemmas.proofs.Contained.{contains_cases, contains_first, contains_lat
 use Rattle.cfgchoices.proofs.Tight.{own_costs}
 
 module _ (x : CostTables) (r : ℕ) where
-  -- an own production below the rule holds the other
+  -- a base production below rule q contains rule s
   pub record Asks (q s : ℕ) : Type 0 where
     pub place : ℕ
     pub below : IsOwnBelow x q place
@@ -26,7 +26,7 @@ module _ (x : CostTables) (r : ℕ) where
   abbrev pub IsListed : List (ℕ × ℕ) → ℕ → Type 0
   IsListed listed q = (c : ℕ) × Contains listed (c, q)
 
-  -- what is asked for has an answer
+  -- each rule that is found has a cost to return
   pub answered : (n : ℕ) → IsGenerator x n → IsGrammar x.grammar → HasAnswer r → {q : ℕ} → Reached (λ q. q ≡ r) Asks q → HasAnswer q
   answered n is grammar answer (seed {a = q} e) = subst HasAnswer (sym e) answer
   answered n is grammar answer (led {b = q} k h) = own_costs x n is grammar h.place q h.below.own h.holds

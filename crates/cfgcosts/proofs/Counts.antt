@@ -1,4 +1,4 @@
--- How often a production stands among opened ones, and what counts them.
+-- How often a production is among opened ones, and what counts them.
 use Rattle.std.proofs.Common.{◌≡◌, ◌≢◌, ℕ, ◌+◌, ◌<◌, inl, inr, List, [], ◌∷◌, ◌++◌, cond, length, nat_eq, arith, refl, sym, ap, subst, ◌∙◌}
 use Rattle.std.proofs.lemmas.Bool.{eq-eqb, ne_eqb}
 use Rattle.std.proofs.lemmas.Bool.Decides.{eqb_tells}
@@ -15,7 +15,7 @@ times_more p places = sum_by_push (λ q. cond (nat_eq p q) 1 0) places p ∙ ap 
 pub times_other : (q : ℕ) (places : List ℕ) (p : ℕ) → q ≢ p → times q (places ++ p ∷ []) ≡ times q places
 times_other q places p other = sum_by_push (λ i. cond (nat_eq q i) 1 0) places p ∙ ap (λ b. times q places + cond b 1 0) (ne_eqb q p other) ∙ omega arith
 
--- one opening more is counted
+-- one more opening is counted
 pub counts_more : (g content : Grammar) (p : ℕ) (opened opened' : ℕ → ℕ) (all all' : ℕ) (places : List ℕ) → OpensOne p g content opened opened' all all'
     → AreCountsOf g opened all places → AreCountsOf content opened' all' (places ++ p ∷ [])
 counts_more g content p opened opened' all all' places o counts = subst (λ h. AreCountsOf h opened' all' (places ++ p ∷ [])) (sym o.stays) (record {

@@ -1,4 +1,4 @@
--- A table that is filled rule by rule, by rising costs, has all minimal sentences of the rules that were asked for.
+-- A table that is filled rule by rule, by increasing cost, has all minimal sentences of the rules it was filled for.
 use Rattle.std.proofs.Common.{◌≡◌, ◌↔◌, ℕ, ◌<◌, ◌≤◌, ◌⊎◌, inl, inr, List, [], ◌∷◌, Option, None, Some, Vec, map, refl, cond, Result, Ok, Err, IfOk, All, Contains, arith, sym, ap, subst, ◌∙◌}
 use Rattle.std.specs.BTreeMap.{BTreeMap, get, is_at}
 use Rattle.std.specs.List.{flat_map}
@@ -23,14 +23,14 @@ use Rattle.cfgcosts.proofs.Joins.{flat_contains, flat_source, row_cut}
 use Rattle.search.proofs.Keys.{itself_found, same_key}
 use Rattle.cfgchoices.proofs.Tight.{free_minimal, minimal_free, minimal_made, own_less, own_makes}
 
--- a word cut otherwise, as the rules of the row allow
+-- another split of the word, as the rules of the list allow
 cut_within : (F G : ℕ → List ℕ → Type 0) {a : List Sym} {w : List ℕ} → ((r : ℕ) (u : List ℕ) → Contains a (Rule r) → F r u → G r u) → Split F a w → Split G a w
 cut_within F G f done = done
 cut_within F G f (itself {a = a} s) = itself (cut_within F G (λ r u h k. f r u (contains_later _ (Rule r) a h) k) s)
 cut_within F G f (part {r = r} {a = a} {u = u} h s e) =
     part (f r u (contains_first (Rule r) a) h) (cut_within F G (λ q v k l. f q v (contains_later (Rule r) (Rule q) a k) l) s) e
 
--- the sentences of a rule that a table is given
+-- the sentences of a rule that are put into a table
 module _ {S : Type 0} (number : S → ℕ) where
   abbrev read : Option (Vec (Vec (TIdx S) Global) Global) → List (List ℕ)
   read o = unwrap_or (option_map (words_of number) o) []
@@ -45,7 +45,7 @@ module _ {S : Type 0} (number : S → ℕ) where
     ];
   }
 
-  -- those of a rule that are taken out of it
+  -- those of a rule that are removed from it
   pub taken : (table : BTreeMap ℕ (Vec (Vec (TIdx S) Global) Global)) (i r : ℕ) (o : Option (Vec (Vec (TIdx S) Global) Global)) (none : Vec (Vec (TIdx S) Global) Global)
       → i ≡ r → o ≡ get nat_cmp table i → none.items ≡ [] → words_of number (unwrap_or o none) ≡ sentences_in number table r
   taken table i r o none e f empty = go o ∙ ap read (f ∙ ap (get nat_cmp table) e)
@@ -63,7 +63,7 @@ made_by g sentences places w =
     )
 
 module _ (x : CostTables) where
-  -- what own productions below a rule make of minimal sentences are those of the rule
+  -- what base productions below a rule make of minimal sentences are those of the rule
   module _ (n : ℕ) (is : IsGenerator x n) (grammar : IsGrammar x.grammar) (r c : ℕ) (answer : cost_answer x r ≡ Some c) where
     made_minimal : (sentences : ℕ → List (List ℕ)) (own : List ℕ) → 0 < c → IsReadyFor x sentences r → ((p : ℕ) → Contains own p ↔ IsOwnBelow x r p)
         → (w : List ℕ) → IsMadeBy x.grammar sentences own w ↔ IsMinimal x r w
@@ -99,7 +99,7 @@ module _ (x : CostTables) where
           order = (tt, tt);
         }
 
-  -- of the rules that were asked for, some are left
+  -- of the rules that are needed, some are left
   pub record Filling (asked left : List (ℕ × ℕ)) (sentences : ℕ → List (List ℕ)) : Type 0 where
     pub among : (c q : ℕ) → Contains left (c, q) → Contains asked (c, q)
     pub filled : (c q : ℕ) → Contains asked (c, q) → Contains left (c, q) ⊎ AreMinimal x q (sentences q)
@@ -115,7 +115,7 @@ module _ (x : CostTables) where
     pub popped_answer : cost_answer x top.1 ≡ Some top.0
     popped_answer = all.costs top.0 top.1 popped_asked
 
-    -- what it is made of was filled before
+    -- the rules that it is made of were filled before
     pub popped_ready : (n : ℕ) → IsGenerator x n → IsGrammar x.grammar → IsReadyFor x sentences top.1
     popped_ready n is grammar p s below holds =
         let (d, among) = all.below top.0 top.1 p s popped_asked below holds in
@@ -149,6 +149,6 @@ module _ (x : CostTables) where
           | inr apart ↦ subst (AreMinimal x q) (sym (puts.others q apart)) before
         ]
 
-  -- where none is left, the table has all of the rule
+  -- when none is left, the table has all minimal sentences of the rule
   pub filling_ends : (r : ℕ) (asked : List (ℕ × ℕ)) (sentences : ℕ → List (List ℕ)) → AreAsked x r asked → Filling asked [] sentences → AreMinimal x r (sentences r)
   filling_ends r asked sentences all f = elim (f.filled all.first.0 r all.first.1) [ inl waits ↦ absurd (contains_none (all.first.0, r) waits) | inr full ↦ full ]

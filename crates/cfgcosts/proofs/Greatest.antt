@@ -1,5 +1,5 @@
--- What is answered of a rule's greatest cost, as it is read from the table at its place, is answered exactly where it is true, and `None`
--- exactly where a growing cycle is met.
+-- The result for a rule's greatest cost, which is read from the table, is returned exactly if it is true, and is `None` exactly if the rule
+-- meets a growing cycle.
 use Rattle.std.proofs.Common.{◌≡◌, ◌↔◌, ℕ, ◌<◌, List, Option, None, Result, Ok, Err, get_or, sym, subst, ◌∙◌}
 use Rattle.std.proofs.lemmas.List.{get_or_default}
 use Rattle.derivation.specs.Grammar.{HasProduction}

@@ -1,4 +1,4 @@
--- Words that are joined from two lists, and those that a row of symbols stands for.
+-- Words that are joined from two lists, and the words of a list of symbols.
 use Rattle.std.proofs.Common.{◌≡◌, ◌↔◌, ℕ, inl, inr, List, [], ◌∷◌, ◌++◌, map, Contains, append-nil, append_assoc, refl, sym, ap, subst, ◌∙◌}
 use Rattle.std.specs.List.{flat_map, fold}
 use Rattle.std.proofs.lemmas.List.Concat.{flat_map-cons}
@@ -28,7 +28,7 @@ module _ {A B : Type 0} (f : A → List B) where
     | inr later ↦ Contains-append_right (f z) (flat_map f xs) y (flat_contains xs x y later k)
   ])
 
--- a word of one list, and behind it what a row stands for
+-- a word of one list, followed by a word of a list of symbols
 module _ (sentences : ℕ → List (List ℕ)) where
   record Goes (fronts : List (List ℕ)) (row : List Sym) (w : List ℕ) : Type 0 where
     front : List ℕ
@@ -40,7 +40,7 @@ module _ (sentences : ℕ → List (List ℕ)) where
   abbrev step : List (List ℕ) → Sym → List (List ℕ)
   step words s = joined words (words_of_symbol sentences s)
 
-  -- a row with a symbol more
+  -- a list with one more symbol
   pub row_more : (row : List Sym) (s : Sym) → row_words sentences (row ++ s ∷ []) ≡ joined (row_words sentences row) (words_of_symbol sentences s)
   row_more row s = fold-append step ([] ∷ []) row (s ∷ [])
 

@@ -1,4 +1,4 @@
--- Rules that hand on to one rule alone have its minimal sentences.
+-- Rules whose only optimal production is a chain production have the minimal sentences of the rule that it leads to.
 use Rattle.std.proofs.Common.{◌≡◌, ◌↔◌, ℕ, ◌+◌, ◌<◌, ◌≤◌, ◌⊎◌, inl, inr, List, [], ◌∷◌, ◌++◌, Option, Some, None, Contains, length, get_or, slice_set, take, refl, sym, ap, subst, ◌∙◌, length-set}
 use Rattle.std.specs.Prelude.{IfSome, MatchOption}
 use Rattle.std.specs.Option.{unwrap_or}
@@ -18,7 +18,7 @@ use Rattle.cfgchoices.specs.declared.kinds.Kind.TheVariants.{Slack, HandsOn}
 use Rattle.lemmas.proofs.Contained.{contains_none}
 use Rattle.cfgchoices.proofs.Tight.{minimal_made, one_heir, own_makes}
 
--- the first of some productions: what they hand on to
+-- what the first of some productions leads to
 module _ {S : Type 0} (kinds : List (Kind S)) where
   pub record One (places : List ℕ) (heir : RIdx S) : Type 0 where
     pub place : ℕ
@@ -86,14 +86,14 @@ module _ {S : Type 0} (number : S → ℕ) (g : Grammar) (kinds : List (Kind S))
         others = λ p inside owner. one.others p ((are.listed p inside).1 owner);
       }
 
-  -- for a rule its only heir, or itself
+  -- for a rule the rule that its only optimal production leads to, or the rule itself
   pub only_or_itself : (r : ℕ) (rule : RIdx S) (only : Option (RIdx S)) → HasRulesAsHeirs number g kinds → number rule.0 ≡ r → r < g.rules
       → IfSome only (λ heir. IsOnlyHeir number g kinds r (number heir.0))
       → Along (IsOnlyHeir number g kinds) r (number (unwrap_or only rule).0) × (number (unwrap_or only rule).0 < g.rules)
   only_or_itself r rule None rules e lt h = (subst (Along (IsOnlyHeir number g kinds) r) (sym e) here, subst (λ m. m < g.rules) (sym e) lt)
   only_or_itself r rule (Some heir) rules e lt h = (next h here, subst (λ m. m < g.rules) h.is (rules h.place h.heir h.kind))
 
-  -- the heir of an heir
+  -- the entry of a rule's entry
   pub heirs_gone_on : (heirs : List ℕ) (r heir after : ℕ) → r < length heirs → heir ≡ get_or heirs r 0 → after ≡ get_or heirs heir 0 → AreHeirs number g kinds heirs
       → AreHeirs number g kinds (slice_set heirs r after)
   heirs_gone_on heirs r heir after lt at then are =
@@ -139,7 +139,7 @@ module _ {S : Type 0} (number : S → ℕ) (x : CostTables) (kinds : List (Kind 
   only_cost : (r q : ℕ) → (h : IsOnlyHeir number x.grammar kinds r q) → cost_answer x r ≡ Some (only_heir r q h).tight.cost
   only_cost r q h = ap (cost_answer x) (sym h.owner) ∙ (only_heir r q h).tight.rule
 
-  -- a production of the rule that costs what it does hands on to the heir
+  -- an optimal production of the rule leads to that rule
   only_tight : (r q p : ℕ) → IsOnlyHeir number x.grammar kinds r q → (nth_production x.grammar p).rule ≡ r → IsTight x p → IsHeir x p q
   only_tight r q p h owner tight = elim (h.others p tight.place owner) [
     | inl same ↦ subst (λ m. IsHeir x m q) (sym same) (only_heir r q h)
@@ -165,7 +165,7 @@ module _ {S : Type 0} (number : S → ℕ) (x : CostTables) (kinds : List (Kind 
               own_makes x n is grammar q made.place w (below_heir r q made.place h made.below) made.parts),
         )
 
-    -- so have rules that are led to by only heirs
+    -- so do rules from which a chain of such productions leads to it
     last_same : {r q : ℕ} → Along (IsOnlyHeir number x.grammar kinds) r q → (w : List ℕ) → IsMinimal x q w ↔ IsMinimal x r w
     last_same here w = (λ m. m, λ m. m)
     last_same (next {a = a} {b = b} h k) w =

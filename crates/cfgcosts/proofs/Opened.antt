@@ -1,4 +1,4 @@
--- What the counts of productions tell of a walk that opened them.
+-- What the counts of productions say of a walk that opened them.
 use Rattle.std.proofs.Common.{◌≡◌, ◌⊎◌, inl, inr, ℕ, ◌<◌, List, length, Result, Ok, Err, refl, subst, sym, ◌∙◌}
 use Rattle.std.specs.Prelude.{IfOk}
 use Rattle.derivation.specs.Grammar.{Grammar}
@@ -21,7 +21,7 @@ module _ (g content : Grammar) (cost : ℕ → ℕ) (r : ℕ) (opened : ℕ → 
   none_free : (places : List ℕ) → AreCountsOf content opened all places → OpensNoneFree g cost (λ p. times p places) → OpensNoneFree g cost opened
   none_free places counts free p within least = counts.each p (subst (λ (g : Grammar). p < length g.productions) (sym same) within) ∙ free p within least
 
-  -- whatever was answered
+  -- whatever the result is
   pub free_after : {A : Type 0} (f : A → List ℕ) (result : Result A SentenceError) → IfOk result (λ a. HasWalked g cost r (AreCountsOf content opened all) (f a))
       → (result ≡ Err OutOfMemory → HasStopped g cost r (AreCountsOf content opened all))
       → ((result ≡ Err NoSentence) ⊎ (result ≡ Err CostTooLarge) → OpensNoneFree g cost opened) → OpensNoneFree g cost opened

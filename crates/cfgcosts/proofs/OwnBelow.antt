@@ -1,4 +1,4 @@
--- Own productions below a rule are found by a search along heirs.
+-- Base productions below a rule are found by a search along chain productions.
 use Rattle.std.proofs.Common.{◌≡◌, ◌↔◌, ℕ, ◌+◌, ◌<◌, ◌≤◌, inl, inr, List, [], ◌∷◌, ◌++◌, Contains, get_or, length, take, refl, sym, ap, subst, ◌∙◌}
 use Rattle.std.proofs.lemmas.List.{take_all, take_more}
 use Rattle.std.proofs.lemmas.List.Elements.{Contains-append_left, Contains-push, Contains-push_cases}
@@ -23,7 +23,7 @@ lists_one own own' Is p e to from q = (
   ])),
 )
 
--- the heirs of productions, and the own productions
+-- the rules that chain productions lead to, and the base productions
 module _ (x : CostTables) where
   abbrev pub OwnAmong : List ℕ → ℕ → Type 0
   OwnAmong places q = Contains places q × HasNoHeir x q
@@ -69,7 +69,7 @@ module _ (x : CostTables) where
             (λ h. (all q).1 (elim h [ inl i ↦ inl i | inr i ↦ inr ((are.listed q i.1.tight.place).1 i.0, i.1) ])),
           )
 
--- rules that are reached from one by links are those along them
+-- rules that links reach from a rule are those along the links
 module _ (Link : ℕ → ℕ → Type 0) (r : ℕ) where
   pub along_reached : {b : ℕ} → Reached (λ q. q ≡ r) Link b → Along Link r b
   along_reached (seed {a = b} e) = subst (λ a. Along Link a b) e here
@@ -86,7 +86,7 @@ module _ (Link : ℕ → ℕ → Type 0) (r : ℕ) where
       go k here = k
       go k (next l along) = go (led k l) along
 
--- a search along heirs lists the own productions of the rules that were gone through
+-- a search along chain productions lists the base productions of the rules that were visited
 module _ (x : CostTables) (r : ℕ) where
   abbrev OwnListed : List ℕ → ℕ → Type 0
   OwnListed own b = (p : ℕ) → (nth_production x.grammar p).rule ≡ b → HasNoHeir x p → Contains own p

@@ -1,4 +1,4 @@
--- How a walk by choices goes on.
+-- How a walk by choices continues.
 use mathlib.Core.List.{reverse_aux, reverse_aux-append}
 use Rattle.std.proofs.lemmas.Option.{same_Some}
 use Rattle.std.proofs.Common.{◌≡◌, ℕ, ◌+◌, ◌*◌, ◌<◌, ◌≤◌, inl, inr, List, [], ◌∷◌, length, reverse, Option, Some, None, All, append-nil, arith, refl, sym, ap, subst, ◌∙◌}
@@ -28,8 +28,7 @@ pub record Chosen (x : CostTables) (q p m : ℕ) : Type 0 where
   pub some : 0 < cost
   pub opens : Opens x q cost p m
 
--- What is pending, from the symbol that comes next on, the tokens that will be taken, and how many productions will be
--- opened.
+-- What is pending, starting with the next symbol; the tokens that will be collected; and how many productions will be opened.
 pub data Planned (x : CostTables) : List Sym → List ℕ → ℕ → Type 0 where
   ended : Planned x [] [] 0
   token : {t : ℕ} {a : List Sym} {w : List ℕ} {n : ℕ} → Planned x a w n → Planned x (Token t ∷ a) (t ∷ w) n
@@ -50,7 +49,7 @@ module _ (x : CostTables) (walks : Walks x) (grammar : IsGrammar x.grammar) wher
       let some : 0 < d = elim (cases_lt 0 d) [ inl some ↦ some | inr none ↦ absurd (paid (e ∙ ap Some (omega (arith, none)))) ] in
       record { cost = d; answer = e; some = some; opens = opens_by x walks grammar q d p m read.0 read.1 paid choice }
 
-  -- what a rule gives that costs something isn't empty
+  -- what a rule that costs something gives isn't empty
   some_tokens : (q p m : ℕ) (u : List ℕ) → Chosen x q p m → ChoicesGive x (Rule q ∷ []) u → 0 < length u
   some_tokens q p m (t ∷ u) c given = omega arith
   some_tokens q p m [] c given =
@@ -123,7 +122,7 @@ module _ (x : CostTables) (walks : Walks x) (grammar : IsGrammar x.grammar) wher
       let same : ◌≡◌ {A = ℕ × ℕ} (p, m) choice = same_Some _ _ (sym c.opens.choice ∙ some) in
       subst (λ (o : ℕ × ℕ). Opening q o a w n) same (record { chosen = c; left = left; plan = h; one = e })
 
-  -- a rule that is pending is one of the grammar
+  -- a pending rule is a rule of the grammar
   pub plan_within : (q : ℕ) (a : List Sym) (w : List ℕ) (n : ℕ) → Planned x (Rule q ∷ a) w n → q < x.grammar.rules
   plan_within q a w n (free nothing h) = answered_within (known x walks grammar) walks.number walks.generator q 0 nothing
   plan_within q a w n (chosen c h e) = answered_within (known x walks grammar) walks.number walks.generator q c.cost c.answer

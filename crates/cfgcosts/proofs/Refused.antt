@@ -1,4 +1,4 @@
--- What is answered of a sentence where a cost is refused, or where none is.
+-- The results for a sentence if its cost is an error, or isn't.
 use Rattle.std.proofs.Common.{◌≡◌, ◌↔◌, ℕ, Result, Ok, Err, refl, sym, ap, ◌∙◌}
 use Rattle.std.specs.Prelude.{IfOk}
 use Rattle.std.specs.Result.{IsErrAnd}
@@ -23,7 +23,7 @@ other_error costs.NoSentence is = let no : OutOfMemory ≡ NoSentence = is in cc
 other_error costs.CostTooLarge is = let no : OutOfMemory ≡ CostTooLarge = is in cc
 
 module _ {A : Type 0} {result : Result A SentenceError} where
-  -- where the cost is refused, the sentence is, for the same reason
+  -- if the cost is an error, the sentence is the same error
   pub refused : {P : Type 0} → (d e : CostError) → IsErrAnd result (λ x. x ≡ sentence_error d) → (◌≡◌ {A = Result ℕ CostError} (Err d) (Err e)) ↔ P → (result ≡ Err (sentence_error e)) ↔ P
   refused d e h told =
       let is = refusal result (sentence_error d) h in (
@@ -38,7 +38,7 @@ module _ {A : Type 0} {result : Result A SentenceError} where
       let both : ◌≡◌ {A = Result A SentenceError} (Err OutOfMemory) (Err (sentence_error e)) = sym (refusal result OutOfMemory h) ∙ k in
       let errors : OutOfMemory ≡ sentence_error e = cc in other_error e errors
 
-  -- where there is a cost, it is for want of memory alone
+  -- if there is a cost, the only error is out of memory
   pub known_memory : {P : Type 0} → (c : ℕ) (e : CostError) → IsErrAnd result (λ x. x ≡ OutOfMemory) → (◌≡◌ {A = Result ℕ CostError} (Ok c) (Err e)) ↔ P → (result ≡ Err (sentence_error e)) ↔ P
   known_memory c e h told = (
     (λ k. absurd (refused_memory e h k)),
@@ -51,7 +51,7 @@ module _ {A : Type 0} {result : Result A SentenceError} where
     (λ p. let no : ◌≡◌ {A = Result ℕ CostError} (Ok c) (Err e) = told.1 p in absurd (cc)),
   )
 
--- nothing is said of what is answered where nothing is
+-- if there is no result, nothing is claimed of it
 pub unanswered : {A : Type 0} (P : SentenceError → Type 0) (Q : A → Type 0) (result : Result A SentenceError) → IsErrAnd result P → IfOk result Q
 unanswered P Q (Ok a) h = absurd h
 unanswered P Q (Err x) h = tt

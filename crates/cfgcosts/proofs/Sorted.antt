@@ -1,4 +1,4 @@
--- Words of the code that were sorted, each once: through their numbers they are in the order of a dictionary.
+-- Words of the code that were sorted, each once: as lists of numbers they are in lexicographic order.
 use Rattle.std.proofs.Common.{◌≡◌, ◌↔◌, ℕ, Bool, List, [], ◌∷◌, map, Contains, refl, sym, ap, subst, ◌∙◌}
 use Rattle.std.specs.declared.cmp.Ordering.{Ordering}
 use Rattle.std.specs.declared.cmp.Ordering.TheVariants.{Less}

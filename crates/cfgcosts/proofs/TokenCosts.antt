@@ -1,4 +1,4 @@
--- What each token costs, one token more.
+-- What each token costs, for one more token.
 use Rattle.std.proofs.Common.{◌≡◌, ℕ, ◌+◌, ◌<◌, ◌++◌, List, [], ◌∷◌, length, refl, sym, ap, subst, ◌∙◌}
 use Rattle.std.specs.List.{slice_index}
 use Rattle.cfgindex.specs.declared.idxnewtype.TIdx.{TIdx}

@@ -1,4 +1,4 @@
--- The symbols that are pending and the tokens behind them are on the way from a rule to its first minimal sentence.
+-- The pending symbols, followed by the tokens collected, are on the way from a rule to its first minimal sentence.
 use mathlib.Core.List.{reverse_aux-append}
 use Rattle.std.proofs.Common.{◌≡◌, ℕ, ◌+◌, ◌*◌, ◌<◌, ◌≤◌, inl, inr, List, [], ◌∷◌, ◌++◌, length, get_or, map, reverse, Option, Some, None, Result, Ok, Err, OnErr, ◌-◌, ◌^◌, arith, refl, sym, ap, subst, ◌∙◌, append-nil, append_assoc}
 use Rattle.std.proofs.Math.Nat.{mul-le-mul_right}
@@ -45,8 +45,7 @@ pub record LeadsTo (x : CostTables) (r : ℕ) (sentence : List ℕ) : Type 0 whe
   pub rule : r < x.grammar.rules
   pub given : ChoicesGive x (Rule r ∷ []) sentence
 
--- The opened productions derive the symbols that are pending, and behind them the tokens of the word with rules of cost 0
--- between.
+-- The opened productions derive the pending symbols, followed by the tokens of the word with rules of cost 0 between them.
 pub record IsOnTheWay (x : CostTables) (r : ℕ) (HasOpened : List ℕ → Type 0) (pending : List Sym) (word : List ℕ) : Type 0 where
   pub sentence : List ℕ
   pub leads : LeadsTo x r sentence
@@ -238,13 +237,13 @@ module _ (x : CostTables) (r : ℕ) (HasOpened : List ℕ → Type 0) where
         free = way.free;
       }
 
-  -- the tokens in the order of the sentence, when all symbols are taken
+  -- the tokens in the order of the sentence, when all symbols were used
   pub finished : {A : Type 0} (f : A → ℕ) (items turned : List A) (pending : List Sym) → turned ≡ reverse items → pending ≡ [] → IsOnTheWay x r HasOpened pending (map f items)
       → HasWalked x.grammar (token_cost x) r HasOpened (map f turned)
   finished f items turned pending e empty way = subst (HasWalked x.grammar (token_cost x) r HasOpened) (sym (ap (map f) e ∙ map_reverse f items))
       (walked (map f items) (subst (λ a. IsOnTheWay x r HasOpened a (map f items)) empty way))
 
--- the symbol that was taken from what is pending
+-- the symbol that was popped from the pending ones
 pub popped : {S : Type 0} (number : S → ℕ) (x : CostTables) {r : ℕ} {HasOpened : List ℕ → Type 0} {word : List ℕ} (items rest : List (Symbol S)) (symbol is : Symbol S) → items ≡ rest ++ symbol ∷ [] → symbol ≡ is
     → IsOnTheWay x r HasOpened (map (sym_of number) items) word → IsOnTheWay x r HasOpened (map (sym_of number) rest ++ sym_of number is ∷ []) word
 popped number x {r} {HasOpened} {word} items rest symbol is e f = subst (λ a. IsOnTheWay x r HasOpened a word) (last_shown number items rest symbol is e f)

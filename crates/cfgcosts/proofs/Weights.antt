@@ -1,4 +1,4 @@
--- What symbols weigh in a walk by choices: more than those that replace them.
+-- What symbols weigh in a walk by choices: more in total than the symbols that replace them.
 use Rattle.std.proofs.Common.{◌≡◌, ℕ, suc, ◌+◌, ◌*◌, ◌^◌, ◌<◌, ◌≤◌, List, [], ◌∷◌, ◌++◌, length, map, Option, Some, None, arith, ap, ◌∙◌}
 use Rattle.std.specs.Prelude.{IfSome, sum_by}
 use Rattle.std.proofs.Math.Nat.{add-mul, mul_comm, one-le-pow, pow-le-pow_right, pow-suc}
@@ -14,7 +14,7 @@ use Rattle.cfgleast.specs.Certificate.{rule_choice}
 use Rattle.cfgchoices.specs.Inner.FirstChoices.{IsNotAbove, Walks}
 use Rattle.cfgleast.specs.Generator.{CostTables}
 
--- for each production that has fewer symbols than `many`
+-- if each production has fewer symbols than `many`
 abbrev weight_by : ℕ → Option (ℕ × ℕ) → ℕ
 weight_by many None = 1
 weight_by many (Some choice) = many ^ suc choice.1
@@ -35,7 +35,7 @@ module _ (x : CostTables) (many : ℕ) (some : 0 < many) where
       go None = omega arith
       go (Some choice) = one-le-pow (suc choice.1) many some
 
-  -- a symbol that is taken away
+  -- a symbol that is removed
   pub popped_lighter : {S : Type 0} (number : S → ℕ) (items rest : List (Symbol S)) (symbol : Symbol S) → items ≡ rest ++ symbol ∷ []
       → weigh x many (map (sym_of number) rest) < weigh x many (map (sym_of number) items)
   popped_lighter number items rest symbol e =

@@ -1,4 +1,4 @@
--- Sentences that were derived by productions which were opened one by one.
+-- Sentences derived with productions that were opened one by one.
 use Rattle.std.specs.Prelude.{◌≡◌, ℕ, ◌<◌, List, [], ◌∷◌, length, nat_eq, count_by}
 use Rattle.derivation.specs.Grammar.{Grammar, Sym, Rule, HasProduction}
 use Rattle.cfgtables.specs.Openings.{nth_production}
@@ -6,25 +6,25 @@ use Rattle.cfgchoices.specs.Splits.{Split}
 use Rattle.derivation.specs.Derivation.{Step}
 use Rattle.derivation.specs.Costs.{Least}
 
--- production p of the grammar is of this rule, and has these symbols
+-- production p of the grammar is a production of rule r with these symbols
 abbrev pub IsProductionAt : Grammar → ℕ → ℕ → List Sym → Type 0
 IsProductionAt g p r symbols = (p < length g.productions) × (nth_production g p ≡ record { rule = r; symbols = symbols })
 
--- by a step with each of these productions, in this order
+-- a derives b by a step with each of these productions, in this order
 pub data DerivesBy (g : Grammar) : List ℕ → List Sym → List Sym → Type 0 where
   none : {a : List Sym} → DerivesBy g [] a a
   next : {p : ℕ} {places : List ℕ} {a b c : List Sym} → Step (IsProductionAt g p) a b → DerivesBy g places b c → DerivesBy g (p ∷ places) a c
 
--- how often a production is among these
+-- how often production p is in the list
 abbrev pub times : ℕ → List ℕ → ℕ
 times p places = count_by (nat_eq p) places
 
--- a rule of cost 0 stands for no tokens
+-- a rule of cost 0 contributes no tokens
 abbrev pub IsFree : Grammar → (ℕ → ℕ) → ℕ → List ℕ → Type 0
 IsFree g cost r w = Least (HasProduction g) cost r 0 × (w ≡ [])
 
--- By the productions, each used as often as it was opened, the rule derives a list: the tokens, and between them rules of
--- cost 0.
+-- With the productions, each used as often as it was opened, the rule derives a list that consists of the tokens with rules of cost 0
+-- between them.
 pub record IsDerivedBy (g : Grammar) (cost : ℕ → ℕ) (opened : ℕ → ℕ) (all : ℕ) (r : ℕ) (w : List ℕ) : Type 0 where
   pub places : List ℕ
   pub list : List Sym

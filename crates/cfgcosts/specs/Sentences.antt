@@ -1,4 +1,4 @@
--- What is answered of a rule's greatest cost and of its minimal sentences.
+-- The results for a rule's greatest cost and for its minimal sentences.
 use Rattle.std.specs.Prelude.{◌≡◌, ◌↔◌, ℕ, ◌<◌, ◌≤◌, List, Option, Some, None, Result, Ok, Err, Contains, map, Vec, codes}
 use Rattle.std.specs.List.Sorted.{IsStrictlySortedBy}
 use Rattle.std.specs.declared.alloc.Global.{Global}
@@ -13,12 +13,12 @@ use Rattle.cfgcosts.specs.declared.errors.SentenceError.{SentenceError}
 use Rattle.cfgcosts.specs.declared.errors.SentenceError.TheVariants.{NoSentence, CostTooLarge, OutOfMemory}
 use Rattle.derivation.specs.declared.errors.CostError.TheVariants as costs
 
--- the refusal of a sentence, where a cost is refused
+-- the error for a sentence, if the cost is this error
 abbrev pub sentence_error : CostError → SentenceError
 sentence_error costs.NoSentence = NoSentence
 sentence_error costs.CostTooLarge = CostTooLarge
 
--- the text of a refusal
+-- the text of a sentence error
 abbrev pub sentence_error_text : SentenceError → List ℕ
 sentence_error_text NoSentence = codes "the rule has no sentence"
 sentence_error_text CostTooLarge = codes "each sentence of the rule costs more than 65535"
@@ -28,16 +28,14 @@ sentence_error_text OutOfMemory = codes "out of memory"
 abbrev pub numbers_of : {S : Type 0} → (S → ℕ) → Vec (TIdx S) Global → List ℕ
 numbers_of number word = map (λ t. number t.0) word.items
 
--- the greatest cost of a rule, where it is at most 65535, or that its sentences cost more than any number, or why neither
--- is told
+-- the greatest cost of a rule, if it is at most 65535; or that its costs are unbounded; or why there is neither
 pub record AnswersGreatest (P : ℕ → List Sym → Type 0) (cost : ℕ → ℕ) (r : ℕ) (answer : Result (Option ℕ) CostError) : Type 0 where
   pub none : (answer ≡ Err costs.NoSentence) ↔ HasNone P r
   pub unbounded : (answer ≡ Ok None) ↔ Unbounded P cost r
   pub greatest : (c : ℕ) → (answer ≡ Ok (Some c)) ↔ (Greatest P cost r c × (c ≤ 65535))
   pub too_large : (answer ≡ Err costs.CostTooLarge) ↔ ((n : ℕ) × Greatest P cost r n × (65535 < n))
 
--- the sentences of a rule that no other of its sentences costs less than, where they cost at most 65535, each once, in the
--- order of a dictionary
+-- the sentences of a rule such that no other costs less, if they cost at most 65535, each once, in lexicographic order
 pub record ListsMinimal (P : ℕ → List Sym → Type 0) (cost : ℕ → ℕ) (r : ℕ) (sentences : List (List ℕ)) : Type 0 where
   pub all : (w : List ℕ) → Contains sentences w ↔ (Minimal P cost r w × (cost_of cost w ≤ 65535))
   pub order : IsStrictlySortedBy dictionary sentences

@@ -1,4 +1,4 @@
-//! Why a rule has no sentence that can be answered.
+//! Why a rule has no sentence to return.
 
 ghost use Rattle.std.specs.Prelude.{◌≡◌, Some};
 ghost use Rattle.cfgcosts.specs.declared.errors.SentenceError.TheVariants.{OutOfMemory};
@@ -9,14 +9,14 @@ use std::alloc::AllocError;
 use std::error::Error;
 use std::fmt;
 
-/// Why a rule's sentence was not answered.
+/// Why a rule's sentence was not returned.
 #[derive(Clone, Copy, Debug, PartialEq, Eq)]
 pub enum SentenceError {
     /// The rule has no sentence.
     NoSentence,
     /// Each of the rule's sentences costs more than 65535.
     CostTooLarge,
-    /// No memory is left.
+    /// An allocation failed.
     OutOfMemory,
 }
 

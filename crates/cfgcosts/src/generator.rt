@@ -1,4 +1,5 @@
-//! The costs of a grammar's sentences: the least of each rule, with the production that shows it, and the greatest.
+//! The costs of a grammar's sentences: the least cost of each rule, with the production that shows it, and the
+//! greatest.
 
 ghost use Rattle.std.specs.Prelude.{◌≡◌, ◌↔◌, ℕ, ◌<◌, ◌≤◌, ◌⊎◌, List, Option, All};
 ghost use Rattle.std.specs.Prelude.{EachIndex, Err, IfOk, IfSome, None, Ok, Some, length, slice_index};
@@ -53,9 +54,10 @@ pub struct SentenceGenerator<'a, S: Storage, T: Tables<S>> {
     pub(crate) costs: Vec<u8>,
     pub(crate) settled: Settled<S>,
     pub(crate) kinds: Vec<Kind<S>>,
-    /// For each rule that costs something the production by which its first minimal sentence is made.
+    /// For each rule that costs something, the production that makes its first minimal sentence.
     pub(crate) firsts: Vec<Option<(PIdx<S>, u32)>>,
-    /// For each rule one of the same minimal sentences: the last of a row of rules that are handed on to alone.
+    /// For each rule, a rule with the same minimal sentences: the last that chain productions lead to, as long as each
+    /// is the only optimal production of its rule.
     pub(crate) last_heirs: Vec<RIdx<S>>,
     greatest: Vec<Result<Option<u16>, CostError>>,
 }
@@ -81,12 +83,12 @@ impl<'a, S: Storage, T: Tables<S>> Model for SentenceGenerator<'a, S, T> {
 }
 
 impl<'a, S: Storage, T: Tables<S>> SentenceGenerator<'a, S, T> {
-    /// The costs of the rules, where `cost` says what each token costs. It is called once for each token, in order, the
-    /// end token too.
+    /// The costs of the rules, where `cost` gives the cost of each token. It is called once for each token, in order,
+    /// and also for the end token.
     ///
     /// # Errors
     ///
-    /// Want of memory.
+    /// Out of memory.
     pub fn new<F: Fn(TIdx<S>) -> u8>(
         alloc: Global,
         tables: &'a T,
@@ -121,7 +123,8 @@ impl<'a, S: Storage, T: Tables<S>> SentenceGenerator<'a, S, T> {
         })
     }
 
-    /// A law, so the call does nothing: the tables are those of a generator, and of a grammar whose rules `S` counts.
+    /// A law, so the call does nothing: the tables are those of a generator, and the grammar's rules can be counted by
+    /// `S`.
     pub(crate) fn invariant_holds(&self)
         ensures generator { (n : ℕ) × IsGenerator self.now n }
         ensures grammar { IsGrammar self.now.grammar }
@@ -130,7 +133,7 @@ impl<'a, S: Storage, T: Tables<S>> SentenceGenerator<'a, S, T> {
         self.tables.invariant_holds();
     }
 
-    /// What each token costs, at least 1.
+    /// What each token costs, which is at least 1.
     pub fn token_costs(&self) -> &[u8]
         ensures costs { result.now ≡ self.now.costs }
         ensures tokens { length result.now ≡ self.now.grammar.tokens }
@@ -143,8 +146,7 @@ impl<'a, S: Storage, T: Tables<S>> SentenceGenerator<'a, S, T> {
     ///
     /// # Errors
     ///
-    /// `NoSentence` where the rule has no sentence, and `CostTooLarge` where it has some, and each costs more than
-    /// 65535.
+    /// `NoSentence` if the rule has no sentence; `CostTooLarge` if it has some, and each costs more than 65535.
     pub fn min_sentence_cost(&self, rule: RIdx<S>) -> Result<u16, CostError>
         requires { S.number rule.0 < self.now.grammar.rules }
         ensures least { IfOk result (Least (HasProduction self.now.grammar) (token_cost self.now) (S.number rule.0)) }
@@ -163,13 +165,12 @@ impl<'a, S: Storage, T: Tables<S>> SentenceGenerator<'a, S, T> {
         }
     }
 
-    /// The greatest cost of the rule's sentences; `None` where some sentence costs more than any number, which is where
-    /// the rule meets a growing cycle: a rule that derives itself beside tokens that cost something.
+    /// The greatest cost of the rule's sentences. It is `None` if for every number some sentence costs more, that is,
+    /// if the rule meets a growing cycle: a rule x that derives u x v, where u and v derive tokens that cost something.
     ///
     /// # Errors
     ///
-    /// `NoSentence` where the rule has no sentence, and `CostTooLarge` where there is a greatest cost, and it is more
-    /// than 65535.
+    /// `NoSentence` if the rule has no sentence; `CostTooLarge` if the greatest cost exists and is more than 65535.
     pub fn max_sentence_cost(&self, rule: RIdx<S>) -> Result<Option<u16>, CostError>
         requires { S.number rule.0 < self.now.grammar.rules }
         ensures none { (result ≡ Err CostError.NoSentence)
@@ -187,8 +188,8 @@ impl<'a, S: Storage, T: Tables<S>> SentenceGenerator<'a, S, T> {
         self.greatest[usize::from(rule)]
     }
 
-    /// A production of least cost, and a number, which is greater than those of all rules in the production; `None`
-    /// exactly where [`min_sentence_cost`](SentenceGenerator::min_sentence_cost) refuses.
+    /// A production of least cost, and a number, which is greater than those of all rules in the production. It is
+    /// `None` exactly if [`min_sentence_cost`](SentenceGenerator::min_sentence_cost) returns an error.
     pub fn choice(&self, rule: RIdx<S>) -> Option<(PIdx<S>, u32)>
         requires { S.number rule.0 < self.now.grammar.rules }
         ensures production { IfSome result (λ choice.
@@ -203,7 +204,7 @@ impl<'a, S: Storage, T: Tables<S>> SentenceGenerator<'a, S, T> {
         }
     }
 
-    /// The generator's own answers pass both checks.
+    /// The generator's results pass both checks.
     pub fn answers_pass_both_checks(&self)
         ensures least { (least : List (Option ℕ)) → length least ≡ self.now.grammar.rules
             → ((r : ℕ) → r < self.now.grammar.rules → rule_cost least r ≡ cost_answer self.now r)

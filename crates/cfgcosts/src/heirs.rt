@@ -1,5 +1,5 @@
-//! Rules that hand on to one rule alone: they have the minimal sentences of that one, and so of the last of a row of
-//! such rules.
+//! Rules whose only optimal production is a chain production: they have the minimal sentences of the rule that it leads
+//! to, and so of the last rule of a chain of such rules.
 
 ghost use Rattle.std.specs.Prelude.{◌≡◌, ◌<◌, List, IfOk, IfSome, length};
 ghost use Rattle.derivation.specs.Grammar.{Grammar};
@@ -12,7 +12,7 @@ use cfgindex::{RIdx, Storage, to_storage};
 use cfgtables::Tables;
 use std::alloc::{AllocError, Global};
 
-/// The rule that a production of the rule hands on to, where its other productions all cost more.
+/// The rule that a chain production of the rule leads to, if the rule has no other optimal production.
 fn only_heir<S: Storage, T: Tables<S>>(
     tables: &T,
     kinds: &[Kind<S>],
@@ -35,11 +35,11 @@ fn only_heir<S: Storage, T: Tables<S>>(
     only
 }
 
-/// For each rule the only one that it hands on to, or else the rule itself.
+/// For each rule, the rule that its only optimal production leads to, or else the rule itself.
 ///
 /// # Errors
 ///
-/// Want of memory.
+/// Out of memory.
 fn only_heirs<S: Storage, T: Tables<S>>(
     alloc: Global,
     tables: &T,
@@ -59,7 +59,7 @@ fn only_heirs<S: Storage, T: Tables<S>>(
     Ok(heirs)
 }
 
-/// Puts the heir of each heir in its place, and answers whether any is another one now.
+/// Replaces each entry by the entry of that rule. Returns whether an entry changed.
 fn go_on<S: Storage>(heirs: &mut Vec<RIdx<S>>) -> bool
     requires { (g : Grammar) × (kinds : List (Kind S)) × AreHeirs S.number g kinds (rules_of S.number heirs.old.items) }
     ensures { (g : Grammar) (kinds : List (Kind S)) → AreHeirs S.number g kinds (rules_of S.number heirs.old.items)
@@ -75,11 +75,11 @@ fn go_on<S: Storage>(heirs: &mut Vec<RIdx<S>>) -> bool
     moved
 }
 
-/// For each rule the last of a row of rules, each of which is the only one that the rule before it hands on to.
+/// For each rule, the last rule of a chain in which each rule's only optimal production leads to the next rule.
 ///
 /// # Errors
 ///
-/// Want of memory.
+/// Out of memory.
 pub(crate) fn last_heirs<S: Storage, T: Tables<S>>(
     alloc: Global,
     tables: &T,
@@ -91,7 +91,7 @@ pub(crate) fn last_heirs<S: Storage, T: Tables<S>>(
         AreHeirs S.number (T.grammar tables.now) kinds.now (rules_of S.number heirs.items)) }
 {
     let mut heirs = only_heirs(alloc, tables, kinds)?;
-    // Each turn goes twice as far as the one before, and no row is longer than a number of 32 bits.
+    // Each iteration doubles how far an entry has come, and no chain is too long to be counted in 32 bits.
     for _turn in 0..32 {
         if !go_on(&mut heirs) {
             return Ok(heirs);

@@ -1,4 +1,4 @@
-//! Laws of least costs, which hold of every grammar, and of what is told where there are none.
+//! Laws of least costs, which are true of every grammar, and of the errors where there are none.
 
 ghost use Rattle.std.specs.Prelude.{◌≡◌, ◌↔◌, ℕ, ◌<◌, ◌≤◌, [], ◌++◌, List, Option, Some, All, EachIndex};
 ghost use Rattle.std.specs.Prelude.{IfSome, IsTrue};
@@ -16,7 +16,7 @@ ghost use Rattle.cfgcosts.specs.declared.errors.SentenceError.{SentenceError};
 
 use crate::errors::SentenceError;
 
-/// Lists of costs up to 65535 and of choices that pass both checks show least costs, whoever made them.
+/// Lists of costs up to 65535 and of choices that pass both checks show least costs, wherever they come from.
 pub fn certificates_show_least()
     ensures { (g : Grammar) (costs : List ℕ) (least : List (Option ℕ)) (choices : List (Option (ℕ × ℕ)))
         → All (IsCovered costs least) g.productions → EachIndex least (IsReached g costs least choices)
@@ -24,28 +24,28 @@ pub fn certificates_show_least()
         → (r c : ℕ) → rule_cost least r ≡ Some c → Least (HasProduction g) (slice_index costs) r c }
 {}
 
-/// Where each token costs at least one, a sentence has at most as many tokens as its cost.
+/// If each token costs at least 1, a sentence has at most as many tokens as it costs.
 pub fn sentences_cost_their_length()
     ensures { (g : Grammar) (costs : List ℕ) → IsGrammar g → length costs ≡ g.tokens → All (λ c. 0 < c) costs
         → (r : ℕ) (w : List ℕ) → Sentence (HasProduction g) r w → length w ≤ cost_of (slice_index costs) w }
 {}
 
-/// A minimal sentence of a rule is what a production makes of minimal sentences of its symbols, where its rules all
-/// cost less than its own: that is the rule, or one that it hands on to. And each such word is one.
+/// The minimal sentences of a rule are exactly the words that base productions make of minimal sentences of their
+/// symbols: base productions of the rule, or of a rule that chain productions lead to from it.
 pub fn minimal_sentences_are_handed_down()
     ensures { (g : Grammar) (costs : List ℕ) → IsGrammar g → length costs ≡ g.tokens → All (λ c. 0 < c) costs
         → (r : ℕ) (w : List ℕ) → Minimal (HasProduction g) (slice_index costs) r w
         ↔ IsHandedDown (HasProduction g) (slice_index costs) r w }
 {}
 
-/// No minimal sentence of a rule is a beginning of another.
+/// No minimal sentence of a rule is a prefix of another.
 pub fn no_minimal_sentence_begins_another()
     ensures { (g : Grammar) (costs : List ℕ) → IsGrammar g → length costs ≡ g.tokens → All (λ c. 0 < c) costs
         → (r : ℕ) (w rest : List ℕ) → Minimal (HasProduction g) (slice_index costs) r w
         → Minimal (HasProduction g) (slice_index costs) r (w ++ rest) → rest ≡ [] }
 {}
 
-/// The first minimal sentences of a row's symbols, one after the other, come first among all that their minimal
+/// The first minimal sentences of a list's symbols, one after the other, come first among all that their minimal
 /// sentences make.
 pub fn first_sentences_make_the_first()
     ensures { (g : Grammar) (costs : List ℕ) → IsGrammar g → length costs ≡ g.tokens → All (λ c. 0 < c) costs
@@ -53,7 +53,7 @@ pub fn first_sentences_make_the_first()
         → Split (Minimal (HasProduction g) (slice_index costs)) row v → dictionary w v ≡ Greater → ⊥ }
 {}
 
-/// Why there is no sentence is equal to itself alone. A clone is its source, and takes no memory.
+/// A sentence error equals only itself. A clone equals its source, and allocates nothing.
 pub fn sentence_errors_are_told_apart()
     ensures equal { (a b : SentenceError) → IsTrue (⟦<SentenceError as PartialEq>⟧.eq a b) ↔ (a ≡ b) }
     ensures clone { (a b : SentenceError) → ⟦<SentenceError as Clone>⟧.is_clone a b → b ≡ a }

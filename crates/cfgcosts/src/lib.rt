@@ -1,4 +1,4 @@
-//! What the sentences of a grammar cost, the least and the greatest.
+//! The least and the greatest costs of a grammar's sentences.
 #![tactic(auto)]
 
 pub mod errors;

@@ -1,4 +1,4 @@
-//! What opens productions for a walk: borrowed tables, by which nothing is counted, or productions, which count.
+//! What opens productions for a walk: borrowed tables, which count nothing, or productions that count their openings.
 
 ghost use Rattle.std.specs.Prelude.{◌≡◌, ℕ, ◌-◌, ◌^◌, ◌<◌, List, [], ◌∷◌, ◌++◌, OnOk, length, map};
 ghost use Rattle.derivation.specs.Grammar.{Grammar};
@@ -15,14 +15,14 @@ pub(crate) trait Opener<S: Storage, X> {
     // The grammar.
     ghost grammar: { X → Grammar };
 
-    // The productions at these places were opened, one after the other.
+    // The productions with these numbers were opened, one after the other.
     ghost has_opened: { X → List ℕ → Type 0 };
 
-    /// Opens a production, and adds its symbols behind those that are pending.
+    /// Opens a production, and adds its symbols after those that are pending.
     ///
     /// # Errors
     ///
-    /// Want of memory, when the production was opened.
+    /// Out of memory: the production was opened all the same.
     fn open_onto(source: &mut X, p: PIdx<S>, pending: &mut Vec<Symbol<S>>) -> Result<(), AllocError>
         requires place { S.number p.0 < length (grammar source.old).productions }
         requires countable { (places : List ℕ) × has_opened source.old places × (length places < 2 ^ 64 - 1) }

@@ -1,4 +1,4 @@
-//! The first minimal sentence of a rule, by productions that are opened one by one.
+//! The first minimal sentence of a rule, from productions that are opened one by one.
 
 ghost use Rattle.std.specs.Prelude.{◌≡◌, ◌↔◌, ℕ, ◌+◌, ◌*◌, ◌<◌, ◌≤◌, ◌⊎◌, All, Err, IfOk, length, map};
 ghost use Rattle.derivation.specs.Grammar.{HasProduction};
@@ -15,17 +15,17 @@ use cfgindex::{RIdx, Storage, TIdx};
 use cfgtables::{Productions, Tables};
 use std::alloc::Global;
 
-/// The first, in the order of a dictionary, of the rule's sentences that no other costs less than, as
-/// [`SentenceGenerator::min_sentence`] gives it, by the symbols of `productions` alone, which are the generator's.
+/// The lexicographically first of the rule's sentences such that no other costs less, as
+/// [`SentenceGenerator::min_sentence`] gives it. The symbols come only from `productions`, which are the generator's.
 ///
-/// Together at most one production more is opened than the sentence's tokens times the rules. By the opened
-/// productions, each used as often as it was opened, the rule derives the sentence with rules of cost 0 between its
-/// tokens: these are never opened.
+/// The number of openings is at most 1 plus the sentence's tokens times the rules. With the opened productions, each
+/// used as often as it was opened, the rule derives the sentence with rules of cost 0 between its tokens: these are
+/// never opened.
 ///
 /// # Errors
 ///
-/// Where [`SentenceGenerator::min_sentence_cost`] refuses, the same refusal, and nothing was opened; else none but want
-/// of memory, where the least cost stands for the tokens in the bound on openings.
+/// Those of [`SentenceGenerator::min_sentence_cost`], and then nothing was opened; if that succeeds, only out of
+/// memory: then the least cost replaces the number of tokens in the bound on openings.
 pub fn min_sentence_over<'a, S: Storage, T: Tables<S>, P: Productions<S>>(
     alloc: Global,
     productions: &mut P,

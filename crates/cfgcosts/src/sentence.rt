@@ -1,4 +1,4 @@
-//! The first minimal sentence of a rule, by the productions that were chosen for it.
+//! The first minimal sentence of a rule, from the productions that were chosen for it.
 
 ghost use Rattle.std.specs.Prelude.{◌≡◌, ◌↔◌, ℕ, ◌+◌, ◌<◌, ◌≤◌, ◌⊎◌, [], List, All, Err, IfOk};
 ghost use Rattle.std.specs.Prelude.{OnErr, Some, length, map};
@@ -16,12 +16,12 @@ use cfgtables::Tables;
 use std::alloc::{AllocError, Global};
 
 impl<'a, S: Storage, T: Tables<S>> SentenceGenerator<'a, S, T> {
-    /// The sentence that the productions derive which were chosen for first sentences. They are opened on the way from
-    /// its last token to its first.
+    /// The sentence that the productions chosen for first sentences derive. They are opened on the way from its last
+    /// token to its first.
     ///
     /// # Errors
     ///
-    /// Want of memory.
+    /// Out of memory.
     fn walk<X, O: Opener<S, X>>(
         &self,
         alloc: Global,
@@ -56,12 +56,12 @@ impl<'a, S: Storage, T: Tables<S>> SentenceGenerator<'a, S, T> {
         Ok(sentence)
     }
 
-    /// The rule's first minimal sentence, by productions that are opened.
+    /// The rule's first minimal sentence, from productions that are opened.
     ///
     /// # Errors
     ///
-    /// Where [`min_sentence_cost`](SentenceGenerator::min_sentence_cost) refuses, the same refusal, and nothing was
-    /// opened; else none but want of memory.
+    /// Those of [`min_sentence_cost`](SentenceGenerator::min_sentence_cost), and then nothing was opened; if that
+    /// succeeds, only out of memory.
     pub(crate) fn first_sentence<X, O: Opener<S, X>>(
         &self,
         alloc: Global,
@@ -88,13 +88,12 @@ impl<'a, S: Storage, T: Tables<S>> SentenceGenerator<'a, S, T> {
         Ok(sentence)
     }
 
-    /// The first, in the order of a dictionary, of the rule's sentences that no other costs less than. It has at most
-    /// as many tokens as it costs, and none of them is the end token.
+    /// The lexicographically first of the rule's sentences such that no other costs less. It has at most as many tokens
+    /// as it costs, and none of them is the end token.
     ///
     /// # Errors
     ///
-    /// Where [`min_sentence_cost`](SentenceGenerator::min_sentence_cost) refuses, the same refusal; else none but want
-    /// of memory.
+    /// Those of [`min_sentence_cost`](SentenceGenerator::min_sentence_cost); if that succeeds, only out of memory.
     pub fn min_sentence(&self, alloc: Global, rule: RIdx<S>) -> Result<Vec<TIdx<S>>, SentenceError>
         requires { S.number rule.0 < self.now.grammar.rules }
         ensures first { IfOk result (λ sentence. FirstMinimal (HasProduction self.now.grammar) (token_cost self.now)

@@ -1,4 +1,4 @@
--- Rows that yield words of some cost or more, and rules whose sentences cost more than any number.
+-- Lists of symbols that yield words of some cost or more, and rules with unbounded costs.
 use Rattle.std.proofs.Common.{◌≡◌, ℕ, zero, suc, ◌+◌, ◌≤◌, ◌⊎◌, inl, inr, Bool, true, false, cond, eqb, eqb-true, eq-eqb, List, [], ◌∷◌, ◌++◌, All, Contains, append-nil, sum_by, refl, sym, ap, arith, subst}
 use Rattle.std.proofs.lemmas.List.Elements.{All-head, All-tail}
 use Rattle.std.proofs.lemmas.List.Sums.{get_or-le-sum_by, sum_by-append, sum_by-cons}
@@ -21,7 +21,7 @@ module _ (P : ℕ → List Sym → Type 0) (cost : ℕ → ℕ) where
   pub at_least_rule : (r : ℕ) (symbols : List Sym) (n : ℕ) → P r symbols → AtLeast P cost symbols n → AtLeast P cost (Rule r ∷ []) n
   at_least_rule r symbols n has h = record { word = h.word; tree = opened has h.tree empty (sym (append-nil h.word)); enough = h.enough }
 
-  -- a row costs as much as its symbols together
+  -- a list costs as much as its symbols in total
   pub row_at_least : (costs : ℕ → ℕ) (a : List Sym) → ((r : ℕ) → Contains a (Rule r) → AtLeast P cost (Rule r ∷ []) (costs r)) → AtLeast P cost a (sum_by (weigh cost costs) a)
   row_at_least costs [] all = record { word = []; tree = empty; enough = omega arith }
   row_at_least costs (Token t ∷ a) all =
@@ -61,7 +61,7 @@ module _ (P : ℕ → List Sym → Type 0) (cost : ℕ → ℕ) where
             omega (arith, e, f, sum_by-append cost p.front (t.word ++ p.back), sum_by-append cost t.word p.back, ap (cost_of cost) p.whole, sum_by-append cost p.front p.back);
       }
 
-  -- rules that each grow from a rule of the set have sentences that cost more than any number
+  -- rules that each grow from a rule of the set have unbounded costs
   pub unbounded_set : (set : ℕ → Bool) → ((r : ℕ) → set r ≡ true → GrowsFromSet P cost set r) → (r : ℕ) → set r ≡ true → Unbounded P cost r
   unbounded_set set grows r u = unbounded_from r (λ n. past n r u)
     where
@@ -69,7 +69,7 @@ module _ (P : ℕ → List Sym → Type 0) (cost : ℕ → ℕ) where
       past zero r u = let g = grows r u in record { word = g.sentence; tree = trees_from_derivation P (Rule r ∷ []) g.sentence g.derived; enough = omega arith }
       past (suc n) r u = let g = grows r u in at_least_fewer (Rule r ∷ []) (n + 1) (suc n) (omega arith) (grow r g.rule n g.from (past n g.rule g.among))
 
-  -- what holds of each word of a rule whose productions are within, bounds the words of rows
+  -- what is true of each word of a rule whose productions are within bounds the words of lists
   module _ (costs : ℕ → ℕ) (Within : Sym → Type 0)
       (bound : (r : ℕ) (w : List ℕ) → Within (Rule r) → Yields P (Rule r ∷ []) w → ((symbols : List Sym) → P r symbols → IsDead P symbols ⊎ (All Within symbols × (sum_by (weigh cost costs) symbols ≤ costs r))) ⊎ (cost_of cost w ≤ costs r)) where
     pub row_most : {a : List Sym} {w : List ℕ} → Yields P a w → All Within a → cost_of cost w ≤ sum_by (weigh cost costs) a
@@ -88,7 +88,7 @@ module _ (P : ℕ → List Sym → Type 0) (cost : ℕ → ℕ) where
         ] in
         omega (arith, first, rest, ap (cost_of cost) e, sum_by-append cost u w, sum_by-cons (weigh cost costs) (Rule r) a)
 
--- a row costs as much as each rule in it, if the others yield words
+-- a list costs as much as each rule in it, if the others yield words
 module _ (P : ℕ → List Sym → Type 0) (a : List Sym) (x : ℕ) (among : Contains a (Rule x)) (words : (r : ℕ) → Contains a (Rule r) → HasWord P (Rule r ∷ [])) where
   pub row_above : IsRowAbove P a x
   row_above cost n h = at_least_fewer P cost a _ n

@@ -1,5 +1,5 @@
--- A bounded rule with a sentence has a greatest cost: each rule's word is exchanged for one that costs more, as long as a
--- production makes such a one of the words of its rules.
+-- A bounded, productive rule has a greatest cost: a rule's word is replaced by one that costs more, as long as a production makes such a
+-- word of the words of its rules.
 use Rattle.std.proofs.Common.{◌≡◌, ℕ, zero, suc, ◌+◌, ◌-◌, ◌<◌, ◌≤◌, ◌⊎◌, inl, inr, min, List, [], ◌∷◌, ◌++◌, length, Option, Some, None, append-nil, below_more, refl, sym, ap, subst, ◌∙◌, arith}
 use Rattle.std.proofs.lemmas.Bool.{cases_eq, cases_lt}
 use Rattle.std.proofs.lemmas.List.{get_or_default}
@@ -14,7 +14,7 @@ use Rattle.cfgtables.specs.Openings.{nth_production}
 use Rattle.cfgtables.proofs.Placed.{owner}
 use Rattle.cfggreatest.specs.Inner.AtLeast.{HasWord}
 
--- what the first n numbers lack of the limit, together
+-- the sum of how much each of the first n numbers is below the limit
 abbrev pub missing : ℕ → (ℕ → ℕ) → ℕ → ℕ
 missing limit f zero = 0
 missing limit f (suc n) = missing limit f n + (limit - f n)
@@ -39,14 +39,14 @@ most_along : (limit m v w : ℕ) → min m limit < v → min v (limit + 1) ≤ w
 most_along limit m v w h le = omega (arith, h, le)
 
 module _ (g : Grammar) (cost : ℕ → ℕ) (limit : ℕ) where
-  -- a word that the row yields, if one was found, and a word of each rule
+  -- a word that the list yields, if one was found; and such a word for each rule
   abbrev Word : List Sym → Type 0
   Word a = Option (HasWord (HasProduction g) a)
 
   abbrev Words : Type 0
   Words = (r : ℕ) → Word (Rule r ∷ [])
 
-  -- what a word costs, and one more
+  -- what a word costs, plus one
   abbrev value : {a : List Sym} → Word a → ℕ
   value None = 0
   value (Some y) = cost_of cost y.0 + 1
@@ -78,7 +78,7 @@ module _ (g : Grammar) (cost : ℕ → ℕ) (limit : ℕ) where
     words : Words
     closed : (k : ℕ) → k < length g.productions → IsClosedAt words (nth_production g k)
 
-  -- so no word of a row costs more than the one that is made of them
+  -- so no word of a list costs more than the one that is made of these words
   row_most : (x : Closed) {a : List Sym} {w : List ℕ} → Yields (HasProduction g) a w → min (cost_of cost w) limit < value (row_word x.words a)
   row_most x empty = omega arith
   row_most x (token {t = t} {a = a} {w = w} h) = subst (λ n. min n limit < value (row_word x.words (Token t ∷ a))) (sym (sum_by-append cost (t ∷ []) w))
@@ -89,7 +89,7 @@ module _ (g : Grammar) (cost : ℕ → ℕ) (limit : ℕ) where
       (value-join (cost_of cost u) (cost_of cost w) (x.words r) (row_word x.words a)
       (most_along limit (cost_of cost u) (value (row_word x.words symbols)) (value (x.words r)) (row_most x h) closed) (row_most x k))
 
-  -- a rule's word is exchanged for the one that a production of the rule makes
+  -- a rule's word is replaced by the word that a production of the rule makes
   module _ (words : Words) (p : Production) (has : HasProduction g p.rule p.symbols) where
     abbrev make : (q : ℕ) → q ≡ p.rule → Word p.symbols → Word (Rule q ∷ [])
     make q e None = None

@@ -1,4 +1,4 @@
--- What the sums of the last group tell.
+-- What the sums of the last group say.
 use Rattle.std.proofs.Common.{◌≡◌, ℕ, ◌<◌, ◌≤◌, ltb, leb, ◌&&◌, Bool, true, false, cond, List, Option, Some, None, Result, Ok, Err, get_or, length, refl, sym, ap, subst, ◌∙◌, arith}
 use Rattle.derivation.specs.Grammar.{Grammar, HasProduction}
 use Rattle.derivation.specs.declared.errors.CostError.{CostError}

@@ -1,4 +1,4 @@
--- The greatest sum of a group's productions is the greatest cost of its rules, where no production makes them grow.
+-- The greatest sum of a group's productions is the greatest cost of its rules, unless a production makes them grow.
 use Rattle.std.proofs.Common.{◌≡◌, ℕ, zero, suc, ◌+◌, ◌*◌, ◌<◌, ◌≤◌, ◌⊎◌, inl, inr, ltb, leb, min, ◌&&◌, Bool, true, false, cond, List, [], ◌∷◌, All, Option, Some, None, Result, Ok, Err, get_or, length, sum_by, ltb-false, ltb-true, refl, sym, ap, subst, ◌∙◌, arith, below_more}
 use Rattle.std.proofs.lemmas.Bool.{and_parts, cases_Bool, cases_lt, le-ltb}
 use Rattle.std.proofs.lemmas.Bool.Decides.{leb_tells}
@@ -25,7 +25,7 @@ use Rattle.cfggreatest.specs.declared.sums.Sums.{Sums}
 use Rattle.cfggreatest.proofs.AtLeast.{at_least_fewer, row_most, unbounded_from}
 use Rattle.cfggreatest.proofs.Reaching.{beside, costs_beside, large, large_of, none_reached}
 
--- what is known of a rule bounds its words, if its productions do where it stands in the group
+-- what is known of a rule bounds its words, if its productions do when the rule is in the group
 known_bound : (P : ℕ → List Sym → Type 0) (cost : ℕ → ℕ) (start n r : ℕ) (k : Known) (so : (answer : Result (Option ℕ) CostError) → k ≡ Told answer → Means P cost r answer)
     (o : Option ℕ) → read_known start r k ≡ Ok o → (F : Type 0) → ((place : ℕ) → k ≡ Open place → start ≤ place → F)
     → (w : List ℕ) → Yields P (Rule r ∷ []) w → (F × (known_cost start n (large_of P cost r k so) k ≡ n)) ⊎ (cost_of cost w ≤ known_cost start n (large_of P cost r k so) k)
@@ -42,7 +42,7 @@ known_bound P cost start n r (Told (Ok (Some c))) so o e F inside w tree = inr (
 known_bound P cost start n r (Told (Err NoSentence)) so o e F inside w tree = absurd (so (Err NoSentence) refl w (derivation_from_trees P tree))
 known_bound P cost start n r (Told (Err CostTooLarge)) so o e F inside w tree = inr ((so (Err CostTooLarge) refl).1.1 w (derivation_from_trees P tree))
 
--- whether the rule stands in the group
+-- whether the rule is in the group
 decide_inside : (start : ℕ) (k : Known) → ((place : ℕ) × (k ≡ Open place) × (start ≤ place)) ⊎ ((place : ℕ) → k ≡ Open place → start ≤ place → ⊥)
 decide_inside start New = inr (λ place e le. cc)
 decide_inside start (Told answer) = inr (λ place e le. cc)
@@ -54,7 +54,7 @@ decide_inside start (Open p) = elim (cases_lt p start) [
 module _ (g : Grammar) (is : IsGrammar g) (cost : ℕ → ℕ) (known : List Known) (path : List ℕ) (start : ℕ) (group : IsGroup g cost known path start)
     (x : Sums) (reached : AreReached (HasProduction g) cost path start x)
     (under : (i : ℕ) → start ≤ i → i < length path → AreUnder (HasProduction g) cost path start known (get_or path i 0) x) where
-  -- a row that costs no more than so much, if rules of the group do, unless they grow
+  -- a list that costs at most `most`, if rules of the group do, unless they grow
   record IsKept (most : ℕ) (a : List Sym) : Type 0 where
     inner : ℕ
     rest : ℕ
@@ -208,7 +208,7 @@ module _ (g : Grammar) (is : IsGrammar g) (cost : ℕ → ℕ) (known : List Kno
     | inr none ↦ at_least_fewer (HasProduction g) cost _ x.top (suc n) (omega (arith, none, some)) (reached.costs j le lt)
   ]
 
-  -- what the sums tell of the rules of the group is true
+  -- what the sums say of the rules of the group is true
   pub group_means : (i : ℕ) → start ≤ i → i < length path → Means (HasProduction g) cost (get_or path i 0) (group_answer x.top x.twice)
   group_means i le lt = elim (cases_Bool (x.twice && ltb 0 x.top)) [
     | inl e ↦ let b = and_parts x.twice (ltb 0 x.top) e in

@@ -1,6 +1,5 @@
--- A rule whose sentences cost more than any number meets a growing cycle. A walk goes down a parse tree. It marks a rule
--- where symbols beside the way down from it cost something. A marked rule that comes again has a growing cycle; as long
--- as none does, the rules that are not marked bound what the tree costs.
+-- A rule with unbounded costs meets a growing cycle. A walk goes down a parse tree. It marks a rule if symbols beside the way down from it
+-- cost something. If a marked rule comes again, it has a growing cycle; until then, the rules that aren't marked bound what the tree costs.
 use Rattle.std.proofs.Common.{◌≡◌, ◌↔◌, ℕ, zero, suc, ◌+◌, ◌<◌, ◌≤◌, ◌⊎◌, inl, inr, Bool, true, false, cond, eqb, eqb-true, eq-eqb, List, [], ◌∷◌, ◌++◌, Option, None, Result, Ok, Err, get_or, length, sum_by, append-nil, append_assoc, refl, sym, ap, subst, ◌∙◌, arith}
 use Rattle.std.proofs.lemmas.Bool.{cases_Bool, cases_eq}
 use Rattle.std.proofs.lemmas.List.Sums.{get_or-le-sum_by, sum_by-append, sum_by-cons}
@@ -22,7 +21,7 @@ use Rattle.cfggreatest.proofs.Bounded.{missing, missing_less}
 use Rattle.cfggreatest.proofs.Telling.{exactly}
 
 module _ (P : ℕ → List Sym → Type 0) (cost : ℕ → ℕ) where
-  -- l derives a list with a in it, beside symbols that yield words which together cost n or more
+  -- l derives a list that contains a, beside symbols that yield words which cost n or more in total
   record Around (l a : List Sym) (n : ℕ) : Type 0 where
     before : List Sym
     after : List Sym
@@ -33,7 +32,7 @@ module _ (P : ℕ → List Sym → Type 0) (cost : ℕ → ℕ) where
     second : Yields P after back
     enough : n ≤ cost_of cost front + cost_of cost back
 
-  -- what leads to a leads to b as well, and m more stands beside it
+  -- what leads to a also leads to b, with m more beside it
   abbrev Moves : List Sym → List Sym → ℕ → Type 0
   Moves a b m = (l : List Sym) (n k : ℕ) → k ≤ n + m → Around l a n → Around l b k
 
@@ -85,7 +84,7 @@ module _ (P : ℕ → List Sym → Type 0) (cost : ℕ → ℕ) where
     enough = omega arith;
   }
 
-  -- the same from a rule, by one or more steps
+  -- the same from a rule, in one or more steps
   abbrev Leads : ℕ → List Sym → ℕ → Type 0
   Leads r a n = (l : List Sym) × P r l × Around l a n
 
@@ -124,7 +123,7 @@ module _ (g : Grammar) (cost : ℕ → ℕ) (is : IsGrammar g) (root : ℕ) wher
   abbrev weight : ℕ → List Sym → ℕ
   weight k a = sum_by (weigh cost (λ r. k)) a
 
-  -- what a rule costs at most, if fewer than n rules are not marked and no cycle is found
+  -- what a rule costs at most, if fewer than n rules aren't marked and no cycle is found
   abbrev most : ℕ → ℕ
   most zero = 0
   most (suc n) = sum_by (λ (p : Production). weight (most n) p.symbols) g.productions
@@ -136,7 +135,7 @@ module _ (g : Grammar) (cost : ℕ → ℕ) (is : IsGrammar g) (root : ℕ) wher
   abbrev unmarked : (ℕ → Bool) → ℕ
   unmarked marked = missing 1 (λ r. bit (marked r)) g.rules
 
-  -- the walk stands at a, below marked rules, and fewer than n are not marked
+  -- the walk is at a, below marked rules, and fewer than n rules aren't marked
   record Walks (a : List Sym) (n : ℕ) : Type 0 where
     marked : ℕ → Bool
     leads : (r : ℕ) → marked r ≡ true → Leads (HasProduction g) cost r a 1
@@ -181,8 +180,8 @@ module _ (g : Grammar) (cost : ℕ → ℕ) (is : IsGrammar g) (root : ℕ) wher
   abbrev Found : Type 0
   Found = MeetsGrowingCycle (HasProduction g) cost root
 
-  -- what the walk finds of a list in a production of r: a cycle, or that its rules cost less than r, or that there was
-  -- nothing beside it, and it costs no more than r may
+  -- what the walk finds of a list in a production of r: a cycle; or that its rules cost less than r; or that nothing beside it costs, and
+  -- it costs at most what r may
   abbrev Finds : List Sym → List ℕ → ℕ → ℕ → Type 0
   Finds a w n c = Found ⊎ ((cost_of cost w ≤ weight (most n) a) ⊎ ((c ≡ 0) × (cost_of cost w ≤ most (suc n))))
 
@@ -202,7 +201,7 @@ module _ (g : Grammar) (cost : ℕ → ℕ) (is : IsGrammar g) (root : ℕ) wher
     ]
   ]
 
-  -- past the first symbol, which costs no more than it may
+  -- skips the first symbol, which costs at most what it may
   past : (x : Sym) (a : List Sym) (u w : List ℕ) → Yields (HasProduction g) (x ∷ []) u → Searched a w → (n : ℕ) → cost_of cost u ≤ weigh cost (λ r. most n) x
       → (s : Walks (x ∷ a) (suc n)) (r c : ℕ) → s.marked r ≡ false → Leads (HasProduction g) cost r (x ∷ a) c → Finds (x ∷ a) (u ++ w) n c
   past x a u w tree rest n le s r c new t =
@@ -257,11 +256,11 @@ module _ (g : Grammar) (cost : ℕ → ℕ) (is : IsGrammar g) (root : ℕ) wher
         | inr le ↦ let past = h.2 in absurd (omega (arith, le, past))
       ]
 
-  -- so sentences cost more than any number exactly if the rule meets a growing cycle
+  -- so costs are unbounded exactly if the rule meets a growing cycle
   pub unbounded_if_meets : Unbounded (HasProduction g) cost root ↔ Found
   unbounded_if_meets = (unbounded_meets, λ h. cycle_unbounds (HasProduction g) cost root h.0 h.2 h.1)
 
--- so answers that are true are `None` exactly where a growing cycle is met
+-- so results that are true are `None` exactly if the rule meets a growing cycle
 pub are_told : (g : Grammar) (cost : ℕ → ℕ) → IsGrammar g → (answers : List (Result (Option ℕ) CostError)) → length answers ≡ g.rules
     → ((r : ℕ) → r < g.rules → Means (HasProduction g) cost r (get_or answers r (Err NoSentence))) → AreTold g cost answers
 are_told g cost is answers rules means = record {

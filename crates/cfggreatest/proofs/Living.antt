@@ -1,4 +1,4 @@
--- Rules that have sentences are found by their productions.
+-- The productive rules are found from the productions.
 use Rattle.std.proofs.Common.{◌≡◌, ℕ, ◌+◌, ◌<◌, inl, inr, Bool, true, false, ◌⊎◌, List, [], ◌∷◌, ◌++◌, IsTrue, Some, get_or, length, slice_set, refl, sym, ap, subst, ◌∙◌, arith, true≢false, length-set, get_or-set_same, append-nil, slice_get, replicate}
 use Rattle.std.proofs.lemmas.Bool.{cases_eq}
 use Rattle.std.proofs.lemmas.List.{get_or_default, length-replicate}
@@ -23,7 +23,7 @@ say_none g rules bits e is = subst (SayLive g) (sym is) (record {
   lives = λ r on. absurd (true≢false (sym on ∙ get_or-replicate_default rules r false));
 })
 
--- a row of rules that have sentences has a word
+-- a list of productive rules has a word
 pub live_word : (g : Grammar) (bits : List Bool) → SayLive g bits → (a : List Sym) → AreLive bits a → HasWord (HasProduction g) a
 live_word g bits say [] all = ([], empty)
 live_word g bits say (Token t ∷ a) all = let rest = live_word g bits say a (All-tail (λ s. IsTrue (is_live_symbol bits s)) (Token t) a all) in (t ∷ rest.0, token rest.1)
@@ -94,7 +94,7 @@ module _ (p : Production) (old : List Bool) (waiting : List Bool) (none : NoneWa
       still (Rule r) h on = h r refl on
       still (Token t) h on = refl
 
-  -- the rule's bit was set, at the place of its number: it was on, or is turned on
+  -- the rule's bit was set, at the index of its number: it was on, or is turned on
   module _ (place : ℕ) (at : place ≡ p.rule) (within : p.rule < length old) (all : AreLive old p.symbols) (new : List Bool) (put : new ≡ slice_set old place true) where
     is_at : {b : Bool} → slice_get old place ≡ Some b → is_live old place ≡ b
     is_at had = sym (unwrap_or-slice_get old place false) ∙ ap (λ o. unwrap_or o false) had
@@ -109,7 +109,7 @@ module _ (p : Production) (old : List Bool) (waiting : List Bool) (none : NoneWa
     takes_new had among waiting' waits = takes_rule new waiting' within among (ap (is_live old) (sym at) ∙ is_at had) all
         (put ∙ ap (λ n. slice_set old n true) at) (waits ∙ ap (λ n. slice_set waiting n true) at)
 
--- where no production turns a bit on, what yields a word has rules alone whose bits are on
+-- if no production turns a bit on, a list that yields a word contains only rules whose bits are on
 module _ (g : Grammar) (bits : List Bool) (covered : CoversEach HaveLive g bits) where
   pub row_lives : {a : List Sym} {w : List ℕ} → Yields (HasProduction g) a w → AreLive bits a
   row_lives empty = All-nil (λ s. IsTrue (is_live_symbol bits s))

@@ -1,4 +1,4 @@
--- Groups of a path: one more is begun, the last one is joined to those before it, or leaves.
+-- Groups of a path: a new one begins; the last one is joined to those before it, or leaves.
 use Rattle.std.proofs.Common.{◌≡◌, ℕ, ◌-◌, ◌<◌, ◌≤◌, inl, inr, List, [], ◌∷◌, ◌++◌, get_or, length, take, refl, sym, ap, subst, ◌∙◌, arith}
 use Rattle.std.proofs.lemmas.Bool.{cases_lt}
 use Rattle.std.proofs.lemmas.List.{get_or-take, get_or_append_left, get_or_past, get_or_push, length-take-le, length_push}
@@ -23,13 +23,13 @@ module _ (above : ℕ → ℕ → Type 0) where
           let at = last.at in omega (arith, at, ap (λ n. get_or starts n 0) same)
     ]
 
-    -- what a rule of the last group is above, all of the path are above
+    -- if a rule of the last group is above a rule, all rules of the path are
     pub above_all : ((a b c : ℕ) → above a b → above b c → above a c) → (start : ℕ) → IsLast starts start → (place x : ℕ) → start ≤ place → place < length path
         → above (get_or path place 0) x → (i : ℕ) → i < length path → above (get_or path i 0) x
     above_all trans start last place x le lt h i lt' = trans (get_or path i 0) (get_or path place 0) x
         (are.chain i place lt' lt (λ k among _. let below = below_last start last k among in omega (arith, below, le))) h
 
-    -- a group more, of one rule
+    -- one more group, of one rule
     module _ (x : ℕ) (same : above x x) (all : (i : ℕ) → i < length path → above (get_or path i 0) x) where
       at_front : (xs : List ℕ) (y i : ℕ) → i < length xs → get_or (xs ++ y ∷ []) i 0 ≡ get_or xs i 0
       at_front xs y i lt = get_or_append_left xs (y ∷ []) 0 i lt
@@ -126,7 +126,7 @@ module _ (above : ℕ → ℕ → Type 0) where
             absurd (omega (arith, at, le, before, ap (λ n. get_or starts n 0) same))
       ]
 
-      -- the last group was joined to one before it, to which all of the path are above
+      -- the last group was joined to an earlier one; all rules of the path are above it
       pub groups_joined : (place : ℕ) → place < start → place < length path → ((a b c : ℕ) → above a b → above b c → above a c)
           → ((i : ℕ) → i < length path → above (get_or path i 0) (get_or path place 0)) → AreGroups above path (take (length starts - 1) starts)
       groups_joined place before among trans all = record {

@@ -1,4 +1,4 @@
--- Productions of a rule, by the list of their places.
+-- Productions of a rule, by the list of their numbers.
 use Rattle.std.proofs.Common.{◌≡◌, ℕ, ◌+◌, ◌<◌, ◌≤◌, List, [], length, get_or, arith, sym, ap, subst, ◌∙◌, below_more}
 use Rattle.std.proofs.lemmas.List.{get_or_default}
 use Rattle.derivation.specs.Grammar.{Sym, Grammar, Production, HasProduction}
@@ -11,7 +11,7 @@ module _ (g : Grammar) (rule : ℕ) (places : List ℕ) (of : ArePlacesOf g rule
       let within : n < length g.productions = subst (λ m. m < length g.productions) (sym at) (of.within i n lt) in
       at_place g n (record { rule = rule; symbols = a }) within (sym ((of.listed n within).0 (i, lt, sym at))) e
 
-  -- what holds of the productions at the places holds of those of the rule
+  -- what is true of the productions with these numbers is true of those of the rule
   pub placed_all : (F : List Sym → Type 0) (i : ℕ) → length places ≤ i → ((k : ℕ) → k < i → F (nth_production g (get_or places k 0)).symbols)
       → (symbols : List Sym) → HasProduction g rule symbols → F symbols
   placed_all F i past all symbols has =
@@ -20,7 +20,7 @@ module _ (g : Grammar) (rule : ℕ) (places : List ℕ) (of : ArePlacesOf g rule
       let here = get_or_default places there.0 0 has.0 there.1 ∙ there.2 in
       subst F (ap (λ (n : ℕ). (nth_production g n).symbols) here ∙ ap (λ (p : Production). p.symbols) same) (all there.0 (let lt = there.1 in omega (arith, lt, past)))
 
-  -- one production more
+  -- one more production
   pub placed_more : (F : List Sym → Type 0) (i n : ℕ) (a : List Sym) → i < length places → n ≡ get_or places i n → a ≡ (nth_production g n).symbols
       → ((k : ℕ) → k < i → F (nth_production g (get_or places k 0)).symbols) → F a → (k : ℕ) → k < i + 1 → F (nth_production g (get_or places k 0)).symbols
   placed_more F i n a lt at e all here = below_more (λ k. F (nth_production g (get_or places k 0)).symbols) i all

@@ -1,4 +1,4 @@
--- What rules of a group cost at least, by the sums of their productions.
+-- What rules of a group cost at least, from the sums of their productions.
 use Rattle.std.proofs.Common.{◌≡◌, ℕ, zero, suc, ◌+◌, ◌*◌, ◌<◌, ◌≤◌, ◌⊎◌, inl, inr, ltb, ◌||◌, Bool, true, false, cond, List, [], ◌∷◌, All, Contains, Option, Some, None, Result, Ok, Err, get_or, length, append-nil, ltb-true, refl, sym, ap, subst, ◌∙◌, arith, true≢false}
 use Rattle.std.proofs.Math.Nat.{mul-le-mul_left}
 use Rattle.std.proofs.lemmas.Bool.{cases_Bool, cases_eq, cases_lt, lt-ltb}
@@ -20,7 +20,7 @@ use Rattle.cfggreatest.specs.declared.sums.Stop.TheVariants.{Leads, Grows}
 use Rattle.cfggreatest.specs.declared.sums.Sums.{Sums}
 use Rattle.cfggreatest.proofs.AtLeast.{at_least_fewer, at_least_none, at_least_rule, greatest_at_least, row_above, row_at_least, unbounded_at_least}
 
--- the greatest cost of a rule, if it is told that it is too large to be told
+-- the greatest cost of a rule, if its result is that this is too large
 unfoldable pub large_of : (P : ℕ → List Sym → Type 0) (cost : ℕ → ℕ) (r : ℕ) (k : Known) → ((answer : Result (Option ℕ) CostError) → k ≡ Told answer → Means P cost r answer) → ℕ
 large_of P cost r (Told (Err CostTooLarge)) so = (so (Err CostTooLarge) refl).0
 large_of P cost r (Told (Err NoSentence)) so = 65536
@@ -77,7 +77,7 @@ stops_by start r (Told (Ok None)) stop e = inr ((cc), refl)
 stops_by start r (Told (Ok (Some c))) stop e = absurd (cc)
 stops_by start r (Told (Err f)) stop e = absurd (cc)
 
--- a row that was taken in is under the sum
+-- the sum of a list that was added is no greater than the greatest sum
 pub row_under : (cost : ℕ → ℕ) (known : List Known) (start : ℕ) (a : List Sym) (old new : Sums) → AddsRow cost known start a old new → IsUnder cost known start a new
 row_under cost known start a old new h = record {
   outer = h.outer;
@@ -134,7 +134,7 @@ module _ (g : Grammar) (is : IsGrammar g) (cost : ℕ → ℕ) (known : List Kno
   pub many : (r : ℕ) → 65535 < large r
   many r = large_many (HasProduction g) cost r (known_of known r) (group.so r)
 
-  -- what yields a word has no rules that have none
+  -- a list that yields a word contains no rule that yields none
   pub yields_live : {a : List Sym} {w : List ℕ} → Yields (HasProduction g) a w → All (IsLiveSymbol known) a
   yields_live empty = All-nil (IsLiveSymbol known)
   yields_live (token {t = t} {a = a} h) = All-cons (IsLiveSymbol known) (Token t) a tt (yields_live h)
@@ -144,7 +144,7 @@ module _ (g : Grammar) (is : IsGrammar g) (cost : ℕ → ℕ) (known : List Kno
         | inr live ↦ live
       ]) (yields_live k)
 
-  -- a production of a rule of the group, whose rules have sentences
+  -- a production of a rule of the group, whose rules are productive
   module _ (i : ℕ) (le : start ≤ i) (lt : i < length path) (a : List Sym) (has : HasProduction g (get_or path i 0) a) (live : All (IsLiveSymbol known) a) where
     words : (r : ℕ) → Contains a (Rule r) → HasWord (HasProduction g) (Rule r ∷ [])
     words r among = group.lives r (subst (IsLiveSymbol known) among.2 (live among.0 (Rule r) among.1))
@@ -152,7 +152,7 @@ module _ (g : Grammar) (is : IsGrammar g) (cost : ℕ → ℕ) (known : List Kno
     costs_all : (n : ℕ) → AtLeast (HasProduction g) cost a n → CostAtLeast (HasProduction g) cost path start n
     costs_all n h j le' lt' = group.above j i le' lt' le lt cost n (at_least_rule (HasProduction g) cost (get_or path i 0) a n has h)
 
-    -- if the group's rules cost n, they cost what the row does then
+    -- if the group's rules cost n, they cost what the list then costs
     pub costs_more : (n : ℕ) → CostAtLeast (HasProduction g) cost path start n → CostAtLeast (HasProduction g) cost path start (row_cost cost known start large n a)
     costs_more n all = costs_all _ (row_at_least (HasProduction g) cost _ a (λ r among. known_reached (HasProduction g) cost start n r (known_of known r) (group.so r)
         (subst (IsLiveSymbol known) among.2 (live among.0 (Rule r) among.1)) (words r among)
@@ -179,7 +179,7 @@ module _ (g : Grammar) (is : IsGrammar g) (cost : ℕ → ℕ) (known : List Kno
           (let once : n * 1 ≤ n * inner = mul-le-mul_left n (omega (arith, one)) in let cut = beside.cut in omega (arith, once, cut, some))
           (costs_beside n (costs_grow some one n) j le' lt')
 
-    -- the row was taken in
+    -- the sum of the list was added
     pub reached_more : (old new : Sums) → AreReached (HasProduction g) cost path start old → AddsRow cost known start a old new → AreReached (HasProduction g) cost path start new
     reached_more old new reached h = record {
       small = let small = reached.small in let top = h.top in let cut = (h.is.sum large many).cut in omega (arith, small, top, cut);
@@ -193,7 +193,7 @@ module _ (g : Grammar) (is : IsGrammar g) (cost : ℕ → ℕ) (known : List Kno
       ];
     }
 
-    -- the row stopped the sum
+    -- the list stopped the sum
     pub row_stopped : (stop : Stop) → StopsAt cost known start a stop ⊎ GrowsBeside cost known start a stop → IsStopped (HasProduction g) cost path start g.rules known stop
     row_stopped stop (inr h) = subst (IsStopped (HasProduction g) cost path start g.rules known) (sym h.grows) (costs_grow h.outer h.inner h.is h.some h.one)
     row_stopped stop (inl h) = by h.symbol h.among h.stops
@@ -210,7 +210,7 @@ module _ (g : Grammar) (is : IsGrammar g) (cost : ℕ → ℕ) (known : List Kno
               (λ n. costs_all n (row_above (HasProduction g) a x among words cost n (unbounded_at_least (HasProduction g) cost x n (group.so x (Ok None) k.1))))
         ]
 
-  -- a production of a rule of the group was taken in
+  -- a production of a rule of the group was added
   pub row_taken : (i : ℕ) → start ≤ i → i < length path → (a : List Sym) → HasProduction g (get_or path i 0) a → (old new : Sums)
       → AreReached (HasProduction g) cost path start old → TakesRow cost known start a old new
       → AreReached (HasProduction g) cost path start new × (IsDead (HasProduction g) a ⊎ IsUnder cost known start a new) × AreNoLess old new

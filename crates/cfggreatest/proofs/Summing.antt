@@ -1,4 +1,4 @@
--- Sums of rows, symbol by symbol.
+-- Sums of lists, symbol by symbol.
 use Rattle.std.proofs.Common.{◌≡◌, ℕ, ◌+◌, ◌<◌, ◌≤◌, ltb, min, Bool, true, false, cond, List, [], ◌∷◌, ◌++◌, Option, Some, None, Result, Ok, Err, get_or, length, map, take, refl, sym, ap, subst, ◌∙◌, arith}
 use Rattle.std.proofs.lemmas.List.{length-map, take_all, take_more}
 use Rattle.std.proofs.lemmas.List.Elements.{All-nil, All-push}
@@ -13,7 +13,7 @@ use Rattle.cfggreatest.specs.declared.sums.Known.TheVariants.{New, Open, Told}
 use Rattle.cfggreatest.specs.declared.sums.Stop.{Stop}
 use Rattle.cfggreatest.specs.declared.sums.Stop.TheVariants.{Leads}
 
--- what a symbol costs outside the group, and this when it is cut down
+-- what a symbol costs outside the group, which is c when it is cut down
 record CostsOutside (costs : ℕ → ℕ) (c : ℕ) : Type 0 where
   rest : ℕ
   cut : min c 65536 ≡ min rest 65536
@@ -55,7 +55,7 @@ module _ (cost : ℕ → ℕ) (known : List Known) (start : ℕ) where
   symbol_inside large (Token t) n e = absurd (cc)
 
   module _ (a : List Sym) (s : Sym) (outer inner : ℕ) (so_far : IsSum cost known start a outer inner) where
-    -- one symbol more, which costs something outside the group
+    -- one more symbol, which costs something outside the group
     pub sum_outside : (c new : ℕ) → read_symbol cost known start s ≡ Ok (Some c) → new ≡ min 65536 (outer + c) → IsSum cost known start (a ++ s ∷ []) new inner
     sum_outside c new e made = record {
       read = All-push (IsRead cost known start) a s so_far.read (Some c, e);
@@ -69,7 +69,7 @@ module _ (cost : ℕ → ℕ) (known : List Known) (start : ℕ) where
           };
     }
 
-    -- one symbol more, of the group
+    -- one more symbol, of the group
     pub sum_inside : read_symbol cost known start s ≡ Ok None → IsSum cost known start (a ++ s ∷ []) outer (inner + 1)
     sum_inside e = record {
       read = All-push (IsRead cost known start) a s so_far.read (None, e);
@@ -82,7 +82,7 @@ module _ (cost : ℕ → ℕ) (known : List Known) (start : ℕ) where
           };
     }
 
--- one symbol of the code more
+-- one more symbol of the code
 pub next_taken : {A : Type 0} (f : A → Sym) (xs : List A) (i : ℕ) (x : A) → i < length xs → x ≡ get_or xs i x → take (i + 1) (map f xs) ≡ take i (map f xs) ++ f x ∷ []
 next_taken f xs i x lt is = take_more (map f xs) i (f x) (mapped_within f xs i x is lt) ∙ ap (λ y. take i (map f xs) ++ y ∷ []) (sym (mapped_at f xs i x is lt))
 

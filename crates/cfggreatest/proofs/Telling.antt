@@ -1,4 +1,4 @@
--- The answers that are told of a rule's greatest cost are true of it alone.
+-- A result for a rule's greatest cost is the only one that is true of it.
 use Rattle.std.proofs.Common.{◌≡◌, ◌↔◌, ℕ, ◌<◌, ◌≤◌, List, Option, Some, None, Result, Ok, Err, refl, ap, subst, arith}
 use Rattle.derivation.specs.Grammar.{Sym}
 use Rattle.derivation.specs.Costs.{Greatest, Unbounded}
@@ -17,7 +17,7 @@ module _ (P : ℕ → List Sym → Type 0) (cost : ℕ → ℕ) (r : ℕ) where
   over : (c n : ℕ) → Greatest P cost r c → c ≤ 65535 → Greatest P cost r n → 65535 < n → ⊥
   over c n top few other many = absurd (omega (arith, few, many, greatest_is_one P cost r c n top other))
 
-  -- two answers that are both true are the same
+  -- two results that are both true are the same
   pub meant_once : (s t : Result (Option ℕ) CostError) → Means P cost r s → Means P cost r t → s ≡ t
   meant_once (Err NoSentence) (Err NoSentence) h k = refl
   meant_once (Err NoSentence) (Ok None) h k = absurd (none_grows h k)
@@ -36,6 +36,6 @@ module _ (P : ℕ → List Sym → Type 0) (cost : ℕ → ℕ) (r : ℕ) where
   meant_once (Err CostTooLarge) (Ok (Some d)) h k = absurd (over d h.0 k.0 k.1 h.1 h.2)
   meant_once (Err CostTooLarge) (Err CostTooLarge) h k = refl
 
-  -- so an answer is told exactly where it is true
+  -- so a result is returned exactly if it is true
   pub exactly : (s t : Result (Option ℕ) CostError) → Means P cost r s → (s ≡ t) ↔ Means P cost r t
   exactly s t h = ((λ e. subst (Means P cost r) e h), (λ k. meant_once s t h k))

@@ -1,4 +1,4 @@
--- Steps of a walk: what they make of what is known.
+-- Steps of a search: how they change what is known.
 use Rattle.std.proofs.Common.{◌≡◌, ℕ, ◌+◌, ◌-◌, ◌<◌, ◌≤◌, ◌⊎◌, inl, inr, Bool, true, false, List, [], ◌∷◌, ◌++◌, All, Contains, Option, Result, Err, get_or, length, slice_set, sum_by, take, length-set, get_or-set_same, ltb-true, leb-true, refl, sym, ap, subst, ◌∙◌, arith, true≢false}
 use Rattle.std.proofs.lemmas.Bool.{cases_lt}
 use Rattle.std.proofs.lemmas.List.{get_or-take, get_or_append_left, get_or_default, get_or_past, get_or_push, length-take-le, length_push}
@@ -30,7 +30,7 @@ module _ (g : Grammar) where
   above_then : (a b c : ℕ) → IsAbove (HasProduction g) a b → IsAbove (HasProduction g) b c → IsAbove (HasProduction g) a c
   above_then a b c h k cost n i = h cost n (k cost n i)
 
-  -- edges lead from a rule to those of a production, if these all may have sentences
+  -- edges lead from a rule to those of a production, if these all may be productive
   pub edges_from : (is : IsGrammar g) (known : List Known) → ((r : ℕ) → is_dead (known_of known r) ≡ false → HasWord (HasProduction g) (Rule r ∷ []))
       → (rule : ℕ) → rule < g.rules → (a : List Sym) → HasProduction g rule a → All (IsLiveSymbol known) a → All (IsEdgeTo g rule) a
   edges_from is known lives rule within a has live k d lt = by (get_or a k d) (all_symbols g _ is has k d lt) (λ r e. (k, lt, get_or_default a k (Rule r) d lt ∙ e))
@@ -44,7 +44,7 @@ module _ (g : Grammar) where
             (λ r among. lives r (subst (IsLiveSymbol known) among.2 (live among.0 (Rule r) among.1))) cost n h);
       }
 
--- a walk whose rules and path stay as they were
+-- a search whose rules and path stayed the same
 pub regrouped : (g : Grammar) (old new : Walk) → IsWalk g old → new ≡ record old { starts = new.starts; edges = new.edges }
     → AreGroups (IsAbove (HasProduction g)) old.path.items new.starts.items → All (IsEdge g) new.edges.items → IsWalk g new
 regrouped g old new walk rest groups edges = subst (IsWalk g) (sym rest) (record {
@@ -61,7 +61,7 @@ pub edges_less : (g : Grammar) (old new : Walk) → IsWalk g old → new ≡ rec
 edges_less g old new walk rest edges =
     subst (IsWalk g) (sym rest) (regrouped g old (record old { edges = new.edges }) walk refl walk.groups edges)
 
--- groups of the path are joined, till none begins behind the place
+-- groups of the path are joined, until none begins after the index
 pub record JoinsGroups (place : ℕ) (old new : Walk) : Type 0 where
   pub rest : new ≡ record old { starts = new.starts }
   pub fewer : (new.starts ≡ old.starts) ⊎ (length new.starts.items < length old.starts.items)
@@ -84,7 +84,7 @@ joins_more place old mid new j start last before rest starts = record {
       (λ i lt. subst (IsAbove (HasProduction g) (get_or old.path.items i 0)) (sym at.1) (out.above i lt)));
 }
 
--- all groups behind the place were joined
+-- all groups after the index were joined
 pub joined : (g : Grammar) (place rule : ℕ) (old new : Walk) → IsWalk g old → IsWayOut g old rule → known_of old.known.items rule ≡ Open place → JoinsGroups place old new
     → ((start : ℕ) → IsLast new.starts.items start → start ≤ place) → GoesOn g old new
 joined g place rule old new walk out e j no_more = record {
@@ -138,7 +138,7 @@ first_walk g bits rules x is e have len each path starts edges = (
     is_told answer true told = absurd (cc)
     is_told answer false told = (refl, (cc))
 
--- this is told of rules behind the start, up to a place
+-- the rules from the start of the group up to an index got this result
 pub record TellsSome (start place : ℕ) (answer : Result (Option ℕ) CostError) (old new : Walk) : Type 0 where
   pub rest : new ≡ record old { known = new.known }
   pub len : length new.known.items ≡ length old.known.items
@@ -242,7 +242,7 @@ led_out g x start r walk last led =
     let at = walk.places led.from h.0 h.1 in
     way_out g x start h.0 r walk last h.2 at.0 led.rule led.outside (subst (λ q. IsAbove (HasProduction g) q r) (sym at.1) led.above)
 
--- where the path is empty, any rule of which nothing is told
+-- if the path is empty, any rule that has no result
 pub root_out : (g : Grammar) (x : Walk) (r : ℕ) → IsWalk g x → length x.starts.items ≡ 0 → r < g.rules
     → ((answer : Result (Option ℕ) CostError) → known_of x.known.items r ≡ Told answer → ⊥) → IsWayOut g x r
 root_out g x r walk none within untold = record {
@@ -275,7 +275,7 @@ start_within g x start walk last = let some = last.some in let at = last.at in l
 pub true_still : (g : Grammar) (cost : ℕ → ℕ) (old new : Walk) → TellsNoMore old new → AreTrue g cost old.known.items → AreTrue g cost new.known.items
 true_still g cost old new no_more so r answer told = so r answer (no_more r answer told)
 
--- one rule more of which this is told
+-- one more rule got this result
 pub tells_none : (start : ℕ) (answer : Result (Option ℕ) CostError) (x : Walk) → TellsSome start start answer x x
 tells_none start answer x = record {
   rest = refl;
@@ -320,7 +320,7 @@ tells_more start place answer old mid new le t rule at within rest known = recor
       | inr h ↦ inr (h.0, ap (λ l. known_of l r) known ∙ h.1)
     ]
 
--- this is told of the whole last group, which left the path
+-- the whole last group got this result, and left the path
 pub told_walk : (g : Grammar) (cost : ℕ → ℕ) (start place : ℕ) (answer : Result (Option ℕ) CostError) (old mid new : Walk) → IsWalk g old → IsLast old.starts.items start
     → CanTell g cost old start answer → TellsSome start place answer old mid → place ≡ length old.path.items → new.known ≡ mid.known → new.edges ≡ mid.edges
     → new.path.items ≡ take start mid.path.items → new.starts.items ≡ take (length mid.starts.items - 1) mid.starts.items

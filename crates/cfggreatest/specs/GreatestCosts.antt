@@ -1,4 +1,4 @@
--- What is told of a rule's greatest cost.
+-- The results for a rule's greatest cost.
 use Rattle.std.specs.Prelude.{◌≡◌, ◌↔◌, ℕ, ◌<◌, ◌≤◌, List, Option, Some, None, Result, Ok, Err, length, slice_index_or}
 use Rattle.derivation.specs.Grammar.{Sym, Grammar, HasProduction}
 use Rattle.derivation.specs.Sentence.{Sentence}
@@ -7,14 +7,14 @@ use Rattle.derivation.specs.Cycles.{MeetsGrowingCycle}
 use Rattle.derivation.specs.declared.errors.CostError.{CostError}
 use Rattle.derivation.specs.declared.errors.CostError.TheVariants.{NoSentence, CostTooLarge}
 
--- what an answer means for a rule
+-- what a result means for a rule
 abbrev pub Means : (ℕ → List Sym → Type 0) → (ℕ → ℕ) → ℕ → Result (Option ℕ) CostError → Type 0
 Means P cost r (Err NoSentence) = (w : List ℕ) → Sentence P r w → ⊥
 Means P cost r (Ok None) = Unbounded P cost r
 Means P cost r (Ok (Some c)) = Greatest P cost r c × (c ≤ 65535)
 Means P cost r (Err CostTooLarge) = (n : ℕ) × Greatest P cost r n × (65535 < n)
 
--- what is answered of each rule of a grammar is so, and `None` is answered exactly where a growing cycle is met
+-- the result for each rule of a grammar is true, and it is `None` exactly if the rule meets a growing cycle
 pub record AreTold (g : Grammar) (cost : ℕ → ℕ) (answers : List (Result (Option ℕ) CostError)) : Type 0 where
   pub rules : length answers ≡ g.rules
   pub means : (r : ℕ) → r < g.rules → Means (HasProduction g) cost r (slice_index_or answers r (Err NoSentence))

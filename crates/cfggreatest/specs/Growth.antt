@@ -4,7 +4,7 @@ use Rattle.derivation.specs.Grammar.{Sym, Rule, Token}
 use Rattle.derivation.specs.Derivation.{Derives}
 use Rattle.derivation.specs.Sentence.{cost_of}
 
--- r derives a list with x in it, beside symbols that derive tokens which cost something
+-- r derives a list that contains x, beside symbols that derive tokens which cost something
 pub record GrowsFrom (P : ℕ → List Sym → Type 0) (cost : ℕ → ℕ) (r x : ℕ) : Type 0 where
   pub before : List Sym
   pub after : List Sym

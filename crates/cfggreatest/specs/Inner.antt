@@ -1,4 +1,4 @@
--- Words of clauses inside the crate, of its loops and helpers. No call that users make rests on them.
+-- Definitions for clauses inside the crate, of its loops and helpers. No public contract depends on them.
 pub mod AtLeast
 pub mod Live
 pub mod Known

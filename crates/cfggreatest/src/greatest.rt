@@ -10,16 +10,16 @@ use cfgtables::Tables;
 use derivation::CostError;
 use std::alloc::{AllocError, Global};
 
-/// For each rule the greatest cost of its sentences, where a sentence costs what its tokens cost together: `None` where
-/// some sentence costs more than any number, and a refusal where the rule has no sentence, or the greatest cost is past
-/// 65535.
+/// For each rule the greatest cost of its sentences, where a sentence costs the sum of what its tokens cost. It is
+/// `None` if for every number some sentence costs more, and an error if the rule is unproductive, or if its greatest
+/// cost is more than 65535.
 ///
-/// A rule that derives itself may have a greatest cost all the same: its costs are unbounded exactly where it meets a
-/// growing cycle, a rule that derives itself beside tokens that cost something.
+/// A cyclic rule may still have a greatest cost: costs are unbounded exactly if the rule meets a growing cycle, that
+/// is, a rule x that derives u x v in one or more steps, where u and v derive tokens that cost something.
 ///
 /// # Errors
 ///
-/// Want of memory.
+/// Out of memory.
 pub fn greatest_costs<S: Storage, T: Tables<S>>(
     alloc: Global,
     grm: &T,

@@ -1,4 +1,4 @@
-//! Which rules have sentences.
+//! Which rules are productive.
 
 ghost use Rattle.std.specs.Prelude.{◌≡◌, IfOk, MatchBool, length, map};
 ghost use Rattle.cfganalysis.specs.Inner.Growth.{CanNote, CanTakeIn, TakesIn, shown};
@@ -20,7 +20,7 @@ use cfgtables::{CountedTables, Productions, Tables};
 use std::alloc::{AllocError, Global};
 use std::marker::Model;
 
-/// The rules that have sentences, a bit for each.
+/// The productive rules, as a bit for each rule.
 #[derive(Drop)]
 pub(crate) struct Live {
     bits: Vob,
@@ -35,11 +35,11 @@ impl Model for Live {
 }
 
 impl Live {
-    /// The rules of a grammar that have sentences.
+    /// The productive rules of a grammar.
     ///
     /// # Errors
     ///
-    /// Want of memory.
+    /// Out of memory.
     pub(crate) fn new<S: Storage, T: Tables<S>>(
         alloc: Global,
         tables: &T,
@@ -56,14 +56,14 @@ impl Live {
         Ok(live)
     }
 
-    /// Whether the rule has a sentence.
+    /// Whether the rule is productive.
     pub(crate) fn has(&self, rule: usize) -> bool
         ensures { result ≡ is_live self.now rule }
     {
         self.bits.get(rule).unwrap_or(false)
     }
 
-    /// Whether the symbol is a token, or a rule that has a sentence.
+    /// Whether the symbol is a token or a productive rule.
     fn has_symbol<S: Storage>(&self, symbol: Symbol<S>) -> bool
         ensures { result ≡ is_live_symbol self.now (sym_of S.number symbol) }
     {
@@ -73,7 +73,7 @@ impl Live {
         }
     }
 
-    /// Whether all symbols are tokens, or rules that have sentences.
+    /// Whether all symbols are tokens or productive rules.
     fn has_all<S: Storage>(&self, symbols: &[Symbol<S>]) -> bool
         ensures { MatchBool result (AreLive self.now (map (sym_of S.number) symbols.now))
             (AreLive self.now (map (sym_of S.number) symbols.now) → ⊥) }

@@ -1,6 +1,6 @@
-//! What the productions of a group of rules cost, beside the rules of the group. In a group each rule costs as much as
-//! any other. So its greatest cost is the greatest of these sums, unless a rule of the group stands beside what costs
-//! something, and the costs grow.
+//! What the productions of a group of rules cost, without the rules of the group. In a group, each rule costs as much
+//! as any other. So its greatest cost is the greatest of these sums, unless a rule of the group is beside something
+//! that costs: then the costs grow.
 
 ghost use Rattle.std.specs.Prelude.{◌≡◌, ℕ, ◌+◌, ◌<◌, ◌≤◌, All, IfErr, MatchBool, MatchResult, OnOk, false, length};
 ghost use Rattle.std.specs.Prelude.{map, min};
@@ -17,7 +17,7 @@ use cfgindex::{RIdx, Storage, Symbol, to_storage};
 use cfgtables::Tables;
 use derivation::CostError;
 
-/// What no answer of a greatest cost is above.
+/// The least cost that is too large.
 const TOO_LARGE: u32 = 65536;
 
 /// What is known of a rule.
@@ -25,27 +25,27 @@ const TOO_LARGE: u32 = 65536;
 pub(crate) enum Known {
     /// It was not entered.
     New,
-    /// It stands at this place of the path.
+    /// It is on the path, at this index.
     Open(usize),
-    /// This is told of it.
+    /// Its result.
     Told(Result<Option<u16>, CostError>),
 }
 
 /// Why the sum of a group was stopped.
 #[derive(Drop)]
 pub(crate) enum Stop {
-    /// A rule leads to this one, of which nothing is told, and which is not of the group.
+    /// The group leads to this rule, which has no result, and isn't in the group.
     Leads(usize),
-    /// The costs of the group grow past any number.
+    /// The costs of the group are unbounded.
     Grows,
 }
 
-/// What a row of symbols costs.
+/// What a list of symbols costs.
 #[derive(Drop)]
 struct RowSum {
-    /// What stands outside the group costs so much, cut down.
+    /// What the symbols outside the group cost, cut down.
     outer: u32,
-    /// So many symbols are rules of the group.
+    /// How many symbols are rules of the group.
     inner: usize,
 }
 
@@ -54,7 +54,7 @@ struct RowSum {
 pub(crate) struct Sums {
     /// The greatest sum outside the group, cut down.
     top: u32,
-    /// Whether a production holds two rules of the group.
+    /// Whether a production contains two rules of the group.
     twice: bool,
 }
 
@@ -69,7 +69,7 @@ impl Sums {
         }
     }
 
-    /// What the sums tell of each rule of the group.
+    /// The result for each rule of the group.
     pub(crate) fn answer(&self) -> Result<Option<u16>, CostError>
         ensures { result ≡ group_answer self.now.top self.now.twice }
     {
@@ -83,14 +83,14 @@ impl Sums {
     }
 }
 
-/// Whether it is told of a rule that it has no sentence.
+/// Whether the rule's result is that it is unproductive.
 fn is_dead(known: Known) -> bool
     ensures { result ≡ is_dead known }
 {
     matches!(known, Known::Told(Err(CostError::NoSentence)))
 }
 
-/// Whether a symbol is a token, or a rule that may have sentences.
+/// Whether a symbol is a token or a rule that may be productive.
 fn is_live<S: Storage>(known: &[Known], symbol: Symbol<S>) -> bool
     requires { (tokens : ℕ) × IsListed (length known.now) tokens (sym_of S.number symbol) }
     ensures { MatchBool result (IsLiveSymbol known.now (sym_of S.number symbol))
@@ -102,7 +102,7 @@ fn is_live<S: Storage>(known: &[Known], symbol: Symbol<S>) -> bool
     }
 }
 
-/// Whether each rule among the symbols may have sentences.
+/// Whether each rule among the symbols may be productive.
 pub(crate) fn are_live<S: Storage>(known: &[Known], symbols: &[Symbol<S>]) -> bool
     requires { (tokens : ℕ) × All (IsListed (length known.now) tokens) (map (sym_of S.number) symbols.now) }
     ensures { MatchBool result (All (IsLiveSymbol known.now) (map (sym_of S.number) symbols.now))
@@ -116,7 +116,7 @@ pub(crate) fn are_live<S: Storage>(known: &[Known], symbols: &[Symbol<S>]) -> bo
     true
 }
 
-/// What a rule of which this is told adds to a sum, cut down.
+/// What a rule with this result adds to a sum, cut down.
 fn told_cost(answer: Result<Option<u16>, CostError>) -> Result<Option<u32>, Stop>
     ensures { result ≡ read_answer answer }
 {
@@ -127,7 +127,7 @@ fn told_cost(answer: Result<Option<u16>, CostError>) -> Result<Option<u32>, Stop
     }
 }
 
-/// What a rule adds to a sum, if it is not of the group that begins at this place.
+/// What a rule adds to a sum, unless it is in the group that begins at this index.
 fn rule_cost(known: &[Known], start: usize, rule: usize) -> Result<Option<u32>, Stop>
     requires { rule < length known.now }
     ensures { result ≡ read_known start rule (known_of known.now rule) }
@@ -140,7 +140,7 @@ fn rule_cost(known: &[Known], start: usize, rule: usize) -> Result<Option<u32>, 
     }
 }
 
-/// What a symbol adds to a sum, if it is no rule of the group that begins at this place.
+/// What a symbol adds to a sum, unless it is a rule of the group that begins at this index.
 fn symbol_cost<S: Storage>(
     known: &[Known],
     costs: &[u8],
@@ -163,7 +163,7 @@ fn cut_sum(first: u32, second: u32) -> u32
     TOO_LARGE.min(first.saturating_add(second))
 }
 
-/// What the symbols cost together, beside the rules of the group that begins at this place.
+/// What the symbols cost in total, without the rules of the group that begins at this index.
 fn row_sum<S: Storage>(
     known: &[Known],
     costs: &[u8],
@@ -186,7 +186,7 @@ fn row_sum<S: Storage>(
     Ok(RowSum { outer, inner })
 }
 
-/// Takes in the sum of a production, if it has words.
+/// Adds the sum of a production, if it has words.
 fn take_row<S: Storage>(
     known: &[Known],
     costs: &[u8],
@@ -211,7 +211,7 @@ fn take_row<S: Storage>(
     Ok(())
 }
 
-/// Takes in the sums of the productions of the rule that stands at this place of the path.
+/// Adds the sums of the productions of the rule at this index of the path.
 fn take_rule<S: Storage, T: Tables<S>>(
     grm: &T,
     known: &[Known],
@@ -243,7 +243,7 @@ fn take_rule<S: Storage, T: Tables<S>>(
     Ok(())
 }
 
-/// The sums of the productions of the group that begins at this place of the path.
+/// The sums of the productions of the group that begins at this index of the path.
 pub(crate) fn group_sums<S: Storage, T: Tables<S>>(
     grm: &T,
     known: &[Known],

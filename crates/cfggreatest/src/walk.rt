@@ -1,5 +1,5 @@
-//! A walk through rules, which finds groups of rules that refer to one another: a path of groups, of which the last one
-//! is left by an edge, joined to one before it, or told (Gabow, Path-based depth-first search for strong and
+//! A search for groups of rules that refer to one another. It has a path of groups, of which the last one is left along
+//! an edge, joined to an earlier one, or given its result (Gabow, Path-based depth-first search for strong and
 //! biconnected components, 2000).
 
 ghost use Rattle.std.specs.Prelude.{◌≡◌, ℕ, ◌<◌, ◌≤◌, [], ◌∷◌, All, IfOk, IfSome, MatchOption, OnOk, Option};
@@ -22,20 +22,20 @@ use cfgtables::Tables;
 use derivation::CostError;
 use std::alloc::{AllocError, Global};
 
-/// A walk through rules.
+/// A search through rules.
 #[derive(Drop)]
 pub(crate) struct Walk {
     /// What is known of each rule.
     known: Vec<Known>,
-    /// The rules that were entered, and of which nothing is told yet.
+    /// The rules that were entered and have no result yet.
     path: Vec<usize>,
-    /// The places of the path at which groups begin.
+    /// The indices of the path at which groups begin.
     starts: Vec<usize>,
-    /// References that are still to be followed, each from a rule to one that it holds.
+    /// References that are still to be followed, each from a rule to a rule that it contains.
     edges: Vec<(usize, usize)>,
 }
 
-/// What is known of a rule before the walk.
+/// What is known of a rule before the search.
 fn first_known(live: bool) -> Known
     ensures { result ≡ first_known live }
 {
@@ -46,11 +46,11 @@ fn first_known(live: bool) -> Known
     }
 }
 
-/// Lets edges wait from a rule to those among the symbols.
+/// Adds edges from a rule to those among the symbols.
 ///
 /// # Errors
 ///
-/// Want of memory.
+/// Out of memory.
 fn push_symbols<S: Storage>(
     edges: &mut Vec<(usize, usize)>,
     from: usize,
@@ -67,11 +67,11 @@ fn push_symbols<S: Storage>(
     Ok(())
 }
 
-/// Lets edges wait from a rule to those in its productions that have words.
+/// Adds edges from a rule to those in its productions that have words.
 ///
 /// # Errors
 ///
-/// Want of memory.
+/// Out of memory.
 fn push_edges<S: Storage, T: Tables<S>>(
     grm: &T,
     known: &[Known],
@@ -96,11 +96,11 @@ fn push_edges<S: Storage, T: Tables<S>>(
 }
 
 impl Walk {
-    /// A walk that entered no rule. Of rules that have no sentence that is told.
+    /// A search that has entered no rule. Unproductive rules have their result already.
     ///
     /// # Errors
     ///
-    /// Want of memory.
+    /// Out of memory.
     pub(crate) fn new(alloc: Global, live: &Live, rules: usize) -> Result<Self, AllocError>
         ensures { IfOk result (λ x. (g : Grammar) → IsGrammar g → rules ≡ g.rules → HaveSentences g live.now
             → IsWalk g x × ((cost : ℕ → ℕ) → AreTrue g cost x.known.items)) }
@@ -117,18 +117,18 @@ impl Walk {
         })
     }
 
-    /// Where the last group begins on the path.
+    /// The index of the path at which the last group begins.
     fn last_start(&self) -> Option<usize>
         ensures { MatchOption result (length self.now.starts.items ≡ 0) (IsLast self.now.starts.items) }
     {
         self.starts.last().copied()
     }
 
-    /// Enters a rule, which is a group of its own, and lets the edges wait that lead from it.
+    /// Enters a rule, as a new group, and adds the edges that lead from it.
     ///
     /// # Errors
     ///
-    /// Want of memory.
+    /// Out of memory.
     fn enter<S: Storage, T: Tables<S>>(&mut self, grm: &T, rule: usize) -> Result<(), AllocError>
         requires walk { IsWalk (T.grammar grm.now) self.old }
         requires out { IsWayOut (T.grammar grm.now) self.old rule }
@@ -142,7 +142,7 @@ impl Walk {
         push_edges(grm, &self.known, rule, &mut self.edges)
     }
 
-    /// Whether a group begins behind this place.
+    /// Whether a group begins after this index.
     fn begins_behind(&self, place: usize) -> bool
         ensures behind { result ≡ true → (start : ℕ) × IsLast self.now.starts.items start × (place < start) }
         ensures no_more { result ≡ false → (start : ℕ) → IsLast self.now.starts.items start → start ≤ place }
@@ -153,7 +153,7 @@ impl Walk {
         }
     }
 
-    /// Joins the groups behind this place to the one that it is in.
+    /// Joins the groups after this index to the one that contains it.
     fn join(&mut self, place: usize)
         ensures { (g : Grammar) (rule : ℕ) → IsWalk g self.old → IsWayOut g self.old rule
             → known_of self.old.known.items rule ≡ Known.Open place → GoesOn g self.old self.new }
@@ -167,7 +167,7 @@ impl Walk {
     ///
     /// # Errors
     ///
-    /// Want of memory.
+    /// Out of memory.
     fn follow<S: Storage, T: Tables<S>>(&mut self, grm: &T, rule: usize) -> Result<(), AllocError>
         requires walk { IsWalk (T.grammar grm.now) self.old }
         requires out { IsWayOut (T.grammar grm.now) self.old rule }
@@ -183,7 +183,7 @@ impl Walk {
         }
     }
 
-    /// Whether the rule stands in the group that begins at this place.
+    /// Whether the rule is in the group that begins at this index.
     fn is_in(&self, start: usize, rule: usize) -> bool
         requires { rule < length self.now.known.items }
         ensures { result ≡ is_inside start (known_of self.now.known.items rule) }
@@ -194,7 +194,7 @@ impl Walk {
         }
     }
 
-    /// Whether nothing is told of the rule, and it doesn't stand in the group that begins at this place.
+    /// Whether the rule has no result, and isn't in the group that begins at this index.
     fn is_out(&self, start: usize, rule: usize) -> bool
         requires { rule < length self.now.known.items }
         ensures { result ≡ is_outside start (known_of self.now.known.items rule) }
@@ -206,8 +206,8 @@ impl Walk {
         }
     }
 
-    /// A rule outside the group that begins at this place, to which an edge of the group leads. Edges that lead
-    /// elsewhere wait no longer.
+    /// A rule outside the group that begins at this index, to which an edge of the group leads. Drops edges that lead
+    /// elsewhere.
     fn next_out(&mut self, start: usize) -> Option<usize>
         requires { (g : Grammar) × IsWalk g self.old }
         ensures rest { self.new ≡ record self.old { edges = self.new.edges } }
@@ -227,7 +227,7 @@ impl Walk {
         None
     }
 
-    /// Tells this of each rule of the last group, which leaves the path.
+    /// Gives this result to each rule of the last group, which leaves the path.
     fn tell(&mut self, start: usize, answer: Result<Option<u16>, CostError>)
         requires walk { (g : Grammar) × IsWalk g self.old }
         requires last { IsLast self.old.starts.items start }
@@ -242,11 +242,11 @@ impl Walk {
         self.starts.truncate(self.starts.len() - 1);
     }
 
-    /// Tells of the last group, where no edge leads out of it that waits.
+    /// Gives the last group its result, if no edge is left that leads out of it.
     ///
     /// # Errors
     ///
-    /// Want of memory.
+    /// Out of memory.
     fn close<S: Storage, T: Tables<S>>(
         &mut self,
         grm: &T,
@@ -267,11 +267,11 @@ impl Walk {
         Ok(())
     }
 
-    /// Goes on: from the last group along an edge, or back from it, or if there is none to this rule.
+    /// One step of the search: from the last group along an edge, or back from it; if the path is empty, to this rule.
     ///
     /// # Errors
     ///
-    /// Want of memory.
+    /// Out of memory.
     fn step<S: Storage, T: Tables<S>>(
         &mut self,
         grm: &T,
@@ -294,11 +294,11 @@ impl Walk {
         }
     }
 
-    /// What is told of the rule.
+    /// The result for the rule.
     ///
     /// # Errors
     ///
-    /// Want of memory.
+    /// Out of memory.
     pub(crate) fn answer<S: Storage, T: Tables<S>>(
         &mut self,
         grm: &T,

@@ -77,7 +77,7 @@ module _ (g : Grammar) (cost : ℕ → ℕ) (least : List (Option ℕ)) (choices
       let (w, s, cut) = some_sentence r c e in
       ((w, s), λ v t. let more = no_less r c e v t in omega (arith, more, large))
 
-  -- what is answered of a rule
+  -- the result for a rule
   pub answers_none : (r : ℕ) → rule_cost least r ≡ None → AnswersLeast (HasProduction g) cost r (Err NoSentence)
   answers_none r e = let none = λ (w : List ℕ) (s : Sentence (HasProduction g) r w). none-some _ (sym e ∙ (below r w s).is) in record {
     least = tt;
@@ -105,7 +105,7 @@ module _ (g : Grammar) (cost : ℕ → ℕ) (least : List (Option ℕ)) (choices
     dear = ((λ h. dear), (λ h. refl));
   }
 
-  -- the production by which a rule was settled derives a sentence of the least cost
+  -- the production that settled a rule derives a sentence of the least cost
   pub least_production : (r c p m : ℕ) → rule_cost least r ≡ Some c → c ≤ 65535 → rule_choice choices r ≡ Some (p, m) → IsLeastProduction g cost r p
   least_production r c p m e small k =
       let (p', m', by, lt) = state.chosen.chosen r c e in

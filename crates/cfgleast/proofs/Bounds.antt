@@ -9,13 +9,13 @@ use Rattle.derivation.proofs.Sums.{plus_both}
 use Rattle.derivation.proofs.Made.{GoesOver}
 use Rattle.cfgleast.proofs.TreeSums.{GoesUp, sums_by_trees}
 
--- a cost that is there, and at most n
+-- a cost that exists and is at most n
 pub record IsAtMost (cost : Option ℕ) (n : ℕ) : Type 0 where
   pub value : ℕ
   pub is : cost ≡ Some value
   pub within : value ≤ n
 
--- a cost that is there, and at most n when it is cut down to the limit
+-- a cost that exists, and is at most n when it is cut down to the limit
 pub record IsAtMostCut (limit : ℕ) (cost : Option ℕ) (n : ℕ) : Type 0 where
   pub value : ℕ
   pub is : cost ≡ Some value
@@ -25,7 +25,7 @@ module _ (P : ℕ → List Sym → Type 0) (cost : ℕ → ℕ) (least : ℕ →
   costs : Sym → Option ℕ
   costs = symbol_cost cost least
 
-  -- each rule costs at most what a production of it costs, if that is at most the limit
+  -- each rule costs at most what any of its productions costs, if that is at most the limit
   pub record Covers : Type 0 where
     pub covers : (r n : ℕ) (symbols : List Sym) → P r symbols → sum_of (symbol_cost cost least) symbols ≡ Some n → n ≤ limit → IsAtMost (least r) n
 
@@ -43,11 +43,11 @@ module _ (P : ℕ → List Sym → Type 0) (cost : ℕ → ℕ) (least : ℕ →
         record { value = c.value; is = c.is; within = omega (arith, c.within, k.within) };
   }
 
-  -- no row of symbols yields words that cost less than the row, and not more than the limit
+  -- no list of symbols yields words that cost less than the list, and at most the limit
   pub lower_bound : Covers → {a : List Sym} {w : List ℕ} → Yields P a w → cost_of cost w ≤ limit → IsAtMost (sum_of (symbol_cost cost least) a) (cost_of cost w)
   lower_bound h t = sums_by_trees P cost (symbol_cost cost least) (λ c n. n ≤ limit → IsAtMost c n) (goes_up h) t
 
-  -- each rule costs at most what a production of it costs, cut down to the limit
+  -- each rule costs at most what any of its productions costs, cut down to the limit
   pub record CoversCut : Type 0 where
     pub covers : (r n : ℕ) (symbols : List Sym) → P r symbols → sum_of (symbol_cost cost least) symbols ≡ Some n → IsAtMost (least r) (min n limit)
 
@@ -65,11 +65,11 @@ module _ (P : ℕ → List Sym → Type 0) (cost : ℕ → ℕ) (least : ℕ →
         record { value = c.value; is = c.is; within = omega (arith, c.within, k.within) };
   }
 
-  -- no row of symbols yields words that cost less than the row, cut down to the limit
+  -- no list of symbols yields words that cost less than the list, cut down to the limit
   pub lower_bound_cut : CoversCut → {a : List Sym} {w : List ℕ} → Yields P a w → IsAtMostCut limit (sum_of (symbol_cost cost least) a) (cost_of cost w)
   lower_bound_cut h t = sums_by_trees P cost (symbol_cost cost least) (IsAtMostCut limit) (goes_up_cut h) t
 
--- costs in the table that are just those of words
+-- costs in the table that are exactly those of words
 pub exactly_over : (cost : ℕ → ℕ) (least : ℕ → Option ℕ) → GoesOver cost (symbol_cost cost least) (λ c n. c ≡ n)
 exactly_over cost least = record {
   none = refl;

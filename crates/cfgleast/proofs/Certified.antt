@@ -1,4 +1,4 @@
--- What the certificate of least costs says, read from the lists that pass its checks.
+-- What the certificate of least costs says, read from lists that pass its checks.
 use Rattle.std.proofs.Common.{◌≡◌, ℕ, ◌+◌, ◌<◌, ◌≤◌, inl, inr, ◌⊎◌, List, [], ◌∷◌, length, take, Option, Some, None, All, arith, refl, sym, ap, subst, ◌∙◌}
 use Rattle.std.proofs.lemmas.Option.{none-some, same_Some}
 use Rattle.std.specs.Prelude.{IfSome, IsSomeAnd, MatchOption, EachIndex, slice_index}
@@ -23,7 +23,7 @@ use Rattle.cfgleast.proofs.TreeSums.{Choice, reached}
 use Rattle.cfgleast.proofs.Bounds.{IsAtMost, Covers, lower_bound, exactly_over}
 
 module _ (g : Grammar) (costs : List ℕ) (least : List (Option ℕ)) where
-  -- one production more
+  -- one more production
   pub covered_more : (n place rule : ℕ) (symbols : List Sym) → n < length g.productions → place ≡ n
       → rule ≡ (nth_production g place).rule → symbols ≡ (nth_production g place).symbols
       → All (IsCoveredInRange costs least) (take n g.productions) → IsCoveredInRange costs least (record { rule = rule; symbols = symbols })
@@ -141,7 +141,7 @@ module _ (g : Grammar) (costs : List ℕ) (least : List (Option ℕ)) (choices :
   reached_from_shown h = subst (λ o. IfSome o (λ c. IsSomeAnd (rule_choice choices r) (λ choice. IsShown g costs least choices (claim_of r c choice)))) (sym cost_is)
       (subst (λ o. IsSomeAnd o (λ choice. IsShown g costs least choices (claim_of r c choice))) (sym choice_is) h)
 
--- the symbols of a production are in lists that are as long as the grammar has rules and tokens
+-- the symbols of a production have entries in lists that are as long as the grammar has rules and tokens
 pub production_listed : (g : Grammar) (p rules tokens : ℕ) (symbols : List Sym) → IsGrammar g → p < length g.productions → rules ≡ g.rules → tokens ≡ g.tokens
     → symbols ≡ (nth_production g p).symbols → All (IsListed rules tokens) symbols
 production_listed g p rules tokens symbols is within same_rules same_tokens shown = subst (All (IsListed rules tokens)) (sym shown)
@@ -158,7 +158,7 @@ module _ (g : Grammar) (costs : List ℕ) (least : List (Option ℕ)) (choices :
   reached_not c cost_is choice_is h = subst (λ o. IsSomeAnd o (λ choice. IsShown g costs least choices (claim_of r c choice))) choice_is
       (subst (λ o. IfSome o (λ c. IsSomeAnd (rule_choice choices r) (λ choice. IsShown g costs least choices (claim_of r c choice)))) cost_is h)
 
--- a cost that is at most 65535, that a sentence has, and that none goes below, is the least
+-- a cost that is at most 65535, is that of a sentence, and isn't undercut, is the least
 pub certified_least : (g : Grammar) (costs : List ℕ) (least : List (Option ℕ)) (choices : List (Option (ℕ × ℕ)))
     → All (IsCovered costs least) g.productions → EachIndex least (IsReached g costs least choices)
     → All (λ o. IfSome o (λ c. c ≤ 65535)) least

@@ -115,7 +115,7 @@ module _ (g : Grammar) (cost : ℕ → ℕ) where
         ]
       ]
 
-      -- one rule more
+      -- one more rule
       pub chosen_more : AreChosen g cost (slice_set least r (Some c)) (slice_set choices r (Some (p, n))) (n + 1)
       chosen_more = record {
         costs = length-set least r (Some c) ∙ state.costs;

@@ -1,10 +1,10 @@
--- Sums that are cut down to 65536 while they are made.
+-- Sums that are cut down to 65536 while they are computed.
 use Rattle.std.proofs.Common.{◌≡◌, ℕ, ◌+◌, min, List, [], ◌∷◌, Option, Some, None, option_map, arith, refl, sym, ap, ◌∙◌}
 use Rattle.derivation.specs.Grammar.{Sym}
 use Rattle.derivation.specs.Sums.{plus, sum_of}
 use Rattle.derivation.proofs.Sums.{plus_assoc, zero_plus}
 
--- the sum of the symbols that were taken, cut down; the rest is still to come
+-- the sum of the symbols that were added, cut down; the rest is still to come
 pub record SumSoFar (costs : Sym → Option ℕ) (all rest : List Sym) (sum : ℕ) : Type 0 where
   pub so_far : ℕ
   pub cut : sum ≡ min so_far 65536

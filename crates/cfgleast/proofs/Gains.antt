@@ -1,4 +1,4 @@
--- One rule more is settled: sums that were there stay, and each new sum is at least what the rule costs.
+-- One more rule is settled: existing sums stay, and each new sum is at least what the rule costs.
 use Rattle.std.proofs.Common.{◌≡◌, ℕ, zero, suc, ◌<◌, ◌≤◌, ◌⊎◌, inl, inr, List, [], ◌∷◌, length, get_or, Option, Some, None, All, arith, sym, ap, ◌∙◌}
 use Rattle.std.proofs.lemmas.Option.{same_Some}
 use Rattle.std.proofs.lemmas.List.Elements.{All-nil, All-cons}

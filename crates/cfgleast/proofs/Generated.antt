@@ -1,4 +1,4 @@
--- What a generator holds, and what it answers.
+-- What a generator stores, and what it returns.
 use Rattle.std.proofs.Common.{◌≡◌, ◌↔◌, ℕ, ◌<◌, ◌≤◌, ◌⊎◌, inl, inr, List, [], ◌∷◌, length, get_or, map, cond, Option, Some, None, Ok, Err, All, arith, refl, sym, ap, subst, ◌∙◌}
 use Rattle.std.proofs.lemmas.Option.{same_Some}
 use Rattle.std.specs.Prelude.{IfSome, IsSomeAnd, EachIndex}
@@ -38,7 +38,7 @@ module _ (x : CostTables) (n : ℕ) (is : IsGenerator x n) where
   pub reads_dear : (r c : ℕ) → rule_cost x.least r ≡ Some c → 65535 < c → AnswersLeast (HasProduction x.grammar) (token_cost x) r (Err CostTooLarge)
   reads_dear r c e large = answers_dear x.grammar (token_cost x) x.least x.choices n is.settled r c e large
 
--- a cost that is answered is that of the table, and at most 65535
+-- a cost that is returned is that of the table, and at most 65535
 pub answered_some : (o : Option ℕ) (c : ℕ) → up_to_limit o ≡ Some c → (o ≡ Some c) × (c ≤ 65535)
 answered_some None c e = let no : None ≡ Some c = e in absurd (cc)
 answered_some (Some d) c e = elim (leb_tells d 65535) [
@@ -60,7 +60,7 @@ sum_within f g limit kept (s ∷ a) n e small =
     (sum_within f g limit kept a p.second p.second_is (omega (arith, w, small))) ∙ ap Some (sym w)
 
 module _ (x : CostTables) (n : ℕ) (is : IsGenerator x n) where
-  -- the choice of a rule whose cost is answered is of a production of least cost
+  -- the choice of a rule whose cost is returned is a production of least cost
   pub choice_read : {S : Type 0} (value : S → ℕ) (r c : ℕ) (entry : Option (PIdx S × ℕ)) → Some c ≡ cost_answer x r → rule_choice x.choices r ≡ choice_of value entry
       → IfSome entry (λ choice. IsLeastProduction x.grammar (token_cost x) r (value choice.0.0))
   choice_read value r c None answer shown = tt
@@ -75,7 +75,7 @@ module _ (x : CostTables) (n : ℕ) (is : IsGenerator x n) where
       item_shown (choice_of value) items x.choices r entry None shown (subst (λ m. r < m) (sym is.settled.chosen.listed) within)
       (subst (λ m. entry ≡ get_or items m entry) at stands)
 
-  -- a rule whose cost is answered has a choice
+  -- a rule whose cost is returned has a choice
   pub choice_none : {S : Type 0} (value : S → ℕ) (r c : ℕ) (entry : Option (PIdx S × ℕ)) → Some c ≡ cost_answer x r → rule_choice x.choices r ≡ choice_of value entry
       → (entry ≡ None) ↔ (HasNone (HasProduction x.grammar) r ⊎ IsTooDear (HasProduction x.grammar) (token_cost x) r)
   choice_none value r c entry answer shown =
@@ -157,7 +157,7 @@ module _ (x : CostTables) (n : ℕ) (is : IsGenerator x n) where
           go None e = tt
           go (Some c) e = reached_cost r c e
 
--- why no cost is answered
+-- why no cost is returned
 pub refused : (P : ℕ → List Sym → Type 0) (cost : ℕ → ℕ) (r : ℕ) (e : CostError) → AnswersLeast P cost r (Err e) → HasNone P r ⊎ IsTooDear P cost r
 refused P cost r NoSentence h = inl (h.none.0 refl)
 refused P cost r CostTooLarge h = inr (h.dear.0 refl)

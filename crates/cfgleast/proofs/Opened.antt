@@ -1,4 +1,4 @@
--- Productions on the way to their sums: one moves on, one leaves the queue, a rule is settled.
+-- Productions on the way to their sums: one advances, one leaves the queue, or a rule is settled.
 use Rattle.std.proofs.Common.{◌≡◌, ℕ, ◌<◌, ◌≤◌, ◌⊎◌, inl, inr, ◌++◌, min, List, [], ◌∷◌, length, slice_set, Option, Some, None, All, Contains, arith, sym, ap, subst, ◌∙◌}
 use Rattle.std.proofs.lemmas.Option.{same_Some}
 use Rattle.std.specs.List.Sorted.{IsPermutation}
@@ -14,7 +14,7 @@ use Rattle.derivation.specs.Sums.{sum_of, symbol_cost}
 use Rattle.cfgleast.specs.Inner.Open.{IsCutSum, WaitsFor, MovesOn, enters, waits, Phase, queued, held, past, moved, AreOpen, IsAmong, waiting_for}
 use Rattle.cfgleast.proofs.Gains.{Gains, part_at, rule_kept, rule_gained, row_kept, row_gained}
 
--- the elements of a list that another is, with one more in front
+-- the elements of a list that is a permutation of another with one more element
 module _ {A : Type 0} (x : A) (xs ys : List A) (perm : IsPermutation (x ∷ xs) ys) where
   pub top_in : Contains ys x
   top_in = Contains-permutation (x ∷ xs) ys x perm (contains_first x xs)
@@ -25,7 +25,7 @@ module _ {A : Type 0} (x : A) (xs ys : List A) (perm : IsPermutation (x ∷ xs) 
   cases_in : (y : A) → Contains ys y → (x ≡ y) ⊎ Contains xs y
   cases_in y h = contains_cases x y xs (Contains-permutation ys (x ∷ xs) y (IsPermutation-sym (x ∷ xs) ys perm) h)
 
--- a production waits for a rule more
+-- one more production waits for a rule
 module _ (waiting : List (List Partial)) (r : ℕ) (x : Partial) where
   added_old : (s : ℕ) (y : Partial) → Contains (waiting_for waiting s) y → Contains (waiting_for (slice_set waiting r (waiting_for waiting r ++ x ∷ [])) s) y
   added_old s y h = elim (get_or-set waiting r s (waiting_for waiting r ++ x ∷ []) []) [
@@ -87,7 +87,7 @@ module _ (g : Grammar) (cost : ℕ → ℕ) (settled : ℕ → Option ℕ) (floo
       limit = state.limit;
     }
 
-  -- a production that was taken out of queue and lists moves on
+  -- a production that was removed from the queue and the lists advances
   module _ (queue : List (ℕ × ℕ)) (waiting : List (List Partial)) (moving moving' : ℕ → Type 0) (p : ℕ)
       (rest : (q : ℕ) → moving q → (q ≡ p) ⊎ moving' q) (place : p < length g.productions)
       (above : (c : ℕ) → IsCutSum cost settled (nth_production g p).symbols c → floor ≤ c)
@@ -150,7 +150,7 @@ module _ (g : Grammar) (cost : ℕ → ℕ) (settled : ℕ → Option ℕ) (floo
         subst (λ l. AreOpen cost settled g l waiting' moving' floor) (sym same)
         (subst (λ l. AreOpen cost settled g queue l moving' floor) (sym put) (waited r x is for none within))
 
-  -- the sum of a production that waited for a rule is at least what the rule was settled at
+  -- the sum of a production that waited for a rule is at least the cost at which the rule was settled
   pub woken_above : (r : ℕ) (x : Partial) → WaitsFor cost settled g r x → settled r ≡ Some floor → floor ≤ 65536
       → (c : ℕ) → IsCutSum cost settled (nth_production g x.production).symbols c → floor ≤ c
   woken_above r x for now limit c sum =

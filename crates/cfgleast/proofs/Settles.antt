@@ -1,4 +1,4 @@
--- One turn of the settling: the top of the queue is taken, and its rule is settled, if it isn't yet.
+-- One iteration of the settling: the top of the queue is removed, and its rule is settled, if it isn't yet.
 use Rattle.std.proofs.Common.{◌≡◌, ℕ, ◌+◌, ◌<◌, List, [], ◌∷◌, length, get_or, slice_set, Option, Some, None, is_some, true, false, Contains, sym, ap, subst, ◌∙◌, true≢false}
 use Rattle.std.proofs.lemmas.List.Elements.{All-weaker, All-contains_itself}
 use Rattle.std.proofs.lemmas.List.Sorted.{IsPermutation-sym}
@@ -56,7 +56,7 @@ module _ (g : Grammar) (cost : ℕ → ℕ) (least : List (Option ℕ)) (top : �
         (subst (λ l. AreWaking cost (rule_cost (slice_set least r (Some top.0))) g queue l woken 0) (sym f)
         (subst (λ l. AreWaking cost (rule_cost (slice_set least r (Some top.0))) g queue (slice_set waiting r []) l 0) (sym h) settles_waking))
 
--- what a look at a rule's entry tells
+-- what a look at a rule's entry says
 pub settled_if_some : (least : List (Option ℕ)) (r : ℕ) (entry : Option ℕ) → r < length least → entry ≡ get_or least r entry → is_some entry ≡ true
     → (d : ℕ) × (rule_cost least r ≡ Some d)
 settled_if_some least r entry within at h = go entry h (get_or_default least r None entry within ∙ sym at)
@@ -69,6 +69,6 @@ pub unset_if_none : (least : List (Option ℕ)) (r : ℕ) (entry : Option ℕ) �
     → rule_cost least r ≡ None
 unset_if_none least r entry within at h = get_or_default least r None entry within ∙ sym at ∙ None-from_is_some entry h
 
--- a production's rule is one of the grammar
+-- a production's rule is a rule of the grammar
 pub owner_within : (g : Grammar) (p : ℕ) → IsGrammar g → p < length g.productions → (nth_production g p).rule < g.rules
 owner_within g p is within = is.owners p (record { rule = 0; symbols = [] }) within

@@ -1,6 +1,5 @@
--- What holds of the sums of productions holds of what sentences cost: a table that is closed under the productions is a
--- bound, by induction on parse trees, and a well-founded choice of productions reaches the table, by induction on the
--- numbers of the choice.
+-- What is true of the sums of productions is true of what sentences cost: a table that is closed under the productions is a bound, by
+-- induction on parse trees; a well-founded choice of productions reaches the table, by induction on the numbers of the choice.
 use Rattle.std.proofs.Common.{◌≡◌, ℕ, zero, suc, ◌+◌, ◌<◌, List, [], ◌∷◌, Option, Some, All, arith, sym, ap, subst, ◌∙◌, append-nil}
 use Rattle.std.proofs.lemmas.List.Sums.{sum_by-append}
 use Rattle.derivation.specs.Grammar.{Sym, Rule, Token}
@@ -11,14 +10,14 @@ use Rattle.cfgleast.specs.Inner.Numbers.{IsNumberedBelow}
 use Rattle.derivation.proofs.Made.{GoesOver, Made, cost_of-token, made_row}
 
 module _ (P : ℕ → List Sym → Type 0) (cost : ℕ → ℕ) (costs : Sym → Option ℕ) where
-  -- a relation of costs in the table and costs of words that goes over to sums, and from productions to their rules
+  -- a relation between costs in the table and costs of words that sums preserve, and that carries over from productions to their rules
   pub record GoesUp (R : Option ℕ → ℕ → Type 0) : Type 0 where
     pub none : R (Some 0) 0
     pub both : (a b : Option ℕ) (m n : ℕ) → R a m → R b n → R (plus a b) (m + n)
     pub token : (t : ℕ) → R (costs (Token t)) (cost t)
     pub production : (r : ℕ) (symbols : List Sym) (n : ℕ) → P r symbols → R (sum_of costs symbols) n → R (costs (Rule r)) n
 
-  -- it holds of all that parse trees yield
+  -- it is true of all that parse trees yield
   pub sums_by_trees : (R : Option ℕ → ℕ → Type 0) → GoesUp R → {a : List Sym} {w : List ℕ} → Yields P a w → R (sum_of costs a) (cost_of cost w)
   sums_by_trees R up empty = up.none
   sums_by_trees R up (token {t = t} {a = a} {w = w} h) =
@@ -29,7 +28,7 @@ module _ (P : ℕ → List Sym → Type 0) (cost : ℕ → ℕ) (costs : Sym →
       (up.both (costs (Rule r)) (sum_of costs a) (cost_of cost u) (cost_of cost w)
       (up.production r symbols (cost_of cost u) has (sums_by_trees R up h)) (sums_by_trees R up k))
 
-  -- a production that a rule's cost rests on: what its sum stands to, so does the cost, and its rules have lesser numbers
+  -- a production that a rule's cost depends on: the cost is related to all that the sum is related to, and its rules have lesser numbers
   pub record Choice (R : ℕ → ℕ → Type 0) (number : ℕ → ℕ) (r c : ℕ) : Type 0 where
     pub symbols : List Sym
     pub sum : ℕ
@@ -54,6 +53,6 @@ module _ (P : ℕ → List Sym → Type 0) (cost : ℕ → ℕ) (costs : Sym →
           made_rule number r c choice (made_row P cost costs R over (IsNumberedBelow number (number r))
           (λ q d h. made_below n q d (omega (arith, below, h))) choice.symbols choice.sum choice.below choice.sum_is)
 
-      -- each cost that rests on a choice is that of a sentence
+      -- each cost that depends on a choice is that of a sentence
       pub reached : (r c : ℕ) → costs (Rule r) ≡ Some c → Made P cost costs R (Rule r ∷ []) c
       reached r c e = made_below (suc (number r)) r c (omega arith) e

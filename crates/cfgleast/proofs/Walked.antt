@@ -1,4 +1,4 @@
--- Productions that go on: sums with one symbol more, and what moves on leaves.
+-- Productions that advance: sums with one more symbol, and what a production that advances leaves.
 use Rattle.std.proofs.Common.{◌≡◌, ℕ, ◌+◌, ◌<◌, ◌≤◌, ◌⊎◌, inl, inr, ◌++◌, min, suc, List, [], ◌∷◌, length, take, drop, get_or, sum_by, Option, Some, All, Contains, arith, refl, sym, ap, subst, ◌∙◌, length-set, drop-cons, add-one}
 use Rattle.std.proofs.lemmas.Bool.{cases_lt}
 use Rattle.std.proofs.lemmas.List.{take_more, take_all, length_push, drop_all}
@@ -16,7 +16,7 @@ use Rattle.lemmas.proofs.Contained.{contains_cases}
 use Rattle.cfgleast.proofs.Opened.{moved_on, woken_above}
 
 module _ (cost : ℕ → ℕ) (settled : ℕ → Option ℕ) where
-  -- one symbol more
+  -- one more symbol
   pub cut_more : (a : List Sym) (i : ℕ) (s : Sym) (sum c new : ℕ) → i < length a → get_or a i s ≡ s → IsCutSum cost settled (take i a) sum
       → symbol_cost cost settled s ≡ Some c → new ≡ min 65536 (sum + c) → IsCutSum cost settled (take (i + 1) a) new
   cut_more a i s sum c new within at h e made = record {
@@ -43,7 +43,7 @@ module _ (cost : ℕ → ℕ) (settled : ℕ → Option ℕ) where
     pub partial_waiting : (r : ℕ) (x : Partial) → WaitsFor cost settled g r x → IsPartial cost settled g x
     partial_waiting r x h = record { place = h.place; taken = omega (arith, h.taken); sum = h.sum }
 
-    -- the rule at which a walk stops is one of the grammar
+    -- the rule at which a walk stops is a rule of the grammar
     pub stop_listed : (a : List Sym) (rules tokens r : ℕ) (x : Partial) → All (IsListed rules tokens) a → StopsAt cost settled a r x → r < rules
     stop_listed a rules tokens r x all h = subst (IsListed rules tokens) h.symbol (All-get_or (IsListed rules tokens) a x.taken (Rule r) h.taken all)
 
@@ -53,7 +53,7 @@ module _ (cost : ℕ → ℕ) (settled : ℕ → Option ℕ) where
         let there = subst (λ n. StopsAt cost settled (nth_production g n).symbols r x) (sym is) h in
         record { place = subst (λ n. n < length g.productions) (sym is) place; taken = there.taken; symbol = there.symbol; sum = there.sum }
 
-    -- what moves on is one more
+    -- one more production advances
     pub count_moved : (p : ℕ) (queue queue' : List (ℕ × ℕ)) (waiting waiting' : List (List Partial)) → MovesOn cost settled g p queue queue' waiting waiting'
         → count_open queue' waiting' ≡ count_open queue waiting + 1
     count_moved p queue queue' waiting waiting' (enters c sum into same) =
@@ -72,7 +72,7 @@ module _ (cost : ℕ → ℕ) (settled : ℕ → Option ℕ) where
     lists_moved p queue queue' waiting waiting' (enters c sum into same) = ap length same
     lists_moved p queue queue' waiting waiting' (waits r x is for unset within same put) = ap length put ∙ length-set waiting r _
 
-    -- the productions from a number on are still to begin
+    -- the productions from a number on are still to start
     pub start_more : (n p : ℕ) (queue queue' : List (ℕ × ℕ)) (waiting waiting' : List (List Partial)) → n < length g.productions → p ≡ n
         → AreOpen cost settled g queue waiting (λ q. n ≤ q) 0 → MovesOn cost settled g p queue queue' waiting waiting'
         → AreOpen cost settled g queue' waiting' (λ q. n + 1 ≤ q) 0
@@ -81,7 +81,7 @@ module _ (cost : ℕ → ℕ) (settled : ℕ → Option ℕ) where
         (λ q h. elim (cases_lt n q) [ inl lt ↦ inr (omega (arith, lt)) | inr le ↦ inl (omega (arith, h, le, is)) ])
         (subst (λ m. m < length g.productions) (sym is) within) (λ c sum. omega arith) state queue' waiting' moves
 
-    -- when none is left to move on
+    -- when none is left to advance
     pub all_open : (queue : List (ℕ × ℕ)) (waiting : List (List Partial)) (moving : ℕ → Type 0) (floor : ℕ) → ((q : ℕ) → q < length g.productions → moving q → ⊥)
         → AreOpen cost settled g queue waiting moving floor → AreAllOpen cost settled g queue waiting
     all_open queue waiting moving floor none state = (
@@ -103,7 +103,7 @@ module _ (cost : ℕ → ℕ) (settled : ℕ → Option ℕ) where
         go q within (past b e f) = past b e f
         go q within (moved m) = absurd (none q within m)
 
-    -- one more of those that waited has moved on
+    -- one more of those that waited has advanced
     pub wake_more : (i : ℕ) (x : Partial) (woken : List Partial) (queue queue' : List (ℕ × ℕ)) (waiting waiting' : List (List Partial)) → i < length woken → x ≡ get_or woken i x
         → AreWaking cost settled g queue waiting woken i → MovesOn cost settled g x.production queue queue' waiting waiting'
         → AreWaking cost settled g queue' waiting' woken (i + 1)

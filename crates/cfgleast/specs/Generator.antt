@@ -1,4 +1,4 @@
--- What a generator of sentences holds and answers.
+-- What a sentence generator stores and returns.
 use Rattle.std.specs.Prelude.{◌≡◌, ◌↔◌, ℕ, ◌<◌, ◌≤◌, nat_le, if◌then◌else◌, List, Option, Some, None, Result, Ok, Err, IfOk, All, length, map, slice_index}
 use Rattle.cfgindex.specs.declared.idxnewtype.PIdx.{PIdx}
 use Rattle.derivation.specs.Grammar.{Sym, Token, Grammar, HasProduction}
@@ -13,7 +13,7 @@ use Rattle.cfgleast.specs.declared.settle.Settled.{Settled}
 use Rattle.cfgleast.specs.Certificate.{choice_of, rule_choice}
 use Rattle.cfgleast.specs.Inner.Settled.{AreSettled}
 
--- a grammar, what its tokens cost, and for each rule its least cost, cut down to 65536, and the production chosen for it
+-- a grammar, what its tokens cost, and for each rule its least cost, cut down to 65536, and its chosen production
 pub record CostTables : Type 0 where
   pub grammar : Grammar
   pub costs : List ℕ
@@ -37,12 +37,12 @@ abbrev pub up_to_limit : Option ℕ → Option ℕ
 up_to_limit None = None
 up_to_limit (Some c) = if nat_le c 65535 then Some c else None
 
--- a choice, where there is a cost
+-- a choice, if there is a cost
 abbrev pub where_some : Option ℕ → Option (ℕ × ℕ) → Option (ℕ × ℕ)
 where_some None choice = None
 where_some (Some c) choice = choice
 
--- the least cost that is answered of a rule, and the choice
+-- the least cost that is returned for a rule, and the choice
 abbrev pub cost_answer : CostTables → ℕ → Option ℕ
 cost_answer x r = up_to_limit (rule_cost x.least r)
 
@@ -57,14 +57,14 @@ HasNone P r = (w : List ℕ) → Sentence P r w → ⊥
 abbrev pub IsTooDear : (ℕ → List Sym → Type 0) → (ℕ → ℕ) → ℕ → Type 0
 IsTooDear P cost r = ((w : List ℕ) × Sentence P r w) × ((w : List ℕ) → Sentence P r w → 65535 < cost_of cost w)
 
--- the least cost of a rule, where it is at most 65535, or why there is none
+-- the least cost of a rule, if it is at most 65535, or why there is none
 pub record AnswersLeast (P : ℕ → List Sym → Type 0) (cost : ℕ → ℕ) (r : ℕ) (result : Result ℕ CostError) : Type 0 where
   pub least : IfOk result (Least P cost r)
   pub found : (c : ℕ) → Least P cost r c → c ≤ 65535 → result ≡ Ok c
   pub none : (result ≡ Err NoSentence) ↔ HasNone P r
   pub dear : (result ≡ Err CostTooLarge) ↔ IsTooDear P cost r
 
--- a production of a rule, whose symbols derive a sentence that no other costs less than
+-- a production of a rule, whose symbols derive a sentence such that no other costs less
 pub record IsLeastProduction (g : Grammar) (cost : ℕ → ℕ) (r p : ℕ) : Type 0 where
   pub place : p < length g.productions
   pub owner : (nth_production g p).rule ≡ r
@@ -72,7 +72,7 @@ pub record IsLeastProduction (g : Grammar) (cost : ℕ → ℕ) (r p : ℕ) : Ty
   pub derived : Derives (HasProduction g) (nth_production g p).symbols (map Token word)
   pub minimal : Minimal (HasProduction g) cost r word
 
--- what a generator holds
+-- what a generator stores
 pub record IsGenerator (x : CostTables) (n : ℕ) : Type 0 where
   pub tokens : length x.costs ≡ x.grammar.tokens
   pub positive : All (λ c. 0 < c) x.costs

@@ -1,4 +1,4 @@
-//! The least costs of a grammar's sentences: for each rule the cost, and a production that shows it.
+//! The least costs of a grammar's sentences: for each rule its cost, and a production that shows it.
 #![tactic(auto)]
 
 pub mod partial;

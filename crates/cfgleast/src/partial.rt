@@ -1,12 +1,12 @@
-//! Sums that are not complete yet.
+//! Incomplete sums.
 
 /// The sum of a production's first symbols, cut down to 65536.
 #[derive(Clone, Copy)]
 pub struct Partial {
     /// The production's number.
     pub production: u32,
-    /// How many symbols were taken.
+    /// How many symbols were summed.
     pub taken: usize,
-    /// What they cost together.
+    /// What they cost in total.
     pub sum: u32,
 }

@@ -1,4 +1,4 @@
-//! A queue by cost, the cheapest first: of productions whose sums are known, or of rules that are asked for.
+//! A queue by cost, the cheapest first: of productions whose sums are known, or of rules.
 
 ghost use Rattle.std.specs.Prelude.{◌≡◌, ℕ, ◌≤◌, [], ◌∷◌, All, IfNone, IfSome, OnOk};
 ghost use Rattle.std.specs.List.Sorted.{IsPermutation};
@@ -40,7 +40,7 @@ impl Queue {
     ///
     /// # Errors
     ///
-    /// Want of memory.
+    /// Out of memory.
     pub fn push(&mut self, sum: u32, production: u32) -> Result<(), AllocError>
         ensures { OnOk result (IsPermutation ((sum, production) ∷ self.old) self.new) }
     {
@@ -48,7 +48,7 @@ impl Queue {
         Ok(())
     }
 
-    /// Takes out a production of the least sum, with that.
+    /// Removes a production with the least sum, and returns the sum and the production.
     pub fn pop(&mut self) -> Option<(u32, u32)>
         ensures out { IfSome result (λ top. IsPermutation self.old (top ∷ self.new)) }
         ensures least { IfSome result (λ top. All (λ entry. top.0 ≤ entry.0) self.new) }

@@ -1,5 +1,5 @@
-//! Least costs: the rule of the cheapest production is settled, till none is left whose rules are all settled (Knuth,
-//! A generalization of Dijkstra's algorithm, 1977).
+//! Least costs: the rule of the cheapest production is settled, until no production is left whose rules are all settled
+//! (Knuth, A generalization of Dijkstra's algorithm, 1977).
 
 ghost use Rattle.std.specs.Prelude.{◌≡◌, ◌+◌, ◌^◌, ◌<◌, ◌≤◌, [], IfOk, None, OnOk, Some};
 ghost use Rattle.std.specs.Prelude.{length, map, replicate, slice_index, slice_set};
@@ -21,16 +21,16 @@ use std::alloc::{AllocError, Global};
 pub struct Settled<S: Storage> {
     /// For each rule its least cost, cut down to 65536, if it is settled.
     pub least: Vec<Option<u32>>,
-    /// The production by which it was settled, and how many rules were settled before it.
+    /// The production that settled it, and how many rules were settled before it.
     pub choices: Vec<Option<(PIdx<S>, u32)>>,
     pub number: u32,
 }
 
-/// No choice, for so many rules.
+/// No choices, for this many rules.
 ///
 /// # Errors
 ///
-/// Want of memory.
+/// Out of memory.
 pub fn no_choices<S: Storage>(
     alloc: Global,
     rules: usize,
@@ -49,7 +49,7 @@ impl<S: Storage> Settled<S> {
     ///
     /// # Errors
     ///
-    /// Want of memory.
+    /// Out of memory.
     fn new(alloc: Global, rules: usize) -> Result<Self, AllocError>
         ensures least { IfOk result (λ x. x.least.items ≡ replicate rules None) }
         ensures choices { IfOk result (λ x. map (choice_of S.number) x.choices.items ≡ replicate rules None) }
@@ -81,11 +81,11 @@ impl<S: Storage> Settled<S> {
     }
 }
 
-/// Settles the rule of a production that came out of the queue, with its sum, if the rule isn't settled yet.
+/// Settles the rule of a production that was removed from the queue, with its sum, if the rule isn't settled yet.
 ///
 /// # Errors
 ///
-/// Want of memory.
+/// Out of memory.
 fn settle_next<S: Storage, T: Tables<S>>(
     grm: &T,
     costs: &[u8],
@@ -121,11 +121,11 @@ fn settle_next<S: Storage, T: Tables<S>>(
     wake(grm, costs, &settled.least, &woken, queue, waiting)
 }
 
-/// Settles the rule of the cheapest production, till none is left whose rules are all settled.
+/// Settles the rule of the cheapest production, until no production is left whose rules are all settled.
 ///
 /// # Errors
 ///
-/// Want of memory.
+/// Out of memory.
 fn settle_all<S: Storage, T: Tables<S>>(
     grm: &T,
     costs: &[u8],
@@ -155,7 +155,7 @@ fn settle_all<S: Storage, T: Tables<S>>(
 ///
 /// # Errors
 ///
-/// Want of memory.
+/// Out of memory.
 pub fn settle<S: Storage, T: Tables<S>>(
     alloc: Global,
     grm: &T,

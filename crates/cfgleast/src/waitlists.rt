@@ -8,7 +8,7 @@ use std::alloc::{AllocError, Global};
 use std::marker::Model;
 use std::mem;
 
-/// For each rule the productions that wait for it.
+/// For each rule, the productions that wait for it.
 #[derive(Drop)]
 pub struct Waitlists {
     alloc: Global,
@@ -26,11 +26,11 @@ impl Model for Waitlists {
 }
 
 impl Waitlists {
-    /// Lists for so many rules, in which nothing is.
+    /// Empty lists for this many rules.
     ///
     /// # Errors
     ///
-    /// Want of memory.
+    /// Out of memory.
     pub fn new(alloc: Global, rules: usize) -> Result<Self, AllocError>
         ensures { IfOk result (λ x. x ≡ replicate rules []) }
     {
@@ -45,7 +45,7 @@ impl Waitlists {
     ///
     /// # Errors
     ///
-    /// Want of memory.
+    /// Out of memory.
     pub fn add(&mut self, rule: usize, partial: Partial) -> Result<(), AllocError>
         requires { rule < length self.old }
         ensures { OnOk result (self.new ≡ slice_set self.old rule (waiting_for self.old rule ++ partial ∷ [])) }
@@ -54,7 +54,7 @@ impl Waitlists {
         Ok(())
     }
 
-    /// Takes out all productions that wait for the rule.
+    /// Removes and returns all productions that wait for the rule.
     pub fn take(&mut self, rule: usize) -> Vec<Partial>
         requires { rule < length self.old }
         ensures list { result.items ≡ waiting_for self.old rule }

@@ -1,4 +1,4 @@
-//! Productions that go on towards their sums.
+//! How productions advance towards their sums.
 
 ghost use Rattle.std.specs.Prelude.{◌≡◌, ◌+◌, ◌^◌, ◌<◌, ◌≤◌, [], All, IfErr, IfOk, None, OnOk};
 ghost use Rattle.std.specs.Prelude.{Some, length, map, replicate, slice_index, take};
@@ -16,7 +16,7 @@ use cfgindex::{PIdx, Storage, Symbol, to_storage};
 use cfgtables::Tables;
 use std::alloc::AllocError;
 
-/// The first cost that no answer gives.
+/// The least cost that is too large to return.
 pub const TOO_LARGE: u32 = 65536;
 
 /// What a symbol costs, or a rule that isn't settled.
@@ -37,8 +37,8 @@ fn settled_cost<S: Storage>(
     }
 }
 
-/// What the symbols cost together, cut down to `TOO_LARGE`, or a rule among them that isn't settled, and the sum of
-/// those before it. `partial` has the sum of the first ones.
+/// What the symbols cost in total, cut down to `TOO_LARGE`; or a rule among them that isn't settled, with the sum of
+/// those before it. `partial` has the sum of the first symbols.
 pub fn walk<S: Storage>(
     costs: &[u8],
     least: &[Option<u32>],
@@ -79,11 +79,11 @@ pub fn walk<S: Storage>(
     Ok(sum)
 }
 
-/// Lets a production go on from what was summed: into the queue, or to those that wait for a rule.
+/// Advances a production from what was summed: it enters the queue, or waits for a rule.
 ///
 /// # Errors
 ///
-/// Want of memory.
+/// Out of memory.
 fn advance<S: Storage, T: Tables<S>>(
     grm: &T,
     costs: &[u8],
@@ -106,11 +106,11 @@ fn advance<S: Storage, T: Tables<S>>(
     }
 }
 
-/// Lets all productions begin, when no rule is settled.
+/// Starts all productions, when no rule is settled.
 ///
 /// # Errors
 ///
-/// Want of memory.
+/// Out of memory.
 pub(crate) fn start<S: Storage, T: Tables<S>>(
     grm: &T,
     prods_len: usize,
@@ -140,11 +140,11 @@ pub(crate) fn start<S: Storage, T: Tables<S>>(
     Ok(())
 }
 
-/// Lets the productions go on that waited for a rule, when it is settled.
+/// Advances the productions that waited for a rule, when it is settled.
 ///
 /// # Errors
 ///
-/// Want of memory.
+/// Out of memory.
 pub(crate) fn wake<S: Storage, T: Tables<S>>(
     grm: &T,
     costs: &[u8],

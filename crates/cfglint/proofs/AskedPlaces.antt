@@ -1,4 +1,4 @@
--- The places of tokens that a production's `%prec` names are added one after another.
+-- The spans of tokens that a production's `%prec` names are added one after another.
 use Rattle.std.proofs.Common.{◌≡◌, ℕ, ◌+◌, ◌<◌, ◌≤◌, ◌⊎◌, inl, inr, Bool, true, false, cond, arith, List, [], Contains, Some, None, map, length, get_or, slice_get, take, position, MatchBool, IsTrue, refl, sym, ap, subst, ◌∙◌}
 use Rattle.std.specs.BTreeMap.{is_at}
 use Rattle.std.specs.BTreeSet.{BTreeSet, contains}
@@ -34,7 +34,7 @@ both_equal Greater second e = cc
 equal_number : (m n : ℕ) → m ≡ n → nat_cmp m n ≡ Equal
 equal_number m n same = grind arith
 
--- spans at equal places are the same span
+-- spans that are equal in the order are the same span
 same_span : (x y : Span) → is_at (place_cmp (place_at x)) (place_at y) ≡ true → x ≡ y
 same_span x y at =
     let (starts, ends) = both_equal (nat_cmp x.start y.start) (nat_cmp x.end y.end) ((Equal-is (place_cmp (place_at x) (place_at y))).0 at) in
@@ -44,7 +44,7 @@ itself : (x : Span) → is_at (place_cmp (place_at x)) (place_at x) ≡ true
 itself x = λ i. is_eq (ordering_then (equal_number x.start x.start refl i) (equal_number x.end x.end refl i))
 
 module _ (s : Syntax) where
-  -- nothing is added for a name at whose place no token stands first
+  -- nothing is added for a name without a token
   unnoted : (name : List ℕ) (places : BTreeSet (ℕ × ℕ)) → ((span : Span) → IsPlaceOf s name span → ⊥) → Notes s name places places
   unnoted name places none span = go (has_span places span) refl
     where
@@ -103,7 +103,7 @@ module _ (s : Syntax) where
     abbrev after : List Production
     after = map production_view (take (n + 1) productions)
 
-    -- what an earlier production asks for is still asked for
+    -- what an earlier production's `%prec` names is still named
     later : (span : Span) → IsAskedBy s before span → IsAskedBy s after span
     later span asked =
         let (held, among, same) = contains_source production_view (take n productions) asked.production asked.listed in
@@ -116,7 +116,7 @@ module _ (s : Syntax) where
           place = asked.place;
         }
 
-    -- what is asked for is asked for by an earlier production or by this one
+    -- what is named is named by an earlier production's `%prec` or by this one's
     by : (span : Span) → IsAskedBy s after span → IsAskedBy s before span ⊎ ((name : List ℕ) × ((production_view production).precedence ≡ Some name) × IsPlaceOf s name span)
     by span asked =
         let (held, among, same) = contains_source production_view (take (n + 1) productions) asked.production asked.listed in
@@ -143,7 +143,7 @@ module _ (s : Syntax) where
     abbrev Told : Bool → Span → Type 0
     Told b span = MatchBool b (IsAskedBy s after span) (IsAskedBy s after span → ⊥)
 
-    -- a production without a `%prec` asks for nothing
+    -- a production without a `%prec` adds nothing
     pub asks_nothing : (production_view production).precedence ≡ None → AreAskedBy s (map production_view (take (n + 1) productions)) places
     asks_nothing none span = go (has_span places span) (are span)
       where

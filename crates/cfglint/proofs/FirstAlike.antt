@@ -1,4 +1,4 @@
--- Shapes tell productions apart, and what is known under them is the first production of each.
+-- Shapes distinguish productions, and what is recorded for them is the first production of each shape.
 use Rattle.std.proofs.Common.{◌≡◌, ℕ, ◌+◌, ◌<◌, ◌≤◌, inl, inr, Bool, true, false, cond, List, [], ◌∷◌, ◌++◌, map, length, get_or, slice_get, Option, Some, None, option_map, unwrap_or, MatchOption, Vec, Global, refl, sym, ap, subst, ◌∙◌, arith}
 use Rattle.std.specs.BTreeMap.{BTreeMap, IsUnchanged, Updates, get, is_at}
 use Rattle.std.specs.Cmp.{Equal-is}
@@ -37,7 +37,7 @@ both_equal Greater second e = cc
 equal_number : (m n : ℕ) → m ≡ n → nat_cmp m n ≡ Equal
 equal_number m n same = grind arith
 
--- ordered symbols that are equal are the same symbol, and the other way round
+-- ordered symbols are equal exactly if they are the same symbol
 equal_symbols : (x y : OrderedSymbol) → order.cmp x y ≡ Equal → sym_of_ordered x ≡ sym_of_ordered y
 equal_symbols (ordered.Rule a) (ordered.Rule b) e = ap Rule (exact_unsigned a b e)
 equal_symbols (ordered.Rule a) (ordered.Token b) e = cc
@@ -107,7 +107,7 @@ shape_is g p rule symbols held holds owner are = go (slice_get g.productions p) 
         shown ∙ sym there
 
 module _ (g : Grammar) where
-  -- what is known of a production among the first n: the first place at which it stands
+  -- what is recorded for a production among the first n: the first number at which it occurs
   abbrev pub IsKnown : ℕ → Production → Option ℕ → Type 0
   IsKnown n production None = (p : ℕ) → p < n → nth_production g p ≡ production → ⊥
   IsKnown n production (Some first) = (first < n) × (nth_production g first ≡ production) × ((p : ℕ) → p < n → nth_production g p ≡ production → first ≤ p)
@@ -115,11 +115,11 @@ module _ (g : Grammar) where
   abbrev pub AreKnown : ℕ → BTreeMap Shape ℕ → Type 0
   AreKnown n known = (shape : Shape) → IsKnown n (production_of shape) (get shape_cmp known shape)
 
-  -- nothing is known before the first production
+  -- nothing is recorded before the first production
   pub known_none : (known : BTreeMap Shape ℕ) → known.entries ≡ [] → AreKnown 0 known
   known_none known empty = λ shape. subst (IsKnown 0 (production_of shape)) (sym (ap (lookup (is_at (shape_cmp shape))) empty)) (λ p before same. omega arith)
 
-  -- what is known of a production that isn't the next one stays known
+  -- what is recorded for a production that isn't the next one stays
   stays : (n : ℕ) (production : Production) (o : Option ℕ) → IsKnown n production o → (o ≡ None → nth_production g n ≡ production → ⊥) → IsKnown (n + 1) production o
   stays n production None none other = λ p before same. elim (cases_lt p n) [
     | inl lt ↦ none p lt same
@@ -158,7 +158,7 @@ module _ (g : Grammar) where
         there : IsKnown n (production_of shape) (Some first)
         there = subst (IsKnown n (production_of shape)) found (knows shape)
 
-    -- one more production is known
+    -- one more production is recorded
     pub known_more : MatchOption (get shape_cmp known shape) (Updates shape_cmp known new shape (Some n)) (λ _. IsUnchanged known new) → AreKnown (n + 1) new
     known_more h = go (get shape_cmp known shape) refl h
       where

@@ -1,4 +1,4 @@
--- What is told of a rule that derives itself.
+-- The text for a cyclic rule.
 use Rattle.std.proofs.Common.{◌≡◌, ℕ, ◌+◌, ◌-◌, ◌<◌, ◌≤◌, List, [], ◌∷◌, ◌++◌, All, Option, Some, None, option_map, codes, drop, length, map, slice_get, take, unwrap_or, arith, refl, sym, ap, subst, ◌∙◌, append_assoc}
 use Rattle.std.proofs.lemmas.List.{drop-drop, drop-map, length-drop, length-map, take-map, take_all}
 use Rattle.std.proofs.lemmas.Option.{get_or_from_slice_get, same_Some, slice_get-map, slice_get_within}
@@ -21,7 +21,7 @@ use Rattle.cfglint.specs.declared.finding.FindingKind.TheVariants.{DerivesItself
 regroup : (t a b c d e : List ℕ) → (((t ++ a) ++ b) ++ (c ++ d)) ++ e ≡ t ++ (a ++ (b ++ (c ++ (d ++ e))))
 regroup t a b c d e = simp append_assoc
 
--- the parts of a step's text, one behind the other
+-- the parts of a step's text, one after the other
 pub step_written : (g : Numbered) (step : Step) (front back : List Sym) (name before arrow vanished led now : List ℕ)
     → front ≡ take step.place (nth_production (core g) step.production).symbols
     → back ≡ drop (step.place + 1) (nth_production (core g) step.production).symbols
@@ -33,7 +33,7 @@ step_written g step front back name before arrow vanished led now stands behind 
     ∙ regroup before (codes " ->") (vanishing g front) (codes " ") name (vanishing g back)
     ∙ (λ i. before ++ (codes " ->" ++ (vanishing g (stands i) ++ (codes " " ++ (sym named i ++ vanishing g (behind i))))))
 
--- a rule among symbols of the grammar is one of the grammar
+-- a rule among symbols of the grammar is a rule of the grammar
 rule_among : (g : Numbered) (all : List (Symbol ℕ)) → All (IsSymbolWithin (λ s. s) g) all
     → (i r : ℕ) → slice_get (map (sym_of (λ s. s)) all) i ≡ Some (Rule r) → r < length g.rules
 rule_among g all within i r at = go (slice_get all i) refl (sym (slice_get-map (sym_of {S = ℕ} (λ s. s)) all i) ∙ at)
@@ -47,7 +47,7 @@ rule_among g all within i r at = go (slice_get all i) refl (sym (slice_get-map (
         subst (λ n. n < length g.rules) same there
     go (Some (symbols.Token token)) read is = let no : Token token.0 ≡ Rule r = same_Some _ _ is in cc
 
--- the symbols before and behind the place of a step, as they are read
+-- the symbols before and after the index of a step, as they are read
 module _ (g : Numbered) (step : Step) (there : step.production < length (core g).productions) (stored : ℕ) (same : stored ≡ step.production)
     (symbols : List (Symbol ℕ)) (read : production_part (λ production. production.symbols) g stored ≡ Some (map (sym_of (λ s. s)) symbols)) where
   abbrev numbered : List Sym
@@ -68,7 +68,7 @@ module _ (g : Numbered) (step : Step) (there : step.production < length (core g)
       ap (map (sym_of {S = ℕ} (λ s. s))) (rest ∙ ap (drop 1) is ∙ drop-drop 1 step.place symbols)
       ∙ sym (drop-map (sym_of {S = ℕ} (λ s. s)) (step.place + 1) symbols) ∙ ap (drop (step.place + 1)) held
 
-  -- the rule of a step stands at its place
+  -- the rule of a step is at its index
   module _ (holds : slice_get (nth_production (core g) step.production).symbols step.place ≡ Some (Rule step.rule)) where
     stands : slice_get numbered step.place ≡ Some (Rule step.rule)
     stands = subst (λ l. slice_get l step.place ≡ Some (Rule step.rule)) (sym held) holds

@@ -1,4 +1,4 @@
--- Marks of names, one after another; and what all marks together say.
+-- Marks of names, one after another, and what all marks say in total.
 use Rattle.std.proofs.Common.{◌≡◌, ℕ, ◌+◌, ◌<◌, ◌≤◌, Bool, true, false, ◌||◌, inl, inr, List, [], ◌∷◌, ◌++◌, Contains, String, Global, Option, Some, None, map, length, get_or, slice_get, slice_set, take, position, replicate, option_map, string_bytes, string_eq, MatchBool, refl, sym, ap, subst, ◌∙◌}
 use Rattle.std.specs.List.{IsDistinct, flat_map}
 use Rattle.std.specs.Map.{keys_of}
@@ -31,7 +31,7 @@ abbrev pub table_names : Option (List (List ℕ × Span)) → List (List ℕ)
 table_names None = []
 table_names (Some table) = map entry_name table
 
--- the names of all tokens that take part, as often as they do
+-- the names of all tokens that are used, as often as they are
 abbrev pub names_taking : Syntax → List (List ℕ)
 names_taking s = flat_map production_names s.productions ++ table_names s.tables.implicit_tokens
 
@@ -78,7 +78,7 @@ module _ (s : Syntax) where
       → Marks s (flat_map names (take i xs)) old new → Marks s (flat_map names xs) old new
   marks_all names xs i old new past w = subst (λ l. Marks s (flat_map names l) old new) (take_all i xs past) w
 
-  -- where names differ, the token of a name is the one at its place
+  -- if names are distinct, the token with a name is the one at its index
   module _ (distinct : IsDistinct bytes_eq (map entry_name s.tables.precedences)) (name : List ℕ) where
     there : (n : ℕ) (entry : List ℕ × (Precedence × Span)) → slice_get s.tables.precedences n ≡ Some entry → bytes_eq entry.0 name ≡ true
         → position (bytes_eq name) (map entry_name s.tables.precedences) ≡ Some n
@@ -115,7 +115,7 @@ module _ (s : Syntax) where
             get_or-set_other bits place n true false (λ is. let no : true ≡ false = sym (here n entry at is) ∙ other in cc)
             ∙ or_false (get_or bits n false) ∙ ap (λ b. get_or bits n false || (b || false)) (sym other)
 
-  -- a token takes part where its name is among those
+  -- a token is used if its name is among those
   taking : (name : List ℕ) → Contains (names_taking s) name → TakesPart s name
   taking name among = elim (Contains-append_cases (flat_map production_names s.productions) (table_names s.tables.implicit_tokens) name among) [
     | inl by ↦ let (production, given, h) = flat_source production_names s.productions name by in

@@ -1,4 +1,4 @@
--- Loops of the rules of a grammar, and their steps.
+-- Cycles of the rules of a grammar, and their steps.
 use Rattle.std.proofs.Common.{◌≡◌, ℕ, ◌<◌, ◌≤◌, ◌↔◌, List, [], ◌∷◌, All, Option, None, Some, Result, Ok, Err, IfOk, Vec, Global, get_or, length, sym, subst, ◌∙◌}
 use Rattle.std.proofs.lemmas.List.{get_or_default}
 use Rattle.std.proofs.lemmas.List.Elements.{All-cons, All-nil}
@@ -13,7 +13,7 @@ use Rattle.cfglint.specs.Findings.{TellsLoop, rules_added}
 use Rattle.cfglint.specs.Shown.{ShownFinding, derives_itself}
 use Rattle.cfglint.specs.Inner.OwnHeirs.{AreLoops, IsSomeStep}
 
--- the same rows, where the same steps are known
+-- the same paths, if each step is also one of the others
 leads_as : (Has Has' : ℕ → Step → Type 0) → ((rule : ℕ) (step : Step) → Has rule step → Has' rule step) → (a : ℕ) (row : List Step) (b : ℕ)
     → Leads Has a row b → Leads Has' a row b
 leads_as Has Has' to a [] b same = same
@@ -31,7 +31,7 @@ shortest_as Has Has' to from rule (Some row) s = record {
   least = λ other l. s.least other (loop_as Has' Has from rule other l);
 }
 
--- what is found by the steps of a grammar are its loops
+-- what is found by the steps of a grammar are its cycles
 pub are_loops : (g : Numbered) (steps : List (List Step)) → AreSteps (core g) steps → {E : Type 0} (result : Result (Vec (Option (Vec Step Global)) Global) E)
     → IfOk result (λ found. length found.items ≡ length steps)
     → IfOk result (λ found. (rule : ℕ) → rule < length steps → IsShortestOf (HasStep steps) rule (get_or found.items rule None))
@@ -43,7 +43,7 @@ are_loops g steps are (Ok found) long each = record {
 }
 are_loops g steps are (Err e) long each = tt
 
--- each step of a row is one of some rule
+-- each step of a path is a step of some rule
 pub steps_of_row : (g : Numbered) (a : ℕ) (row : List Step) (b : ℕ) → Leads (IsStep (core g)) a row b → All (IsSomeStep g) row
 steps_of_row g a [] b same = All-nil (IsSomeStep g)
 steps_of_row g a (step ∷ row) b (first, rest) = All-cons (IsSomeStep g) step row (a, first) (steps_of_row g step.rule row b rest)
@@ -55,7 +55,7 @@ found_at g shown same loops are rule within found entry is read =
     let there : rule < length g.rules = subst (λ (g : Numbered). rule < length g.rules) (sym same) within in
     subst (IsShortestOf (IsStep (core g)) rule) (get_or_default loops rule None found (subst (λ n. rule < n) (sym are.rules) there) ∙ sym is ∙ read) (are.each rule there)
 
--- what is told of a rule: its loop, or nothing
+-- the finding for a rule: its cycle, or nothing
 module _ (law : (g : Grammar) (r : ℕ) → DerivesItself (HasProduction g) r ↔ ((row : List Step) × IsLoop (IsStep g) r row)) (g : Numbered) (rule : ℕ) where
   pub tells_loop : rules_added g ≤ rule → (row : List Step) → IsShortestLoop (IsStep (core g)) rule row → (finding : ShownFinding) → finding ≡ derives_itself g rule row
       → TellsLoop g rule (Some finding)

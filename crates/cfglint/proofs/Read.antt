@@ -1,4 +1,4 @@
--- What is read of a grammar is what is shown of it, and of a production what derivations go by.
+-- What is read of a grammar is what is shown of it, and of a production what derivations use.
 use Rattle.std.proofs.Common.{◌≡◌, ℕ, ◌<◌, ◌≤◌, List, Option, Some, None, option_map, length, slice_get, refl, sym, subst, ap, ◌∙◌, arith}
 use Rattle.std.proofs.lemmas.List.{get_or-map, length-map}
 use Rattle.std.proofs.lemmas.List.Elements.{Contains-get_or}

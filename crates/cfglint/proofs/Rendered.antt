@@ -1,4 +1,4 @@
--- What is read of several, where it is known what each says.
+-- What is read of several errors or findings, where it is known what each says.
 use Rattle.std.proofs.Common.{◌≡◌, ℕ, List, [], ◌++◌, refl, ap, ◌∙◌}
 use Rattle.std.proofs.lemmas.List.{flat_map_more}
 use Rattle.std.specs.List.{flat_map}

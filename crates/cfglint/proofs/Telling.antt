@@ -1,4 +1,4 @@
--- What is told below a number is told in other words.
+-- The findings below a number, by a predicate that follows from the first one.
 use Rattle.std.proofs.Common.{ℕ, List, Option}
 use Rattle.cfglint.specs.Findings.{TellsBelow, left, none, told}
 use Rattle.cfglint.specs.Shown.{ShownFinding}

@@ -9,11 +9,11 @@ use Rattle.cfglint.specs.Shown.{ShownFinding, no_sentence, production_span, quot
 use Rattle.cfglint.specs.declared.finding.FindingKind.{FindingKind}
 use Rattle.cfglint.specs.declared.finding.FindingKind.TheVariants.{NoSentence, UnusableProduction}
 
--- what stands behind a name in quotes
+-- what comes after a name in quotes
 behind_quoted : (name front back : List ℕ) → front ++ (codes "'" ++ (name ++ (codes "'" ++ back))) ≡ front ++ (quoted name ++ back)
 behind_quoted name front back = ap (λ t. front ++ (codes "'" ++ t)) (sym (append_assoc name (codes "'") back))
 
--- a finding at one place
+-- a finding at one span
 abbrev pub shown_at : FindingKind → Span → List ℕ → ShownFinding
 shown_at kind span text = record { kind = kind; spans = span ∷ []; text = text }
 

@@ -12,20 +12,20 @@ use Rattle.cfglint.specs.Findings.{IsFirstWithout, IsUnusable}
 use Rattle.cfglint.specs.Inner.Lacks.{LacksOrHas}
 use Rattle.cfglint.proofs.Read.{has_read, rule_read, symbols_read}
 
--- some sentence uses a production exactly if each rule in it has a sentence
+-- some sentence uses a production exactly if each rule in it is productive
 abbrev pub UsesByRules : Numbered → Type 0
 UsesByRules g = (r : ℕ) (symbols : List Sym) → HasProduction (core g) r symbols
     → IsUsable (HasProduction (core g)) r symbols ↔ ((q : ℕ) → Contains symbols (Rule q) → (v : List ℕ) × Sentence (HasProduction (core g)) q v)
 
 module _ (g : Numbered) (law : UsesByRules g) (p : ℕ) (within : p < length g.productions) (rule : ℕ) (symbols : List Sym)
     (owner : production_part (λ production. production.rule) g p ≡ Some rule) (held : production_part (λ production. production.symbols) g p ≡ Some symbols) where
-  -- each rule in it has a sentence
+  -- each rule in it is productive
   pub not_unusable : ((q : ℕ) → Contains symbols (Rule q) → LacksOrHas g q false) → IsUnusable g p → ⊥
   not_unusable each unusable =
       let read = symbols_read g p within symbols held in
       unusable.unused ((law _ _ (has_read g p within)).1 (λ q among. each q (subst (λ l. Contains l (Rule q)) read among)))
 
-  -- one has none, though its own rule has one
+  -- a rule in it is unproductive, though its own rule is productive
   pub is_unusable : p < g.start_production → LacksOrHas g rule false → (q : ℕ) → IsFirstWithout g symbols q → IsUnusable g p
   is_unusable ours (sentence, is) q first =
       let read = symbols_read g p within symbols held in
@@ -38,6 +38,6 @@ module _ (g : Numbered) (law : UsesByRules g) (p : ℕ) (within : p < length g.p
         unused = λ usable. let (w, has) = (law _ _ (has_read g p within)).0 usable q among in first.none w has;
       }
 
-  -- the first one that has none, in what is shown of the production
+  -- the first unproductive one, in what is shown of the production
   pub first_read : (q : ℕ) → IsFirstWithout g symbols q → IsFirstWithout g (nth_production (core g) p).symbols q
   first_read q first = subst (λ l. IsFirstWithout g l q) (sym (symbols_read g p within symbols held)) first

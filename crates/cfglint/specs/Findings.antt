@@ -1,5 +1,5 @@
--- What is odd about a grammar without errors, which is this syntax and these numbers. Rules and productions that the file doesn't
--- have are told of nothing.
+-- The findings about a grammar without errors, given its syntax and its numbers. None are about rules and productions that the file doesn't
+-- have.
 use Rattle.std.specs.Prelude.{◌≡◌, ℕ, ◌+◌, ◌<◌, ◌≤◌, List, [], ◌∷◌, ◌++◌, Contains, Option, Some, None, if◌then◌else◌, is_some, length, map, slice_get}
 use Rattle.std.specs.List.Sorted.{IsPermutation, IsSortedByKey, IsStableByKey}
 use Rattle.std.specs.Ordering.{nat_cmp}
@@ -21,8 +21,8 @@ use Rattle.cfgrammar.specs.Openings.{nth_production}
 use Rattle.cfgrammar.specs.Numbered.{Numbered, core}
 use Rattle.cfglint.specs.Shown.{ShownFinding, derives_itself, no_sentence, place_of, repeated, unusable, unused_precedence, warned}
 
--- Of each number below this one in order, what is told: `Tells n (Some finding)` says that this is told of n, and `Tells n None` that
--- nothing is.
+-- The findings for the numbers below this one, in order: `Tells n (Some finding)` says that this is the finding for n, and `Tells n None`
+-- that there is none.
 pub data TellsBelow (Tells : ℕ → Option ShownFinding → Type 0) : ℕ → List ShownFinding → Type 0 where
   none : TellsBelow Tells 0 []
   told : {n : ℕ} {findings : List ShownFinding} {finding : ShownFinding}
@@ -31,7 +31,7 @@ pub data TellsBelow (Tells : ℕ → Option ShownFinding → Type 0) : ℕ → L
       → TellsBelow Tells n findings → Tells n None → TellsBelow Tells (n + 1) findings
 
 module _ (g : Numbered) where
-  -- how many rules are added before those of the file: the start rule, and in a file with implicit tokens the two for these
+  -- how many rules are added before those of the file: the start rule, and in a file with implicit tokens two more for these
   abbrev pub rules_added : ℕ
   rules_added = if is_some g.implicit_rule then 3 else 1
 
@@ -44,14 +44,14 @@ module _ (g : Numbered) where
   TellsNoSentence r (Some finding) = LacksSentence r × (finding ≡ no_sentence g r)
   TellsNoSentence r None = LacksSentence r → ⊥
 
-  -- a production of the file, whose rule has a sentence, and none that uses it
+  -- a production of the file that no sentence of its rule uses, although the rule has one
   pub record IsUnusable (p : ℕ) : Type 0 where
     pub ours : p < g.start_production
     pub sentence : List ℕ
     pub is : Sentence (HasProduction (core g)) (nth_production (core g) p).rule sentence
     pub unused : IsUsable (HasProduction (core g)) (nth_production (core g) p).rule (nth_production (core g) p).symbols → ⊥
 
-  -- the first rule among the symbols that has no sentence
+  -- the first unproductive rule among the symbols
   pub record IsFirstWithout (symbols : List Sym) (q : ℕ) : Type 0 where
     pub front : List Sym
     pub back : List Sym
@@ -63,7 +63,7 @@ module _ (g : Numbered) where
   TellsUnusable p (Some finding) = IsUnusable p × (q : ℕ) × IsFirstWithout (nth_production (core g) p).symbols q × (finding ≡ unusable g p q)
   TellsUnusable p None = IsUnusable p → ⊥
 
-  -- a rule that derives itself by one or more steps, so each of its sentences has infinitely many trees
+  -- a cyclic rule of the file, each of whose sentences has infinitely many parse trees
   pub record IsOwnHeir (r : ℕ) : Type 0 where
     pub ours : rules_added ≤ r
     pub derives : DerivesItself (HasProduction (core g)) r
@@ -79,20 +79,20 @@ module _ (g : Numbered) where
     pub rule : (nth_production (core g) earlier).rule ≡ (nth_production (core g) p).rule
     pub symbols : (nth_production (core g) earlier).symbols ≡ (nth_production (core g) p).symbols
 
-  -- of several the first is told
+  -- if there are several, the finding is about the first
   abbrev pub TellsRepeated : ℕ → Option ShownFinding → Type 0
   TellsRepeated p (Some finding) = (earlier : ℕ) × IsTwin p earlier × ((other : ℕ) → IsTwin p other → earlier ≤ other) × (finding ≡ repeated g p earlier)
   TellsRepeated p None = (earlier : ℕ) → IsTwin p earlier → ⊥
 
 module _ (s : Syntax) where
-  -- A token of this name takes part: a production holds it, the `%prec` of one names it, or it is an implicit token. Of several
-  -- `%prec`s in a production the last is its own.
+  -- A token with this name is used: a production contains it, or a production's `%prec` names it, or it is an implicit token. If a
+  -- production has several `%prec`s, the last one counts.
   pub data TakesPart (name : List ℕ) : Type 0 where
     held : {production : Production} → Contains s.productions production → Contains (map name_of production.symbols) (TokenName name) → TakesPart name
     asked : {production : Production} → Contains s.productions production → production.precedence ≡ Some name → TakesPart name
     implicit : {table : List (List ℕ × Span)} → s.tables.implicit_tokens ≡ Some table → Contains (map entry_token table) (TokenName name) → TakesPart name
 
-  -- the n-th token that is given a precedence takes no part: its name is misspelled more often than not
+  -- the n-th token that is given a precedence isn't used; most often its name is misspelled
   pub record IsIdle (n : ℕ) (name : List ℕ) (span : Span) : Type 0 where
     pub precedence : Precedence
     pub given : slice_get s.tables.precedences n ≡ Some (name, (precedence, span))
@@ -102,7 +102,7 @@ module _ (s : Syntax) where
   TellsPrecedence n (Some finding) = (name : List ℕ) × (span : Span) × IsIdle n name span × (finding ≡ unused_precedence name span)
   TellsPrecedence n None = (name : List ℕ) (span : Span) → IsIdle n name span → ⊥
 
-  -- a token stands first at this place, and a production's `%prec` names it: it is there for its precedence
+  -- a token first occurs at this span, and a production's `%prec` names it: it exists for its precedence
   pub record IsPrecToken (span : Span) : Type 0 where
     pub place : ℕ
     pub name : List ℕ
@@ -119,12 +119,12 @@ module _ (s : Syntax) where
     pub first : slice_get warning.spans 0 ≡ Some span
     pub token : IsPrecToken span
 
-  -- of the warnings of the tree, which are these, all but those of tokens that a production's `%prec` names
+  -- the findings for these warnings of the tree: for all except those about tokens that a production's `%prec` names
   abbrev pub TellsWarning : List GrammarWarning → ℕ → Option ShownFinding → Type 0
   TellsWarning warnings n (Some finding) = (warning : GrammarWarning) × (slice_get warnings n ≡ Some warning) × (IsAskedFor warning → ⊥) × (finding ≡ warned warning)
   TellsWarning warnings n None = (warning : GrammarWarning) → slice_get warnings n ≡ Some warning → IsAskedFor warning
 
--- the warnings of the syntax that are told, and what is told of rules, productions and precedences, one list behind the other
+-- the findings for warnings of the syntax, then those for rules, productions and precedences, one list after the other
 pub record AreToldInTurn (s : Syntax) (g : Numbered) (told : List ShownFinding) : Type 0 where
   pub warnings : List GrammarWarning
   pub unused : List ShownFinding
@@ -142,7 +142,7 @@ pub record AreToldInTurn (s : Syntax) (g : Numbered) (told : List ShownFinding) 
   pub are_precedences : TellsBelow (TellsPrecedence s) (length s.tables.precedences) precedences
   pub is : told ≡ unused ++ (without ++ (useless ++ (loops ++ (repeats ++ precedences))))
 
--- the same findings in the order of their places; those of one place stay in their order
+-- the same findings sorted by offset; those at the same offset stay in their order
 pub record AreByPlace (told all : List ShownFinding) : Type 0 where
   pub same : IsPermutation told all
   pub sorted : IsSortedByKey place_of nat_cmp all

@@ -1,4 +1,4 @@
--- Words of clauses inside the crate. No call that users make rests on them.
+-- Definitions for clauses inside the crate. No public contract depends on them.
 pub mod Asked
 pub mod FirstProductions
 pub mod Lacks

@@ -1,4 +1,4 @@
--- A finding as plain data: what callers see of a `Finding`. And the texts of findings.
+-- A finding as plain data, as callers see a `Finding`; and the texts of findings.
 use Rattle.std.specs.Prelude.{ℕ, ◌+◌, List, [], ◌∷◌, ◌++◌, drop, take, codes, slice_get, unwrap_or}
 use Rattle.std.specs.List.{flat_map}
 use Rattle.std.specs.Option.{option_map_or}
@@ -18,18 +18,18 @@ use Rattle.cfgrammar.specs.Openings.{nth_production}
 use Rattle.cfglint.specs.declared.finding.FindingKind.{FindingKind}
 use Rattle.cfglint.specs.declared.finding.FindingKind.TheVariants.{DerivesItself, NoSentence, RepeatedProduction, UnusableProduction, UnusedPrecedence, UnusedRule, UnusedToken}
 
--- what is odd, its places, and what is told of it
+-- the kind of finding, its spans and its text
 pub record ShownFinding : Type 0 where
   pub kind : FindingKind
   pub spans : List Span
   pub text : List ℕ
 
--- what the spans stand for: of a repeated production both places are told
+-- what the spans mean: for a repeated production, both are shown
 abbrev pub spanskind_of : FindingKind → SpansKind
 spanskind_of RepeatedProduction = DuplicationError
 spanskind_of _ = Error
 
--- where a finding is: the start of its first span
+-- the offset of a finding, in bytes: the start of its first span
 abbrev pub place_of : ShownFinding → ℕ
 place_of finding = option_map_or (λ (span : Span). span.start) (slice_get finding.spans 0) 0
 
@@ -71,17 +71,17 @@ module _ (g : Numbered) where
     text = codes "Unusable production: rule " ++ (quoted (rule_name q) ++ codes " has no sentence");
   }
 
-  -- ` [NAME]` of each symbol, which vanishes
+  -- ` [NAME]` for each symbol, which is nullable
   abbrev pub vanishing : List Sym → List ℕ
   vanishing symbols = flat_map (λ symbol. codes " [" ++ (sym_name g symbol ++ codes "]")) symbols
 
-  -- ` -> ` and the symbols of the step's production: the rule to which it leads, and in brackets those that vanish
+  -- ` -> ` and the symbols of the step's production: the rule that the step leads to, and the nullable symbols in brackets
   abbrev pub step_text : Step → List ℕ
   step_text step =
       let symbols = (nth_production (core g) step.production).symbols in
       codes " ->" ++ (vanishing (take step.place symbols) ++ (codes " " ++ (rule_name step.rule ++ vanishing (drop (step.place + 1) symbols))))
 
-  -- that the rule derives itself, by this row of steps
+  -- that the rule is cyclic, by this path of steps
   abbrev pub derives_itself : ℕ → List Step → ShownFinding
   derives_itself r row = record {
     kind = DerivesItself;
@@ -97,7 +97,7 @@ module _ (g : Numbered) where
     text = codes "Repeated production: each sentence by it has two trees";
   }
 
--- that the precedence of the token of this name, which is given here, is unused
+-- that the precedence of the token with this name, which is given here, is unused
 abbrev pub unused_precedence : List ℕ → Span → ShownFinding
 unused_precedence name span = record {
   kind = UnusedPrecedence;

@@ -1,11 +1,11 @@
-//! Rules that a grammar has beside those of its file.
+//! Rules that a grammar has in addition to those of its file.
 
 ghost use Rattle.std.specs.Prelude.{◌≡◌};
 ghost use Rattle.cfglint.specs.Findings.{rules_added as added};
 
 use cfgrammar::yacc::YaccGrammar;
 
-/// How many rules stand before those of the file.
+/// How many rules come before those of the file.
 pub(crate) fn rules_added(grammar: &YaccGrammar<u32>) -> usize
     ensures { result ≡ added grammar.now }
 {

@@ -1,4 +1,4 @@
-//! The places of tokens that a production's `%prec` names.
+//! The spans of tokens that a production's `%prec` names.
 
 ghost use Rattle.std.specs.Prelude.{◌≡◌, IfOk, OnOk};
 ghost use Rattle.cfgrammar.specs.TreeView.{syntax};
@@ -9,10 +9,10 @@ use cfgrammar::yacc::ast::GrammarAST;
 use std::alloc::{AllocError, Global};
 use std::collections::BTreeSet;
 
-/// The places of tokens, by their starts and ends.
+/// The spans of tokens, by start and end.
 pub(crate) type Places = BTreeSet<(usize, usize)>;
 
-/// The first places of the tokens that a production's `%prec` names.
+/// The spans at which the tokens that a production's `%prec` names first occur.
 pub(crate) fn places_asked(alloc: Global, ast: &GrammarAST) -> Result<Places, AllocError>
     ensures { IfOk result (AreAskedBy (syntax ast.now) (syntax ast.now).productions) }
 {
@@ -25,12 +25,12 @@ pub(crate) fn places_asked(alloc: Global, ast: &GrammarAST) -> Result<Places, Al
     Ok(places)
 }
 
-/// Adds the first place of the token of this name.
+/// Adds the span at which the token with this name first occurs.
 fn note_place(ast: &GrammarAST, places: &mut Places, name: &str) -> Result<(), AllocError>
     ensures { OnOk result (Notes (syntax ast.now) name.now places.old places.new) }
 {
     let tokens = ast.tokens();
-    // Names differ in a set whose length is known.
+    // Names are distinct in a set whose length is known.
     let _count = tokens.len();
     if let Some(index) = tokens.get_index_of(name) {
         if let Some(span) = ast.spans().get(index) {
@@ -40,7 +40,7 @@ fn note_place(ast: &GrammarAST, places: &mut Places, name: &str) -> Result<(), A
     Ok(())
 }
 
-/// Whether the span is among the places.
+/// Whether the span is in the set.
 pub(crate) fn has_span(places: &Places, span: Span) -> bool
     ensures { result ≡ has_span places.now span }
 {

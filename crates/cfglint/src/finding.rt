@@ -1,4 +1,4 @@
-//! What is odd about a grammar, and where.
+//! Findings about a grammar, and where they are.
 
 ghost use Rattle.std.specs.Prelude.{◌≡◌, [], ◌∷◌, IfOk, Some, string_bytes};
 ghost use Rattle.cfglint.specs.Shown.{place_of};
@@ -8,26 +8,27 @@ use std::alloc::{AllocError, Global};
 use std::fmt;
 use std::marker::Model;
 
-/// What is odd about a grammar without errors.
+/// The kind of a finding about a grammar without errors.
 #[derive(Clone, Copy, Debug, PartialEq, Eq)]
 pub enum FindingKind {
-    /// No row of productions reaches this rule from the start rule.
+    /// The rule isn't reachable from the start rule.
     UnusedRule,
-    /// No row of productions reaches this token from the start rule, and no production's `%prec` names it.
+    /// The token isn't reachable from the start rule, and no production's `%prec` names it.
     UnusedToken,
     /// The rule derives no list of tokens.
     NoSentence,
-    /// No sentence of the production's rule uses it, since a rule in it has none.
+    /// No sentence of the production's rule uses it, since it contains an unproductive rule.
     UnusableProduction,
-    /// The rule derives itself by one or more steps, so each of its sentences has infinitely many trees.
+    /// The rule is cyclic, so each of its sentences has infinitely many parse trees.
     DerivesItself,
-    /// The rule has an earlier production with the same symbols, so each sentence by one of the two has two trees.
+    /// The rule has an earlier production with the same symbols, so each sentence by one of the two has two parse
+    /// trees.
     RepeatedProduction,
-    /// The token is given a precedence, but is no symbol of a production, and none takes its precedence from it.
+    /// The token is given a precedence, but is in no production, and no production takes its precedence from it.
     UnusedPrecedence,
 }
 
-/// What is odd about a grammar, at one place or more.
+/// A finding about a grammar, at one or more spans.
 #[derive(Debug, Drop)]
 pub struct Finding {
     kind: FindingKind,
@@ -45,14 +46,14 @@ impl Model for Finding {
 }
 
 impl Finding {
-    /// A finding of this kind, with its places and what is told of it.
+    /// A finding of this kind, with its spans and its text.
     pub(crate) fn new(kind: FindingKind, spans: Vec<Span>, text: String) -> Finding
         ensures { result ≡ record { kind = kind; spans = spans.items; text = string_bytes text } }
     {
         Finding { kind, spans, text }
     }
 
-    /// A finding at one place.
+    /// A finding at one span.
     pub(crate) fn at(
         alloc: Global,
         kind: FindingKind,
@@ -66,7 +67,7 @@ impl Finding {
         Ok(Finding { kind, spans, text })
     }
 
-    /// A finding at two places, in this order.
+    /// A finding at two spans, in this order.
     pub(crate) fn at_both(
         alloc: Global,
         kind: FindingKind,
@@ -86,7 +87,7 @@ impl Finding {
         Ok(Finding { kind, spans, text })
     }
 
-    /// Where it is: the start of its first span.
+    /// Its offset in bytes: the start of its first span.
     pub(crate) fn place(&self) -> usize
         ensures { result ≡ place_of self.now }
     {
@@ -96,14 +97,14 @@ impl Finding {
         }
     }
 
-    /// What is odd.
+    /// The kind of the finding.
     pub fn kind(&self) -> FindingKind
         ensures { result ≡ self.now.kind }
     {
         self.kind
     }
 
-    /// What is told of it.
+    /// The text of the finding.
     pub fn text(&self) -> &str
         ensures { result.now ≡ self.now.text }
     {

@@ -1,4 +1,4 @@
-//! All that is odd about a grammar.
+//! All findings about a grammar.
 
 ghost use Rattle.std.specs.Prelude.{◌≡◌, IfOk};
 ghost use Rattle.cfgrammar.specs.TreeView.{syntax};
@@ -14,12 +14,12 @@ use cfgrammar::yacc::YaccGrammar;
 use cfgrammar::yacc::ast::GrammarAST;
 use std::alloc::{AllocError, Global};
 
-/// What is odd about a grammar without errors, in the order of places; what stands at one place in the order of
+/// The findings about a grammar without errors, by offset; those at the same offset are in the order of
 /// [`FindingKind`](crate::FindingKind). `ast` is the tree of the text, and `grammar` its numbers.
 ///
 /// # Errors
 ///
-/// Want of memory.
+/// Out of memory.
 pub fn findings(
     alloc: Global,
     ast: &GrammarAST,

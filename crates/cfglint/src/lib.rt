@@ -1,6 +1,4 @@
-//! What a person wants to know of a grammar file: what is wrong with it or odd about it, where, and why; and the
-//! program
-//! `cfglint`, as a library.
+//! The errors and issues of a grammar file, where they are, and why; and the program `cfglint`, as a library.
 #![tactic(auto)]
 
 mod added;

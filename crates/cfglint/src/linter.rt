@@ -1,4 +1,4 @@
-//! What is told of a text.
+//! What is reported for a text.
 
 use crate::found::findings;
 use cfgdriver::{TextReader, read_text_or};
@@ -9,9 +9,8 @@ use cfgshell::KindArg;
 use lintshell::{Linter, Report};
 use std::alloc::{AllocError, Global};
 
-/// Tells of a text its errors, or what is odd about its grammar, each with the line of the text and carets. A text for
-/// which no kind is asked is read as one of the kind that its section names, or, where it names none, as one without
-/// actions.
+/// Reports a text's errors, or the findings about its grammar, each with its line of the text and carets. If no kind is
+/// requested, a text is read as the kind that its section names or, if it names none, as the kind without actions.
 #[derive(Clone, Copy, Debug)]
 pub struct Lints;
 
@@ -33,7 +32,7 @@ impl Linter for Lints {
     }
 }
 
-/// Reports the errors or the findings of a text in the file of this name. No kind counts as taken.
+/// Reports the errors or the findings for a text in the file with this name. No kind counts as taken.
 #[derive(Clone, Copy)]
 struct FileReporter<'a> {
     name: &'a str,

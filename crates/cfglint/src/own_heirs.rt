@@ -1,4 +1,4 @@
-//! Rules that derive themselves.
+//! Cyclic rules.
 
 ghost use Rattle.std.specs.Prelude.{◌≡◌, ◌++◌, ◌<◌, All, IfOk, OnOk, length, map, string_bytes};
 ghost use Rattle.std.specs.List.{flat_map};
@@ -19,8 +19,7 @@ use cfgrammar::{PIdx, RIdx, Symbol};
 use std::alloc::{AllocError, Global};
 use std::marker::Model;
 
-/// Puts behind the findings the rules of the file that derive themselves, each with a shortest row of steps by which it
-/// does.
+/// Adds the cyclic rules of the file to the findings, each with a shortest path of steps from it to itself.
 pub(crate) fn push_loops(
     alloc: Global,
     all: &mut Vec<Finding>,
@@ -33,7 +32,7 @@ pub(crate) fn push_loops(
     push_told(alloc, all, &heirs, usize::from(grammar.rules_len()))
 }
 
-/// A grammar, and for each of its rules a shortest loop, or that it has none.
+/// A grammar, and for each of its rules a shortest cycle, or `None` if it has none.
 #[derive(Drop)]
 struct OwnHeirs<'a> {
     grammar: &'a YaccGrammar<u32>,
@@ -52,7 +51,7 @@ impl<'a> Model for OwnHeirs<'a> {
 }
 
 impl<'a> OwnHeirs<'a> {
-    /// The loops of the grammar's rules.
+    /// The cycles of the grammar's rules.
     fn new(alloc: Global, grammar: &'a YaccGrammar<u32>) -> Result<Self, AllocError>
         ensures { IfOk result (λ x. x ≡ grammar.now) }
     {
@@ -81,7 +80,7 @@ impl<'a> Teller for OwnHeirs<'a> {
     }
 }
 
-/// For each rule of the grammar a shortest loop, or that it has none.
+/// For each rule of the grammar a shortest cycle, or `None` if it has none.
 fn loops_of(alloc: Global, grammar: &YaccGrammar<u32>) -> Result<Vec<Option<Vec<Step>>>, AllocError>
     ensures { IfOk result (λ loops. AreLoops grammar.now loops.items) }
 {
@@ -90,7 +89,7 @@ fn loops_of(alloc: Global, grammar: &YaccGrammar<u32>) -> Result<Vec<Option<Vec<
     shortest_loops(alloc, &steps)
 }
 
-/// That the rule derives itself, by this loop.
+/// The finding that the rule is cyclic, by this cycle.
 fn own_heir(
     alloc: Global,
     grammar: &YaccGrammar<u32>,
@@ -110,7 +109,7 @@ fn own_heir(
     Finding::at(alloc, FindingKind::DerivesItself, span, text)
 }
 
-/// Writes steps, one behind the other.
+/// Writes steps, one after the other.
 fn write_row(text: &mut String, grammar: &YaccGrammar<u32>, row: &[Step]) -> Result<(), AllocError>
     requires { All (IsSomeStep grammar.now) row.now }
     ensures { OnOk result (string_bytes text.new ≡ string_bytes text.old ++ flat_map (step_text grammar.now) row.now) }
@@ -121,7 +120,7 @@ fn write_row(text: &mut String, grammar: &YaccGrammar<u32>, row: &[Step]) -> Res
     Ok(())
 }
 
-/// Writes the symbols of a step's production: the rule to which it leads, and in brackets those that vanish.
+/// Writes the symbols of a step's production: the rule that the step leads to, and the nullable symbols in brackets.
 fn write_step(text: &mut String, grammar: &YaccGrammar<u32>, step: Step) -> Result<(), AllocError>
     requires { IsSomeStep grammar.now step }
     ensures { OnOk result (string_bytes text.new ≡ string_bytes text.old ++ step_text grammar.now step) }
@@ -139,7 +138,7 @@ fn write_step(text: &mut String, grammar: &YaccGrammar<u32>, step: Step) -> Resu
     write_vanishing(text, grammar, &rest[1..])
 }
 
-/// Writes symbols that vanish, each with a space and in brackets.
+/// Writes nullable symbols, each with a space and in brackets.
 fn write_vanishing(
     text: &mut String,
     grammar: &YaccGrammar<u32>,

@@ -1,4 +1,4 @@
-//! Precedences of tokens that take no part.
+//! Precedences of tokens that aren't used.
 
 ghost use Rattle.std.specs.Prelude.{◌≡◌, [], ◌∷◌, ◌++◌, length, map, IfOk, OnOk};
 ghost use Rattle.std.specs.List.{flat_map};
@@ -16,11 +16,11 @@ use cfgrammar::{Span, Vob};
 use indexmap::IndexMap;
 use std::alloc::{AllocError, Global};
 
-/// Puts behind the findings the tokens that are given a precedence and take no part.
+/// Adds the tokens that are given a precedence but aren't used to the findings.
 ///
 /// # Errors
 ///
-/// Want of memory.
+/// Out of memory.
 pub(crate) fn push_precedences(
     alloc: Global,
     all: &mut Vec<Finding>,
@@ -34,11 +34,11 @@ pub(crate) fn push_precedences(
     push_told(alloc, all, &idle, ast.precs().len())
 }
 
-/// Tells of tokens that are given a precedence and take no part.
+/// Reports tokens that are given a precedence but aren't used.
 #[derive(Drop)]
 struct Idle<'a> {
     ast: &'a GrammarAST,
-    /// In the order of the precedences, whether the token takes part.
+    /// Whether the token is used, in the order of the precedences.
     taking: Vob,
 }
 
@@ -64,7 +64,7 @@ impl Teller for Idle<'_> {
     }
 }
 
-/// That the precedence of the token of this name, which is given here, is unused.
+/// The finding that the precedence of the token with this name, which is given here, is unused.
 fn unused_precedence(alloc: Global, name: &str, span: Span) -> Result<Finding, AllocError>
     ensures { IfOk result (λ x. x ≡ unused_precedence name.now span) }
 {
@@ -74,7 +74,7 @@ fn unused_precedence(alloc: Global, name: &str, span: Span) -> Result<Finding, A
     Finding::at(alloc, FindingKind::UnusedPrecedence, span, text)
 }
 
-/// Of each token that is given a precedence, in order, whether it takes part.
+/// For each token that is given a precedence, in order, whether it is used.
 fn taking_part(alloc: Global, ast: &GrammarAST) -> Result<Vob, AllocError>
     ensures { IfOk result (AreMarked (syntax ast.now)) }
 {
@@ -86,7 +86,7 @@ fn taking_part(alloc: Global, ast: &GrammarAST) -> Result<Vob, AllocError>
     Ok(taking)
 }
 
-/// Marks what productions hold and what their `%prec` names.
+/// Marks what productions contain and what their `%prec` names.
 fn mark_productions(ast: &GrammarAST, taking: &mut Vob, productions: &[Production])
     requires { length taking.old ≡ length (syntax ast.now).tables.precedences }
     ensures { Marks (syntax ast.now) (flat_map production_names (map production_view productions.now))
@@ -97,7 +97,7 @@ fn mark_productions(ast: &GrammarAST, taking: &mut Vob, productions: &[Productio
     }
 }
 
-/// Marks what a production holds and what its `%prec` names.
+/// Marks what a production contains and what its `%prec` names.
 fn mark_production(ast: &GrammarAST, taking: &mut Vob, production: &Production)
     requires { length taking.old ≡ length (syntax ast.now).tables.precedences }
     ensures { Marks (syntax ast.now) (production_names (production_view production.now)) taking.old taking.new }
@@ -118,7 +118,7 @@ fn mark_symbols(ast: &GrammarAST, taking: &mut Vob, symbols: &[Symbol])
     }
 }
 
-/// Marks a token; a rule is none.
+/// Marks a token; does nothing for a rule.
 fn mark_symbol(ast: &GrammarAST, taking: &mut Vob, symbol: &Symbol)
     requires { length taking.old ≡ length (syntax ast.now).tables.precedences }
     ensures { Marks (syntax ast.now) (symbol_names (symbol_view symbol.now)) taking.old taking.new }
@@ -140,7 +140,7 @@ fn mark_table(ast: &GrammarAST, taking: &mut Vob, table: &IndexMap<String, Span>
     }
 }
 
-/// Marks the token of this name, where it is given a precedence.
+/// Marks the token with this name, if it is given a precedence.
 fn mark(ast: &GrammarAST, taking: &mut Vob, name: &str)
     requires { length taking.old ≡ length (syntax ast.now).tables.precedences }
     ensures { Marks (syntax ast.now) (name.now ∷ []) taking.old taking.new }

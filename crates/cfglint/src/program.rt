@@ -10,10 +10,10 @@ use cfgshell::sink::Sink;
 use cfgshell::source::Source;
 use std::alloc::Global;
 
-/// Runs the program on the words after its name, and answers its status. What it tells of the files that the words
-/// name, and a summary, is written to `out`, and a line for each file without a text, or on what else went wrong, to
-/// `err`, as far as `err` takes it. Nothing is written before all files are read. Words that are wrong leave `source`
-/// as it was.
+/// Runs the program on its command-line arguments, and returns its status. Its reports on the files among the
+/// arguments, and a summary, are written to `out`. A line for each file without a text, or on whatever else failed, is
+/// written to `err`, as far as `err` accepts it. Nothing is written before all files are read. If the arguments are
+/// wrong, `source` is left as it was.
 pub fn lint<S: Source, O: Sink, E: Sink>(
     alloc: Global,
     args: &[&str],

@@ -16,11 +16,11 @@ use cfgrammar::{PIdx, Symbol};
 use std::alloc::{AllocError, Global};
 use std::collections::BTreeMap;
 
-/// Puts behind the findings the productions with the symbols of an earlier one of their rule.
+/// Adds the productions with the symbols of an earlier one of their rule to the findings.
 ///
 /// # Errors
 ///
-/// Want of memory.
+/// Out of memory.
 pub(crate) fn push_repeats(
     alloc: Global,
     all: &mut Vec<Finding>,
@@ -34,11 +34,11 @@ pub(crate) fn push_repeats(
     push_told(alloc, all, &repeats, usize::from(grammar.start_prod()))
 }
 
-/// Tells of productions with the symbols of an earlier one of their rule.
+/// Reports productions with the symbols of an earlier one of their rule.
 #[derive(Drop)]
 struct Repeats<'a> {
     grammar: &'a YaccGrammar<u32>,
-    /// Of each production of the file, the first one of its rule with its symbols.
+    /// For each production of the file, the first one of its rule with its symbols.
     firsts: Vec<usize>,
 }
 
@@ -62,7 +62,7 @@ impl Teller for Repeats<'_> {
     }
 }
 
-/// That the production has the symbols of an earlier one of its rule.
+/// The finding that the production has the symbols of an earlier one of its rule.
 fn repeated(
     alloc: Global,
     grammar: &YaccGrammar<u32>,
@@ -89,17 +89,17 @@ fn repeated(
     )
 }
 
-/// A symbol, in an order of symbols.
+/// A symbol, in a form that has an order.
 #[derive(PartialEq, Eq, PartialOrd, Ord, Drop)]
 enum OrderedSymbol {
     Rule(u32),
     Token(u32),
 }
 
-/// The rule and the symbols of a production, in an order of productions.
+/// The rule and the symbols of a production, in a form that has an order.
 type Shape = (u32, Vec<OrderedSymbol>);
 
-/// Of each production of the file, the first one of its rule with its symbols.
+/// For each production of the file, the first one of its rule with its symbols.
 fn firsts_of(alloc: Global, grammar: &YaccGrammar<u32>) -> Result<Vec<usize>, AllocError>
     ensures { IfOk result (λ x. AreFirsts (core grammar.now) grammar.now.start_production x.items) }
 {
@@ -112,7 +112,7 @@ fn firsts_of(alloc: Global, grammar: &YaccGrammar<u32>) -> Result<Vec<usize>, Al
     Ok(firsts)
 }
 
-/// The number that is known under the shape; where none is, it is now this one.
+/// The number recorded for the shape; if there is none, records this one.
 fn first_known(
     known: &mut BTreeMap<Shape, usize>,
     shape: Shape,
@@ -140,7 +140,7 @@ fn shape_of(alloc: Global, grammar: &YaccGrammar<u32>, number: usize) -> Result<
     Ok((u32::from(grammar.prod_to_rule(pidx)), symbols))
 }
 
-/// The symbols, as they are ordered.
+/// The symbols, in a form that has an order.
 fn all_ordered(alloc: Global, symbols: &[Symbol<u32>]) -> Result<Vec<OrderedSymbol>, AllocError>
     ensures { IfOk result (λ x. x.items ≡ map ordered_symbol symbols.now) }
 {
@@ -150,7 +150,7 @@ fn all_ordered(alloc: Global, symbols: &[Symbol<u32>]) -> Result<Vec<OrderedSymb
         .collect(alloc)
 }
 
-/// The symbol, as it is ordered.
+/// The symbol, in a form that has an order.
 fn ordered_symbol(symbol: Symbol<u32>) -> OrderedSymbol
     ensures { result ≡ ordered_symbol symbol }
 {

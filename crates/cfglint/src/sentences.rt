@@ -1,4 +1,4 @@
-//! Rules that have no sentence, and productions that no sentence uses.
+//! Unproductive rules, and productions that no sentence uses.
 
 ghost use Rattle.std.specs.Prelude.{◌≡◌, ◌++◌, ◌<◌, ℕ, false, List, All, Contains, length, map};
 ghost use Rattle.std.specs.Prelude.{IfOk, IfSome, MatchOption, OnOk};
@@ -21,7 +21,7 @@ use cfgrammar::{PIdx, RIdx, Symbol};
 use std::alloc::{AllocError, Global};
 use std::marker::Model;
 
-/// Puts behind the findings the rules of the file that have no sentence, and then its productions that can't be used.
+/// Adds the unproductive rules of the file to the findings, and then its productions that can't be used.
 pub(crate) fn push_sentences(
     alloc: Global,
     all: &mut Vec<Finding>,
@@ -42,7 +42,7 @@ pub(crate) fn push_sentences(
     )
 }
 
-/// A grammar, and for each of its rules whether it has no sentence.
+/// A grammar, and for each of its rules whether it is unproductive.
 #[derive(Drop)]
 struct Lacks<'a> {
     grammar: &'a YaccGrammar<u32>,
@@ -61,7 +61,7 @@ impl<'a> Model for Lacks<'a> {
 }
 
 impl<'a> Lacks<'a> {
-    /// Which rules of the grammar have no sentence.
+    /// Finds out which rules of the grammar are unproductive.
     fn new(alloc: Global, grammar: &'a YaccGrammar<u32>) -> Result<Self, AllocError>
         ensures { IfOk result (λ x. x ≡ grammar.now) }
     {
@@ -69,7 +69,7 @@ impl<'a> Lacks<'a> {
         Ok(Lacks { grammar, rules })
     }
 
-    /// Whether the rule has no sentence.
+    /// Whether the rule is unproductive.
     fn lacks(&self, rule: RIdx<u32>) -> bool
         requires { rule.0 < length self.now.rules }
         ensures { LacksOrHas self.now rule.0 result }
@@ -77,7 +77,7 @@ impl<'a> Lacks<'a> {
         self.rules[usize::from(rule)]
     }
 
-    /// The first rule among the symbols that has no sentence.
+    /// The first unproductive rule among the symbols.
     fn first_without(&self, symbols: &[Symbol<u32>]) -> Option<RIdx<u32>>
         requires { All (IsSymbolWithin (λ s. s) self.now) symbols.now }
         ensures first { MatchOption result
@@ -95,7 +95,7 @@ impl<'a> Lacks<'a> {
         None
     }
 
-    /// What is told of a rule: that it has no sentence, if it is of the file.
+    /// The finding that a rule is unproductive, if it is one of the file.
     fn tell_rule(&self, alloc: Global, number: usize) -> Result<Option<Finding>, AllocError>
         requires { number < length self.now.rules }
         ensures { IfOk result (TellsNoSentence self.now number) }
@@ -112,7 +112,7 @@ impl<'a> Lacks<'a> {
         Ok(Some(Finding::at(alloc, FindingKind::NoSentence, span, text)?))
     }
 
-    /// What is told of a production of the file: that it can't be used, if its rule has a sentence.
+    /// The finding that a production of the file can't be used, if its rule is productive.
     fn tell_production(&self, alloc: Global, number: usize) -> Result<Option<Finding>, AllocError>
         requires { number < self.now.start_production }
         ensures { IfOk result (TellsUnusable self.now number) }
@@ -134,7 +134,7 @@ impl<'a> Lacks<'a> {
     }
 }
 
-/// For each rule of the grammar whether it has no sentence.
+/// For each rule of the grammar, whether it is unproductive.
 fn rules_without(alloc: Global, grammar: &YaccGrammar<u32>) -> Result<Vec<bool>, AllocError>
     ensures { IfOk result (λ lacks. AreLacks grammar.now lacks.items) }
 {
@@ -158,7 +158,7 @@ fn without_of(
     Ok(lacks)
 }
 
-/// Whether the rule has no sentence, by the generator.
+/// Whether the rule is unproductive, according to the generator.
 fn has_none(
     grammar: &YaccGrammar<u32>,
     generator: &SentenceGenerator<'_, u32>,
@@ -175,7 +175,7 @@ fn has_none(
     }
 }
 
-/// The rules of a grammar, told of where they have no sentence.
+/// Reports the unproductive rules of a grammar.
 #[derive(Drop)]
 struct Rules<'a>(&'a Lacks<'a>);
 
@@ -192,7 +192,7 @@ impl<'a> Teller for Rules<'a> {
     }
 }
 
-/// The productions of a grammar, told of where they can't be used.
+/// Reports the productions of a grammar that can't be used.
 #[derive(Drop)]
 struct Productions<'a>(&'a Lacks<'a>);
 

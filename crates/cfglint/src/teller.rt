@@ -1,4 +1,4 @@
-//! What is told of whatever is numbered: rules, productions, precedences.
+//! Findings about numbered things: rules, productions, precedences.
 
 ghost use Rattle.std.specs.Prelude.{◌≡◌, ◌++◌, ◌≤◌, OnOk};
 ghost use Rattle.cfglint.specs.Findings.{TellsBelow};
@@ -6,7 +6,7 @@ ghost use Rattle.cfglint.specs.Findings.{TellsBelow};
 use crate::finding::Finding;
 use std::alloc::{AllocError, Global};
 
-/// What tells of some numbered things.
+/// Reports on numbered things.
 pub(crate) trait Teller {
     ghost use Rattle.std.specs.Prelude.{◌<◌, ℕ, Option, IfOk};
     ghost use Rattle.cfglint.specs.Shown.{ShownFinding};
@@ -14,20 +14,20 @@ pub(crate) trait Teller {
     // How many things there are.
     ghost count: { Self → ℕ };
 
-    // What may be told of one of them.
+    // What may be reported for one of them.
     ghost tells: { Self → ℕ → Option ShownFinding → Type 0 };
 
-    /// What is told of this one.
+    /// The finding for this one, if any.
     ///
     /// # Errors
     ///
-    /// Want of memory.
+    /// Out of memory.
     fn tell(&self, alloc: Global, number: usize) -> Result<Option<Finding>, AllocError>
         requires { number < count self.now }
         ensures { IfOk result (tells self.now number) };
 }
 
-/// Puts behind the findings what is told of the first things, as many as this, in order.
+/// Adds the findings for the first `count` things to `all`, in order.
 pub(crate) fn push_told<T: Teller>(
     alloc: Global,
     all: &mut Vec<Finding>,

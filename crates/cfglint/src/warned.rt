@@ -17,11 +17,11 @@ use cfgrammar::yacc::ast::GrammarAST;
 use cfgrammar::yacc::{YaccGrammarWarning, YaccGrammarWarningKind};
 use std::alloc::{AllocError, Global};
 
-/// Puts behind the findings the warnings of the tree, but for unused tokens that a production's `%prec` names.
+/// Adds the warnings of the tree to the findings, except unused tokens that a production's `%prec` names.
 ///
 /// # Errors
 ///
-/// Want of memory.
+/// Out of memory.
 pub(crate) fn push_warnings(
     alloc: Global,
     all: &mut Vec<Finding>,
@@ -35,7 +35,7 @@ pub(crate) fn push_warnings(
     push_unasked(alloc, all, ast, &warnings)
 }
 
-/// Puts behind the findings those of the warnings that aren't of tokens that a production's `%prec` names.
+/// Adds those of the warnings that aren't about tokens that a production's `%prec` names to the findings.
 fn push_unasked(
     alloc: Global,
     all: &mut Vec<Finding>,
@@ -50,11 +50,11 @@ fn push_unasked(
     push_told(alloc, all, &unasked, warnings.len())
 }
 
-/// Tells of warnings that aren't of tokens that a production's `%prec` names.
+/// Reports warnings that aren't about tokens that a production's `%prec` names.
 #[derive(Drop)]
 struct Unasked<'a> {
     warnings: &'a [YaccGrammarWarning],
-    /// The places of the tokens that a production's `%prec` names.
+    /// The spans of the tokens that a production's `%prec` names.
     asked: Places,
 }
 
@@ -78,7 +78,8 @@ impl Teller for Unasked<'_> {
     }
 }
 
-/// Whether the warning is of a token at one of these places, those of the tokens that a production's `%prec` names.
+/// Whether the warning is about a token at one of these spans, which are those of the tokens that a production's
+/// `%prec` names.
 fn is_asked_for(asked: &Places, warning: &YaccGrammarWarning) -> bool
     ensures { (s : Syntax) → AreAskedBy s s.productions asked.now
         → MatchBool result (IsAskedFor s warning.now) (IsAskedFor s warning.now → ⊥) }
@@ -92,7 +93,7 @@ fn is_asked_for(asked: &Places, warning: &YaccGrammarWarning) -> bool
     }
 }
 
-/// A warning, as a finding at its places.
+/// A warning as a finding, with its spans.
 fn finding_of(alloc: Global, warning: &YaccGrammarWarning) -> Result<Finding, AllocError>
     ensures { IfOk result (λ x. x ≡ warned warning.now) }
 {
@@ -101,7 +102,7 @@ fn finding_of(alloc: Global, warning: &YaccGrammarWarning) -> Result<Finding, Al
     Ok(Finding::new(kind_of(warning.kind()), spans, text))
 }
 
-/// The kind of finding that a warning is.
+/// The kind of the finding for a warning.
 fn kind_of(kind: &YaccGrammarWarningKind) -> FindingKind
     ensures { result ≡ kind_of_warning kind.now }
 {

@@ -1,4 +1,4 @@
--- What is added to the rules and productions of a file, and how many there are then.
+-- What is added to the rules and productions of a file, and how many there are in total.
 use Rattle.std.proofs.Common.{ℕ, ◌≡◌, List, [], ◌∷◌, ◌++◌, length, map, All, Option, Some, None, refl, arith, ◌+◌}
 use Rattle.std.specs.List.{zip}
 use Rattle.std.proofs.lemmas.List.{length-map, length-append}
@@ -19,7 +19,7 @@ pub added_names_are : (implicit : Option (List (List ℕ))) (n : ℕ) → map (�
 added_names_are None n = refl
 added_names_are (Some names) n = refl
 
--- the productions behind those that begin with an implicit token
+-- the productions after those that begin with an implicit token
 abbrev pub behind_implicit : List (List ℕ) → Syntax → List NumberedProduction
 behind_implicit names s = added_production 1 [] ∷ added_production 2 (Rule 1 ∷ start_symbols (Some names) s) ∷ []
 
@@ -34,7 +34,7 @@ All-added P names s first rows empty start =
     (All-append P (map (implicit_row s) names) (behind_implicit names s) (All-map P (implicit_row s) names rows)
     (All-cons P (added_production 1 []) (added_production 2 (Rule 1 ∷ start_symbols (Some names) s) ∷ []) empty (All-cons P (added_production 2 (Rule 1 ∷ start_symbols (Some names) s)) [] start (All-nil P))))
 
--- what holds of whatever is added
+-- what is true of whatever is added
 pub All-added_rules : (P : NumberedRule → Type 0) → ((name : List ℕ) (productions : List ℕ) → P (added_rule name productions)) → (implicit : Option (List (List ℕ))) (n : ℕ) → All P (added_rules implicit n)
 All-added_rules P each None n = All-from_recursion P (added_rules None n) (each start_name (n ∷ []), tt)
 All-added_rules P each (Some names) n = All-from_recursion P (added_rules (Some names) n) (each start_name _, (each implicit_name _, (each implicit_start_name _, tt)))

@@ -1,4 +1,4 @@
--- What rules, symbols and rows that stand beside one another show of productions.
+-- What parallel lists of rules, symbols and rows show of productions.
 use Rattle.std.proofs.Common.{◌≡◌, ℕ, ◌<◌, List, [], ◌∷◌, ◌++◌, length, map, get_or, slice_get, option_map, Some, arith, refl, sym, ap, ◌∙◌}
 use Rattle.std.specs.List.{zip}
 use Rattle.std.proofs.lemmas.List.{length-map, map-append}
@@ -18,7 +18,7 @@ module _ {S : Type 0} (number : S → ℕ) (rules : List (RIdx S)) (lists : List
   pub beside-length : length xs ≡ length rows
   beside-length = omega (arith, same.0, same.1, ap length shown, length-map (zip rules (zip lists rows)) (production_view number), length-zip rules (zip lists rows), length-zip lists rows)
 
-  -- one more of each, and what they show then
+  -- one more of each, and what they then show
   pub pushed : (rule : RIdx S) (list : List (Symbol S)) (row : ProductionRow) (rules' : List (RIdx S)) (lists' : List (List (Symbol S))) (rows' : List ProductionRow)
       → rules' ≡ rules ++ rule ∷ [] → lists' ≡ lists ++ list ∷ [] → rows' ≡ rows ++ row ∷ []
       → map (production_view number) (zip rules' (zip lists' rows')) ≡ xs ++ production_view number (rule, (list, row)) ∷ []
@@ -29,7 +29,7 @@ module _ {S : Type 0} (number : S → ℕ) (rules : List (RIdx S)) (lists : List
       ∙ map-append (production_view number) (zip rules (zip lists rows)) ((rule, (list, row)) ∷ [])
       ∙ ap (λ l. l ++ production_view number (rule, (list, row)) ∷ []) shown
 
-  -- what is read at a place
+  -- what is read at an index
   module _ (place : ℕ) (within : place < length xs) where
     pub in_rows : place < length rows
     in_rows = omega (arith, within, beside-length)

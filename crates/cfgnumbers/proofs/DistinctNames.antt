@@ -1,4 +1,4 @@
--- Names that differ are found where they stand.
+-- Distinct names are found at their own index.
 use Rattle.std.proofs.Common.{◌≡◌, ℕ, zero, suc, ◌+◌, not, false, cond, List, [], ◌∷◌, ◌++◌, length, map, filter_map, position, nat_lt, option_map, slice_get, Option, Some, None, refl, sym, ap, subst, ◌∙◌, append-nil, arith, lt-ltb}
 use Rattle.std.specs.List.{cons_option, position_or_len, zip, AllByRecursion, IsDistinct}
 use Rattle.std.specs.Option.{option_map_or}
@@ -21,7 +21,7 @@ use Rattle.cfgnumbers.proofs.Added.{added_names_are}
 use Rattle.cfgnumbers.proofs.RowLemmas.{rule_names, rule_names-distinct, name_shown}
 use Rattle.cfgnumbers.proofs.Within.{part_within}
 
--- what holds of the names of all tokens holds of one's
+-- what is true of the names of all tokens is true of one of them
 name_holds : (P : List ℕ → Type 0) (tokens : List NumberedToken) (t : ℕ) (name : List ℕ)
     → AllByRecursion P (filter_map name_shown tokens) → option_map name_shown (slice_get tokens t) ≡ Some (Some name) → P name
 name_holds P [] t name all at = let no : None ≡ Some (Some name) = at in cc

@@ -1,4 +1,4 @@
--- Each production of a grammar stands in the list of the rule that owns it, once, and in no other.
+-- Each production of a grammar is in the list of the rule that owns it exactly once, and in no other.
 use Rattle.std.proofs.Common.{ℕ, ◌+◌, ◌<◌, ◌≡◌, List, [], ◌∷◌, ◌++◌, length, map, slice_get, All, Option, Some, None, refl, sym, ap, subst, ◌∙◌, arith, zero, suc, ◌==◌, Bool, true, false, cond, get_or, option_map, append-nil, ◌≢◌, nat_eq, count_by, if◌then◌else◌, eq-eqb}
 use Rattle.cfgast.specs.Syntax as file
 use Rattle.std.specs.List.{zip, range_with_len}
@@ -39,7 +39,7 @@ added_owners_are (Some names) s =
     ap (λ owners. 0 ∷ owners) (map-append owner_of (map (implicit_row s) names) (behind_implicit names s)
     ∙ ap (λ owners. owners ++ 1 ∷ 2 ∷ []) (map-map owner_of (implicit_row s) names))
 
--- each stands before the rules of the file
+-- each comes before the rules of the file
 pub added_owners_before : (implicit : Option (List (List ℕ))) → All (λ r. r < rules_before implicit) (added_owners implicit)
 added_owners_before None = All-cons (λ r. r < 1) 0 [] (omega arith) (All-nil (λ r. r < 1))
 added_owners_before (Some names) =
@@ -47,14 +47,14 @@ added_owners_before (Some names) =
     (All-append (λ r. r < 3) (map (λ name. 1) names) (1 ∷ 2 ∷ []) (All-map (λ r. r < 3) (λ name. 1) names (λ k d within. omega arith))
     (All-cons (λ r. r < 3) 1 (2 ∷ []) (omega arith) (All-cons (λ r. r < 3) 2 [] (omega arith) (All-nil (λ r. r < 3)))))
 
--- the first that is added is rule 0's
+-- the first added production is rule 0's
 start_at : (implicit : Option (List (List ℕ))) (xs : List ℕ) → slice_get (xs ++ added_owners implicit) (length xs) ≡ Some 0
 start_at None [] = refl
 start_at (Some names) [] = refl
 start_at None (x ∷ xs) = start_at None xs
 start_at (Some names) (x ∷ xs) = start_at (Some names) xs
 
--- the owners of all productions, where these rules of the file own its productions
+-- the owners of all productions, if these rules of the file own its productions
 abbrev pub file_owners : Option (List (List ℕ)) → List ℕ → List ℕ
 file_owners implicit rules = map (λ r. rules_before implicit + r) rules
 
@@ -111,7 +111,7 @@ places_from-none test i (x ∷ xs) none =
     ap (λ b. cond b (i ∷ places_from (i + 1) test xs) (places_from (i + 1) test xs)) (All-head (λ x. test x ≡ false) x xs none)
     ∙ places_from-none test (i + 1) xs (All-tail (λ x. test x ≡ false) x xs none)
 
--- where the added rules own productions
+-- the numbers of the added rules' productions
 start_places : (i : ℕ) (names : List (List ℕ)) → places_from i (λ owner. 0 == owner) (implicit_owners names) ≡ []
 start_places i [] = refl
 start_places i (name ∷ names) = start_places (i + 1) names
@@ -126,7 +126,7 @@ implicit_start_places : (i : ℕ) (names : List (List ℕ)) → places_from i (�
 implicit_start_places i [] = ap (λ j. j ∷ []) (omega arith)
 implicit_start_places i (name ∷ names) = implicit_start_places (i + 1) names ∙ ap (λ j. j ∷ []) (omega arith)
 
--- the places of the productions that a rule owns
+-- the numbers of the productions that a rule owns
 abbrev pub own_places : Option (List (List ℕ)) → Syntax → ℕ → List ℕ
 own_places implicit s r = places (λ owner. r == owner) (owners implicit s.production_rules)
 
@@ -165,7 +165,7 @@ module _ (implicit : Option (List (List ℕ))) (s : Syntax) (well : IsWellFormed
           let is : rule.1.productions ≡ listed = cc in
           sym is ∙ well.productions_listed r rule found ∙ sym (own_of_file r)
 
--- by the rules that stand before those of the file
+-- for the rules before those of the file
 own_listed : (implicit : Option (List (List ℕ))) (s : Syntax) → IsWellFormed s → (r : ℕ) (listed : List ℕ)
     → option_map (λ rule. rule.productions) (slice_get (added_rules implicit (length s.productions) ++ map file_rule s.rules) r) ≡ Some listed → listed ≡ own_places implicit s r
 own_listed None s well zero listed at =
@@ -191,7 +191,7 @@ pub lists_are : (implicit : Option (List (List ℕ))) (s : Syntax) → IsWellFor
 unfolding numbered_by
 lists_are implicit s well r listed at = own_listed implicit s well r listed at
 
--- how often a list with one more element in front has a number
+-- how often a number is in a list with one more element at the start
 pub counted_here : (n x : ℕ) (xs : List ℕ) → n ≡ x → count_by (nat_eq n) (x ∷ xs) ≡ count_by (nat_eq n) xs + 1
 counted_here n x xs same =
     sum_by-cons (λ j. cond (nat_eq n j) 1 0) x xs ∙ ap (λ b. cond b 1 0 + count_by (nat_eq n) xs) (eq-eqb n x same) ∙ omega arith
@@ -203,7 +203,7 @@ counted_elsewhere n x xs apart =
 abbrev once_if : Bool → ℕ
 once_if b = if b then 1 else 0
 
--- a place before the first is not among the places
+-- a number less than the first isn't among the indices
 counted-before : {A : Type 0} (test : A → Bool) (n first : ℕ) (xs : List A) → n < first → count_by (nat_eq n) (places_from first test xs) ≡ 0
 counted-before test n first [] before = refl
 counted-before {A} test n first (x ∷ xs) before = go (test x) (counted-before test n (first + 1) xs (omega arith))
@@ -215,7 +215,7 @@ counted-before {A} test n first (x ∷ xs) before = go (test x) (counted-before 
     go true rest = counted_elsewhere n first others (λ e. omega arith) ∙ rest
     go false rest = rest
 
--- The place of an element that passes is there once; that of one that doesn't, and one at which there is none, not at all.
+-- The index of an element that passes occurs once; that of an element that doesn't, or of none, not at all.
 counted-places_from : {A : Type 0} (test : A → Bool) (first i : ℕ) (xs : List A)
     → count_by (nat_eq (first + i)) (places_from first test xs) ≡ option_map_or (λ x. once_if (test x)) (slice_get xs i) 0
 counted-places_from test first i [] = refl

@@ -1,4 +1,4 @@
--- The list of a rule has the places of its productions.
+-- The list of a rule has the numbers of its productions.
 use Rattle.std.proofs.Common.{◌≡◌, ℕ, inl, inr, suc, ◌<◌, ◌==◌, nat_eq, List, [], ◌∷◌, length, count_by, get_or, slice_get, Some, option_map, All, Contains, if◌then◌else◌, sym, ap, subst, ◌∙◌, arith}
 use Rattle.std.proofs.lemmas.Bool.{cases_Bool, cases_eq}
 use Rattle.std.proofs.lemmas.Bool.Decides.{Decides-eqb}
@@ -13,7 +13,7 @@ use Rattle.cfgnumbers.specs.Accessors.{rule_part}
 use Rattle.cfgnumbers.specs.WellNumbered.{ListsEachOnce}
 use Rattle.cfgnumbers.proofs.Listed.{counted_here, counted_elsewhere}
 
--- a number is in a list exactly if the list has it some times
+-- a number is in a list exactly if it occurs there at least once
 counted-contained : (p : ℕ) (l : List ℕ) → Contains l p → count_by (nat_eq p) l ≡ 0 → ⊥
 counted-contained p [] h e = omega (arith, h.1)
 counted-contained p (x ∷ l) h e = elim (cases_eq p x) [

@@ -1,4 +1,4 @@
--- Lists one behind another are cut out of their items by the places at which they end.
+-- Concatenated lists are cut out of their items by the indices at which they end.
 use Rattle.std.proofs.Common.{◌≡◌, ℕ, zero, suc, ◌+◌, ◌-◌, ◌<◌, ◌≤◌, List, [], ◌∷◌, ◌++◌, length, get_or, slice_get, slice_range, take, drop, Some, arith, refl, sym, ap, subst, ◌∙◌, length-append}
 use Rattle.std.proofs.Math.Seq.{drop-append_seam}
 use Rattle.std.proofs.lemmas.List.{drop-append-le, length-drop, take_all, take-append-le}
@@ -10,7 +10,7 @@ lists_between-length items start (end ∷ ends) =
     let rest = lists_between-length items end ends in
     grind (arith, rest)
 
--- the first list, and one behind another
+-- the first list, and a later one
 pub first_between : {A : Type 0} (items : List A) (start : ℕ) (ends : List ℕ) (d : ℕ) → 0 < length ends
     → slice_get (lists_between items start ends) 0 ≡ Some (slice_range items start (get_or ends 0 d))
 first_between items start [] d lt = absurd (omega (arith, lt))
@@ -22,7 +22,7 @@ next_between items start [] k d e lt = absurd (omega (arith, lt))
 next_between items start (end ∷ ends) zero d e lt = first_between items end ends e (omega (arith, lt))
 next_between items start (end ∷ ends) (suc k) d e lt = next_between items end ends k d e (omega (arith, lt))
 
--- the places lie between start and the last, in order
+-- the indices are between start and the last, in ascending order
 pub ends_in_order : (start last : ℕ) (ends : List ℕ) → AreEnds start last ends → start ≤ last
 ends_in_order start last [] are = subst (λ n. start ≤ n) are (omega arith)
 ends_in_order start last (end ∷ ends) are =
@@ -38,7 +38,7 @@ next_end start last [] k d e are lt = absurd (omega (arith, lt))
 next_end start last (end ∷ ends) zero d e are lt = first_end end last ends e are.1 (omega (arith, lt))
 next_end start last (end ∷ ends) (suc k) d e are lt = next_end end last ends k d e are.1 (omega (arith, lt))
 
--- what is read of the list at a place: where it begins, where it ends, and what it is
+-- what is read of the list with an index: where it begins, where it ends, and what it is
 module _ {A : Type 0} (items : List A) (ends : List ℕ) (are : AreEnds 0 (length items) ends) (xs : List (List A)) (shown : lists_between items 0 ends ≡ xs) (place : ℕ) (lt : place < length xs) where
   pub within : place < length ends
   within = omega (arith, lt, ap length shown, lists_between-length items 0 ends)
@@ -67,9 +67,9 @@ module _ {A : Type 0} (items : List A) (ends : List ℕ) (are : AreEnds 0 (lengt
               ∙ (λ i. Some (slice_range items (sym start_is i) (sym at i))),
         )
 
--- one list more
+-- one more list
 module _ {A : Type 0} (items more : List A) where
-  -- what stands between places that are there stays
+  -- what is between existing indices stays
   range_stays : (start end : ℕ) → start ≤ end → end ≤ length items → slice_range (items ++ more) start end ≡ slice_range items start end
   range_stays start end le within =
       ap (take (end - start)) (drop-append-le start items more (omega (arith, le, within)))
@@ -92,7 +92,7 @@ module _ {A : Type 0} (items more : List A) where
         let within = ends_in_order end (length items) ends are.1 in
         (λ i. range_stays start end are.0 within i ∷ lists-push end ends are.1 i)
 
-    -- they are those that there were, and the one that was put behind them
+    -- they are the lists from before, followed by the one that was added
     pub pushed : (start : ℕ) (ends ends' : List ℕ) (items' : List A) → AreEnds start (length items) ends → items' ≡ items ++ more → ends' ≡ ends ++ last ∷ []
         → (lists_between items' start ends' ≡ lists_between items start ends ++ more ∷ []) × AreEnds start (length items') ends'
     pushed start ends ends' items' are items_are ends_are =

@@ -1,4 +1,4 @@
--- Where names are found, and the map of tokens by their names.
+-- Where names are found, and the map of tokens by name.
 use Rattle.std.proofs.Common.{◌≡◌, ℕ, Bool, true, List, [], ◌∷◌, ◌++◌, map, position, Some, String, Global, string_bytes, refl, sym, ap, ◌∙◌, ◌+◌, ◌<◌, false, cond, length, take, slice_get, option_map, Option, Bor, string_eq, subst, arith}
 use Rattle.cfgast.specs.declared.rule.Rule as source
 use Rattle.std.specs.HashMap as hash
@@ -23,11 +23,11 @@ use Rattle.cfgnumbers.specs.TablesView.{names, rule_view, token_view}
 use Rattle.cfgnumbers.specs.declared.rows.RuleRow.{RuleRow}
 use Rattle.cfgnumbers.specs.declared.rows.TokenRow.{TokenRow}
 
--- the test by which a text is looked up among keys
+-- the test that looks up a text among keys
 abbrev pub is_key : List ℕ → String Global → Bool
 is_key name key = bytes_eq name (string_bytes key)
 
--- a place among the keys of entries is one among the entries
+-- an index among the keys of entries is one among the entries
 pub position-keys : {V : Type 0} (name : List ℕ) (es : List (String Global × V)) → position (is_key name) (keys_of es) ≡ position (λ e. is_key name e.0) es
 position-keys name es = position-map (is_key name) (λ e. e.0) es
 
@@ -42,23 +42,23 @@ pub token_place : (name : List ℕ) (s : Syntax) (keys : List (String Global)) �
 token_place name s keys same known =
     sym (position-map (bytes_eq name) string_bytes keys) ∙ ap (position (bytes_eq name)) same ∙ first_place (bytes_eq name) s.tokens known
 
--- a name's place among the rows of rules
+-- a name's index among the rows of rules
 pub rule_position : {S : Type 0} (number : S → ℕ) (name : List ℕ) (es : List (String Global × RuleRow S))
     → position (is_key name) (keys_of es) ≡ position (λ rule. bytes_eq name rule.name) (map (rule_view number) es)
 rule_position number name es = position-keys name es ∙ sym (position-map (λ (rule : NumberedRule). bytes_eq name rule.name) (rule_view number) es)
 
--- the same of tokens; the end token has no name
+-- the same for tokens; the end token has no name
 pub token_position : (name : List ℕ) (es : List (String Global × TokenRow))
     → position (is_key name) (keys_of es) ≡ position (has_token_name name) (map token_view es ++ end_token ∷ [])
 token_position name es =
     position-keys name es ∙ sym (position-map (has_token_name name) token_view es)
     ∙ sym (position-push (has_token_name name) (map token_view es) end_token refl)
 
--- the same of a token's name among the names of the rows
+-- the same for a token's name among the names of the rows
 pub token_named : (name : List ℕ) (es : List (String Global × TokenRow)) → position (bytes_eq name) (names es) ≡ position (has_token_name name) (map token_view es ++ end_token ∷ [])
 token_named name es = position-map (bytes_eq name) (λ (e : String Global × TokenRow). string_bytes e.0) es ∙ sym (position-keys name es) ∙ token_position name es
 
--- no two keys are equal, so no two names
+-- no two keys are equal, so no two names are
 pub names-distinct : {V : Type 0} (es : List (String Global × V)) → IsDistinct string_eq (keys_of es) → IsDistinct bytes_eq (names es)
 unfolding IsDistinct
 names-distinct [] distinct = distinct
@@ -89,7 +89,7 @@ position_more all n key distinct at name = go (bytes_eq key name) refl
     go false apart = ap (position (bytes_eq name)) grown ∙ position-push (bytes_eq name) (take n all) key (nat_list_eq_equiv.symm name key ∙ apart)
 
 module _ {T S : Type 0} (number : T → ℕ) (old new : HashMap (Bor (List ℕ)) T S) (key : List ℕ) (token : T) where
-  -- the map of the names before place, with the name at place
+  -- the map of the names before an index, with the name at the index added
   pub token_put : hash.UpdatesBy (λ x y. bytes_eq x.now y.now) (λ k. bytes_eq key k.now) old new (Some token)
       → (all : List (List ℕ)) (place : ℕ) → number token ≡ place → IsDistinct bytes_eq all → slice_get all place ≡ Some key
       → ((name : List ℕ) → option_map number (get_by (λ k. bytes_eq name k.now) old) ≡ position (bytes_eq name) (take place all))

@@ -1,4 +1,4 @@
--- What a file says of single tokens, where the code looks it up, and the last token of a production.
+-- What a file says of individual tokens, where the code looks it up, and the last token of a production.
 use Rattle.std.proofs.Common.{◌≡◌, ℕ, List, map, false, is_some, Option, Some, None, option_map, String, Global, string_bytes, bytes_eq, refl, sym, ap, ◌∙◌, [], ◌∷◌, ◌++◌, filter_map, arith, length-append}
 use Rattle.std.specs.Map.{lookup}
 use Rattle.std.specs.Option.{option_map_or, option_or}

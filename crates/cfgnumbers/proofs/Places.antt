@@ -1,4 +1,4 @@
--- The productions that rules list, and the implicit tokens, are those that are there.
+-- The productions that rules list, and the implicit tokens, exist.
 use Rattle.std.proofs.Common.{◌≡◌, ℕ, ◌<◌, ◌==◌, true, List, length, map, get_or, All, Contains, Option, Some, None, IfSome, option_map, refl, sym, subst, arith, eq-eqb}
 use Rattle.std.specs.List.{list_any}
 use Rattle.std.specs.Str.{bytes_eq}

@@ -1,4 +1,4 @@
--- A grammar fits exactly where the file leaves room for what is added to it.
+-- A grammar fits exactly if the file leaves room for what is added to it.
 use Rattle.std.proofs.Common.{◌≡◌, ℕ, ◌≤◌, List, [], ◌∷◌, ◌++◌, length, map, All, Option, Some, None, option_map, arith}
 use Rattle.std.specs.List.{zip}
 use Rattle.std.specs.Option.{option_to_list}
@@ -18,7 +18,7 @@ at_most_one (Some x) = omega arith
 start_short : (implicit : Option (List (List ℕ))) (s : Syntax) → length (start_symbols implicit s) ≤ 1
 start_short implicit s = at_most_one (option_map (λ (word : Word). Rule (rule_index implicit s word.name)) s.start)
 
--- where the added rules fit, so do the added productions
+-- if the added rules fit, so do the added productions
 added_short : (implicit : Option (List (List ℕ))) (s : Syntax) → All (λ p. length p.symbols ≤ rules_before implicit) (added_productions implicit s)
 added_short None s = All-cons (λ p. length p.symbols ≤ 1) (added_production 0 (start_symbols None s)) [] (start_short None s) (All-nil (λ p. length p.symbols ≤ 1))
 added_short (Some names) s =

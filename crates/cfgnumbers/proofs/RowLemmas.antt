@@ -43,7 +43,7 @@ pushes (e ∷ es) key value new =
     let both = or_parts (bytes_eq (string_bytes key) (string_bytes e.0)) (list_any (bytes_eq (string_bytes key)) (names es)) new in
     ap (λ b. cond b ((e.0, value) ∷ es) (e ∷ insert_entry string_eq es key value)) both.0 ∙ ap (λ t. e ∷ t) (pushes es key value both.1)
 
--- what is shown of the entries, with one more under a name that is new
+-- what is shown of the entries, with one more under a new name
 pub entry_put : {V A : Type 0} (view : String Global × V → A) (es new : List (String Global × V)) (key : String Global) (name : List ℕ) (value : V)
     → string_bytes key ≡ name → list_any (bytes_eq name) (names es) ≡ false → new ≡ insert_entry string_eq es key value
     → map view new ≡ map view es ++ view (key, value) ∷ []
@@ -63,13 +63,13 @@ name_seen item = string_bytes item.0.now
 abbrev pub production_seen : Bor ℕ × Bor source_production.Production → ℕ × Production
 production_seen item = (item.0.now, plain_production item.1.now)
 
--- the names of the entries of a table that is there
+-- the names of the entries of a table that exists
 pub names_shown : {H : Type 0} (table : Option (Bor (IndexMap (String Global) Span H))) → option_map (λ t. names t.now.entries) table
     ≡ option_map (map entry_name) (option_map (λ t. map span_entry t.entries) (option_copied table))
 names_shown None = refl
 names_shown (Some table) = ap Some (sym (map-map entry_name span_entry table.now.entries))
 
--- what they go over
+-- what they iterate over
 pub rules_road : {it : List (String Global × source.Rule)} (s : Syntax) (entries : List (String Global × source.Rule)) → map rule_entry entries ≡ s.rules → it ≡ entries
     → YieldsList (TakesFirst deref_pair) rule_seen it s.rules
 rules_road s entries same is = shown rule_entry entries s.rules same (YieldsList-from_rest entries is)
@@ -87,7 +87,7 @@ pub productions_road : (s : Syntax) (it : Zip (Iter ℕ) (Iter source_production
 productions_road s it prods same rules_are prods_are =
     YieldsList-from_zip (YieldsList-from_slice s.production_rules rules_are) (shown plain_production prods s.productions same (YieldsList-from_slice prods prods_are))
 
--- the names of rules that are added, and of all rules
+-- the names of added rules, and of all rules
 abbrev pub added_names : Option (List (List ℕ)) → List (List ℕ)
 added_names None = start_name ∷ []
 added_names (Some names) = start_name ∷ implicit_name ∷ implicit_start_name ∷ []
@@ -98,7 +98,7 @@ rule_names implicit s = added_names implicit ++ map (λ rule. rule.0) s.rules
 abbrev begins_a_name : List ℕ → Bool
 begins_a_name name = starts (holds bytes.NameStart) name
 
--- what is no name differs from a name
+-- a text that is no name differs from a name
 other_name : (added name : List ℕ) → begins_a_name added ≡ false → begins_a_name name ≡ true → bytes_eq added name ≡ false
 other_name added name no_name is_name = go (bytes_eq added name) refl
   where
@@ -125,7 +125,7 @@ rule_names-distinct implicit s sound = go implicit
         (IsDistinct-cons bytes_eq implicit_name (implicit_start_name ∷ file_names) (refl, apart implicit_name refl)
         (IsDistinct-cons bytes_eq implicit_start_name file_names (apart implicit_start_name refl) sound.well_formed.rules_distinct))
 
--- one more rule, under a name that is new
+-- one more rule, under a new name
 module _ {S : Type 0} (number : S → ℕ) where
   -- the names of rows that show these rules
   pub names_of_rows : (es : List (String Global × RuleRow S)) (rules : List NumberedRule) → map (rule_view number) es ≡ rules → names es ≡ map (λ rule. rule.name) rules
@@ -157,7 +157,7 @@ module _ {S : Type 0} (number : S → ℕ) where
 abbrev pub name_shown : NumberedToken → Option (List ℕ)
 name_shown token = token.name
 
--- one more token, under a name that is new
+-- one more token, under a new name
 pub token_names_shown : (s : Syntax) (es : List (String Global × TokenRow)) (tokens : List (List ℕ × Span)) → map token_view es ≡ map (file_token s) tokens
     → names es ≡ map (λ token. token.0) tokens
 token_names_shown s es tokens are = somes_same (names es) (map (λ token. token.0) tokens)
@@ -178,7 +178,7 @@ token_put s es new key row token is span precedence printed avoid_insert absent 
 abbrev pub implicit_row : Syntax → List ℕ → NumberedProduction
 implicit_row s name = added_production 1 (numbers.Token (token_index s name) ∷ numbers.Rule 1 ∷ [])
 
--- one more number behind those in order
+-- one more number after those in order
 pub range-push : (a n : ℕ) → range_with_len a (n + 1) ≡ range_with_len a n ++ (a + n) ∷ []
 range-push a n =
     sym (map-id (range_with_len a (n + 1))) ∙ map-range_with_len_more (λ k. k) a n (a + n) refl ∙ ap (λ xs. xs ++ (a + n) ∷ []) (map-id (range_with_len a n))

@@ -1,4 +1,4 @@
--- The symbols of a production of the file, one after the other, and how many they are.
+-- The symbols of a production of the file, one after the other, and how many there are.
 use Rattle.std.proofs.Common.{◌≡◌, ℕ, ◌+◌, ◌<◌, ◌≤◌, List, [], ◌++◌, length, map, take, get_or, Option, sym, ap, ◌∙◌, arith, length-append}
 use Rattle.std.specs.List.{flat_map}
 use Rattle.std.proofs.lemmas.List.{flat_map_more, length-map, get_or-map}
@@ -24,7 +24,7 @@ module _ (implicit : Option (List (List ℕ))) (s : Syntax) (symbols : List sour
       ≡ length (file_symbols implicit s (map symbol_view (take n symbols))) + length (numbered (symbol_view symbol))
   width_more = sym (ap length more_symbols) ∙ length-append (file_symbols implicit s (map symbol_view (take n symbols))) (numbered (symbol_view symbol))
 
-  -- those up to here are no more than all
+  -- those so far are no more than all
   pub width_within : length (file_symbols implicit s (map symbol_view (take n symbols))) + length (numbered (symbol_view symbol)) ≤ length (file_symbols implicit s (map symbol_view symbols))
   width_within =
       let shown = map symbol_view symbols in

@@ -8,7 +8,7 @@ use Rattle.std.proofs.lemmas.List.Folds.{concat-append}
 pub as_long : {A B : Type 0} (f : A → B) (xs : List A) (ys : List B) → map f xs ≡ ys → length ys ≡ length xs
 as_long f xs ys same = sym (ap length same) ∙ length-map xs f
 
--- what holds of each element that is shown
+-- what is true of each element that is shown
 pub All-shown : {A B : Type 0} (P : B → Type 0) (f : A → B) (xs : List A) → All P (map f xs) → All (λ x. P (f x)) xs
 All-shown P f xs all = λ k d within. subst P (get_or-map f xs k d (f d) within) (all k (f d) (omega (arith, within, length-map xs f)))
 
@@ -18,7 +18,7 @@ pub more_taken : {A B : Type 0} (f : A → B) (xs : List A) (n : ℕ) (x : A) �
 more_taken f xs n x within is =
     ap (map f) (take_more xs n x within ∙ ap (λ y. take n xs ++ y ∷ []) (sym is)) ∙ map-append f (take n xs) (x ∷ [])
 
--- one more text behind those that are joined
+-- one more text after those that are joined
 pub more_joined : {A B : Type 0} (text : B → List ℕ) (f : A → B) (xs : List A) (n : ℕ) (x : A) → n < length xs → x ≡ get_or xs n x
     → concat (map text (map f (take n xs))) ++ text (f x) ≡ concat (map text (map f (take (n + 1) xs)))
 more_joined text f xs n x within is =

@@ -1,4 +1,4 @@
--- In a syntax that was read without errors, every name is that of something that is there.
+-- In a syntax that was read without errors, every name refers to something that exists.
 use Rattle.std.proofs.Common.{◌≡◌, ℕ, ◌<◌, Bool, true, false, cond, List, [], ◌∷◌, length, get_or, Option, Some, None, All, refl, sym, ap, ◌∙◌}
 use Rattle.std.specs.Option.{option_or, option_and_then}
 use Rattle.std.proofs.lemmas.List.Elements.{All-nil, All-cons, All-contains}
@@ -25,7 +25,7 @@ no_errors : {A : Type 0} (f : A → Option GrammarError) (xs : List A) → first
 no_errors f [] e = All-nil (λ x. f x ≡ None)
 no_errors f (x ∷ xs) e = All-cons (λ x. f x ≡ None) x xs (none_first (f x) (first_error f xs) e) (no_errors f xs (none_second (f x) (first_error f xs) e))
 
--- the start is there, and is a rule
+-- the start exists, and is a rule
 started : (s : Syntax) (o : Option Word) → start_error s o ≡ None → (word : Word) × (o ≡ Some word) × (has_rule word.name s.rules ≡ true)
 started s None e = let no : Some _ ≡ None = e in cc
 started s (Some word) e = (word, refl, known (has_rule word.name s.rules) refl e)

@@ -1,4 +1,4 @@
--- What a grammar refers to is there: its rules and tokens, and the symbols of its productions.
+-- What a grammar refers to exists: its rules and tokens, and the symbols of its productions.
 use Rattle.std.proofs.Common.{◌≡◌, ℕ, ◌+◌, ◌<◌, Bool, true, false, cond, List, [], ◌∷◌, length, get_or, Option, Some, None, All, option_map, refl, sym, subst, ◌∙◌, arith, ltb-true, ◌↔◌, ◌==◌, ◌≤◌, ◌++◌, map, slice_get, IfSome, ap}
 use Rattle.cfgast.specs.Syntax as file
 use Rattle.std.specs.List.{flat_map, zip}
@@ -93,7 +93,7 @@ module _ (s : Syntax) (sound : IsSound s []) (g : Grammar) (tokens_are : g.token
 abbrev some_name : List ℕ → Option (List ℕ)
 some_name name = Some name
 
--- the rule for implicit tokens stands before those of the file
+-- the rule for implicit tokens comes before those of the file
 implicit_rule_within : (implicit : Option (List (List ℕ))) (n : ℕ) → rules_before implicit ≤ n → IfSome (option_map (λ names. 1) implicit) (λ r. r < n)
 implicit_rule_within None n before = tt
 implicit_rule_within (Some names) n before = omega (arith, before)
@@ -102,7 +102,7 @@ some_before : (implicit : Option (List (List ℕ))) → 0 < rules_before implici
 some_before None = omega arith
 some_before (Some names) = omega arith
 
--- rule 0 has the production behind those of the file
+-- rule 0 has the production that comes after those of the file
 start_lists : (implicit : Option (List (List ℕ))) (s : Syntax) → rule_part (λ rule. rule.productions) (numbered_by implicit s) 0 ≡ Some (length s.productions ∷ [])
 unfolding numbered_by
 start_lists None s = refl

@@ -1,4 +1,4 @@
--- Every index that a grammar's tables hold is that of something that is there.
+-- Every index in a grammar's tables refers to something that exists.
 use Rattle.std.proofs.Common.{◌≡◌, ℕ, ◌<◌, Bool, List, [], ◌∷◌, map, position, length, get_or, slice_get, Some, None, All, IfSome, option_map, subst, ◌∙◌}
 use Rattle.std.proofs.lemmas.List.{length-map}
 use Rattle.std.proofs.lemmas.List.Elements.{All-map}
@@ -14,11 +14,11 @@ use Rattle.cfgnumbers.specs.WellNumbered.{IsWhole, IsWellNumbered}
 use Rattle.cfgnumbers.specs.Accessors.{IsSymbolWithin, production_part, rule_part}
 use Rattle.cfgnumbers.proofs.Turns.{All-shown}
 
--- what holds of the part of each element holds of one that is read
+-- what is true of this part of each element is true of one that is read
 part_holds : {A B : Type 0} (P : B → Type 0) (part : A → B) (xs : List A) (i : ℕ) (y : B) → All (λ x. P (part x)) xs → option_map part (slice_get xs i) ≡ Some y → P y
 part_holds P part xs i y all at = subst (λ o. IfSome o P) (slice_get-map part xs i ∙ at) (All-slice_get P (map part xs) i (All-map P part xs all))
 
--- a part that is read is one of an element that is there
+-- a part that is read is that of an element that exists
 pub part_within : {A B : Type 0} (part : A → B) (xs : List A) (i : ℕ) (y : B) → option_map part (slice_get xs i) ≡ Some y → i < length xs
 part_within part xs i y at = subst (λ n. i < n) (length-map xs part) (slice_get_within (map part xs) i y (slice_get-map part xs i ∙ at))
 
@@ -40,7 +40,7 @@ refers_within g is = record {
   listed = λ r held at. part_holds (All (λ p. p < length g.productions)) (λ (x : NumberedRule). x.productions) g.rules r held is.lists at;
 }
 
--- of tables, as a grammar shows them
+-- for tables, as a grammar shows them
 pub refers : (max : ℕ) (shown g : Numbered) → IsWellNumbered max shown → shown ≡ g → RefersWithin g
 refers max shown g is same = refers_within g (subst IsWhole same is.whole)
 
@@ -56,7 +56,7 @@ symbols_within {S} number g held all = λ k d within. go (get_or held k d) (All-
 pub listed_within : {I : Type 0} (number : I → ℕ) (g : Numbered) (held : List I) → All (λ p. p < length g.productions) (map number held) → All (λ p. number p < length g.productions) held
 listed_within number g held = All-shown (λ p. p < length g.productions) number held
 
--- a place that is found is one of the list's
+-- an index that is found is an index of the list
 pub position_within : {A : Type 0} (test : A → Bool) (xs : List A) (i : ℕ) → position test xs ≡ Some i → i < length xs
 position_within test [] i at = let no : None ≡ Some i = at in cc
 position_within test (x ∷ xs) i at = (position-Some test (x ∷ xs) i x at).0

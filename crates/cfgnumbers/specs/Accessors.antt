@@ -1,4 +1,4 @@
--- What the accessors of a grammar read in its tables, and its printed productions.
+-- What the accessors of a grammar read from its tables, and its printed productions.
 use Rattle.std.specs.Prelude.{ℕ, ◌+◌, ◌<◌, List, [], ◌++◌, map, length, Option, option_map, unwrap_or, slice_get, codes, Bool, false}
 use Rattle.std.specs.List.{concat}
 use Rattle.std.specs.Option.{option_map_or}
@@ -17,7 +17,7 @@ token_part part g t = option_map part (slice_get g.tokens t)
 abbrev pub production_part : {A : Type 0} → (NumberedProduction → A) → Numbered → ℕ → Option A
 production_part part g p = option_map part (slice_get g.productions p)
 
--- The rule or token of a symbol is there, and no symbol is the end token, which is the last.
+-- The rule or token of a symbol exists, and isn't the end token, which is the last token.
 abbrev pub IsSymbolWithin : {S : Type 0} → (S → ℕ) → Numbered → Symbol S → Type 0
 IsSymbolWithin number g (symbols.Rule ridx) = number ridx.0 < length g.rules
 IsSymbolWithin number g (symbols.Token tidx) = number tidx.0 + 1 < length g.tokens

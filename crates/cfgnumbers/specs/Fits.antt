@@ -3,19 +3,19 @@ use Rattle.std.specs.Prelude.{ℕ, ◌+◌, ◌≤◌, ◌<◌, List, Option, So
 use Rattle.cfgast.specs.Syntax.{Syntax}
 use Rattle.cfgnumbers.specs.Numbered.{Numbered, file_symbols, rules_before}
 
--- the final counts, with all that was added, are at most max
+-- the final counts, including all that was added, are at most max
 pub record Fits (max : ℕ) (g : Numbered) : Type 0 where
   pub rules : length g.rules ≤ max
   pub tokens : length g.tokens ≤ max
   pub productions : length g.productions ≤ max
   pub symbols : All (λ production. length production.symbols ≤ max) g.productions
 
--- how many productions are added behind those of the file
+-- how many productions are added after those of the file
 abbrev pub productions_behind : Option (List (List ℕ)) → ℕ
 productions_behind None = 1
 productions_behind (Some names) = length names + 3
 
--- A file's rules, tokens and productions leave room for what is added, and for the rules that stand behind tokens.
+-- A file's rules, tokens and productions leave room for what is added, including the rules that follow tokens.
 pub record LeavesRoom (max : ℕ) (implicit : Option (List (List ℕ))) (s : Syntax) : Type 0 where
   pub rules : rules_before implicit + length s.rules ≤ max
   pub tokens : length s.tokens < max

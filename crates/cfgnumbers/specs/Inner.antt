@@ -1,3 +1,3 @@
--- Words of clauses inside the crates, of loops, helpers, and what makes the tables. No call that users make rests on them.
+-- Definitions for clauses inside the crates: of loops, helpers, and what makes the tables. No public contract depends on them.
 pub mod Lists
 pub mod Resolved

@@ -1,4 +1,4 @@
--- Who relies on a grammar in numbers has to read these files; those in Inner have words that stay between the crates.
+-- Users of grammars in numbers rely on these definitions; those in Inner are only used between the crates.
 pub mod Fits
 pub mod Numbered
 pub mod Accessors

@@ -1,4 +1,4 @@
--- A grammar in numbers, and the one that a syntax makes: its rules, productions and tokens by their indices.
+-- A grammar in numbers, and the one that a syntax gives: its rules, productions and tokens are referred to by index.
 use Rattle.std.specs.Prelude.{ℕ, ◌+◌, Bool, false, List, [], ◌∷◌, ◌++◌, map, length, Option, Some, None, option_map, codes}
 use Rattle.std.specs.List.{filter_map, flat_map, position_or_len, range_with_len, zip}
 use Rattle.std.specs.Map.{lookup}
@@ -40,19 +40,19 @@ pub record Numbered : Type 0 where
   pub rules : List NumberedRule
   pub tokens : List NumberedToken
   pub productions : List NumberedProduction
-  pub start_production : ℕ  -- the one production of rule 0, which is the start rule
+  pub start_production : ℕ  -- the only production of rule 0, which is the start rule
   pub implicit_rule : Option ℕ
   pub settings : Settings
 
--- what derivations go by: the symbols of productions
+-- what derivations use: the symbols of productions
 abbrev pub production_core : NumberedProduction → Production
 production_core p = record { rule = p.rule; symbols = p.symbols }
 
 abbrev pub core : Numbered → Grammar
 core g = record { rules = length g.rules; tokens = length g.tokens; productions = map production_core g.productions }
 
--- The names of the rules that are added: of rule 0; in an Eco file with implicit tokens also of the rule for these, and of
--- the rule that puts them before all else. They are no names that a file can give.
+-- The names of the added rules: of rule 0; in an Eco file with implicit tokens also of the rule for these, and of the rule that puts them
+-- before everything else. A file can't use these names.
 abbrev pub start_name : List ℕ
 start_name = codes "^"
 
@@ -62,17 +62,17 @@ implicit_name = codes "~"
 abbrev pub implicit_start_name : List ℕ
 implicit_start_name = codes "^~"
 
--- the names of the implicit tokens of a file, where it has lists of them; only an Eco file has
+-- the names of a file's implicit tokens, if it has lists of them; only an Eco file does
 abbrev pub implicit_of : YaccKind → Syntax → Option (List (List ℕ))
 implicit_of Eco s = option_map (map entry_name) s.tables.implicit_tokens
 implicit_of _ s = None
 
--- how many rules stand before those of the file
+-- how many rules come before those of the file
 abbrev pub rules_before : Option (List (List ℕ)) → ℕ
 rules_before None = 1
 rules_before (Some names) = 3
 
--- What a file says of a token: its precedence; its printed form, else its name; and whether it is marked.
+-- What a file says of a token: its precedence; its printed form, or else its name; and whether it is in `%avoid_insert`.
 abbrev pub precedence_of_token : Syntax → List ℕ → Option Precedence
 precedence_of_token s name = option_map (λ said. said.0) (lookup (bytes_eq name) s.tables.precedences)
 
@@ -82,7 +82,7 @@ printed_form s name = option_map_or (λ said. said.1.0) (lookup (bytes_eq name) 
 abbrev pub avoids_insert : Syntax → List ℕ → Bool
 avoids_insert s name = option_map_or (λ table. has_entry name table) s.tables.avoid_insert false
 
--- A production has the precedence of the token behind its `%prec`, else of its last token (POSIX yacc).
+-- A production has the precedence of the token after its `%prec`, or else of its last token (POSIX yacc).
 abbrev pub token_in : file.Symbol → Option (List ℕ)
 token_in (RuleSymbol word) = None
 token_in (TokenSymbol word) = Some word.name
@@ -105,9 +105,9 @@ added_production rule symbols = record { rule = rule; symbols = symbols; span = 
 abbrev pub file_rule : List ℕ × file.Rule → NumberedRule
 file_rule rule = record { name = rule.0; span = rule.1.name.span; productions = rule.1.productions; action_type = rule.1.action_type }
 
--- implicit is the names of the implicit tokens, where there are some
+-- `implicit` is the names of the implicit tokens, if there are any
 module _ (implicit : Option (List (List ℕ))) where
-  -- A rule's index is its place in the file, behind the rules before. A token's is its place.
+  -- A rule's index is its index in the file plus the number of rules before. A token's is its index in the file.
   abbrev pub rule_index : Syntax → List ℕ → ℕ
   rule_index s name = rules_before implicit + position_or_len (λ rule. bytes_eq name rule.0) s.rules
 
@@ -115,7 +115,7 @@ module _ (implicit : Option (List (List ℕ))) where
   file_symbol s (RuleSymbol word) = Rule (rule_index s word.name)
   file_symbol s (TokenSymbol word) = Token (token_index s word.name)
 
-  -- The symbols of a production of the file. Behind each token stands the rule for implicit tokens, where there are some.
+  -- The symbols of a production of the file. If there are implicit tokens, the rule for these follows each token.
   abbrev pub spaced : Sym → List Sym
   spaced (Rule r) = Rule r ∷ []
   spaced (Token t) = Token t ∷ option_to_list (option_map (λ names. Rule 1) implicit)
@@ -123,7 +123,7 @@ module _ (implicit : Option (List (List ℕ))) where
   abbrev pub file_symbols : Syntax → List file.Symbol → List Sym
   file_symbols s symbols = flat_map (λ symbol. spaced (file_symbol s symbol)) symbols
 
-  -- a production of the file, with the place of its rule
+  -- a production of the file, with the index of its rule
   abbrev pub file_production : Syntax → ℕ × file.Production → NumberedProduction
   file_production s production = record {
     rule = rules_before implicit + production.0;
@@ -138,7 +138,7 @@ module _ (implicit : Option (List (List ℕ))) where
   abbrev pub start_symbols : Syntax → List Sym
   start_symbols s = option_to_list (option_map (λ word. Rule (rule_index s word.name)) s.start)
 
--- The rules before those of the file. Their productions stand behind the n productions of the file.
+-- The rules before those of the file. Their productions come after the n productions of the file.
 abbrev pub added_rules : Option (List (List ℕ)) → ℕ → List NumberedRule
 added_rules None n = added_rule start_name (n ∷ []) ∷ []
 added_rules (Some names) n =
@@ -147,8 +147,8 @@ added_rules (Some names) n =
     ∷ added_rule implicit_start_name ((n + length names + 2) ∷ [])
     ∷ []
 
--- The productions behind those of the file: that of rule 0, which goes to the rule that the file starts from. In a file with
--- implicit tokens it goes there by rule 2, which puts rule 1 before; rule 1 derives each row of implicit tokens.
+-- The productions after those of the file: that of rule 0, which derives the rule that the file starts from. In a file with implicit
+-- tokens, it derives it through rule 2, which puts rule 1 before it; rule 1 derives each list of implicit tokens.
 abbrev pub added_productions : Option (List (List ℕ)) → Syntax → List NumberedProduction
 added_productions None s = added_production 0 (start_symbols None s) ∷ []
 added_productions (Some names) s =

@@ -20,7 +20,7 @@ use Rattle.cfgnumbers.specs.declared.rows.TokenRow.{TokenRow}
 abbrev pub names : {V : Type 0} → List (String Global × V) → List (List ℕ)
 names entries = map (λ e. string_bytes e.0) entries
 
--- what a numbering goes by: a syntax, and the names of its implicit tokens, where there are some
+-- what a numbering uses: a syntax, and the names of its implicit tokens, if there are any
 abbrev pub file_of : Numbering → Syntax
 file_of numbering = syntax numbering.ast.now
 
@@ -35,7 +35,7 @@ rule_view number entry = record {
   action_type = option_map string_bytes entry.1.actiont;
 }
 
--- a production is its rule, its symbols and its row
+-- a production consists of its rule, its symbols and its row
 abbrev pub production_view : {S : Type 0} → (S → ℕ) → RIdx S × (List (Symbol S) × ProductionRow) → NumberedProduction
 production_view number parts = record {
   rule = number parts.0.0;
@@ -46,7 +46,7 @@ production_view number parts = record {
   action_span = parts.1.1.action_span;
 }
 
--- a token without a printed form of its own prints its name
+-- a token without a printed form prints its name
 abbrev pub token_view : String Global × TokenRow → NumberedToken
 token_view entry = record {
   name = Some (string_bytes entry.0);

@@ -1,5 +1,5 @@
-//! The numbering of a syntax that passed validation: the rows of its grammar's tables, and whether an index type counts
-//! them.
+//! The numbering of a syntax that passed validation: the rows of its grammar's tables, and whether an index type can
+//! count them.
 #![tactic(auto)]
 
 pub mod laws;

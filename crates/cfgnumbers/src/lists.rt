@@ -1,12 +1,11 @@
-//! Lists one behind another.
+//! Concatenated lists.
 
 ghost use Rattle.std.specs.Prelude.{◌≡◌, ◌<◌, ◌∷◌, ◌++◌, [], Some, length, slice_get, IfOk, OnErr, OnOk};
 
 use std::alloc::{AllocError, Global};
 use std::marker::Model;
 
-/// Lists whose items stand one behind another, and the places at which they end: however many lists there are, they
-/// take two pieces of memory.
+/// Concatenated lists, with the indices at which they end: however many lists there are, they use two allocations.
 #[derive(Drop)]
 pub struct Lists<T: Copy> {
     items: Vec<T>,
@@ -25,11 +24,11 @@ impl<T: Copy> Model for Lists<T> {
 }
 
 impl<T: Copy> Lists<T> {
-    /// No list, and room for so many of one item each.
+    /// No lists, with room for this many of one item each.
     ///
     /// # Errors
     ///
-    /// Want of memory.
+    /// Out of memory.
     pub fn with_capacity(alloc: Global, lists: usize) -> Result<Self, AllocError>
         ensures { IfOk result (λ x. x ≡ []) }
     {
@@ -39,7 +38,7 @@ impl<T: Copy> Lists<T> {
         })
     }
 
-    /// The list at this place.
+    /// The list with this index.
     pub fn get(&self, place: usize) -> &[T]
         requires { place < length self.now }
         ensures { slice_get self.now place ≡ Some result.now }
@@ -52,11 +51,11 @@ impl<T: Copy> Lists<T> {
         }
     }
 
-    /// Puts a list behind the others.
+    /// Adds a list after the others.
     ///
     /// # Errors
     ///
-    /// Want of memory.
+    /// Out of memory.
     pub fn push(&mut self, list: &[T]) -> Result<(), AllocError>
         ensures ok { OnOk result (self.new ≡ self.old ++ list.now ∷ []) }
         ensures err { OnErr result (self.new ≡ self.old) }

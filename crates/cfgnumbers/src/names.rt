@@ -1,4 +1,4 @@
-//! The tokens of a grammar, by their names.
+//! The tokens of a grammar, by name.
 
 ghost use Rattle.std.specs.Prelude.{◌≡◌, ◌≤◌, ℕ, List, None, length, position, option_map, IfOk, OnOk};
 ghost use Rattle.std.specs.HashMap.{get_by};
@@ -11,11 +11,11 @@ use indexmap::IndexMap;
 use std::alloc::{AllocError, Global};
 use std::collections::HashMap;
 
-/// The tokens of these rows, under their names.
+/// The tokens of these rows, by name.
 ///
 /// # Errors
 ///
-/// Want of memory.
+/// Out of memory.
 pub fn tokens_by_name<S: Storage>(
     alloc: Global,
     rows: &IndexMap<String, TokenRow>,
@@ -30,7 +30,7 @@ pub fn tokens_by_name<S: Storage>(
     Ok(map)
 }
 
-/// Puts the tokens of these rows into a map that is empty, under their names.
+/// Inserts the tokens of these rows into an empty map, by name.
 fn put_names<'rows, S: Storage>(
     map: &mut HashMap<&'rows str, TIdx<S>>,
     rows: &'rows IndexMap<String, TokenRow>,

@@ -11,7 +11,7 @@ use cfgindex::{RIdx, Storage, Symbol};
 use std::alloc::{AllocError, Global};
 use std::marker::Model;
 
-/// The productions, in order. Who goes through their rules or their symbols finds them one behind another.
+/// The productions, in order. Their rules are contiguous in memory, and so are their symbols.
 #[derive(Drop)]
 pub struct ProductionRows<S: Storage> {
     rules: Vec<RIdx<S>>,
@@ -33,11 +33,11 @@ impl<S: Storage> Model for ProductionRows<S> {
 }
 
 impl<S: Storage> ProductionRows<S> {
-    /// No production, and room for so many.
+    /// No productions, with room for this many.
     ///
     /// # Errors
     ///
-    /// Want of memory.
+    /// Out of memory.
     pub fn with_capacity(alloc: Global, productions: usize) -> Result<Self, AllocError>
         ensures { IfOk result (λ x. x ≡ []) }
     {
@@ -48,14 +48,14 @@ impl<S: Storage> ProductionRows<S> {
         })
     }
 
-    /// How many there are.
+    /// The number of productions.
     pub fn len(&self) -> usize
         ensures { result ≡ length self.now }
     {
         self.rows.len()
     }
 
-    /// The rule of the production at this place.
+    /// The rule of the production with this number.
     pub fn rule(&self, place: usize) -> RIdx<S>
         requires { place < length self.now }
         ensures { option_map (λ p. p.rule) (slice_get self.now place) ≡ Some (S.number result.0) }
@@ -63,7 +63,7 @@ impl<S: Storage> ProductionRows<S> {
         self.rules[place]
     }
 
-    /// The symbols of the production at this place.
+    /// The symbols of the production with this number.
     pub fn symbols(&self, place: usize) -> &[Symbol<S>]
         requires { place < length self.now }
         ensures { option_map (λ p. p.symbols) (slice_get self.now place) ≡ Some (map (sym_of S.number) result.now) }
@@ -71,7 +71,7 @@ impl<S: Storage> ProductionRows<S> {
         self.symbols.get(place)
     }
 
-    /// What stands with the production at this place.
+    /// The row of the production with this number.
     pub fn row(&self, place: usize) -> &ProductionRow
         requires { place < length self.now }
         ensures span { option_map (λ p. p.span) (slice_get self.now place) ≡ Some result.now.span }
@@ -85,11 +85,11 @@ impl<S: Storage> ProductionRows<S> {
         &self.rows[place]
     }
 
-    /// Puts a production behind the others.
+    /// Adds a production after the others.
     ///
     /// # Errors
     ///
-    /// Want of memory.
+    /// Out of memory.
     pub fn push(
         &mut self,
         rule: RIdx<S>,

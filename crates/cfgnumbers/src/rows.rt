@@ -4,7 +4,7 @@ use cfgast::Precedence;
 use cfgbase::Span;
 use cfgindex::PIdx;
 
-/// A rule, which stands under its name.
+/// A rule, stored under its name.
 #[derive(Drop)]
 pub struct RuleRow<S> {
     pub span: Span,
@@ -12,7 +12,7 @@ pub struct RuleRow<S> {
     pub actiont: Option<String>,
 }
 
-/// A production, beside its rule and its symbols.
+/// A production, except its rule and its symbols.
 #[derive(Drop)]
 pub struct ProductionRow {
     pub span: Span,
@@ -21,13 +21,13 @@ pub struct ProductionRow {
     pub action_span: Option<Span>,
 }
 
-/// A token that has a name, under which it stands.
+/// A token that has a name, stored under that name.
 #[derive(Drop)]
 pub struct TokenRow {
     pub span: Span,
     pub precedence: Option<Precedence>,
-    /// What a `%epp` says of it. A token without one prints its name.
+    /// What a `%epp` gives for it. A token without one prints its name.
     pub printed: Option<String>,
-    /// Whether a `%avoid_insert` list has it.
+    /// Whether it is in an `%avoid_insert` list.
     pub avoid_insert: bool,
 }

@@ -1,4 +1,4 @@
--- Lemmas on lists and on what calls answer, for proofs of users.
+-- Lemmas about lists and about the results of calls, for users' proofs.
 pub use Rattle.lemmas.proofs.Contained
 pub use Rattle.lemmas.proofs.Elements
 pub use Rattle.lemmas.proofs.Passing

@@ -1,5 +1,5 @@
--- What users name in contracts and theorems of their own: each file with definitions that a contract of a public call cites, by its name,
--- and after these the types themselves, by which their variants are named.
+-- What users name in their own contracts and theorems: each file with definitions that a contract of a public call cites, under its name,
+-- and after these the types themselves, which name their variants.
 
 -- Spans, and lines of a text.
 pub use Rattle.cfgbase.specs.Locations
@@ -53,7 +53,7 @@ pub use Rattle.cfgchoices.specs.Levels
 pub use Rattle.cfgchoices.specs.FirstSentence
 pub use Rattle.cfgcosts.specs.Sentences
 pub use Rattle.cfgcosts.specs.DerivedBy
--- What reading a text is, and the words, sections and declarations of a Yacc file.
+-- How a text is read, and the words, sections and declarations of a Yacc file.
 pub use Rattle.reading.specs.Construct
 pub use Rattle.reading.specs.Graph
 pub use Rattle.reading.specs.Leaves
@@ -99,7 +99,7 @@ pub use Rattle.cfgreader.specs.Here
 pub use Rattle.cfgreader.specs.Keywords
 pub use Rattle.cfgreader.specs.FileWordKinds
 pub use Rattle.cfgreader.specs.Rules
--- The syntax of a file, the tree that holds it, and the tables made of it.
+-- The syntax of a file, the tree that stores it, and the tables made from it.
 pub use Rattle.cfgast.specs.Items
 pub use Rattle.cfgast.specs.Occurrences
 pub use Rattle.cfgast.specs.Syntax

@@ -1,4 +1,4 @@
-//! The `%grmtools` section of a file: its reader, its values, and what is wrong with it.
+//! The `%grmtools` section of a file: its reader, its values, and its errors.
 
 pub use cfgerrors::{HeaderError, HeaderErrorKind};
 pub use cfgheader::{GrmtoolsSectionParser, Header, HeaderFault};

@@ -1,5 +1,5 @@
-//! Laws: functions that do nothing, whose contracts are theorems on the definitions. A caller has a theorem where it
-//! calls its law.
+//! Laws: functions that do nothing, whose contracts are theorems about the definitions. A caller has a theorem wherever
+//! it calls its law.
 
 // What grammars derive, and what that costs.
 pub use cfgcosts::laws::{

@@ -1,7 +1,7 @@
-//! Yacc grammars: read from the text of a Yacc file, validated, and turned into numbered tables. This crate shows all
-//! that its users call, under the paths of the Rust crate; what it shows stands in the crates below.
+//! Yacc grammars: read from the text of a Yacc file, validated, and turned into numbered tables. This crate exports all
+//! that its users call, under the paths of the Rust crate; the code is in the crates below.
 //!
-//! The productions of a text's grammar, a line each, as the GUIDE's caller writes them:
+//! Lists the productions of a text's grammar, one per line, as the GUIDE's caller writes it:
 //!
 //! ```
 //! let kind = YaccKind::Original(YaccOriginalActionKind::GenericParseTree);
@@ -12,8 +12,8 @@
 //! }
 //! ```
 //!
-//! A crate that lists `cfgrammar` alone in `crates.txt` has all of it but `usize::from` and `u32::from` of an index,
-//! for which it lists `cfgindex` too, and loops over a `&MarkMap`, for which it lists `cfgmarks`.
+//! A crate that lists only `cfgrammar` in `crates.txt` has all of this, except `usize::from` and `u32::from` of an
+//! index, for which it also lists `cfgindex`, and loops over a `&MarkMap`, for which it also lists `cfgmarks`.
 #![tactic(auto)]
 
 pub mod header;

@@ -13,7 +13,7 @@ module _ {X Y : Type 0} (f : X → Y) (xs : List X) (i : ℕ) (x : X) (is : x �
   pub mapped_all : (P : Y → Type 0) → All P (map f xs) → P (f x)
   mapped_all P all = subst P (sym mapped_at) (All-get_or P (map f xs) i (f x) mapped_within all)
 
-  -- the slice behind the place
+  -- the slice after the index
   pub mapped_rest : map f (take (length xs - (i + 1)) (drop (i + 1) xs)) ≡ drop (i + 1) (map f xs)
   mapped_rest = ap (map f) (take_rest xs (i + 1)) ∙ sym (drop-map f (i + 1) xs)
 

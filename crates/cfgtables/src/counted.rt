@@ -1,4 +1,4 @@
-//! Productions of borrowed tables, with counts of their own.
+//! Productions of borrowed tables, with their own counts of openings.
 
 ghost use Rattle.std.specs.Prelude.{◌≡◌, ◌^◌, ◌<◌, ◌≤◌, All, length, map, replicate, IfOk};
 ghost use Rattle.derivation.specs.Grammar.{Grammar, IsGrammar};
@@ -15,13 +15,14 @@ pub trait Tables<S: Storage> {
     // The grammar.
     ghost grammar: { Self → Grammar };
 
-    /// How many rules there are. The tables are those of a grammar that `S` counts, the symbols of each production too.
+    /// The number of rules. The tables are those of a grammar that `S` can count, including the symbols of each
+    /// production.
     fn rules_len(&self) -> RIdx<S>
         ensures value { S.number result.0 ≡ (grammar self.now).rules }
         ensures content { IsGrammar (grammar self.now) }
         ensures fits { All (λ p. length p.symbols ≤ S.MAX) (grammar self.now).productions };
 
-    /// A law, so the call does nothing: the tables are those of a grammar that `S` counts.
+    /// A law, so the call does nothing: the tables are those of a grammar that `S` can count.
     fn invariant_holds(&self)
         ensures content { IsGrammar (grammar self.now) }
         ensures rules { (grammar self.now).rules ≤ S.MAX }
@@ -33,11 +34,11 @@ pub trait Tables<S: Storage> {
         let _productions = self.prods_len().0.to_usize();
     }
 
-    /// How many tokens there are, with the end token.
+    /// The number of tokens, including the end token.
     fn tokens_len(&self) -> TIdx<S>
         ensures { S.number result.0 ≡ (grammar self.now).tokens };
 
-    /// How many productions there are.
+    /// The number of productions.
     fn prods_len(&self) -> PIdx<S>
         ensures { S.number result.0 ≡ length (grammar self.now).productions };
 
@@ -83,11 +84,11 @@ impl<'a, S: Storage, T: Tables<S>> Model for CountedTables<'a, S, T> {
 }
 
 impl<'a, S: Storage, T: Tables<S>> CountedTables<'a, S, T> {
-    /// The productions of the tables, none of which was opened.
+    /// The productions of the tables, with no openings counted yet.
     ///
     /// # Errors
     ///
-    /// Want of memory.
+    /// Out of memory.
     pub fn new(alloc: Global, tables: &'a T) -> Result<Self, AllocError>
         ensures { IfOk result (λ x. x ≡ record {
           grammar = T.grammar tables.now;

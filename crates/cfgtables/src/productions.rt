@@ -9,7 +9,7 @@ ghost use Rattle.cfgtables.specs.NumberedSymbols.{sym_of};
 
 use cfgindex::{PIdx, RIdx, Storage, Symbol, TIdx};
 
-/// The productions of a grammar. Their symbols are reached by [`open`](Productions::open) alone, which counts.
+/// The productions of a grammar. Their symbols are only available through [`open`](Productions::open), which counts.
 pub trait Productions<S: Storage> {
     // The grammar.
     ghost content: { Self → Grammar };
@@ -17,20 +17,20 @@ pub trait Productions<S: Storage> {
     // How often a production was opened.
     ghost opened: { Self → ℕ → ℕ };
 
-    // How often productions were opened, all together.
+    // How often productions were opened in total.
     ghost opened_all: { Self → ℕ };
 
-    /// How many rules there are. The content is a grammar that `S` counts, the symbols of each production too.
+    /// The number of rules. The content is a grammar that `S` can count, including the symbols of each production.
     fn rules_len(&self) -> RIdx<S>
         ensures value { S.number result.0 ≡ (content self.now).rules }
         ensures content { IsGrammar (content self.now) }
         ensures fits { All (λ p. length p.symbols ≤ S.MAX) (content self.now).productions };
 
-    /// How many tokens there are, with the end token.
+    /// The number of tokens, including the end token.
     fn tokens_len(&self) -> TIdx<S>
         ensures { S.number result.0 ≡ (content self.now).tokens };
 
-    /// How many productions there are.
+    /// The number of productions.
     fn prods_len(&self) -> PIdx<S>
         ensures { S.number result.0 ≡ length (content self.now).productions };
 
@@ -44,11 +44,11 @@ pub trait Productions<S: Storage> {
         requires { S.number p.0 < length (content self.now).productions }
         ensures { result ≡ opened self.now (S.number p.0) };
 
-    /// How often productions were opened, all together.
+    /// How often productions were opened in total.
     fn opened_all(&self) -> u128
         ensures { result ≡ opened_all self.now };
 
-    /// Opens a production, which is counted, and answers its symbols.
+    /// Opens a production, counts this, and returns the production's symbols.
     fn open(&mut self, p: PIdx<S>) -> &[Symbol<S>]
         requires in_range { S.number p.0 < length (content self.old).productions }
         requires countable { opened self.old (S.number p.0) < 2 ^ 64 - 1 }

@@ -1,4 +1,4 @@
--- What a report tells, by its lines.
+-- What a report prints, by its lines.
 use Rattle.std.proofs.Common.{◌≡◌, List, ℕ, Option, Result, Ok, Err, IfOk, String, Global, string_bytes, inl, inr, sym, subst}
 use Rattle.cfgrammar.specs.Answer.{Found, Unnamed, WasRead}
 use Rattle.cfgrammar.specs.Numbered.{Numbered}
@@ -13,7 +13,7 @@ use Rattle.cfgtool.specs.Report.{IsReport, IsReported, Tells}
 use Rattle.cfgtool.specs.ReportLines.{error_lines}
 
 module _ (AreLines : Syntax → Numbered → List ℕ → Type 0) (text : List ℕ) where
-  -- what is made of a text
+  -- what is made for a text
   abbrev pub IsMadeReport : Found → Outcome × String Global → Type 0
   IsMadeReport found report =
       IsMadeOf (λ errors. IsReported Refused (λ lines. lines ≡ error_lines text errors)) (λ s g. IsReported Done (AreLines s g)) found report
@@ -26,7 +26,7 @@ module _ (AreLines : Syntax → Numbered → List ℕ → Type 0) (text : List �
   reported (WasRead parsed) report (inr (valid, fits, made)) =
       subst (λ outcome. IsReport AreLines text (WasRead parsed) outcome (string_bytes report.1)) (sym made.0) (valid, fits, made.1)
 
-  -- and what is written of it is told of the text
+  -- and what is written of it is reported for the text
   pub made_told : {E : Type 0} (found : Found) (made : Result (Outcome × String Global) E) (old new : Option (List ℕ)) (answer : Result Outcome ReportFault)
       → IfOk made (IsMadeReport found) → WritesMade made old new answer → Tells AreLines text found old new answer
   made_told found (Ok made) old new (Ok outcome) is (same, appends) =

@@ -1,4 +1,4 @@
--- The minimal sentences of a rule that are listed: all where they cost at most 65535, and none else.
+-- The minimal sentences of a rule that are listed: all if they cost at most 65535, and otherwise none.
 use Rattle.std.proofs.Common.{◌≡◌, ℕ, ◌+◌, ◌<◌, ◌≤◌, ◌↔◌, List, [], All, Contains, get_or, inl, inr, sym, subst, arith}
 use Rattle.std.specs.List.Sorted.{IsStrictlySortedBy}
 use Rattle.std.proofs.lemmas.Bool.{cases_lt}
@@ -44,7 +44,7 @@ module _ (P : ℕ → List Sym → Type 0) (cost : ℕ → ℕ) (r : ℕ) where
 pub all_of_none : (Q : List ℕ → Type 0) (sentences : List (List ℕ)) → sentences ≡ [] → All Q sentences
 all_of_none Q sentences empty = subst (All Q) (sym empty) (All-nil Q)
 
--- no sentence that is listed has the end token
+-- no sentence that is listed contains the end token
 pub listed_tokens : (g : Grammar) → IsGrammar g → (cost : ℕ → ℕ) (r : ℕ) → r < g.rules → (sentences : List (List ℕ))
     → ((w : List ℕ) → Contains sentences w ↔ Minimal (HasProduction g) cost r w) → All (λ w. All (λ t. t + 1 < g.tokens) w) sentences
 listed_tokens g grammar cost r below sentences all =

@@ -1,4 +1,4 @@
--- What is told of a production.
+-- What is printed for a production.
 use Rattle.std.proofs.Common.{◌≡◌, ℕ, List, ◌++◌, slice_get, Option, Some, None, option_map, codes}
 use Rattle.std.specs.Fmt.{decimal}
 use Rattle.cfgrammar.specs.Numbered.{Numbered}

@@ -7,7 +7,7 @@ use Rattle.std.proofs.lemmas.List.FromFn.{length-enumerate_from}
 use Rattle.cfgrammar.proofs.Taken.{one_more_shown}
 use Rattle.cfgtool.specs.TokenSets.{Adds}
 
--- the indices that are left are those of elements, and the texts of the elements before them stand behind what was there
+-- the indices that are left are those of elements, and the texts of the elements before them come after what was written before
 pub record AreWritten {A : Type 0} (text_of : ℕ × A → List ℕ) (elements : List A) (before : List ℕ) (left : Range ℕ) (lines : List ℕ) : Type 0 where
   pub all : left.end ≡ length elements
   pub within : left.start ≤ left.end

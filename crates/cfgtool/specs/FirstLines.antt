@@ -1,4 +1,4 @@
--- The lines that tell FIRST sets.
+-- The lines that print FIRST sets.
 use Rattle.std.specs.Prelude.{◌≡◌, ◌↔◌, ℕ, List, [], ◌++◌, Bool, IsTrue, if◌then◌else◌, codes}
 use Rattle.std.specs.List.{flat_map, enumerate_from}
 use Rattle.cfgrammar.specs.Grammar.{HasProduction}
@@ -6,7 +6,7 @@ use Rattle.cfgrammar.specs.First.{First, Empty}
 use Rattle.cfgrammar.specs.Numbered.{Numbered, NumberedRule, core}
 use Rattle.cfgtool.specs.TokenSets.{set_word}
 
--- `begins` tells of a rule and a token, and `empty` of a rule, exactly what derivations show
+-- `begins` says of a rule and a token, and `empty` of a rule, exactly what derivations show
 pub record TellsFirst (g : Numbered) (begins : ℕ → ℕ → Bool) (empty : ℕ → Bool) : Type 0 where
   pub begins_is : (r t : ℕ) → (IsTrue (begins r t) ↔ First (HasProduction (core g)) r t)
   pub empty_is : (r : ℕ) → (IsTrue (empty r) ↔ Empty (HasProduction (core g)) r)
@@ -14,8 +14,8 @@ pub record TellsFirst (g : Numbered) (begins : ℕ → ℕ → Bool) (empty : �
 abbrev pub empty_word : Bool → List ℕ
 empty_word empty = if empty then codes " %empty" else []
 
--- A rule's line: its name and a colon, the tokens that it begins with in the order of their indices, and whether it is
--- empty. No rule begins with the end token.
+-- A rule's line: its name and a colon, the tokens that it begins with in the order of their indices, and whether it is nullable. No rule
+-- begins with the end token.
 abbrev pub first_line : Numbered → (ℕ → ℕ → Bool) → (ℕ → Bool) → ℕ × NumberedRule → List ℕ
 first_line g begins empty rule =
     rule.1.name ++ (codes ":" ++ (flat_map (set_word [] (begins rule.0)) (enumerate_from 0 g.tokens) ++ (empty_word (empty rule.0) ++ codes "\n")))

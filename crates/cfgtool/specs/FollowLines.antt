@@ -1,11 +1,11 @@
--- The lines that tell FOLLOW sets.
+-- The lines that print FOLLOW sets.
 use Rattle.std.specs.Prelude.{◌≡◌, ◌↔◌, ℕ, List, ◌++◌, Bool, IsTrue, codes}
 use Rattle.std.specs.List.{flat_map, enumerate_from}
 use Rattle.cfgrammar.specs.Follow.{MayFollow}
 use Rattle.cfgrammar.specs.Numbered.{Numbered, NumberedRule, core}
 use Rattle.cfgtool.specs.TokenSets.{set_word}
 
--- `follows` tells of a rule and a token exactly what derivations show
+-- `follows` says of a rule and a token exactly what derivations show
 pub record TellsFollow (g : Numbered) (follows : ℕ → ℕ → Bool) : Type 0 where
   pub follows_is : (r t : ℕ) → (IsTrue (follows r t) ↔ MayFollow (core g) r t)
 

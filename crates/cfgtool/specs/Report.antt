@@ -1,4 +1,4 @@
--- What the program writes of a text.
+-- What the program writes about a text.
 use Rattle.std.specs.Prelude.{◌≡◌, ℕ, List, Option, Result, Ok, Err, String, string_bytes}
 use Rattle.std.specs.Global.{Global}
 use Rattle.std.specs.Io.KnownBytes.{Appends, Keeps}
@@ -22,7 +22,7 @@ use Rattle.cfgtool.specs.declared.engine.Request.{Request}
 use Rattle.cfgtool.specs.declared.engine.Request.TheVariants as requests
 use Rattle.cfgsink.specs.Sinks.{AppendsBeginning}
 
--- the lines that a command tells of a text with this syntax, which is this grammar in numbers
+-- the lines that a command prints for a text with this syntax, which is this grammar in numbers
 abbrev pub AreLinesOf : Command → List ℕ → Syntax → Numbered → List ℕ → Type 0
 AreLinesOf Grammar text s g lines = lines ≡ production_lines g
 AreLinesOf Firsts text s g lines = AreFirstLines g lines
@@ -30,43 +30,42 @@ AreLinesOf Follows text s g lines = AreFollowLines g lines
 AreLinesOf Sentences text s g lines = AreSentenceLines g lines
 AreLinesOf Warnings text s g lines = AreWarningLines text s lines
 
--- the lines that tell where a grammar's tokens and the names in a text differ
+-- the lines that list differences between a grammar's tokens and the names in a text
 abbrev pub AreLexerLines : List ℕ → Syntax → Numbered → List ℕ → Type 0
 AreLexerLines names s g lines = lines ≡ lexer_lines g (names_in names)
 
--- the lines that are asked for
+-- the lines that are requested
 abbrev pub AreAskedLines : Request → List ℕ → Syntax → Numbered → List ℕ → Type 0
 AreAskedLines (requests.Command command) text s g lines = AreLinesOf command text s g lines
 AreAskedLines (requests.Names names) text s g lines = AreLexerLines names.now s g lines
 
--- a report ends so, and this holds of its lines
+-- a report ends like this, and its lines satisfy this
 abbrev pub IsReported : Outcome → (List ℕ → Type 0) → Outcome × String Global → Type 0
 IsReported outcome Holds report = (report.0 ≡ outcome) × Holds (string_bytes report.1)
 
--- `AreLines` says of a syntax and of that in numbers which lines are told of them.
+-- `AreLines` says which lines are printed for a syntax and its numbers.
 module _ (AreLines : Syntax → Numbered → List ℕ → Type 0) where
-  -- How a report of a text that is found to be this ends, and its lines: the text is a grammar, and the lines asked for are
-  -- told, or it is refused, and its errors are.
+  -- How a report on a text that turns out to be this ends, and its lines: the text is a grammar, and the requested lines are printed; or it
+  -- has errors, and these are.
   abbrev pub IsReport : List ℕ → Found → Outcome → List ℕ → Type 0
   IsReport text found Done lines = IsMadeOfGrammar AreLines found lines
   IsReport text found Refused lines = IsMadeOfErrors (λ errors lines. lines ≡ error_lines text errors) found lines
 
-  -- What a report adds to the known bytes of its sink: the lines of how it ended; nothing where memory ended; where the
-  -- sink counted a fault, a beginning of the lines of how it would have ended.
+  -- What a report adds to the known bytes of its sink: the lines of how it ended; nothing if memory ran out; if the sink counted a fault, a
+  -- prefix of the lines of how it would have ended.
   abbrev pub Tells : List ℕ → Found → Option (List ℕ) → Option (List ℕ) → Result Outcome ReportFault → Type 0
   Tells text found old new (Ok outcome) = (lines : List ℕ) × IsReport text found outcome lines × Appends old new lines
   Tells text found old new (Err faults.Write) = (outcome : Outcome) × (lines : List ℕ)
       × IsReport text found outcome lines × AppendsBeginning old new lines
   Tells text found old new (Err faults.OutOfMemory) = Keeps old new
 
--- A report of a text tells so of what the text is found to be: of its one reading, or of the errors that keep it from naming
--- a kind.
+-- A report on a text prints this for what the text turns out to be: its only reading, or the errors that keep it from naming a kind.
 abbrev pub TellsText : KindArg → Command → List ℕ → Option (List ℕ) → Option (List ℕ) → Result Outcome ReportFault
     → Type 0
 TellsText kind command text old new answer =
     (found : Found) × IsFound kind text found × Tells (AreLinesOf command text) text found old new answer
 
--- the same of a report on the names in a text
+-- the same for a report on the names in a text
 abbrev pub TellsLexer : KindArg → List ℕ → List ℕ → Option (List ℕ) → Option (List ℕ) → Result Outcome ReportFault
     → Type 0
 TellsLexer kind text names old new answer =

@@ -1,4 +1,4 @@
--- The lines that tell what the sentences of rules cost, where each token costs 1, and the sentences of least cost.
+-- The lines that print what the sentences of rules cost, where each token costs 1, and the sentences of least cost.
 use Rattle.std.specs.Prelude.{◌≡◌, ℕ, ◌+◌, ◌<◌, List, [], ◌++◌, Option, Some, None, Result, Ok, Err, EachIndex, All, length, map, slice_index_or, codes}
 use Rattle.std.specs.List.{concat}
 use Rattle.std.specs.Fmt.{decimal}
@@ -50,7 +50,7 @@ pub record TellsRule (g : Numbered) (cost : ℕ → ℕ) (r : ℕ) (lines : List
   pub tells_sentences : ListsMinimal (HasProduction (core g)) cost r sentences
   pub told : lines ≡ cost_line name least greatest ++ concat (map (sentence_line g) sentences)
 
--- texts that tell of each of the first numbers, as many as this, one behind the other
+-- texts for the first `count` numbers, one after the other
 pub record TellsEach (Tells : ℕ → List ℕ → Type 0) (count : ℕ) (lines : List ℕ) : Type 0 where
   pub texts : List (List ℕ)
   pub counted : length texts ≡ count

@@ -7,7 +7,7 @@ use Rattle.cfgrammar.specs.Numbered.{NumberedToken}
 abbrev pub quoted : List ℕ → List ℕ
 quoted name = codes " \"" ++ (name ++ codes "\"")
 
--- a token of a set by its name; the end token has no name, and is written as `end`
+-- the name of a token in a set; the end token has no name, and is written as `end`
 abbrev pub set_word : List ℕ → (ℕ → Bool) → ℕ × NumberedToken → List ℕ
 set_word end among token = if among token.0 then option_map_or quoted token.1.name end else []
 

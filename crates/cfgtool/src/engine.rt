@@ -1,4 +1,4 @@
-//! The report of a text.
+//! The report on a text.
 
 ghost use Rattle.std.specs.Prelude.{◌≡◌, ◌+◌, ◌-◌, ◌^◌, ◌<◌, Some, IfOk, IsErrOf, string_bytes};
 ghost use Rattle.cfgrammar.specs.Places.{IsPiece, IsWithin};
@@ -27,12 +27,12 @@ pub use cfgsink::{Outcome, ReportFault};
 use cfgsink::{Sink, write_report};
 use std::alloc::{AllocError, Global};
 
-/// Writes what the command tells of the text's grammar, whose indices have 32 bits, or else the errors of the text,
+/// Writes what the command prints for the text's grammar, whose indices have 32 bits, or else the errors of the text,
 /// each as a line.
 ///
 /// # Errors
 ///
-/// Want of memory; nothing is then written. A fault of `out`, which then has a beginning of the lines.
+/// Out of memory; nothing is then written. A fault of `out`, which then has a prefix of the lines.
 pub fn report<W: Sink>(
     alloc: Global,
     kind: KindArg,
@@ -48,12 +48,12 @@ pub fn report<W: Sink>(
     write_asked(alloc, kind, Request::Command(command), text, out)
 }
 
-/// Writes where the tokens of the text's grammar and the names that a lexer gives differ, or else the errors of the
-/// text, each as a line. `names` has a name in each line that isn't empty.
+/// Writes the differences between the tokens of the text's grammar and the names that a lexer has, or else the errors
+/// of the text, each as a line. Each nonempty line of `names` is a name.
 ///
 /// # Errors
 ///
-/// As of [`report`].
+/// Those of [`report`].
 pub fn report_lex<W: Sink>(
     alloc: Global,
     kind: KindArg,
@@ -69,12 +69,12 @@ pub fn report_lex<W: Sink>(
     write_asked(alloc, kind, Request::Names(names), text, out)
 }
 
-/// What is asked of a text's grammar.
+/// What is requested of a text's grammar.
 #[derive(Clone, Copy)]
 pub(crate) enum Request<'a> {
-    /// What the command tells.
+    /// What the command prints.
     Command(Command),
-    /// Where its tokens and these names, a line each, differ.
+    /// The differences between its tokens and these names, one per line.
     Names(&'a str),
 }
 
@@ -129,7 +129,7 @@ fn write_asked<W: Sink>(
     write_report(out, made)
 }
 
-/// The lines that are asked of a text that is this tree, and this grammar.
+/// The lines that are requested for a text with this tree and this grammar.
 fn request_lines(
     alloc: Global,
     request: Request<'_>,
@@ -147,7 +147,7 @@ fn request_lines(
     }
 }
 
-/// The lines that a command tells of a text that is this tree, and this grammar.
+/// The lines that a command prints for a text with this tree and this grammar.
 fn command_lines(
     alloc: Global,
     command: Command,
@@ -183,7 +183,7 @@ fn told_follows(alloc: Global, grammar: &YaccGrammar<u32>) -> Result<String, All
     follow_lines(alloc, grammar, &follows)
 }
 
-/// The lines of the warnings of a text that is this tree.
+/// The lines of the warnings of a text with this tree.
 fn told_warnings(alloc: Global, text: &str, ast: &GrammarAST) -> Result<String, AllocError>
     requires { EachSpan (IsPiece text.now) (IsWithin text.now) (syntax ast.now) }
     ensures { IfOk result (λ lines. AreWarningLines text.now (syntax ast.now) (string_bytes lines)) }

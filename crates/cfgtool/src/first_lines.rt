@@ -1,4 +1,4 @@
-//! The lines that tell FIRST sets.
+//! The lines that print FIRST sets.
 
 ghost use Rattle.std.specs.Prelude.{◌≡◌, ◌<◌, length, IfOk, OnOk, string_bytes};
 ghost use Rattle.cfgrammar.specs.Firsts.{epsilon_bit};
@@ -13,8 +13,8 @@ use cfgrammar::yacc::YaccGrammar;
 use cfgrammar::yacc::firsts::YaccFirsts;
 use std::alloc::{AllocError, Global};
 
-/// FIRST sets, as of a grammar's rules, a line for each rule: its name and a colon, the tokens in its set, in double
-/// quotes, and `%empty` where it is among the empty ones.
+/// The FIRST sets of a grammar, a line for each rule: its name and a colon, the tokens in its set in double quotes, and
+/// `%empty` if it is nullable.
 pub fn first_lines(
     alloc: Global,
     grammar: &YaccGrammar<u32>,
@@ -50,7 +50,7 @@ fn write_line(
     lines.push_str("\n")
 }
 
-/// What is written of a rule that is empty, and of one that isn't.
+/// What is written for a nullable rule, and for any other.
 fn if_empty(empty: bool) -> &'static str
     ensures { result.now ≡ empty_word empty }
 {

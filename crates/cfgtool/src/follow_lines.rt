@@ -1,4 +1,4 @@
-//! The lines that tell FOLLOW sets.
+//! The lines that print FOLLOW sets.
 
 ghost use Rattle.std.specs.Prelude.{◌≡◌, ◌<◌, length, IfOk, OnOk, string_bytes};
 ghost use Rattle.cfgrammar.specs.Table.{bit};
@@ -12,8 +12,8 @@ use cfgrammar::yacc::YaccGrammar;
 use cfgrammar::yacc::follows::YaccFollows;
 use std::alloc::{AllocError, Global};
 
-/// FOLLOW sets, as of a grammar's rules, a line for each rule: its name and a colon, the tokens in its set, in double
-/// quotes, and `%end` where the end token is among them.
+/// The FOLLOW sets of a grammar, a line for each rule: its name and a colon, the tokens in its set in double quotes,
+/// and `%end` if the end token is among them.
 pub fn follow_lines(
     alloc: Global,
     grammar: &YaccGrammar<u32>,

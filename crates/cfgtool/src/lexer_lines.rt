@@ -1,4 +1,4 @@
-//! The lines that tell where the names that a lexer gives and a grammar's tokens differ.
+//! The lines that list differences between the names that a lexer has and a grammar's tokens.
 
 ghost use Rattle.std.specs.Prelude.{◌≡◌, ◌++◌, ◌<◌, All, length, map, IfOk, OnOk, string_bytes};
 ghost use Rattle.std.specs.List.{flat_map};
@@ -25,14 +25,14 @@ pub fn lexer_lines(
     Ok(lines)
 }
 
-/// The names in a list: its lines, but the empty ones.
+/// The names in a list: its nonempty lines.
 fn names_in(alloc: Global, list: &str) -> Result<Vec<&str>, AllocError>
     ensures { IfOk result (λ names. map (λ name. name.now) names.items ≡ names_in list.now) }
 {
     list.lines().filter(|line| !line.is_empty()).collect(alloc)
 }
 
-/// Writes a line for each of the names at these places.
+/// Writes a line for each of the names at these indices.
 fn write_unknown(lines: &mut String, names: &[&str], places: &[usize]) -> Result<(), AllocError>
     requires { All (λ place. place < length names.now) places.now }
     ensures { OnOk result (string_bytes lines.new

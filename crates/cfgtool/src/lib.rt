@@ -1,4 +1,4 @@
-//! The program `cfgtool`, as a library: what a grammar holds, or what is wrong with its text, as lines.
+//! The program `cfgtool`, as a library: prints what is in a grammar, or the errors of its text, as lines.
 #![tactic(auto)]
 
 pub mod engine;

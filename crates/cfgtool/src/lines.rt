@@ -39,7 +39,7 @@ fn write_production(
     writeln!(lines, "{} {text}", usize::from(pidx))
 }
 
-/// The errors of a text, each as a line: its place and what it says.
+/// The errors of a text, each as a line: its position and its text.
 pub fn error_lines(
     alloc: Global,
     text: &str,
@@ -56,7 +56,7 @@ pub fn error_lines(
     Ok(lines)
 }
 
-/// The warnings of a text, each as a line: its place and what it says.
+/// The warnings of a text, each as a line: its position and its text.
 pub fn warning_lines(
     alloc: Global,
     text: &str,
@@ -102,7 +102,7 @@ fn write_warning(
     writeln!(lines, "{warning}")
 }
 
-/// Writes the line and the column of the first span, and a colon behind each.
+/// Writes the line and the column of the first span, each followed by a colon.
 fn write_place(lines: &mut String, places: &Places<'_>, spans: &[Span]) -> Result<(), AllocError>
     requires some { 0 < length spans.now }
     requires placed { All (IsPiece places.now) spans.now }

@@ -12,8 +12,8 @@ use cfgshell::source::Source;
 use cfgshell::words::{Command, KindArg};
 use std::alloc::Global;
 
-/// Runs the program on the words after its name, and answers its status. What it tells is written to `out`, and a line
-/// on what went wrong to `err`, as far as `err` takes it. Words that are wrong leave `source` as it was.
+/// Runs the program on its command-line arguments, and returns its status. Its report is written to `out`, and a line
+/// on what went wrong to `err`, as far as `err` accepts it. If the arguments are wrong, `source` is left as it was.
 pub fn run<S: Source, O: Sink, E: Sink>(
     alloc: Global,
     args: &[&str],

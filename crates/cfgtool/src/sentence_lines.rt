@@ -1,4 +1,4 @@
-//! The lines that tell what sentences cost.
+//! The lines that print what sentences cost.
 
 ghost use Rattle.std.specs.Prelude.{◌≡◌, ◌++◌, ◌<◌, All, length, map, IfOk, OnOk, string_bytes};
 ghost use Rattle.std.specs.List.{concat};
@@ -23,7 +23,7 @@ pub fn sentence_lines(alloc: Global, grammar: &YaccGrammar<u32>) -> Result<Strin
     rule_lines(alloc, grammar, &generator)
 }
 
-/// The lines of the rules, by the costs of the generator.
+/// The lines of the rules, with the generator's costs.
 fn rule_lines(
     alloc: Global,
     grammar: &YaccGrammar<u32>,
@@ -103,7 +103,7 @@ fn write_greatest(
     }
 }
 
-/// The sentences of a rule that no other of its sentences costs less than; none where they cost more than 65535.
+/// The sentences of a rule such that no other costs less; none if they cost more than 65535.
 fn minimal_sentences(
     alloc: Global,
     grammar: &YaccGrammar<u32>,

@@ -9,15 +9,15 @@ use cfgshell::runtime;
 use std::process::{ExitCode, Termination};
 use std::rt::{Env, Files};
 
-/// That the program ended, and with which status. Only [`run_over`] makes one, so a `main` that answers one has run it.
+/// The program ended, with this status. Only [`run_over`] makes one, so a `main` that returns one has run it.
 #[derive(Debug, Drop)]
 pub struct Ended {
     status: u8,
 }
 
 impl Ended {
-    /// The status: 0 where a grammar is told, 1 where its text has errors, 2 where it was not read or not told, 3 where
-    /// no memory was left.
+    /// The status: 0 if a grammar is printed; 1 if its text has errors; 2 if it couldn't be read or printed; 3 if
+    /// memory ran out.
     pub fn status(&self) -> u8
         ensures { result ≡ self.now.status }
     {
@@ -33,9 +33,9 @@ impl Termination for Ended {
     }
 }
 
-/// Runs the program `cfgtool` over a runtime: [`run`](crate::run) on the words behind the program's name, over the
-/// runtime's files, its standard input under the name `-`, its standard output and its standard error. Words that are
-/// not UTF-8 are wrong usage.
+/// Runs the program `cfgtool` over a runtime: [`run`](crate::run) on the command-line arguments, with the runtime's
+/// files, its standard input under the name `-`, its standard output and its standard error. Arguments that aren't
+/// UTF-8 are a usage error.
 pub fn run_over<R: Env + Files + Input + Print + Eprint + AllocGlobal>(rt: &R) -> Ended
     ensures { (ending : Ending) × (result.status ≡ status_of ending) }
 {

@@ -39,7 +39,7 @@ impl TokenSets for YaccFollows<u32> {
     }
 }
 
-/// Writes the tokens of a rule's set, each by its name; the end token, which has none, as `end`.
+/// Writes the tokens of a rule's set by name; the end token, which has no name, is written as `end`.
 pub fn write_tokens<T: TokenSets>(
     lines: &mut String,
     grammar: &YaccGrammar<u32>,

@@ -1,4 +1,4 @@
-//! The program `cfgtool`. All that it does is the library's, over the system's own runtime.
+//! The program `cfgtool`. All that it does is in the library, here run over the system's runtime.
 #![tactic(auto)]
 
 use cfgtool::{Ended, run_over};

@@ -1,4 +1,4 @@
--- The tables of a valid syntax, and what a constructor answers.
+-- The tables of a valid syntax, and what a constructor returns.
 use Rattle.std.proofs.Common.{◌≡◌, ℕ, List, [], ◌∷◌, ◌++◌, length, map, Option, option_map, Err, String, Global, refl, sym, subst}
 use Rattle.std.specs.List.{zip}
 use Rattle.cfgindex.specs.declared.idxnewtype.PIdx.{PIdx}
@@ -25,14 +25,14 @@ use Rattle.cfgnumbers.proofs.Places.{implicit_there}
 use Rattle.cfgnumbers.proofs.Room.{fits_from_room, room_from_fits}
 use Rattle.cfgnumbers.proofs.Whole.{whole}
 
--- what holds of a syntax and of its implicit tokens
+-- what is true of a syntax and of its implicit tokens
 pub of_both : (P : Syntax → Option (List (List ℕ)) → Type 0) (s t : Syntax) (implicit other : Option (List (List ℕ))) → s ≡ t → implicit ≡ other → P t other → P s implicit
 of_both P s t implicit other same same_implicit holds = subst (P s) (sym same_implicit) (subst (λ x. P x other) (sym same) holds)
 
 module _ {S : Type 0} (number : S → ℕ) (kind : YaccKind) (s : Syntax)
     (rules : List (String Global × RuleRow S)) (productions : List NumberedProduction) (tokens : List (String Global × TokenRow)) (start : PIdx S)
     (implicit_rule : Option (RIdx S)) (settings : Settings) where
-  -- tables of these rows are the syntax numbered
+  -- tables of these rows are the numbered syntax
   pub built : map (rule_view number) rules ≡ added_rules (implicit_of kind s) (length s.productions) ++ map file_rule s.rules
       → productions ≡ map (file_production (implicit_of kind s) s) (zip s.production_rules s.productions) ++ added_productions (implicit_of kind s) s
       → map token_view tokens ≡ map (file_token s) (zip s.tokens s.spans) → number start.0 ≡ length s.productions
@@ -60,7 +60,7 @@ well_numbered max kind s sound room =
       listed_once = listed_once implicit s sound.well_formed;
     }
 
--- the errors of what was read, where it has some
+-- the errors of what was read, if it has any
 pub refused : (max : ℕ) (errors : List GrammarError) (g : Numbered) (told : List GrammarError) → (errors ≡ [] → ⊥) → told ≡ errors → IsReadRefused max errors g told
 refused max [] g told some same = absurd (some refl)
 refused max (error ∷ errors) g told some same = same

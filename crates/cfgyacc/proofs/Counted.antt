@@ -1,4 +1,4 @@
--- What runs of an iterator that counts give.
+-- What runs of a counting iterator give.
 use Rattle.std.proofs.Common.{◌≡◌, sym, subst, ap, ◌∙◌, arith, ℕ, zero, suc, ◌+◌, ◌-◌, ◌<◌, ◌≤◌, List, [], ◌∷◌, length, IfSome}
 use Rattle.std.specs.Iterator.{Yields}
 use Rattle.std.specs.List.{slice_get}

@@ -1,4 +1,4 @@
--- What a text is found to be, by what is parsed of it.
+-- What a text turns out to be, by what is parsed from it.
 use Rattle.std.proofs.Common.{◌≡◌, List, ℕ, map, Ok, Err, refl, ap, sym}
 use Rattle.cfgkinds.specs.declared.kind.YaccKind.{YaccKind}
 use Rattle.cfgsection.specs.Named.{HasOneNaming, Naming, Names}
@@ -14,7 +14,7 @@ use Rattle.cfgsyntax.proofs.OneReading.{one_reading}
 use Rattle.cfgyacc.specs.Answer.{Found, Unnamed, WasRead}
 use Rattle.cfgyacc.specs.GrammarOf.{IsFoundNamed, IsFoundItself}
 
--- what a text's one reading makes
+-- what a text's only reading gives
 abbrev pub parsed_of : (kind : YaccKind) (text : List ℕ) → HasOneReading kind text → Parsed
 parsed_of kind text one = record { kind = kind; syntax = syntax_of one.items; errors = errors_of one.items one.stop }
 
@@ -30,12 +30,12 @@ parsed_named : (text : List ℕ) (parsed : Parsed) (naming : Naming) → Answers
 parsed_named text parsed (Ok kind) is = is
 parsed_named text parsed (Err errors) is = absurd is
 
--- where the text was parsed as the kind that it names
+-- if the text was parsed as the kind that it names
 pub parsed_itself : (text : List ℕ) → HasOneNaming text → (parsed : Parsed) → ((naming : Naming) → Names text naming → AnswersNaming text naming (Ok parsed))
     → IsFoundItself text (WasRead parsed)
 parsed_itself text one parsed answer = (one, parsed_named text parsed one.naming (answer one.naming one.names))
 
--- what is found where nothing was parsed: the errors that are told, or whatever it is where memory ended
+-- what is found if nothing was parsed: the errors that are returned, or anything if memory ran out
 abbrev pub IsFaultOf : YaccFault → Found → Type 0
 IsFaultOf faults.OutOfMemory found = Unit {0}
 IsFaultOf (faults.Errors told) found = found ≡ Unnamed told.items
@@ -46,7 +46,7 @@ refused_named text faults.OutOfMemory (Err errors) is = (Unnamed (map header_err
 refused_named text (faults.Errors told) (Ok kind) is = absurd is
 refused_named text (faults.Errors told) (Err errors) is = (Unnamed (map header_error errors), refl, sym (ap Unnamed is))
 
--- where nothing was parsed
+-- if nothing was parsed
 pub refused_itself : (text : List ℕ) → HasOneNaming text → (fault : YaccFault) → ((naming : Naming) → Names text naming → AnswersNaming text naming (Err fault))
     → (found : Found) × IsFoundItself text found × IsFaultOf fault found
 refused_itself text one fault answer =

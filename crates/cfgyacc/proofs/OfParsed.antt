@@ -1,4 +1,4 @@
--- What a constructor answers of a text, by what was parsed of it, if anything was.
+-- What a constructor returns for a text, by what was parsed from it, if anything was.
 use Rattle.std.proofs.Common.{◌≡◌, ℕ, List, Option, Result, Ok, Err, IfOk, IfErr, MatchResult, IsErrAnd, refl, sym, subst, ap, ◌∙◌}
 use Rattle.std.specs.Str.{IsUtf8}
 use Rattle.cfgwords.specs.Places.{IsPiece, IsWithin}
@@ -19,14 +19,14 @@ use Rattle.cfgyacc.specs.GrammarSpans.{EachAnswerSpan}
 use Rattle.cfgnumbers.specs.Numbered.{Numbered}
 use Rattle.cfgyacc.proofs.OfItself.{IsFaultOf, is_parsed_of, parsed_itself, parsed_of, refused_itself}
 
--- a fault that is another kind of fault's, where a value stays
+-- a fault that becomes another kind of fault, while a value stays
 pub carried : {T E D : Type 0} (P : T → Type 0) (Q : E → D → Type 0) (made : Result T E) (mapped : Result T D) → MatchResult made (λ x. mapped ≡ Ok x) (λ e. IsErrAnd mapped (Q e))
     → IfOk made P → IfOk mapped P
 carried P Q (Ok x) mapped same holds = subst (λ r. IfOk r P) (sym same) holds
 carried P Q (Err e) (Ok x) same holds = absurd same
 carried P Q (Err e) (Err d) same holds = tt
 
--- and what holds of that fault
+-- and what is true of that fault
 pub carried_fault : {T E D : Type 0} (Q : E → D → Type 0) (R : D → Type 0) (made : Result T E) (mapped : Result T D) → MatchResult made (λ x. mapped ≡ Ok x) (λ e. IsErrAnd mapped (Q e))
     → ((e : E) (d : D) → Q e d → R d) → IfErr mapped R
 carried_fault Q R (Ok x) mapped same holds = subst (λ r. IfErr r R) (sym same) tt
@@ -40,13 +40,13 @@ pub parsed_as : {E : Type 0} (kind : YaccKind) (text : List ℕ) (parsed : Resul
 parsed_as kind text (Ok p) one kind_is syntax errors = record { one = one; kind_is = kind_is; syntax = syntax; errors = errors }
 parsed_as kind text (Err e) one kind_is syntax errors = tt
 
--- a fault is the answer for what it leaves to be found
+-- a fault is the result for what it leaves to be found
 fault_answers : (max : ℕ) (fault : YaccFault) (found : Found) → IsFaultOf fault found → IsAnswer max found (Err fault)
 fault_answers max faults.OutOfMemory found is = tt
 fault_answers max (faults.Errors told) found is = subst (λ x. IsRefused max x told.items) (sym is) refl
 
 module _ (text : List ℕ) (max : ℕ) (result : Result Numbered YaccFault) where
-  -- the answer is that of what was parsed, or the fault in its place
+  -- the result is that of what was parsed, or the fault if there is one
   pub record IsOf (parsed : Result Parsed YaccFault) : Type 0 where
     pub answer : IfOk parsed (λ p. IsAnswer max (WasRead p) result)
     pub refused : IfErr parsed (λ fault. result ≡ Err fault)
@@ -67,7 +67,7 @@ module _ (text : List ℕ) (max : ℕ) (result : Result Numbered YaccFault) wher
       let it = refused_itself text one fault is in
       (it.0, it.1, subst (IsAnswer max it.0) (sym of.refused) (fault_answers max fault it.0 it.2))
 
--- the spans of the answer
+-- the spans of the result
 pub answer_spans : (text : List ℕ) → IsUtf8 text → (parsed : Result Parsed YaccFault) (result : Result Numbered YaccFault)
     → IfOk parsed (EachParsedSpan (IsPiece text) (IsWithin text)) → IfErr parsed (EachFaultSpan (IsPiece text))
     → IfOk parsed (λ p. (text : List ℕ) → IsUtf8 text → EachParsedSpan (IsPiece text) (IsWithin text) p → EachAnswerSpan (IsPiece text) (IsWithin text) result)

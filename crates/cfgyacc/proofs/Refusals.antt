@@ -17,7 +17,7 @@ read_refused : (max : ℕ) (errors : List GrammarError) (g : Numbered) (told : L
 read_refused max [] g told is = subst (λ xs. 0 < length xs) (sym is.1) (omega arith)
 read_refused max (error ∷ errors) g told is = subst (λ xs. 0 < length xs) (sym is) (omega arith)
 
--- a text that names no kind has some
+-- a text that names no kind has at least one
 abbrev pub HasSome : Found → Type 0
 HasSome (Unnamed errors) = 0 < length errors
 HasSome (WasRead parsed) = Unit {0}

@@ -1,4 +1,4 @@
--- What accessors read in the tables.
+-- What accessors read from the tables.
 use Rattle.std.proofs.Common.{◌≡◌, ℕ, zero, suc, ◌<◌, ◌≤◌, List, [], ◌∷◌, ◌++◌, codes, length, map, slice_get, Option, Some, None, option_map, unwrap_or, String, Global, refl, sym, ap, subst, ◌∙◌, arith}
 use Rattle.std.specs.List.{concat}
 use Rattle.std.specs.Map.{values_of}
@@ -56,7 +56,7 @@ module _ {S A : Type 0} (number : S → ℕ) (part : NumberedRule → A) (row : 
   rule_shown rules productions tokens start implicit settings g view_is i r same at =
       ap (λ (t : Numbered). rule_part part t r) (sym view_is) ∙ ap (λ k. option_map part (slice_get (map (rule_view number) rules) k)) (sym same) ∙ row_shown rules i at
 
--- what is read of a production, of those that stand in the tables
+-- what is read of a production among those in the tables
 module _ (productions : List NumberedProduction) (g : Numbered) (listed : productions ≡ g.productions) (i p : ℕ) (same : i ≡ p) where
   pub production_there : p < length g.productions → i < length productions
   production_there within = omega (arith, within, same, ap length listed)

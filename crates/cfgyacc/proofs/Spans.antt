@@ -24,7 +24,7 @@ part_span : {A : Type 0} (P : Span → Type 0) (span : A → Span) (o : Option A
 part_span P span None here = tt
 part_span P span (Some x) here = here
 
--- of a text, the place (0,0) is one
+-- (0,0) is a span of any text
 pub nowhere_placed : (text : List ℕ) → IsUtf8 text → IsPiece text nowhere
 nowhere_placed text utf8 =
     let first = IsCharBoundary-start text utf8 in

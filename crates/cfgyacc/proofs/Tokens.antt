@@ -1,4 +1,4 @@
--- What accessors of tokens read in the tables.
+-- What accessors of tokens read from the tables.
 use Rattle.std.proofs.Common.{◌≡◌, ℕ, zero, suc, ◌<◌, List, [], ◌∷◌, ◌++◌, length, map, slice_get, Option, Some, None, option_map, String, Global, refl, sym, ap, ◌∙◌, arith}
 use Rattle.cfgindex.specs.declared.idxnewtype.PIdx.{PIdx}
 use Rattle.cfgindex.specs.declared.idxnewtype.RIdx.{RIdx}

@@ -1,4 +1,4 @@
--- What a constructor of a grammar answers.
+-- What a constructor of a grammar returns.
 use Rattle.std.specs.Prelude.{◌≡◌, ℕ, List, [], ◌∷◌, Result, Ok, Err}
 use Rattle.cfgtree.specs.Check.{nowhere}
 use Rattle.cfgerrors.specs.Errors.{GrammarError, StorageTooSmall, error_at}
@@ -8,7 +8,7 @@ use Rattle.cfgsyntax.specs.Parsed.{Parsed}
 use Rattle.cfgnumbers.specs.Numbered.{Numbered, numbered}
 use Rattle.cfgnumbers.specs.Fits.{Fits}
 
--- What a text is found to be: it names no kind of Yacc, because of these errors; or it was read as this.
+-- What a text turns out to be: either it names no kind of Yacc, because of these errors; or it was read as this.
 pub data Found : Type 0 where
   Unnamed : List GrammarError → Found
   WasRead : Parsed → Found
@@ -17,7 +17,7 @@ pub data Found : Type 0 where
 abbrev pub in_numbers : Parsed → Numbered
 in_numbers parsed = numbered parsed.kind parsed.syntax
 
--- the error that the index type is too small, alone
+-- the single error that the index type is too small
 abbrev pub too_small : List GrammarError
 too_small = error_at StorageTooSmall nowhere ∷ []
 
@@ -25,7 +25,7 @@ abbrev pub IsTooSmall : YaccFault → Type 0
 IsTooSmall faults.OutOfMemory = ⊥
 IsTooSmall (faults.Errors told) = told.items ≡ too_small
 
--- Why there is no grammar of what was read: its errors; where it has none, that the index type is too small, alone.
+-- Why there is no grammar for what was read: its errors or, if it has none, the single error that the index type is too small.
 abbrev pub IsReadRefused : ℕ → List GrammarError → Numbered → List GrammarError → Type 0
 IsReadRefused max [] g told = (Fits max g → ⊥) × (told ≡ too_small)
 IsReadRefused max (error ∷ errors) g told = told ≡ error ∷ errors
@@ -35,13 +35,13 @@ abbrev pub IsRefused : ℕ → Found → List GrammarError → Type 0
 IsRefused max (Unnamed errors) told = told ≡ errors
 IsRefused max (WasRead parsed) told = IsReadRefused max parsed.errors (in_numbers parsed) told
 
--- the grammar: that of what was read, where it has no errors and fits
+-- the grammar of what was read, if that has no errors and fits
 abbrev pub IsGrammar : ℕ → Found → Numbered → Type 0
 IsGrammar max (Unnamed errors) grammar = ⊥
 IsGrammar max (WasRead parsed) grammar = (parsed.errors ≡ []) × Fits max (in_numbers parsed) × (grammar ≡ in_numbers parsed)
 
--- The answer for a text that is found to be this, for an index type of this greatest number: the grammar where there is
--- one, and else the refusal. Want of memory says nothing of the text.
+-- The result for a text that turns out to be this, for an index type with this greatest number: the grammar if there is one, and otherwise
+-- the errors. Running out of memory says nothing about the text.
 abbrev pub IsAnswer : ℕ → Found → Result Numbered YaccFault → Type 0
 IsAnswer max found (Ok grammar) = IsGrammar max found grammar
 IsAnswer max found (Err faults.OutOfMemory) = Unit {0}

@@ -1,4 +1,4 @@
--- What holds of each span of a grammar, and of each span of what a constructor answers.
+-- What is true of each span of a grammar, and of each span in what a constructor returns.
 use Rattle.std.specs.Prelude.{All, IfSome, Result, Ok, Err}
 use Rattle.cfgbase.specs.declared.span.Span.{Span}
 use Rattle.cfgast.specs.Syntax.{EachSettingSpan}
@@ -15,7 +15,7 @@ pub record EachGrammarSpan (P Q : Span → Type 0) (g : Numbered) : Type 0 where
   pub actions : All (λ production. IfSome production.action_span Q) g.productions
   pub settings : EachSettingSpan P g.settings
 
--- Want of memory has no spans.
+-- Running out of memory has no spans.
 abbrev pub EachAnswerSpan : (P Q : Span → Type 0) → Result Numbered YaccFault → Type 0
 EachAnswerSpan P Q (Ok grammar) = EachGrammarSpan P Q grammar
 EachAnswerSpan P Q (Err faults.OutOfMemory) = Unit {0}

@@ -2,6 +2,6 @@
 use Rattle.std.specs.Prelude.{ℕ, List, Option, map}
 use Rattle.cfgnumbers.specs.Numbered.{Numbered}
 
--- of each token, in the order of their indices, its name; the end token, which is the last, has none
+-- the name of each token, in the order of their indices; the end token, which is the last, has no name
 abbrev pub token_names : Numbered → List (Option (List ℕ))
 token_names g = map (λ token. token.name) g.tokens

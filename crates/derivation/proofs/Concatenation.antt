@@ -42,7 +42,7 @@ module _ (P : ℕ → List Sym → Type 0) where
   pub derives_both : {a b : List Sym} (x y : List Sym) → Derives P a x → Derives P b y → Derives P (a ++ b) (x ++ y)
   derives_both {b = b} x y d e = derives_trans (derives_right b d) (derives_left x e)
 
-  -- in one step a rule becomes the symbols of each of its productions
+  -- in one step a rule becomes the symbols of any of its productions
   pub step_production : (r : ℕ) (symbols : List Sym) → P r symbols → Step P (Rule r ∷ []) symbols
   step_production r symbols has = record {
     before = [];

@@ -1,4 +1,4 @@
--- Least and greatest costs: how they stand to one another, and to the sentences.
+-- Least and greatest costs: how they relate to one another, and to the sentences.
 use Rattle.std.proofs.Common.{◌≡◌, ◌↔◌, ℕ, ◌≤◌, List, refl, sym, subst, arith}
 use Rattle.derivation.specs.Grammar.{Sym}
 use Rattle.derivation.specs.Sentence.{Sentence, cost_of}

@@ -1,4 +1,4 @@
--- A rule that meets a growing cycle: each turn round it adds tokens that cost something.
+-- A rule that meets a growing cycle: each turn of the cycle adds tokens that cost something.
 use Rattle.std.proofs.Common.{◌≡◌, ℕ, zero, suc, ◌+◌, ◌<◌, ◌≤◌, List, [], ◌∷◌, ◌++◌, Contains, map, subst, ap, arith}
 use Rattle.std.proofs.lemmas.List.Sums.{sum_by-append}
 use Rattle.derivation.specs.Grammar.{Sym, Rule, Token}
@@ -52,7 +52,7 @@ module _ (P : ℕ → List Sym → Type 0) (cost : ℕ → ℕ) where
         (omega (arith, cost_between p.front t.word q.back)),
       )
 
-  -- a rule leads to itself, and what stands beside it costs something
+  -- a rule leads to itself, and the symbols beside it cost something
   pub cycle_of_lead : (x : ℕ) (w : List ℕ) (l : LeadsTo P x x) → Derives P (l.before ++ l.after) (map Token w)
       → 0 < cost_of cost w → GrowingCycle P cost x
   cycle_of_lead x w l d h = record {

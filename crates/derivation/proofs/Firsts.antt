@@ -1,4 +1,4 @@
--- FIRST: what is closed holds all that derivations show, and derivations show what the equations give.
+-- FIRST: closed sets contain whatever derivations show, and derivations show whatever the equations give.
 use Rattle.std.proofs.Common.{ℕ, List, [], ◌∷◌, ◌++◌, ◌⊎◌, inl, inr, refl, sym, subst}
 use Rattle.derivation.specs.Grammar.{Sym, Rule, Token}
 use Rattle.derivation.specs.Derivation.{Derives, none, next}
@@ -40,7 +40,7 @@ module _ (E : ℕ → Type 0) (F : ℕ → ℕ → Type 0) where
     | inr k ↦ inr ((h.0, k.0), k.1)
   ]
 
-  -- what holds after a step held before it
+  -- what is so after a step was so before it
   pub vanishes_before : (r : ℕ) (symbols : List Sym) → Covers E F r symbols → (x y : List Sym) → Vanishes E (x ++ (symbols ++ y)) → Vanishes E (x ++ (Rule r ∷ y))
   vanishes_before r symbols c [] y h = let p = vanishes_parts E symbols y h in (c.empty p.0, p.1)
   vanishes_before r symbols c (Rule q ∷ x) y h = (h.0, vanishes_before r symbols c x y h.1)

@@ -1,4 +1,4 @@
--- FOLLOW: what is closed holds all that derivations show, and derivations show what the equations give.
+-- FOLLOW: closed sets contain whatever derivations show, and derivations show whatever the equations give.
 use Rattle.std.proofs.Common.{ℕ, List, [], ◌∷◌, ◌++◌, inl, inr, append_assoc, refl, sym, subst}
 use Rattle.derivation.specs.Grammar.{Sym, Grammar, Rule, Token, HasProduction}
 use Rattle.derivation.specs.Derivation.{Derives, none, next}
@@ -53,14 +53,14 @@ module _ (P : ℕ → List Sym → Type 0) (E : ℕ → Type 0) (F W : ℕ → �
   closed_end r t f h = (flows_at E F W f.before r [] (W 0) (flows_along (W 0) f.derived (flows_from 0))).1 tt t h
 
 module _ (P : ℕ → List Sym → Type 0) (r : ℕ) (front : List Sym) (q : ℕ) (a : List Sym) (has : P r (front ++ (Rule q ∷ a))) where
-  -- the rule derives its production's symbols, with what the rest of them derives
+  -- the rule derives its production's symbols, with the rest of them replaced by what it derives
   derives_rest : (b : List Sym) → Derives P a b → Derives P (Rule r ∷ []) (front ++ (Rule q ∷ b))
   derives_rest b d = derives_trans P (derives_production P r _ has) (derives_left P front (derives_left P (Rule q ∷ []) d))
 
   follow_from_rest : (t : ℕ) → Begins (Empty P) (First P) a t → Follow P q t
   follow_from_rest t h = let d = begins_derives P a t h in record { root = r; before = front; after = d.0; derived = derives_rest (Token t ∷ d.0) d.1 }
 
-  -- where the rest vanishes, a list with r in it derives the same list with the production's front and q in its place
+  -- if the rest is nullable, a list that contains r derives the same list with r replaced by the production's prefix and q
   derives_last : (before rest : List Sym) → Vanishes (Empty P) a → Derives P (before ++ (Rule r ∷ rest)) ((before ++ front) ++ (Rule q ∷ rest))
   derives_last before rest h =
       subst (λ l. Derives P (before ++ (Rule r ∷ rest)) l) (sym (append_assoc before front (Rule q ∷ rest)))

@@ -5,7 +5,7 @@ use Rattle.std.proofs.lemmas.List.Elements.{All-weaker}
 use Rattle.derivation.specs.Grammar.{Sym, Rule, Token, Grammar, Production, IsGrammar, IsSymbolOf}
 use Rattle.derivation.specs.CostLists.{IsListed}
 
--- the production at a place
+-- the production with this number
 abbrev nth : Grammar → ℕ → Production
 nth g p = slice_index_or g.productions p (record { rule = 0; symbols = [] })
 

@@ -1,5 +1,5 @@
--- Words to whose costs the costs of a table stand: what a row of symbols costs is the cost of a word of theirs, if so it is
--- of each rule in it.
+-- Words whose costs are related to the costs of a table: what a list of symbols costs is the cost of a word they yield, if this is so of
+-- each rule among them.
 use Rattle.std.proofs.Common.{◌≡◌, ℕ, ◌+◌, min, List, [], ◌∷◌, ◌++◌, Option, Some, All, arith, refl, sym, ap, subst, ◌∙◌}
 use Rattle.std.proofs.lemmas.Option.{same_Some}
 use Rattle.std.proofs.lemmas.List.Sums.{sum_by-append}
@@ -15,14 +15,14 @@ pub cost_of-token : (cost : ℕ → ℕ) (t : ℕ) (w : List ℕ) → cost_of co
 cost_of-token cost t w = sum_by-append cost (t ∷ []) w ∙ ap (λ n. n + cost_of cost w) (omega arith)
 
 module _ (cost : ℕ → ℕ) (costs : Sym → Option ℕ) where
-  -- a relation of costs in the table and costs of words that goes over to sums
+  -- a relation between costs in the table and costs of words that sums preserve
   pub record GoesOver (R : ℕ → ℕ → Type 0) : Type 0 where
     pub none : R 0 0
     pub both : (a b m n : ℕ) → R a m → R b n → R (a + b) (m + n)
     pub token : (t c : ℕ) → costs (Token t) ≡ Some c → R c (cost t)
 
 module _ (P : ℕ → List Sym → Type 0) (cost : ℕ → ℕ) (costs : Sym → Option ℕ) where
-  -- a word that the symbols yield, to whose cost this one stands
+  -- a word that the symbols yield, whose cost is related to this one
   pub record Made (R : ℕ → ℕ → Type 0) (a : List Sym) (c : ℕ) : Type 0 where
     pub word : List ℕ
     pub tree : Yields P a word
@@ -45,7 +45,7 @@ module _ (P : ℕ → List Sym → Type 0) (cost : ℕ → ℕ) (costs : Sym →
       stands = subst (R c) (sym (cost_of-token cost t [] ∙ omega arith)) (over.token t c e);
     }
 
-    -- what a row of symbols costs is the cost of a word of theirs, if so it is of each rule in it
+    -- what a list of symbols costs is the cost of a word they yield, if this is so of each rule among them
     pub made_row : (Q : Sym → Type 0) → ((r c : ℕ) → Q (Rule r) → costs (Rule r) ≡ Some c → Made R (Rule r ∷ []) c)
         → (a : List Sym) (c : ℕ) → All Q a → sum_of costs a ≡ Some c → Made R a c
     made_row Q made [] c all e =
@@ -60,7 +60,7 @@ module _ (P : ℕ → List Sym → Type 0) (cost : ℕ → ℕ) (costs : Sym →
         made_both (Rule r ∷ []) a p.first p.second c p.whole (made r p.first (All-head Q (Rule r) a all) p.first_is)
         (made_row Q made a p.second (All-tail Q (Rule r) a all) p.second_is)
 
--- costs in the table that are those of words, both cut down to the limit
+-- costs in the table that are costs of words, both cut down to the limit
 pub cut_over : (cost : ℕ → ℕ) (least : ℕ → Option ℕ) (limit : ℕ) → GoesOver cost (symbol_cost cost least) (λ c n. min c limit ≡ min n limit)
 cut_over cost least limit = record {
   none = refl;

@@ -4,7 +4,7 @@ use Rattle.derivation.specs.Grammar.{Sym, Rule}
 use Rattle.derivation.specs.Derivation.{Derives, none, next}
 use Rattle.derivation.specs.Concatenation.{DerivedInParts}
 
--- a symbol in a concatenation stands in the first part, or in the second
+-- a symbol in a concatenation is in the first part, or in the second
 record Earlier (a b x : List Sym) (s : Sym) (y : List Sym) : Type 0 where
   middle : List Sym
   front : a ≡ x ++ (s ∷ middle)

@@ -1,4 +1,4 @@
--- Paths: a rule has one to each rule that it derives in a list by one or more steps, and to no others.
+-- Paths: a rule has one to each rule that is in a list it derives in one or more steps, and to no others.
 use Rattle.std.proofs.Common.{◌≡◌, ℕ, List, [], ◌∷◌, ◌++◌, Contains, ◌⊎◌, inl, inr, append_assoc, append-nil, refl, sym, ap, subst, ◌∙◌, arith}
 use Rattle.std.proofs.lemmas.List.Elements.{Contains-append_left, Contains-append_right, Contains-append_cases, Contains-push, Contains-push_cases}
 use Rattle.derivation.specs.Grammar.{Sym, Rule}
@@ -6,7 +6,7 @@ use Rattle.derivation.specs.Derivation.{Step, Derives, none, next}
 use Rattle.derivation.specs.Path.{Holds, Path, one, more, LeadsTo}
 use Rattle.derivation.proofs.Concatenation.{step_production, derives_left, derives_right}
 
--- what stands around a symbol of a list
+-- what is around a symbol of a list
 pub record Around (xs : List Sym) (s : Sym) : Type 0 where
   pub before : List Sym
   pub after : List Sym
@@ -76,7 +76,7 @@ module _ (P : ℕ → List Sym → Type 0) where
   path_on {a = a} h (inl e) = one (subst (λ n. Holds P a n) e h)
   path_on h (inr p) = more h p
 
-  -- what a list reaches after a step it reached before it
+  -- what a list reaches after a step, it reached before
   reaches_before : {l k : List Sym} (b : ℕ) → Step P l k → Reaches k b → Reaches l b
   reaches_before {l = l} b s h =
       let back : Contains (s.before ++ (Rule s.rule ∷ s.after)) (Rule h.rule) → Reaches l b =
@@ -99,7 +99,7 @@ module _ (P : ℕ → List Sym → Type 0) where
   reaches_derived b none h = h
   reaches_derived b (next s d) h = reaches_before b s (reaches_derived b d h)
 
-  -- a step from a rule alone gives the symbols of one of its productions
+  -- a step from a single rule gives the symbols of one of its productions
   production_of_step : {a : ℕ} {m : List Sym} → Step P (Rule a ∷ []) m → P a m
   production_of_step {a = a} {m = m} s =
       let e = alone (Rule a) (Rule s.rule) s.before s.after s.source in

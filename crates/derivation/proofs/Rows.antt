@@ -1,4 +1,4 @@
--- Rows of the code, seen through what shows their elements.
+-- Lists of the code, seen through a function that shows their elements.
 use Rattle.std.proofs.Common.{◌≡◌, ℕ, suc, slice_set, ◌+◌, ◌<◌, ◌≤◌, List, ◌∷◌, length, map, take, drop, get_or, All, sym, ap, subst, ◌∙◌, add-one, drop-cons}
 use Rattle.std.proofs.lemmas.List.{get_or-map, map-set, length-map, take_all}
 use Rattle.std.proofs.lemmas.List.Elements.{All-more, All-get_or}
@@ -23,7 +23,7 @@ module _ {A B : Type 0} (f : A → B) (xs : List A) where
   pub shown_all : (P : B → Type 0) (i : ℕ) → length xs ≤ i → All P (take i (map f xs)) → All P (map f xs)
   shown_all P i past all = subst (All P) (take_all i (map f xs) (subst (λ n. n ≤ i) (sym (length-map xs f)) past)) all
 
--- an element, and a write, seen through what shows the elements
+-- an element, and a write, seen through the function that shows the elements
 pub item_shown : {A B : Type 0} (f : A → B) (xs : List A) (ys : List B) (i : ℕ) (x : A) (d : B) → map f xs ≡ ys → i < length ys → x ≡ get_or xs i x
     → get_or ys i d ≡ f x
 item_shown f xs ys i x d shown within is = ap (λ l. get_or l i d) (sym shown)

@@ -3,7 +3,7 @@ use Rattle.std.proofs.Common.{◌≡◌, ℕ, ◌+◌, List, [], ◌∷◌, ◌+
 use Rattle.derivation.specs.Grammar.{Sym}
 use Rattle.derivation.specs.Sums.{plus, sum_of}
 
--- a sum that is there has its two parts
+-- a sum that exists has two parts that do
 pub record PlusParts (a b : Option ℕ) (n : ℕ) : Type 0 where
   pub first : ℕ
   pub second : ℕ
@@ -40,7 +40,7 @@ pub sum_of-same : (f g : Sym → Option ℕ) → ((s : Sym) → f s ≡ g s) →
 sum_of-same f g same [] = refl
 sum_of-same f g same (s ∷ a) = ap (λ o. plus o (sum_of f a)) (same s) ∙ ap (plus (g s)) (sum_of-same f g same a)
 
--- a symbol alone costs what it costs
+-- a single symbol costs what it costs in a list of its own
 pub plus_zero : (a : Option ℕ) → plus a (Some 0) ≡ a
 plus_zero None = refl
 plus_zero (Some n) = ap Some (omega arith)

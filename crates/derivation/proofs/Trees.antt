@@ -1,4 +1,4 @@
--- A list of symbols derives the tokens that its trees yield, and no others.
+-- A list of symbols derives the tokens that its parse trees yield, and no others.
 use Rattle.std.proofs.Common.{◌≡◌, ℕ, List, [], ◌∷◌, ◌++◌, map, append_assoc, refl, sym, ap, subst, ◌∙◌}
 use Rattle.std.proofs.lemmas.List.{map-append}
 use Rattle.derivation.specs.Grammar.{Sym, Rule, Token}
@@ -7,7 +7,7 @@ use Rattle.derivation.specs.Tree.{Yields, empty, token, opened}
 use Rattle.derivation.proofs.Concatenation.{derives_trans, derives_left, derives_right, derives_both, derives_production}
 
 module _ (P : ℕ → List Sym → Type 0) where
-  -- trees in a row, and the tokens of each part
+  -- a sequence of trees split in two, and the tokens of each part
   pub record Parts (a b : List Sym) (w : List ℕ) : Type 0 where
     pub front : List ℕ
     pub back : List ℕ

@@ -1,4 +1,4 @@
--- Lists of costs: of tokens, and of rules, where one may have none.
+-- Lists of costs: of tokens, and of rules, some of which may have none.
 use Rattle.std.specs.Prelude.{ℕ, ◌<◌, List, Option, None, slice_index, slice_index_or}
 use Rattle.derivation.specs.Grammar.{Sym, Rule, Token}
 use Rattle.derivation.specs.Sums.{sum_of, symbol_cost}
@@ -7,11 +7,11 @@ use Rattle.derivation.specs.Sums.{sum_of, symbol_cost}
 abbrev pub rule_cost : List (Option ℕ) → ℕ → Option ℕ
 rule_cost least r = slice_index_or least r None
 
--- what a row of symbols costs together, by the costs of tokens and the list
+-- what a list of symbols costs in total, by the costs of tokens and the list
 abbrev pub sum_by_lists : List ℕ → List (Option ℕ) → List Sym → Option ℕ
 sum_by_lists costs least symbols = sum_of (symbol_cost (slice_index costs) (rule_cost least)) symbols
 
--- a symbol that the lists have an entry for
+-- a symbol that has an entry in the lists
 abbrev pub IsListed : ℕ → ℕ → Sym → Type 0
 IsListed rules tokens (Rule r) = r < rules
 IsListed rules tokens (Token t) = t < tokens

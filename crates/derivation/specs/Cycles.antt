@@ -1,10 +1,10 @@
--- Cycles by which a rule's sentences grow.
+-- Cycles that make a rule's sentences grow.
 use Rattle.std.specs.Prelude.{ℕ, ◌<◌, List, [], ◌∷◌, ◌++◌, map}
 use Rattle.derivation.specs.Grammar.{Sym, Rule, Token}
 use Rattle.derivation.specs.Derivation.{Step, Derives}
 use Rattle.derivation.specs.Sentence.{cost_of}
 
--- by one or more steps x derives itself between u and v, which together derive tokens that cost something
+-- in one or more steps x derives u x v, where u and v together derive tokens that cost something
 pub record GrowingCycle (P : ℕ → List Sym → Type 0) (cost : ℕ → ℕ) (x : ℕ) : Type 0 where
   pub middle : List Sym
   pub u : List Sym
@@ -15,7 +15,7 @@ pub record GrowingCycle (P : ℕ → List Sym → Type 0) (cost : ℕ → ℕ) (
   pub gives : Derives P (u ++ v) (map Token word)
   pub grows : 0 < cost_of cost word
 
--- r derives a list with x in it, which derives tokens alone
+-- r derives a list that contains x, and that list derives a list of tokens
 pub record Meets (P : ℕ → List Sym → Type 0) (r x : ℕ) : Type 0 where
   pub before : List Sym
   pub after : List Sym

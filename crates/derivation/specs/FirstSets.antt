@@ -1,26 +1,26 @@
--- The equations of FIRST: the rules by which Aho, Lam, Sethi and Ullman, Compilers, section 4.4, compute it. E says
--- which rules are empty, F which tokens a rule begins with. The sets that are closed under them and so hold all that
--- derivations show are, in the laws of src/lib.rt, tables of truth values.
+-- The equations of FIRST: the rules by which Aho, Lam, Sethi and Ullman, Compilers, section 4.4, compute it. E says which rules are
+-- nullable, and F which tokens a rule begins with. Sets that are closed under the equations contain whatever derivations show; in the laws
+-- of src/lib.rt, such sets are tables of truth values.
 use Rattle.std.specs.Prelude.{◌≡◌, ℕ, List, [], ◌∷◌, ◌⊎◌}
 use Rattle.derivation.specs.Grammar.{Sym, Rule, Token}
 
--- every symbol is an empty rule
+-- every symbol is a nullable rule
 abbrev pub Vanishes : (ℕ → Type 0) → List Sym → Type 0
 Vanishes E [] = Unit {0}
 Vanishes E (Rule r ∷ a) = E r × Vanishes E a
 Vanishes E (Token u ∷ a) = ⊥
 
--- past empty rules the list begins with the token, or with a rule that begins with it
+-- after zero or more nullable rules comes the token, or a rule that begins with it
 abbrev pub Begins : (ℕ → Type 0) → (ℕ → ℕ → Type 0) → List Sym → ℕ → Type 0
 Begins E F [] t = ⊥
 Begins E F (Rule r ∷ a) t = F r t ⊎ (E r × Begins E F a t)
 Begins E F (Token u ∷ a) t = u ≡ t
 
--- a rule has what this list of symbols gives it
+-- the rule is nullable if these symbols all are, and begins with whatever tokens they begin with
 pub record Covers (E : ℕ → Type 0) (F : ℕ → ℕ → Type 0) (rule : ℕ) (symbols : List Sym) : Type 0 where
   pub empty : Vanishes E symbols → E rule
   pub first : (t : ℕ) → Begins E F symbols t → F rule t
 
--- each rule has what its productions give it
+-- this is so for each rule and the symbols of each of its productions
 abbrev pub IsClosed : (ℕ → List Sym → Type 0) → (ℕ → Type 0) → (ℕ → ℕ → Type 0) → Type 0
 IsClosed P E F = (r : ℕ) (symbols : List Sym) → P r symbols → Covers E F r symbols

@@ -1,11 +1,10 @@
--- What stands right after a rule: FOLLOW of Aho, Lam, Sethi and Ullman, Compilers, section 4.4. There derivations
--- begin with the start rule; here they may begin with any rule, also with one that the start rule never leads to. Only
--- the end token asks for the start rule.
+-- What comes right after a rule: FOLLOW of Aho, Lam, Sethi and Ullman, Compilers, section 4.4. In the book, derivations begin with the
+-- start rule; here they may begin with any rule, even one that the start rule doesn't reach. Only the end token requires the start rule.
 use Rattle.std.specs.Prelude.{◌≡◌, ℕ, ◌+◌, List, [], ◌∷◌, ◌++◌, ◌⊎◌}
 use Rattle.derivation.specs.Grammar.{Sym, Grammar, Rule, Token, HasProduction}
 use Rattle.derivation.specs.Derivation.{Derives}
 
--- some rule derives a list in which the token stands right after the rule
+-- some rule derives a list in which the token comes right after the rule
 pub record Follow (P : ℕ → List Sym → Type 0) (r t : ℕ) : Type 0 where
   pub root : ℕ
   pub before : List Sym
@@ -17,6 +16,6 @@ pub record FollowEnd (P : ℕ → List Sym → Type 0) (r : ℕ) : Type 0 where
   pub before : List Sym
   pub derived : Derives P (Rule 0 ∷ []) (before ++ (Rule r ∷ []))
 
--- the token follows the rule, or is the end token and the rule may come last
+-- the token follows the rule, or it is the end token and the rule may come last
 abbrev pub MayFollow : Grammar → ℕ → ℕ → Type 0
 MayFollow g r t = Follow (HasProduction g) r t ⊎ ((t + 1 ≡ g.tokens) × FollowEnd (HasProduction g) r)

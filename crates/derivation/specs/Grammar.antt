@@ -1,4 +1,4 @@
--- A grammar in numbers.
+-- A grammar whose rules and tokens are numbers.
 use Rattle.std.specs.Prelude.{ℕ, ◌+◌, ◌<◌, List, All, Contains}
 
 -- a symbol of a production
@@ -10,13 +10,13 @@ pub record Production : Type 0 where
   pub rule : ℕ
   pub symbols : List Sym
 
--- its rules and tokens are the numbers below these; rule 0 is the start rule, and the last token is the end token
+-- rules and tokens are the numbers less than these two; rule 0 is the start rule, and the last token is the end token
 pub record Grammar : Type 0 where
   pub rules : ℕ
   pub tokens : ℕ
   pub productions : List Production
 
--- what a production may hold: a rule, or a token that is not the end token
+-- what a production may contain: a rule, or a token other than the end token
 abbrev pub IsSymbolOf : Grammar → Sym → Type 0
 IsSymbolOf g (Rule r) = r < g.rules
 IsSymbolOf g (Token t) = t + 1 < g.tokens

@@ -3,18 +3,18 @@ use Rattle.std.specs.Prelude.{ℕ, List, [], ◌∷◌, ◌++◌, Contains}
 use Rattle.derivation.specs.Grammar.{Sym, Rule}
 use Rattle.derivation.specs.Derivation.{Step, Derives}
 
--- a production of one rule holds the other
+-- a production of one rule contains the other
 pub record Holds (P : ℕ → List Sym → Type 0) (a b : ℕ) : Type 0 where
   pub symbols : List Sym
   pub has : P a symbols
   pub holds : Contains symbols (Rule b)
 
--- a row of two or more rules, each of which holds the next
+-- a sequence of two or more rules, each of which has a production that contains the next
 pub data Path (P : ℕ → List Sym → Type 0) : ℕ → ℕ → Type 0 where
   one : {a b : ℕ} → Holds P a b → Path P a b
   more : {a b c : ℕ} → Holds P a b → Path P b c → Path P a c
 
--- by one or more steps the rule derives a list with the other in it
+-- in one or more steps the rule derives a list that contains the other
 pub record LeadsTo (P : ℕ → List Sym → Type 0) (a b : ℕ) : Type 0 where
   pub middle : List Sym
   pub before : List Sym

@@ -3,11 +3,11 @@ use Rattle.std.specs.Prelude.{◌≡◌, ℕ, List, [], ◌∷◌, map, sum_by}
 use Rattle.derivation.specs.Grammar.{Sym, Rule, Token}
 use Rattle.derivation.specs.Derivation.{Derives}
 
--- the rule derives the list of tokens alone
+-- the rule derives this list of tokens
 abbrev pub Sentence : (ℕ → List Sym → Type 0) → ℕ → List ℕ → Type 0
 Sentence P r w = Derives P (Rule r ∷ []) (map Token w)
 
--- a list costs what its tokens cost together
+-- the sum of what the tokens of a list cost
 abbrev pub cost_of : (ℕ → ℕ) → List ℕ → ℕ
 cost_of cost w = sum_by cost w
 

@@ -1,14 +1,14 @@
--- What a row of symbols costs together, where some rules may have no cost.
+-- What a list of symbols costs in total, where some rules may have no cost.
 use Rattle.std.specs.Prelude.{ℕ, ◌+◌, List, [], ◌∷◌, Option, Some, None}
 use Rattle.derivation.specs.Grammar.{Sym, Rule, Token}
 
--- the sum, where both are there
+-- the sum, if both have a cost
 abbrev pub plus : Option ℕ → Option ℕ → Option ℕ
 plus None n = None
 plus (Some m) None = None
 plus (Some m) (Some n) = Some (m + n)
 
--- what the symbols cost together, where each has a cost
+-- what the symbols cost in total, if each has a cost
 abbrev pub sum_of : (Sym → Option ℕ) → List Sym → Option ℕ
 sum_of costs [] = Some 0
 sum_of costs (s ∷ a) = plus (costs s) (sum_of costs a)

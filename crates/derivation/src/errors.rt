@@ -1,4 +1,4 @@
-//! Why a rule has no cost that can be answered.
+//! Why a rule has no cost to return.
 
 ghost use Rattle.std.specs.Prelude.{◌≡◌, ◌↔◌, IsTrue, Some};
 ghost use Rattle.derivation.specs.declared.errors.CostError.{CostError};
@@ -7,7 +7,7 @@ ghost use Rattle.derivation.specs.CostErrorTexts.{cost_error_text};
 use std::error::Error;
 use std::fmt;
 
-/// Why a rule has no cost that can be answered.
+/// Why a rule has no cost to return.
 #[derive(Clone, Copy, Debug, PartialEq, Eq)]
 pub enum CostError {
     /// The rule has no sentence.
@@ -31,7 +31,7 @@ impl fmt::Display for CostError {
 
 impl Error for CostError {}
 
-/// Why there is no cost is equal to itself alone. A clone is its source, and takes no memory.
+/// A cost error equals only itself. A clone equals its source, and allocates nothing.
 pub fn cost_errors_are_told_apart()
     ensures equal { (a b : CostError) → IsTrue (⟦<CostError as PartialEq>⟧.eq a b) ↔ (a ≡ b) }
     ensures clone { (a b : CostError) → ⟦<CostError as Clone>⟧.is_clone a b → b ≡ a }

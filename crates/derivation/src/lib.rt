@@ -1,7 +1,7 @@
-//! What a grammar derives, and what that costs: the words of the textbook, the laws by which an analysis finds what
-//! derivations show, and sums of costs where some rules have none.
+//! What a grammar derives, and what that costs: the definitions of the textbook, the laws by which an analysis finds
+//! what derivations show, and sums of costs where some rules have none.
 //!
-//! The definitions stand in `specs`; the laws are the contracts of functions that do nothing.
+//! The definitions are in `specs`; the laws are the contracts of functions that do nothing.
 #![tactic(auto)]
 
 pub mod errors;
@@ -32,7 +32,7 @@ pub fn concatenations_derive_in_parts()
         → Derives (HasProduction g) (a ++ b) (c ++ d) }
 {}
 
-/// What a list of symbols derives, it derives between other symbols too.
+/// What a list of symbols derives, it also derives between other symbols.
 pub fn derivations_hold_inside()
     ensures { (g : Grammar) (before a b after : List Sym) → Derives (HasProduction g) a b
         → Derives (HasProduction g) (before ++ (a ++ after)) (before ++ (b ++ after)) }
@@ -44,7 +44,7 @@ pub fn trees_are_derivations()
         → Derives (HasProduction g) a (map Token w) ↔ Yields (HasProduction g) a w }
 {}
 
-/// Sets that are closed under the productions hold all that derivations show.
+/// FIRST sets that are closed under the productions contain whatever derivations show.
 pub fn closed_sets_hold_first()
     ensures empty { (g : Grammar) (empty : ℕ → Bool) (first : ℕ → ℕ → Bool)
         → IsClosed (HasProduction g) (λ r. IsTrue (empty r)) (λ r t. IsTrue (first r t))
@@ -54,12 +54,13 @@ pub fn closed_sets_hold_first()
         → (r t : ℕ) → First (HasProduction g) r t → IsTrue (first r t) }
 {}
 
-/// What derivations show is closed under the productions, so it is the least of the closed sets.
+/// The FIRST sets that derivations show are closed under the productions, so they are the least closed ones.
 pub fn first_is_closed()
     ensures { (g : Grammar) → IsClosed (HasProduction g) (Empty (HasProduction g)) (First (HasProduction g)) }
 {}
 
-/// What a list of symbols derives first, symbol by symbol: past nullable rules, what the next symbol begins with.
+/// A list of symbols derives the empty list, or a list that begins with a token, exactly if the equations of FIRST say
+/// so.
 pub fn lists_begin_symbol_by_symbol()
     ensures nullable { (g : Grammar) (a : List Sym)
         → Vanishes (Empty (HasProduction g)) a ↔ Derives (HasProduction g) a [] }
@@ -68,7 +69,7 @@ pub fn lists_begin_symbol_by_symbol()
         ↔ ((rest : List Sym) × Derives (HasProduction g) a (Token t ∷ rest)) }
 {}
 
-/// Sets that are closed under the productions say of a list what they say of any list that it derives.
+/// What closed FIRST sets say of a derived list, they also say of the list that derives it.
 pub fn closed_sets_hold_before_derivations()
     ensures empty { (g : Grammar) (empty : ℕ → Bool) (first : ℕ → ℕ → Bool)
         → IsClosed (HasProduction g) (λ r. IsTrue (empty r)) (λ r t. IsTrue (first r t))
@@ -81,7 +82,7 @@ pub fn closed_sets_hold_before_derivations()
         → Begins (λ r. IsTrue (empty r)) (λ r t. IsTrue (first r t)) a t }
 {}
 
-/// Sets that are closed under the productions hold all that follows a rule, where the end token follows the start rule.
+/// FOLLOW sets that are closed under the productions, with the end token for the start rule, contain whatever follows.
 pub fn closed_sets_hold_follow()
     ensures { (g : Grammar) (empty : ℕ → Bool) (first follow : ℕ → ℕ → Bool)
         → IsClosed (HasProduction g) (λ r. IsTrue (empty r)) (λ r t. IsTrue (first r t))
@@ -91,15 +92,14 @@ pub fn closed_sets_hold_follow()
         → (r t : ℕ) → MayFollow g r t → IsTrue (follow r t) }
 {}
 
-/// What derivations show of the tokens that follow is closed under the productions, and the end token follows the
-/// start rule.
+/// The FOLLOW sets that derivations show are closed under the productions, and the end token follows the start rule.
 pub fn follow_is_closed()
     ensures closed { (g : Grammar)
         → IsFollowClosed (HasProduction g) (Empty (HasProduction g)) (First (HasProduction g)) (MayFollow g) }
     ensures end { (g : Grammar) (t : ℕ) → t + 1 ≡ g.tokens → MayFollow g 0 t }
 {}
 
-/// A rule has one least cost at most, and its sentences of that cost are those that no other costs less than.
+/// A rule has at most one least cost, and its sentences of that cost are its minimal sentences.
 pub fn minimal_sentences_cost_the_least()
     ensures least { (g : Grammar) (cost : ℕ → ℕ) (r : ℕ) (w : List ℕ) → Minimal (HasProduction g) cost r w
         → Least (HasProduction g) cost r (cost_of cost w) }
@@ -109,7 +109,7 @@ pub fn minimal_sentences_cost_the_least()
         → Least (HasProduction g) cost r d → c ≡ d }
 {}
 
-/// A rule with a greatest cost has no other, no least cost above it, and no sentences that cost more and more.
+/// A rule with a greatest cost has no other and no least cost above it, and its costs aren't unbounded.
 pub fn a_greatest_cost_bounds()
     ensures bounded { (g : Grammar) (cost : ℕ → ℕ) (r c : ℕ) → Greatest (HasProduction g) cost r c
         → Unbounded (HasProduction g) cost r → ⊥ }
@@ -119,19 +119,19 @@ pub fn a_greatest_cost_bounds()
         → Greatest (HasProduction g) cost r d → c ≤ d }
 {}
 
-/// A rule has a path to another exactly if by one or more steps it derives a list with the other in it.
+/// A rule has a path to another exactly if it derives, in one or more steps, a list that contains the other.
 pub fn paths_are_derivations()
     ensures { (g : Grammar) (a b : ℕ) → Path (HasProduction g) a b ↔ LeadsTo (HasProduction g) a b }
 {}
 
-/// A rule that meets a growing cycle has sentences that cost more than any number.
+/// A rule that meets a growing cycle has sentences that cost more than any given number.
 pub fn growing_cycles_unbound()
     ensures { (g : Grammar) (cost : ℕ → ℕ) (r x : ℕ) → Meets (HasProduction g) r x
         → GrowingCycle (HasProduction g) cost x → Unbounded (HasProduction g) cost r }
 {}
 
-/// What a sentence costs that no other costs less than is the least cost, and what one costs that no other costs more
-/// than is the greatest.
+/// If no sentence of a rule costs less than this one, its cost is the rule's least cost; if none costs more, the
+/// greatest.
 pub fn extreme_sentences_cost_the_extremes()
     ensures least { (g : Grammar) (cost : ℕ → ℕ) (r : ℕ) (w : List ℕ) → Sentence (HasProduction g) r w
         → ((v : List ℕ) → Sentence (HasProduction g) r v → cost_of cost w ≤ cost_of cost v)
@@ -141,8 +141,8 @@ pub fn extreme_sentences_cost_the_extremes()
         → Greatest (HasProduction g) cost r (cost_of cost w) }
 {}
 
-/// A rule meets each rule that stands in a list on the way to one of its sentences. One that leads to itself, beside
-/// symbols that derive tokens which cost something, has a growing cycle.
+/// A rule meets each rule that is in a list on the way to one of its sentences. A rule that leads to itself has a
+/// growing cycle if the symbols beside it derive tokens that cost something.
 pub fn derivations_show_cycles()
     ensures meets { (g : Grammar) (r x : ℕ) (l : List Sym) (w : List ℕ)
         → Derives (HasProduction g) (Rule r ∷ []) l

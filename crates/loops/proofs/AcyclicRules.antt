@@ -1,4 +1,4 @@
--- Rules from which each row of steps ends: they have no loop, and how a search in depth finds them.
+-- Rules from which every path of steps ends: they have no cycle, and how a depth-first search finds them.
 use Rattle.std.proofs.Common.{◌≡◌, ℕ, ◌+◌, ◌<◌, ◌≤◌, ◌⊎◌, inl, inr, Bool, true, false, List, [], ◌∷◌, ◌++◌, Contains, IsTrue, get_or, length, replicate, slice_set, true≢false, arith, sym, ap, ◌∙◌, subst, length-set}
 use Rattle.std.proofs.lemmas.Bool.{cases_lt}
 use Rattle.std.proofs.lemmas.List.{get_or_append_left, get_or_default, get_or_push, length-replicate, length_push}
@@ -11,7 +11,7 @@ use Rattle.loops.specs.Rows.{IsLoop}
 use Rattle.loops.specs.Inner.Acyclic.{AreVisits, Ends, IsKnown, IsVisit, ends}
 use Rattle.loops.proofs.Layers.{leads_then}
 
--- A loop can be turned so that it begins at its second rule. So a rule that ends has none.
+-- A cycle can be rotated to begin at its second rule. So a rule that ends has none.
 pub ends_without_loop : (Has : ℕ → Step → Type 0) {rule : ℕ} → Ends Has rule → (row : List Step) → IsLoop Has rule row → ⊥
 ends_without_loop Has (ends h) [] l = omega (arith, l.some)
 ends_without_loop Has {rule = rule} (ends h) (step ∷ row) l = ends_without_loop Has (h step l.leads.0) (row ++ step ∷ []) (record {
@@ -19,7 +19,7 @@ ends_without_loop Has {rule = rule} (ends h) (step ∷ row) l = ends_without_loo
   leads = leads_then Has rule step.rule row rule step l.leads.1 l.leads.0;
 })
 
--- what holds of each entry below, and of one more
+-- what is true of each entry below, and of one more
 pub one_more_rule : {A : Type 0} (Is : ℕ → A → Type 0) (table now : List A) (none entry : A) (rule : ℕ) → now ≡ table ++ entry ∷ [] → length table ≡ rule
     → ((k : ℕ) → k < rule → Is k (get_or table k none)) → Is rule entry → (k : ℕ) → k < rule + 1 → Is k (get_or now k none)
 one_more_rule Is table now none entry rule is long below here k less = subst (λ l. Is k (get_or l k none)) (sym is) (elim (cases_lt k rule) [
@@ -72,7 +72,7 @@ module _ (steps : List (List Step)) where
       nothing rule h = true≢false (sym h ∙ get_or-replicate_default (length steps) rule false)
 
   module _ (known met : List Bool) (visits : List Visit) (are : AreVisits steps known met visits) where
-    -- the last visit, and those that are left
+    -- the last visit, and the other pending ones
     pub last_visit : (rest : List Visit) (visit : Visit) → visits ≡ rest ++ visit ∷ [] → IsVisit steps known visit
     last_visit rest visit is = are.all visit (subst (λ l. Contains l visit) (sym is) (Contains-push rest visit))
 
@@ -84,11 +84,11 @@ module _ (steps : List (List Step)) where
       all = λ other h. are.all other (subst (λ l. Contains l other) (sym is) (Contains-append_left rest (visit ∷ []) other h));
     }
 
-    -- steps lead to rules of which it is known whether they end
+    -- steps lead to rules for which it is recorded whether they end
     pub row_within : AreWithin steps → (rule : ℕ) (row : List Step) → row ≡ get_or steps rule [] → (step : Step) → Contains row step → step.rule < length known
     row_within within rule row is step h = subst (λ n. step.rule < n) (sym are.shape) (within rule step (subst (λ l. Contains l step) is h))
 
-    -- a visit that has come further
+    -- a visit that has advanced
     pub come_further : (visit : Visit) → IsVisit steps known visit → (row : List Step) → row ≡ get_or steps visit.rule [] → (place : ℕ)
         → ((k : ℕ) (step : Step) → visit.place ≤ k → k < place → k < length row → get_or row k step ≡ step → IsKnown known step.rule)
         → IsVisit steps known (record { rule = visit.rule; place = place })
@@ -122,7 +122,7 @@ module _ (steps : List (List Step)) where
           | inr put ↦ put.1
         ]
 
-    -- visits that were put behind those that are left
+    -- visits that were pushed onto the pending ones
     pub visits_put : (visit : Visit) → IsVisit steps known visit → (next : ℕ) → next < length steps → (met' : List Bool) → length met' ≡ length met
         → (now : List Visit)
         → ((other : Visit) → Contains now other → Contains visits other ⊎ ((other ≡ visit) ⊎ ((other.rule ≡ next) × (other.place ≡ 0))))

@@ -1,5 +1,4 @@
--- A rule has a path along rules that are held alone to each rule that it derives alone by one or more steps, and to no
--- others.
+-- A rule has a path of unit steps to each rule that it derives, with nothing beside it, in one or more steps, and to no others.
 use Rattle.std.proofs.Common.{◌≡◌, ℕ, List, [], ◌∷◌, ◌++◌, ◌⊎◌, inl, inr, append_assoc, append-nil, refl, sym, subst, ◌∙◌}
 use Rattle.derivation.specs.Grammar.{Sym, Rule, Token}
 use Rattle.derivation.specs.Derivation.{Step, Derives, none, next}
@@ -22,14 +21,14 @@ alone x y (z ∷ []) after e = absurd (cc)
 alone x y (z ∷ w ∷ before) after e = absurd (cc)
 
 module _ (P : ℕ → List Sym → Type 0) where
-  -- where a concatenation derives the empty list, both parts do
+  -- if a concatenation derives the empty list, both parts do
   pub empty_in_parts : (a b : List Sym) → Derives P (a ++ b) [] → Derives P a [] × Derives P b []
   empty_in_parts a b d = let p = in_parts P a b refl d in (
     subst (λ l. Derives P a l) (no_front p.front p.back p.whole) p.first,
     subst (λ l. Derives P b l) (no_back p.front p.back p.whole) p.second,
   )
 
-  -- what stands beside a rule vanishes
+  -- what is beside a rule derives the empty list
   left_alone : (before : List Sym) (b : ℕ) (after : List Sym) → Derives P before [] → Derives P after []
       → Derives P (before ++ (Rule b ∷ after)) (Rule b ∷ [])
   left_alone before b after front back =
@@ -47,7 +46,7 @@ module _ (P : ℕ → List Sym → Type 0) where
     around = derives_trans P (left_alone h.before b h.after h.front h.back) (next l.first l.around);
   }
 
-  -- all of the list vanishes but a rule that is b, or has a path to b
+  -- all of the list derives the empty list except a rule that is b, or has a path to b
   abbrev IsLeft : List Sym → ℕ → Type 0
   IsLeft [] b = ⊥
   IsLeft (Rule r ∷ a) b = (((r ≡ b) ⊎ AlonePath P r b) × Derives P a []) ⊎ (Derives P (Rule r ∷ []) [] × IsLeft a b)
@@ -88,7 +87,7 @@ module _ (P : ℕ → List Sym → Type 0) where
   path_on {a = a} h (inl e) = one (subst (λ n. HoldsAlone P a n) e h)
   path_on h (inr p) = more h p
 
-  -- a rule of which a production has these symbols behind others that vanish
+  -- a production of a rule has these symbols after nullable ones
   path_by : (a b : ℕ) (front symbols : List Sym) → P a (front ++ symbols) → Derives P front [] → IsLeft symbols b → AlonePath P a b
   path_by a b front [] has d h = elim h [ ]
   path_by a b front (Token t ∷ symbols) has d h = elim h [ ]
@@ -115,7 +114,7 @@ module _ (P : ℕ → List Sym → Type 0) where
   left_derived b none h = h
   left_derived b (next s d) h = left_step b s (left_derived b d h)
 
-  -- a step from a rule alone gives the symbols of one of its productions
+  -- a step from a single rule gives the symbols of one of its productions
   production_of_step : {a : ℕ} {m : List Sym} → Step P (Rule a ∷ []) m → P a m
   production_of_step {a = a} {m = m} s =
       let e = alone (Rule a) (Rule s.rule) s.before s.after s.source in

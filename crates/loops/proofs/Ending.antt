@@ -1,4 +1,4 @@
--- A search for a loop, layer by layer: it begins, it ends, and what it has found is a shortest loop.
+-- A search for a cycle, layer by layer: how it begins and ends, and that it finds a shortest cycle.
 use Rattle.std.proofs.Common.{◌≡◌, ℕ, zero, suc, ◌+◌, ◌<◌, ◌≤◌, ◌⊎◌, inl, inr, List, [], ◌∷◌, ◌++◌, Option, Some, None, true, false, cond, is_none, is_some, Contains, length, get_or, replicate, reverse, arith, refl, sym, ap, ◌∙◌, subst, true≢false, Result, IfOk, MatchOption, Vec, Global, ◌==◌}
 use Rattle.std.proofs.lemmas.Bool.{cases_lt, eqb-true}
 use Rattle.std.proofs.lemmas.List.{get_or_default, get_or_past, length-replicate, length-reverse, length_push, reverse-append}
@@ -14,7 +14,7 @@ use Rattle.loops.specs.Rows.{IsLoop, IsShortestLoop, Leads}
 use Rattle.loops.specs.Inner.Layers.{AreLayers, Finds, HaveLayers, InLayer, IsFound, IsRowTo, RowTo, noted, left}
 use Rattle.loops.proofs.Layers.{before, in_some_layer, leads_on, next_layer}
 
--- what is left to do: rules to find, and a layer to look at
+-- what is left to do: rules to find, and a layer to process
 abbrev some : List ℕ → ℕ
 some [] = 0
 some (rule ∷ layer) = 1
@@ -34,7 +34,7 @@ within_noted table rule f e = elim (cases_lt rule (length table)) [
   | inr past ↦ let same : None ≡ Some f = sym (get_or_past table rule None past) ∙ e in absurd (cc)
 ]
 
--- a rule that isn't found is one of those left
+-- a rule that hasn't been found is one of those left
 left_one : (table : List (Option Found)) (rule : ℕ) → rule < length table → noted table rule ≡ None → 0 < left table
 left_one table rule within none =
     let found : Found = record { from = 0; step = record { rule = 0; production = 0; place = 0 }; length = 0 } in
@@ -111,7 +111,7 @@ module _ (steps : List (List Step)) (first : ℕ) where
         same (inl h) more = omega (arith, h.0, more)
         same (inr h) more = let short = are.long from h.1.found h.1.is in omega (arith, more, short, h.1.long)
 
-    -- at a layer with no rule each rule to which a row leads is found
+    -- once a layer is empty, each rule that a path leads to has been found
     pub all_found : AreLayers (HasStep steps) first count table [] → (m rule : ℕ) → RowTo (HasStep steps) first rule (suc m)
         → (found : Found) × (noted table rule ≡ Some found)
     all_found are zero rule r = let b = before (HasStep steps) first rule zero r in
@@ -142,7 +142,7 @@ module _ (steps : List (List Step)) (first : ℕ) where
           | inr ge ↦ let long = are.long first is.found is.is in omega (arith, ge, long, is.long)
         ]
 
--- a loop that is read off, from its last step on
+-- a cycle that is read off, from its last step to its first
 pub record ReadOff (steps : List (List Step)) (table : List (Option Found)) (rule : ℕ) (last found : Found) (row : List Step) : Type 0 where
   pub at : ℕ
   pub is : noted table at ≡ Some found
@@ -159,7 +159,7 @@ module _ (steps : List (List Step)) (table : List (Option Found)) (rule : ℕ) (
   }
 
   module _ (found : Found) (row : List Step) (r : ReadOff steps table rule last found row) where
-    -- what a step that isn't the first one stands behind
+    -- what comes before a step that isn't the first one
     pub found_before : 1 < found.length → (m : ℕ) × (found.length ≡ suc m) × IsFound table found.from m
     found_before more = let b = h.are.behind r.at found r.is in (b.0, b.1, later b.2)
       where
@@ -182,7 +182,7 @@ module _ (steps : List (List Step)) (table : List (Option Found)) (rule : ℕ) (
     pub before_within : 1 < found.length → found.from < length table
     before_within more = let f = (found_before more).2 in within_noted table found.from f.found f.is
 
-    -- what the code sees there
+    -- what the code reads for it
     pub before_seen : 1 < found.length → (o : Option Found) → o ≡ get_or table found.from o → noted table found.from ≡ o
     before_seen more o is = get_or_default table found.from None o (before_within more) ∙ sym is
 
@@ -230,7 +230,7 @@ module _ (steps : List (List Step)) (rule : ℕ) (within : rule < length steps) 
     | inr is ↦ subst (λ n. a < n) s.shape (within_noted table a is.1.found is.1.is)
   ])
 
-  -- while the rule isn't found there is one rule to find
+  -- while the rule hasn't been found, there is at least one rule to find
   pub count_fits : 0 < length layer → noted table rule ≡ None → count + 1 ≤ length table
   count_fits more none =
       let room = s.room more in
@@ -251,7 +251,7 @@ module _ (steps : List (List Step)) (rule : ℕ) (within : rule < length steps) 
   pub loop_shortest : (row : List Step) → IsRowTo (HasStep now) rule table rule row → IsShortestLoop (HasStep steps) rule row
   loop_shortest row is = is_shortest steps rule count table layer s.are row (subst (λ l. IsRowTo (HasStep l) rule table rule row) s.same is)
 
-  -- how the search ends: at a layer with no rule, or where the rule is found
+  -- how the search ends: at an empty layer, or when the rule is found
   pub ends : {E : Type 0} (result : Result (Option (Vec Step Global)) E) → (layer ≡ []) ⊎ (is_some (noted table rule) ≡ true)
       → IfOk result (λ found. MatchOption found (noted table rule ≡ None) (λ row. IsRowTo (HasStep now) rule table rule row.items))
       → IfOk result (λ found. MatchOption found ((row : List Step) → IsLoop (HasStep steps) rule row → ⊥) (λ row. IsShortestLoop (HasStep steps) rule row.items))

@@ -1,4 +1,4 @@
--- What steps find: nothing, one rule, and what other steps find then.
+-- What steps find: nothing, one rule, and what other steps find after that.
 use Rattle.std.proofs.Common.{◌≡◌, ℕ, ◌+◌, ◌<◌, ◌⊎◌, inl, inr, List, [], ◌∷◌, ◌++◌, Option, Some, None, true, false, cond, is_none, is_some, Contains, length, slice_set, take, get_or, arith, refl, sym, ap, ◌∙◌, subst, length-set, get_or-set_same, get_or-set_other}
 use Rattle.std.proofs.lemmas.Bool.{cases_eq}
 use Rattle.std.proofs.lemmas.List.{length_push, take_more}

@@ -1,4 +1,4 @@
--- Rules that are found in layers are found by shortest rows of steps.
+-- Rules that are found in layers are found by shortest paths of steps.
 use Rattle.std.proofs.Common.{◌≡◌, ℕ, zero, suc, ◌≤◌, inl, inr, List, [], ◌∷◌, ◌++◌, Option, Some, Contains, length, arith, refl, sym, ap, ◌∙◌, subst}
 use Rattle.std.proofs.lemmas.Bool.{cases_lt}
 use Rattle.lemmas.proofs.Contained.{contains_none}
@@ -8,12 +8,12 @@ use Rattle.loops.specs.Rows.{Leads}
 use Rattle.loops.specs.Inner.Layers.{AreLayers, Finds, InLayer, RowTo, noted}
 
 module _ (Has : ℕ → Step → Type 0) (first : ℕ) where
-  -- a row and a step behind it
+  -- a path followed by a step
   pub leads_then : (a : ℕ) (row : List Step) (b : ℕ) (step : Step) → Leads Has a row b → Has b step → Leads Has a (row ++ (step ∷ [])) step.rule
   leads_then a [] b step e h = (subst (λ n. Has n step) (sym e) h, refl)
   leads_then a (next ∷ row) b step l h = (l.0, leads_then next.rule row b step l.1 h)
 
-  -- a row of one or more steps has a last one
+  -- a path of one or more steps has a last one
   record LastOf (a : ℕ) (row : List Step) (b : ℕ) : Type 0 where
     front : List Step
     step : Step
@@ -40,7 +40,7 @@ module _ (Has : ℕ → Step → Type 0) (first : ℕ) where
       longer [] = refl
       longer (x ∷ l) = ap suc (longer l)
 
-  -- a row of one step more than the one to the rule before
+  -- a path of one more step than the one to the rule before
   pub record Before (rule n : ℕ) : Type 0 where
     pub from : ℕ
     pub step : Step
@@ -59,7 +59,7 @@ module _ (Has : ℕ → Step → Type 0) (first : ℕ) where
           record { from = w.from; step = w.step; row = record { row = w.front; leads = w.leads; long = long }; has = w.has; to = w.to }
 
   module _ (n : ℕ) (table : List (Option Found)) (layer : List ℕ) (are : AreLayers Has first n table layer) where
-    -- by as many steps as its layer says a row leads to each rule
+    -- a path of as many steps as its layer says leads to each rule
     pub row_to_layer : (m rule : ℕ) → InLayer Has first table m rule → RowTo Has first rule m
     row_to_layer zero rule (inl h) = record { row = []; leads = sym h.1; long = refl }
     row_to_layer zero rule (inr h) = absurd (omega (arith, h.0))
@@ -72,12 +72,12 @@ module _ (Has : ℕ → Step → Type 0) (first : ℕ) where
         let has = are.has rule f h.1.is in
         subst (λ k. RowTo Has first k (suc m)) has.1 (step_then f.from m f.step r has.0)
 
-    -- a rule that is found by fewer steps than the last layer leads to rules that are found
+    -- a rule that is found by fewer steps than the last layer leads to rules that have been found
     pub leads_on : (m from : ℕ) → suc m ≤ n → InLayer Has first table m from → (step : Step) → Has from step
         → (found : Found) × (noted table step.rule ≡ Some found) × (found.length ≤ suc m)
     leads_on m from le h step has = are.all m step.rule le (step_then from m step (row_to_layer m from h) has)
 
-    -- where a row leads, there is a layer at most as far away that has the rule
+    -- if a path leads to a rule, a layer that is at most as far away has the rule
     pub in_some_layer : (m rule : ℕ) → m ≤ n → RowTo Has first rule m → (k : ℕ) × (k ≤ m) × InLayer Has first table k rule
     in_some_layer zero rule le r = (0, omega arith, inl (refl, start r.row r.leads r.long))
       where
@@ -95,7 +95,7 @@ module _ (Has : ℕ → Step → Type 0) (first : ℕ) where
       layer_kept m rule (inl h) = inl h
       layer_kept m rule (inr h) = inr (h.0, record { found = h.1.found; is = finds.kept rule h.1.found h.1.is; long = h.1.long })
 
-      -- one layer more
+      -- one more layer
       pub next_layer : AreLayers Has first (suc n) new after
       next_layer = record {
         has = λ rule f e. elim (finds.fresh rule f e) [ inl old ↦ are.has rule f old | inr h ↦ (h.0.1, h.1) ];

@@ -1,4 +1,4 @@
--- Rows of steps are paths along rules that are held alone, and loops are derivations of a rule from itself.
+-- Paths of unit steps are derivations of a single rule, and cycles are derivations of a rule from itself.
 use Rattle.std.proofs.Common.{◌≡◌, ℕ, ◌+◌, ◌<◌, List, [], ◌∷◌, ◌++◌, Some, Contains, slice_get, length, take, drop, arith, refl, sym, ap, ◌∙◌, subst, append_assoc}
 use Rattle.std.proofs.Math.Seq.{take-append_seam}
 use Rattle.std.proofs.lemmas.List.{drop_more, get_or_default, length_push, take-append-drop}
@@ -14,7 +14,7 @@ use Rattle.loops.specs.Rows.{IsLoop, Leads}
 use Rattle.loops.specs.UnitSteps.{IsStep}
 use Rattle.loops.proofs.Alone.{alone_along, path_to_alone}
 
--- what stands around a place
+-- what is around an index
 around_place : (xs : List Sym) (k : ℕ) (x : Sym) → slice_get xs k ≡ Some x → xs ≡ take k xs ++ (x ∷ drop (k + 1) xs)
 around_place xs k x at =
     sym (take-append-drop k xs) ∙ ap (λ l. take k xs ++ l) (drop_more xs k x (slice_get_within xs k x at)
@@ -70,7 +70,7 @@ module _ (g : Grammar) where
   path_of_row a step [] b h = one (subst (λ n. HoldsAlone (HasProduction g) a n) h.1 (step_alone a step h.0))
   path_of_row a step (next ∷ row) b h = more (step_alone a step h.0) (path_of_row step.rule next row b h.1)
 
-  -- a row of one or more steps
+  -- a path of one or more steps
   record RowTo (a b : ℕ) : Type 0 where
     row : List Step
     some : 0 < length row

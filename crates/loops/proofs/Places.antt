@@ -1,4 +1,4 @@
--- The steps by one production, place by place.
+-- The steps by one production, index by index.
 use Rattle.std.proofs.Common.{◌≡◌, ℕ, ◌+◌, ◌<◌, ◌≤◌, ◌⊎◌, ◌↔◌, inl, inr, List, [], Some, Bool, true, Contains, replicate, slice_get, take, drop, length, get_or, arith, refl, sym, ap, ◌∙◌, subst}
 use Rattle.std.proofs.lemmas.Bool.{cases_lt}
 use Rattle.std.proofs.lemmas.List.{length-replicate}
@@ -16,12 +16,12 @@ use Rattle.loops.specs.Inner.Putting.{AreEmpty, ArePut}
 use Rattle.loops.proofs.Putting.{put_as, put_none, put_then}
 use Rattle.loops.proofs.Vanishing.{back_empty, front_empty}
 
--- the steps by a production, at its first places
+-- the steps by a production, at its first indices
 abbrev pub IsBefore : Grammar → ℕ → ℕ → ℕ → Step → Type 0
 IsBefore g p i a step = IsStep g a step × (step.production ≡ p) × (step.place < i)
 
 module _ (g : Grammar) (p : ℕ) where
-  -- the step is by this production, at this place
+  -- the step is by this production, at this index
   pub record IsAt (i a q : ℕ) : Type 0 where
     pub owner : (nth_production g p).rule ≡ a
     pub holds : slice_get (nth_production g p).symbols i ≡ Some (Rule q)
@@ -45,7 +45,7 @@ module _ (g : Grammar) (x : FirstSets) (are : AreFirsts g x) (p : ℕ) (there : 
 
   module _ (i : ℕ) (within : i < length symbols) (front : Bool) (behind : ℕ) (at : (front ≡ true) ↔ AreEmpty x symbols 0 i)
       (from : (place : ℕ) → (behind ≤ place) ↔ AreEmpty x symbols place (length symbols)) where
-    -- whether all around the place is empty
+    -- whether all symbols around the index are nullable
     around : (a q : ℕ) → IsAt g p i a q → (front ≡ true) × (behind ≤ i + 1)
     around a q h = (
       at.1 ((front_empty g x are symbols i (omega (arith, within))).0 h.front),
@@ -94,7 +94,7 @@ module _ (g : Grammar) (x : FirstSets) (are : AreFirsts g x) (p : ℕ) (there : 
         ])
         w
 
-  -- the same of the symbols and the rule that the code has
+  -- the same for the symbols and the rule that the code has
   module _ (shown : List Sym) (same : shown ≡ symbols) (rule : ℕ) (owner : rule ≡ (nth_production g p).rule) (i : ℕ) (within : i < length shown)
       (front : Bool) (behind : ℕ) (at : (front ≡ true) ↔ AreEmpty x shown 0 i)
       (from : (place : ℕ) → (behind ≤ place) ↔ AreEmpty x shown place (length shown)) where
@@ -118,7 +118,7 @@ module _ (g : Grammar) (x : FirstSets) (are : AreFirsts g x) (p : ℕ) (there : 
     pub shown_left : ((front ≡ true) × (behind ≤ i + 1) → ⊥) → (old mid : List (List Step)) → ArePut (IsBefore g p i) old mid → ArePut (IsBefore g p (i + 1)) old mid
     shown_left not old mid w = place_left i within_symbols front behind at_symbols from_symbols not old mid w
 
-  -- and behind the last place
+  -- and after the last index
   pub all_places : (i : ℕ) → length symbols ≤ i → (old new : List (List Step)) → ArePut (IsBefore g p i) old new
       → ArePut (λ a step. IsStep g a step × (step.production ≡ p)) old new
   all_places i end old new w = put_as _ _ old new (λ a step h. (h.0, h.1))

@@ -1,4 +1,4 @@
--- A step is put behind those of a rule.
+-- A step is added to those of a rule.
 use Rattle.std.proofs.Common.{◌≡◌, ℕ, ◌<◌, List, [], ◌∷◌, ◌++◌, map, get_or, length, slice_set, Vec, Global, Result, Ok, Err, OnErr, sym, ap, subst, ◌∙◌}
 use Rattle.std.proofs.lemmas.List.{get_or-map, length-map, map-set, set-get_or}
 use Rattle.loops.specs.declared.rows.Step.{Step}

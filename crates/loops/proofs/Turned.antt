@@ -1,4 +1,4 @@
--- Steps that are turned round, one by one; a loop by steps is one by these.
+-- Steps that are reversed, one by one; a cycle of steps is a cycle of reversed steps.
 use Rattle.std.proofs.Common.{◌≡◌, ℕ, ◌+◌, ◌<◌, ◌≤◌, inl, inr, List, [], ◌∷◌, ◌++◌, Contains, get_or, length, replicate, take, arith, refl, sym, ap, ◌∙◌, subst}
 use Rattle.std.proofs.lemmas.Bool.{cases_lt}
 use Rattle.std.proofs.lemmas.List.{get_or_past, length-replicate, length_push, take_more}
@@ -91,7 +91,7 @@ module _ (steps : List (List Step)) where
     pub reversed_within : length steps ≤ i → AreWithin back
     reversed_within end rule step h = subst (λ n. step.rule < n) (sym same_length) (has_list step.rule (turned rule step) ((all_reversed end rule step).0 h))
 
--- a row of steps, turned round
+-- a reversed path of steps
 module _ (steps back : List (List Step)) (are : AreReversed steps back) where
   record RowBack (a b : ℕ) (row : List Step) : Type 0 where
     back_row : List Step

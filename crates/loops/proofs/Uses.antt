@@ -1,4 +1,4 @@
--- A production is used by a sentence of its rule exactly where each rule in it has a sentence.
+-- A production is used by a sentence of its rule exactly if each rule in it is productive.
 use Rattle.std.proofs.Common.{ℕ, List, [], ◌∷◌, ◌++◌, Contains, map, append-nil, sym, subst}
 use Rattle.std.proofs.lemmas.List.Elements.{Contains-append_left, Contains-append_right, Contains-push}
 use Rattle.derivation.specs.Grammar.{Sym, Rule, Token}
@@ -10,7 +10,7 @@ use Rattle.derivation.proofs.Trees.{trees_split, trees_join, trees_from_derivati
 use Rattle.loops.specs.Uses.{IsUsable}
 
 module _ (P : ℕ → List Sym → Type 0) where
-  -- the rules of a row of trees have sentences
+  -- the rules of a sequence of trees are productive
   sentence_inside : (a : List Sym) (w : List ℕ) (r : ℕ) → Yields P a w → Contains a (Rule r) → (v : List ℕ) × Sentence P r v
   sentence_inside a w r t h =
       let k = around a (Rule r) h in
@@ -18,7 +18,7 @@ module _ (P : ℕ → List Sym → Type 0) where
       let q = trees_split P (Rule r ∷ []) k.after p.back p.second in
       (q.front, derivation_from_trees P q.first)
 
-  -- where each rule of a list has a sentence, the list derives tokens
+  -- if each rule of a list is productive, the list derives tokens
   trees_of : (a : List Sym) → ((r : ℕ) → Contains a (Rule r) → (v : List ℕ) × Sentence P r v) → (w : List ℕ) × Yields P a w
   trees_of [] h = ([], empty)
   trees_of (Token t ∷ a) h =

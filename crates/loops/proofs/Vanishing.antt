@@ -41,14 +41,14 @@ module _ (g : Grammar) (x : FirstSets) (are : AreFirsts g x) where
   from_each (Token t ∷ a) h = absurd (true≢false (sym (h 0 (omega arith))))
   from_each (Rule r ∷ a) h = (h 0 (omega arith), from_each a (λ k lt. h (suc k) (omega (arith, lt))))
 
-  -- a list derives the empty one exactly if each of its symbols is empty
+  -- a list derives the empty one exactly if each of its symbols is nullable
   pub derives_nothing : (a : List Sym) → Derives (HasProduction g) a [] ↔ AreEmpty x a 0 (length a)
   derives_nothing a = (
     (λ d k le lt. at_each a (vanishes_map _ _ (λ r h. (are.empty r).1 h) a (derives_vanishes (HasProduction g) a d)) k lt),
     (λ h. vanishes_derives (HasProduction g) a (vanishes_map _ _ (λ r h. (are.empty r).0 h) a (from_each a (λ k lt. h k (omega arith) lt)))),
   )
 
-  -- so it is with what stands before a place
+  -- the same for what is before an index
   pub front_empty : (a : List Sym) (i : ℕ) → i ≤ length a → Derives (HasProduction g) (take i a) [] ↔ AreEmpty x a 0 i
   front_empty a i le = (
     (λ d k from lt. subst (λ s. IsTrue (is_empty x s)) (get_or-take i a k (Token 0) lt)
@@ -57,7 +57,7 @@ module _ (g : Grammar) (x : FirstSets) (are : AreFirsts g x) where
         subst (λ s. IsTrue (is_empty x s)) (sym (get_or-take i a k (Token 0) within)) (h k from within))),
   )
 
-  -- and with what stands from a place on
+  -- and for what is from an index on
   pub back_empty : (a : List Sym) (i : ℕ) → Derives (HasProduction g) (drop i a) [] ↔ AreEmpty x a i (length a)
   back_empty a i = (
     (λ d k from lt. let long = length-drop i a in

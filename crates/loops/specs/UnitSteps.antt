@@ -1,4 +1,4 @@
--- The steps of a grammar from rule to rule, by productions in which a rule stands alone.
+-- The unit steps of a grammar: from rule to rule, by productions in which all other symbols are nullable.
 use Rattle.std.specs.Prelude.{◌≡◌, ℕ, ◌+◌, ◌<◌, ◌↔◌, List, [], Some, drop, length, slice_get, take}
 use Rattle.derivation.specs.Grammar.{Rule, Grammar, HasProduction}
 use Rattle.derivation.specs.Derivation.{Derives}
@@ -6,8 +6,8 @@ use Rattle.cfgtables.specs.Openings.{nth_production}
 use Rattle.loops.specs.StepLists.{AreWithin, HasStep}
 use Rattle.loops.specs.declared.rows.Step.{Step}
 
--- The step's production is one of the rule's, and has the step's rule at its place. What stands before and behind that
--- derives the empty list.
+-- The step's production is a production of the rule, and has the step's rule at its index. The symbols before and after that derive the
+-- empty list.
 pub record IsStep (g : Grammar) (rule : ℕ) (step : Step) : Type 0 where
   pub there : step.production < length g.productions
   pub owner : (nth_production g step.production).rule ≡ rule
@@ -15,7 +15,7 @@ pub record IsStep (g : Grammar) (rule : ℕ) (step : Step) : Type 0 where
   pub front : Derives (HasProduction g) (take step.place (nth_production g step.production).symbols) []
   pub back : Derives (HasProduction g) (drop (step.place + 1) (nth_production g step.production).symbols) []
 
--- a list for each rule of the grammar, which has just the steps of the rule
+-- a list for each rule of the grammar, which has exactly the steps of the rule
 pub record AreSteps (g : Grammar) (steps : List (List Step)) : Type 0 where
   pub rules : length steps ≡ g.rules
   pub within : AreWithin steps

@@ -3,7 +3,7 @@ use Rattle.std.specs.Prelude.{ℕ, List, [], ◌∷◌, ◌++◌, map}
 use Rattle.derivation.specs.Grammar.{Sym, Rule, Token}
 use Rattle.derivation.specs.Derivation.{Derives}
 
--- a derivation of the sentence from the rule replaces the rule somewhere by the symbols of this production of it
+-- a derivation of the sentence from the rule somewhere replaces the rule by the symbols of this production
 pub record Uses (P : ℕ → List Sym → Type 0) (r : ℕ) (symbols : List Sym) (w : List ℕ) : Type 0 where
   pub before : List Sym
   pub after : List Sym

@@ -1,4 +1,4 @@
-//! Rules from which each row of steps ends, so that they have no loop.
+//! Rules from which every path of steps ends, so that they have no cycle.
 
 ghost use Rattle.std.specs.Prelude.{◌≡◌, ℕ, ◌<◌, ◌≤◌, ◌⊎◌, Contains, false, get_or, length, replicate, IfOk, OnOk};
 ghost use Rattle.loops.specs.StepLists.{AreWithin, HasStep};
@@ -8,12 +8,12 @@ use crate::rows::Step;
 use crate::steps::Steps;
 use std::alloc::{AllocError, Global};
 
-/// For each rule whether it is known that each row of steps from it ends. The search in depth finds it of all rules but
-/// those from which a row of steps comes to a loop, and looks at each step two or three times.
+/// For each rule, whether it is known that every path of steps from it ends. A depth-first search finds this for all
+/// rules except those from which a path leads to a cycle, and looks at each step two or three times.
 ///
 /// # Errors
 ///
-/// Want of memory.
+/// Out of memory.
 pub(crate) fn acyclic_rules(alloc: Global, steps: &Steps) -> Result<Vec<bool>, AllocError>
     requires { AreWithin steps.now }
     ensures shape { IfOk result (λ known. length known.items ≡ length steps.now) }
@@ -27,7 +27,7 @@ pub(crate) fn acyclic_rules(alloc: Global, steps: &Steps) -> Result<Vec<bool>, A
     Ok(search.ends)
 }
 
-/// A rule to be looked at. Its steps before this place lead to rules that are known to end.
+/// A rule to visit. Its steps before `place` lead to rules that are known to end.
 #[derive(Clone, Copy)]
 pub(crate) struct Visit {
     rule: usize,
@@ -45,17 +45,17 @@ fn all_rules(alloc: Global, rules: usize) -> Result<Vec<Visit>, AllocError>
     Ok(visits)
 }
 
-/// What a search in depth knows of rules.
+/// What a depth-first search knows of rules.
 #[derive(Drop)]
 struct Search {
-    /// The rule is known to end.
+    /// Whether the rule is known to end.
     ends: Vec<bool>,
-    /// A step led to the rule.
+    /// Whether a step led to the rule.
     met: Vec<bool>,
 }
 
 impl Search {
-    /// Nothing is known of so many rules.
+    /// Nothing is known of this many rules.
     fn new(alloc: Global, rules: usize) -> Result<Self, AllocError>
         ensures ends { IfOk result (λ x. x.ends.items ≡ replicate rules false) }
         ensures met { IfOk result (λ x. x.met.items ≡ replicate rules false) }
@@ -65,8 +65,8 @@ impl Search {
         Ok(Search { ends, met })
     }
 
-    /// Goes along the rule's steps as far as they lead to rules that are known to end. If all do, so does the rule.
-    /// Else the next one leads to a rule that is visited first, unless it was met before.
+    /// Follows the rule's steps as long as they lead to rules that are known to end. If all do, so does the rule.
+    /// Otherwise the next step leads to a rule that is visited first, unless it was met before.
     fn visit(
         &mut self,
         steps: &Steps,
@@ -89,8 +89,8 @@ impl Search {
         self.visit_first(step.rule, Visit { place, ..visit }, visits)
     }
 
-    /// Puts the visit behind the others, and behind it one to the next rule, which so is looked at first; or neither,
-    /// if that rule was met before.
+    /// Pushes the visit, and then one to the next rule, which is therefore visited first. Pushes neither if that rule
+    /// was met before.
     fn visit_first(
         &mut self,
         next: usize,
@@ -116,7 +116,8 @@ impl Search {
         Ok(())
     }
 
-    /// The first place from this one on whose step leads to a rule that isn't known to end, or past the last.
+    /// The first index, from this one on, of a step to a rule that isn't known to end, or the number of steps if there
+    /// is none.
     fn first_open(&self, row: &[Step], place: usize) -> usize
         requires { (step : _) → Contains row.now step → step.rule < length self.now.ends.items }
         ensures { (k : ℕ) (step : _) → place ≤ k → k < result → k < length row.now → get_or row.now k step ≡ step

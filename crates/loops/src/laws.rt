@@ -1,5 +1,5 @@
-//! What loops, and paths of rules that are held alone, say of derivations, which productions can be used, and what
-//! `clone` of steps copies. That is derived, so the law names the impl, as in `⟦<Step as Clone>⟧`.
+//! What cycles, and paths of unit steps, say of derivations; which productions can be used; and what `clone` of steps
+//! copies. That is derived, so the law names the impl, as in `⟦<Step as Clone>⟧`.
 
 ghost use Rattle.std.specs.Prelude.{◌≡◌, ◌↔◌, ℕ, List, Contains};
 ghost use Rattle.derivation.specs.Grammar.{Grammar, HasProduction, Sym, Rule};
@@ -12,26 +12,25 @@ ghost use Rattle.loops.specs.declared.rows.Step.{Step};
 
 use crate::rows::Step;
 
-/// A rule has a path to another along rules that are held alone exactly if by one or more steps it derives that rule
-/// alone.
+/// A rule has a path of unit steps to another exactly if, in one or more steps, it derives the list of only that rule.
 pub fn alone_paths_are_derivations()
     ensures { (g : Grammar) (a b : ℕ) → AlonePath (HasProduction g) a b ↔ DerivesAlone (HasProduction g) a b }
 {}
 
-/// A rule has a loop exactly if it derives itself.
+/// A rule has a cycle of unit steps exactly if it is cyclic.
 pub fn loops_are_derivations()
     ensures { (g : Grammar) (r : ℕ)
         → DerivesItself (HasProduction g) r ↔ ((row : List Step) × IsLoop (IsStep g) r row) }
 {}
 
-/// Some sentence of a rule uses a production of it exactly if each rule in that has a sentence.
+/// Some sentence of a rule uses a production of the rule exactly if each rule in the production is productive.
 pub fn usable_productions_hold_sentences()
     ensures { (g : Grammar) (r : ℕ) (symbols : List Sym) → HasProduction g r symbols
         → IsUsable (HasProduction g) r symbols ↔ ((q : ℕ) → Contains symbols (Rule q)
         → (v : List ℕ) × Sentence (HasProduction g) q v) }
 {}
 
-/// A clone of a step is its source, and takes no memory.
+/// A clone of a step equals its source, and allocates nothing.
 pub fn steps_are_copied()
     ensures clone { (a b : Step) → ⟦<Step as Clone>⟧.is_clone a b → b ≡ a }
     ensures cloned { (a : Step) → ⟦<Step as Clone>⟧.is_infallible a }

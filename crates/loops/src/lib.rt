@@ -1,4 +1,4 @@
-//! Rules that derive themselves alone, and the rows of steps by which they do.
+//! Cyclic rules, and the paths of unit steps that show it.
 #![tactic(auto)]
 
 mod acyclic;

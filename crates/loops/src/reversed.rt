@@ -1,4 +1,4 @@
-//! Steps that are turned round, and rules to which no row of steps comes from a loop.
+//! Reversed steps, and rules that no path of steps leads to from a cycle.
 
 ghost use Rattle.std.specs.Prelude.{◌≡◌, ◌<◌, ℕ, List, Contains, length, IfOk, OnOk};
 ghost use Rattle.loops.specs.StepLists.{AreWithin, HasStep};
@@ -13,12 +13,12 @@ use crate::rows::Step;
 use crate::steps::Steps;
 use std::alloc::{AllocError, Global};
 
-/// For each rule whether it is known to have no loop, since each row of steps to it begins somewhere. This finds it of
-/// all rules but those to which a row of steps comes from a loop, and takes the time of a few looks at each step.
+/// For each rule, whether it is known to have no cycle, since every path of steps to it begins somewhere. This finds
+/// all rules except those that a path leads to from a cycle, in the time of a few looks at each step.
 ///
 /// # Errors
 ///
-/// Want of memory.
+/// Out of memory.
 pub(crate) fn rules_behind_no_loop(alloc: Global, steps: &Steps) -> Result<Vec<bool>, AllocError>
     requires { AreWithin steps.now }
     ensures shape { IfOk result (λ known. length known.items ≡ length steps.now) }
@@ -29,11 +29,11 @@ pub(crate) fn rules_behind_no_loop(alloc: Global, steps: &Steps) -> Result<Vec<b
     acyclic_rules(alloc, &back)
 }
 
-/// The same steps turned round: each is one of the rule to which it led, and leads to the rule whose step it was.
+/// The same steps reversed: each is a step of the rule that it led to, and leads to the rule whose step it was.
 ///
 /// # Errors
 ///
-/// Want of memory.
+/// Out of memory.
 pub(crate) fn reversed(alloc: Global, steps: &Steps) -> Result<Steps, AllocError>
     requires { AreWithin steps.now }
     ensures shape { IfOk result (λ back. length back ≡ length steps.now) }
@@ -47,7 +47,7 @@ pub(crate) fn reversed(alloc: Global, steps: &Steps) -> Result<Steps, AllocError
     Ok(back)
 }
 
-/// Puts each of the rule's steps, turned round, behind those of the rule to which it leads.
+/// Adds each of the rule's steps, reversed, to the steps of the rule that it leads to.
 fn put_reversed(back: &mut Steps, rule: usize, row: &[Step]) -> Result<(), AllocError>
     requires { (step : Step) → Contains row.now step → step.rule < length back.old }
     ensures { OnOk result (ArePut (λ a step. (step.rule ≡ rule) × Contains row.now (turned a step)) back.old back.new) }

@@ -1,4 +1,4 @@
-//! Shortest loops, by layers of rules.
+//! Shortest cycles, by layers of rules.
 
 ghost use Rattle.std.specs.Prelude.{◌≡◌, ℕ, ◌<◌, List, [], None, Some, Contains, get_or, is_some, length};
 ghost use Rattle.std.specs.Prelude.{replicate, IfOk, MatchOption, OnOk};
@@ -12,12 +12,12 @@ use crate::rows::Step;
 use crate::steps::Steps;
 use std::alloc::{AllocError, Global};
 
-/// A shortest row of steps from the rule to itself, or that there is none. Rules are found in layers, each by the
-/// steps of the one before (Moore).
+/// A shortest path of steps from the rule to itself, or `None` if there is no such path. Rules are found in layers,
+/// each by the steps of the one before (Moore).
 ///
 /// # Errors
 ///
-/// Want of memory.
+/// Out of memory.
 pub fn shortest_loop(
     alloc: Global,
     steps: &Steps,
@@ -37,13 +37,13 @@ pub fn shortest_loop(
     layers.loop_of(alloc, rule)
 }
 
-/// For each rule a shortest row of steps from it to itself, or that there is none. Rules from which no row of steps
-/// comes to a loop, and those to which none comes from a loop, take together the time of a few looks at each step; each
-/// other rule takes a search of its own.
+/// For each rule, a shortest path of steps from it to itself, or `None` if there is no such path. Rules from which no
+/// path leads to a cycle, and those that none leads to from a cycle, in total take the time of a few looks at each
+/// step; each other rule takes a search of its own.
 ///
 /// # Errors
 ///
-/// Want of memory.
+/// Out of memory.
 pub fn shortest_loops(alloc: Global, steps: &Steps) -> Result<Vec<Option<Vec<Step>>>, AllocError>
     requires { AreWithin steps.now }
     ensures rules { IfOk result (λ found. length found.items ≡ length steps.now) }
@@ -64,7 +64,7 @@ pub fn shortest_loops(alloc: Global, steps: &Steps) -> Result<Vec<Option<Vec<Ste
     Ok(loops)
 }
 
-/// How a rule was found: a step of this rule leads to it, and ends a row of so many steps.
+/// How a rule was found: a step of this rule leads to it, and ends a path of this many steps.
 #[derive(Clone, Copy)]
 pub(crate) struct Found {
     from: usize,
@@ -80,7 +80,7 @@ struct Layers<'a> {
 }
 
 impl<'a> Layers<'a> {
-    /// No rule is found.
+    /// No rule has been found.
     fn new(alloc: Global, steps: &'a Steps) -> Result<Self, AllocError>
         ensures steps { IfOk result (λ x. x.steps.now ≡ steps.now) }
         ensures found { IfOk result (λ x. x.found.items ≡ replicate (length steps.now) None) }
@@ -91,7 +91,7 @@ impl<'a> Layers<'a> {
         })
     }
 
-    /// Whether the rule is found.
+    /// Whether the rule has been found.
     fn is_found(&self, rule: usize) -> bool
         requires { rule < length self.now.found.items }
         ensures { result ≡ is_some (noted self.now.found.items rule) }
@@ -99,7 +99,7 @@ impl<'a> Layers<'a> {
         self.found[rule].is_some()
     }
 
-    /// Finds the rules to which steps of the layer lead, by rows of so many steps, and answers those that weren't found
+    /// Finds the rules that steps of the layer lead to, by paths of this many steps. Returns those that weren't found
     /// before.
     fn next(
         &mut self,
@@ -121,7 +121,7 @@ impl<'a> Layers<'a> {
         Ok(next)
     }
 
-    /// Notes each rule to which a step of this one leads and that isn't found yet.
+    /// Records each rule that a step of this rule leads to and that hasn't been found yet.
     fn note_steps(
         &mut self,
         from: usize,
@@ -142,7 +142,7 @@ impl<'a> Layers<'a> {
         Ok(())
     }
 
-    /// Notes the rule to which the step leads, if it isn't found yet.
+    /// Records the rule that the step leads to, if it hasn't been found yet.
     fn note(
         &mut self,
         from: usize,
@@ -166,7 +166,7 @@ impl<'a> Layers<'a> {
         Ok(())
     }
 
-    /// The row of steps by which the rule was found from itself, if it was.
+    /// The path of steps by which the rule was found from itself, if it was.
     fn loop_of(&self, alloc: Global, rule: usize) -> Result<Option<Vec<Step>>, AllocError>
         requires rule { rule < length self.now.found.items }
         requires layers { HaveLayers (HasStep self.now.steps.now) rule self.now.found.items }

@@ -1,4 +1,4 @@
-//! The steps of a grammar.
+//! The unit steps of a grammar.
 
 ghost use Rattle.std.specs.Prelude.{◌≡◌, ◌<◌, ◌≤◌, ◌↔◌, ℕ, length, map, IfOk, OnOk};
 ghost use Rattle.derivation.specs.Grammar.{Rule};
@@ -14,12 +14,12 @@ use cfgindex::{PIdx, Storage, Symbol, to_storage};
 use cfgtables::Tables;
 use std::alloc::{AllocError, Global};
 
-/// The steps of a grammar from rule to rule, by productions in which a rule stands beside symbols that derive the empty
-/// list. `firsts` has the grammar's FIRST sets.
+/// The unit steps of a grammar: from rule to rule, by productions in which all other symbols are nullable. `firsts` has
+/// the grammar's FIRST sets.
 ///
 /// # Errors
 ///
-/// Want of memory.
+/// Out of memory.
 pub fn alone_steps<S: Storage, T: Tables<S>>(
     alloc: Global,
     tables: &T,
@@ -36,7 +36,7 @@ pub fn alone_steps<S: Storage, T: Tables<S>>(
     Ok(steps)
 }
 
-/// Puts the steps by this production behind those of its rule.
+/// Adds the steps by this production to those of its rule.
 fn put_steps<S: Storage, T: Tables<S>>(
     steps: &mut Steps,
     tables: &T,
@@ -64,7 +64,7 @@ fn put_steps<S: Storage, T: Tables<S>>(
     Ok(())
 }
 
-/// Puts the step at this place of the production behind those of the rule, if a rule stands there.
+/// Adds the step at this index of the production to those of the rule, if the symbol at the index is a rule.
 fn put_step<S: Storage>(
     steps: &mut Steps,
     rule: usize,
@@ -90,7 +90,7 @@ fn put_step<S: Storage>(
     }
 }
 
-/// The first place from which on all symbols derive the empty list.
+/// The first index such that all symbols from it on are nullable.
 fn vanishing_from<S: Storage>(firsts: &YaccFirsts<S>, symbols: &[Symbol<S>]) -> usize
     ensures { (place : ℕ) → (result ≤ place)
         ↔ AreEmpty firsts.now (map (sym_of S.number) symbols.now) place (length symbols.now) }
@@ -104,7 +104,7 @@ fn vanishing_from<S: Storage>(firsts: &YaccFirsts<S>, symbols: &[Symbol<S>]) -> 
     from
 }
 
-/// Whether the symbol is a rule that derives the empty list.
+/// Whether the symbol is a nullable rule.
 fn vanishes<S: Storage>(firsts: &YaccFirsts<S>, symbol: Symbol<S>) -> bool
     ensures { result ≡ is_empty firsts.now (sym_of S.number symbol) }
 {

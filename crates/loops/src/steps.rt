@@ -6,7 +6,7 @@ use crate::rows::Step;
 use std::alloc::{AllocError, Global};
 use std::marker::Model;
 
-/// For each rule the steps that it has.
+/// For each rule its steps.
 #[derive(Drop)]
 pub struct Steps {
     lists: Vec<Vec<Step>>,
@@ -22,11 +22,11 @@ impl Model for Steps {
 }
 
 impl Steps {
-    /// So many rules, none of which has a step.
+    /// This many rules, without steps.
     ///
     /// # Errors
     ///
-    /// Want of memory.
+    /// Out of memory.
     pub fn new(alloc: Global, rules: usize) -> Result<Self, AllocError>
         ensures { IfOk result (λ x. x ≡ replicate rules []) }
     {
@@ -37,18 +37,18 @@ impl Steps {
         Ok(Steps { lists })
     }
 
-    /// How many rules there are.
+    /// The number of rules.
     pub fn len(&self) -> usize
         ensures { result ≡ length self.now }
     {
         self.lists.len()
     }
 
-    /// Puts a step behind those that the rule has.
+    /// Adds a step to those of the rule.
     ///
     /// # Errors
     ///
-    /// Want of memory.
+    /// Out of memory.
     pub fn push(&mut self, rule: usize, step: Step) -> Result<(), AllocError>
         requires { rule < length self.old }
         ensures ok { OnOk result (self.new ≡ slice_set self.old rule (get_or self.old rule [] ++ step ∷ [])) }
@@ -58,7 +58,7 @@ impl Steps {
         Ok(())
     }
 
-    /// The steps that the rule has.
+    /// The steps of the rule.
     pub fn of(&self, rule: usize) -> &[Step]
         requires { rule < length self.now }
         ensures { result.now ≡ get_or self.now rule [] }

@@ -13,8 +13,8 @@ use std::io::{self, BufRead, Lines, Write};
 use std::rt::{Env, Files};
 use vectors_rows::row::Row;
 
-/// A runtime whose words and standard input are given, whose outputs are writers, and whose files are those of another
-/// runtime. It notes what is asked of it.
+/// A runtime whose arguments and standard input are given, whose outputs are writers, and whose files are those of
+/// another runtime. It records what is requested.
 #[derive(Drop)]
 pub(crate) struct Desk<'a, R> {
     pub(crate) rt: &'a R,
@@ -22,13 +22,13 @@ pub(crate) struct Desk<'a, R> {
     pub(crate) input: Given<'a>,
     pub(crate) output: RefCell<Narrow>,
     pub(crate) errors: RefCell<Narrow>,
-    /// The names of the files that were asked for, each behind a space.
+    /// The names of the files that were requested, each after a space.
     pub(crate) opened: RefCell<String>,
-    /// How often standard input was asked for.
+    /// How often standard input was requested.
     pub(crate) readers: Cell<u64>,
 }
 
-/// That a cell is in use, which no call here leaves it.
+/// The error that a cell is in use, which doesn't occur here.
 fn in_use() -> io::Error {
     io::Error::from(io::ErrorKind::ResourceBusy)
 }
@@ -51,7 +51,7 @@ fn write_all(writer: &RefCell<Narrow>, bytes: &[u8]) -> io::Result<()> {
     }
 }
 
-/// Writes a value's text to a writer in a cell, and a line's end where one is asked for.
+/// Writes a value's text to a writer in a cell, and an end of line if requested.
 fn print<D: Display>(
     alloc: Global,
     writer: &RefCell<Narrow>,
@@ -70,7 +70,7 @@ fn print<D: Display>(
 }
 
 impl<R> Desk<'_, R> {
-    /// Whether memory ended for a run with this status, and not as the row's standard input says.
+    /// Whether memory ran out in a run with this status, other than as the row's standard input says.
     pub(crate) fn is_wanted(&self, row: &Row<'_>, status: u8) -> bool {
         let is_input = row.first("input") == Some("memory") && self.readers.get() > 0;
         match (self.output.try_borrow(), self.errors.try_borrow()) {
@@ -155,7 +155,7 @@ impl<R: AllocGlobal> Eprint for Desk<'_, R> {
 }
 
 impl<R: Files> Desk<'_, R> {
-    /// Notes the name of a file that is asked for.
+    /// Records the name of a file that is requested.
     fn note(&self, path: &str) -> Result<(), AllocError> {
         match self.opened.try_borrow_mut() {
             Ok(mut opened) => write!(opened, " {path}"),

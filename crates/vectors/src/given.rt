@@ -2,7 +2,7 @@
 
 use std::io::{self, BufRead, ErrorKind, Read};
 
-/// A reader of these bytes, which then ends, or fails.
+/// A reader of these bytes, after which it ends, or fails.
 #[derive(Clone, Copy)]
 pub(crate) struct Given<'a> {
     pub(crate) bytes: &'a [u8],

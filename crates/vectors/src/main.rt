@@ -1,6 +1,6 @@
-//! The program of worked rows: it reads rows from the files that its words name, and writes for each row its name and
-//! all that the public calls answer of it. A person reads what it writes beside docs/BEHAVIOUR.md; the merge gate
-//! compares it with what is stored.
+//! The program of worked rows: it reads rows from the files that its arguments name, and writes for each row its name
+//! and all results of the public calls. People compare what it writes with docs/BEHAVIOUR.md; the merge gate compares
+//! it with what is stored.
 #![tactic(auto)]
 
 mod desk;
@@ -20,7 +20,7 @@ use vectors_sections::kinds;
 use vectors_trees::{every, written};
 use vectors_values::{lines, marks, numbers};
 
-/// What is answered of rows of all kinds.
+/// The results for rows of all kinds.
 struct All;
 
 impl Answers for All {
@@ -44,7 +44,7 @@ impl Answers for All {
     }
 }
 
-/// Writes what the caller of this name in the guide answers of a text.
+/// Writes what the guide's caller with this name returns for a text.
 fn guide(out: &mut Page, call: &str, text: &str) {
     match uses::answers::tell(out.alloc, call, text) {
         Ok(answer) => out.push_str(answer.as_str()),

@@ -1,10 +1,10 @@
-//! A writer with little room.
+//! A writer with limited room.
 
 use std::alloc::Global;
 use std::io::{self, ErrorKind, Write};
 use vectors_rows::row::Row;
 
-/// What a writer does where its room ends.
+/// What a writer does when its room is used up.
 #[derive(Clone, Copy)]
 pub(crate) enum End {
     Fails,
@@ -12,7 +12,7 @@ pub(crate) enum End {
     TakesNone,
 }
 
-/// A writer that takes few bytes at a time, and so many in all; then it ends.
+/// A writer that accepts a few bytes at a time, up to a total; then it ends.
 #[derive(Drop)]
 pub(crate) struct Narrow {
     taken: Vec<u8>,
@@ -21,7 +21,7 @@ pub(crate) struct Narrow {
     end: End,
     /// How many faults it is known to have had.
     pub(crate) faults: u64,
-    /// Whether memory ended for what it took, which is no fault of the run.
+    /// Whether memory ran out for what it accepted, which is no fault of the run.
     pub(crate) wants_memory: bool,
 }
 
@@ -37,9 +37,9 @@ impl Narrow {
         }
     }
 
-    /// The writer that a row describes: `room NAME N` says how many bytes it takes, `step NAME N` how many of them at a
-    /// time; `full NAME` that it takes none where its room ends, and `interrupts NAME` that it is interrupted there.
-    /// Else it takes all.
+    /// The writer that a row describes: `room NAME N` says how many bytes it accepts, and `step NAME N` how many at a
+    /// time; `full NAME` says that it accepts none when its room is used up, and `interrupts NAME` that it is then
+    /// interrupted. Otherwise it accepts all bytes.
     pub(crate) fn of_row(alloc: Global, row: &Row<'_>, name: &str) -> Self {
         Narrow::new(
             alloc,
@@ -49,18 +49,18 @@ impl Narrow {
         )
     }
 
-    /// A writer that takes all.
+    /// A writer that accepts all bytes.
     pub(crate) fn wide(alloc: Global) -> Self {
         Narrow::new(alloc, usize::MAX, usize::MAX, End::Fails)
     }
 
-    /// What it took.
+    /// What it accepted.
     pub(crate) fn bytes(&self) -> &[u8] {
         self.taken.as_slice()
     }
 
-    /// Whether memory ended for a run with this status, of which this is the output: then nothing is written here, and
-    /// the other one says so. Nothing is told by that where the input is one for which memory ended.
+    /// Whether memory ran out in a run with this status and this output: then nothing is written here, and the other
+    /// output says so. This says nothing if the input is one for which memory ran out.
     pub(crate) fn is_wanted(&self, status: u8, errors: &Narrow, is_input: bool) -> bool {
         let says_so = b"cfgtool: out of memory\n".starts_with(errors.bytes())
             || b"cfglint: out of memory\n".starts_with(errors.bytes());
@@ -69,7 +69,7 @@ impl Narrow {
     }
 }
 
-/// What the writer of a row does where its room ends.
+/// What the writer of a row does when its room is used up.
 fn end_of_row(row: &Row<'_>, name: &str) -> End {
     if row.number_of("full", name).is_some() {
         End::TakesNone

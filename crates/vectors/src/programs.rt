@@ -11,8 +11,8 @@ use std::rt::Files;
 use vectors_rows::page::Page;
 use vectors_rows::row::Row;
 
-/// Runs the row's program over a runtime that has the row's words, its text as standard input, and the files of the
-/// folder, and writes the status, what was written to the two outputs, and what was read.
+/// Runs the row's program over a runtime with the row's arguments, its text as standard input, and the files of the
+/// folder. Writes the status, what was written to the two outputs, and what was read.
 pub(crate) fn tell<R: Files + AllocGlobal>(out: &mut Page, rt: &R, row: &Row<'_>, text: &str) {
     let given = row.first("words").unwrap_or("");
     let Ok(words) = words_of(out.alloc, given) else {
@@ -41,7 +41,7 @@ pub(crate) fn tell<R: Files + AllocGlobal>(out: &mut Page, rt: &R, row: &Row<'_>
     write_read(out, &desk);
 }
 
-/// A program's name, which neither asks for, and the words. In a word � stands for a byte that is no UTF-8.
+/// A program's name, which neither uses, and the arguments. In an argument, � represents a byte that isn't UTF-8.
 fn words_of(alloc: Global, given: &str) -> Result<Vec<Vec<u8>>, AllocError> {
     let mut words = Vec::new(alloc);
     words.push(b"cfgtool".to_vec(alloc)?)?;
@@ -51,7 +51,7 @@ fn words_of(alloc: Global, given: &str) -> Result<Vec<Vec<u8>>, AllocError> {
     Ok(words)
 }
 
-/// The bytes of a word, with one that is no UTF-8 for each �.
+/// The bytes of an argument, with a byte that isn't UTF-8 for each �.
 fn bytes_of(alloc: Global, word: &str) -> Result<Vec<u8>, AllocError> {
     let mut bytes = Vec::new(alloc);
     for (place, part) in word.split('�').enumerate() {
@@ -63,7 +63,7 @@ fn bytes_of(alloc: Global, word: &str) -> Result<Vec<u8>, AllocError> {
     Ok(bytes)
 }
 
-/// What the row's standard input holds.
+/// The content of the row's standard input.
 fn input<'a>(row: &Row<'_>, text: &'a str) -> Given<'a> {
     let (bytes, fault) = match row.first("input") {
         Some("unreadable") => (text.as_bytes(), Some(ErrorKind::PermissionDenied)),
@@ -74,7 +74,7 @@ fn input<'a>(row: &Row<'_>, text: &'a str) -> Given<'a> {
     Given { bytes, fault }
 }
 
-/// Writes what an output took.
+/// Writes what an output accepted.
 fn write_taken(out: &mut Page, name: &str, taken: &RefCell<Narrow>) {
     let Ok(taken) = taken.try_borrow() else {
         writeln!(out, "{name} in use");
@@ -85,7 +85,7 @@ fn write_taken(out: &mut Page, name: &str, taken: &RefCell<Narrow>) {
     write_bytes(out, bytes);
 }
 
-/// Writes which files were asked for, and how often standard input was.
+/// Writes which files were requested, and how often standard input was.
 fn write_read<R>(out: &mut Page, desk: &Desk<'_, R>) {
     match desk.opened.try_borrow() {
         Ok(opened) => writeln!(out, "files:{opened}"),

@@ -11,7 +11,7 @@ use vectors_rows::pen;
 use vectors_rows::row::Row;
 use vectors_rows::text::of_turn;
 
-/// A report of a text: what the command tells, or else where its tokens and the names differ.
+/// A report on a text: what the command prints, or else the differences between its tokens and the names.
 #[derive(Drop)]
 struct Report<'a> {
     alloc: Global,
@@ -43,8 +43,8 @@ impl Run for Report<'_> {
     }
 }
 
-/// Writes what is answered of the report that the row's words ask for, and what was written; and over writers of every
-/// room, where the row asks for that.
+/// Writes the result of the report that the row's arguments request, and what was written; also over writers of every
+/// room, if the row requests that.
 pub(crate) fn tell(out: &mut Page, row: &Row<'_>, text: &str) {
     let words = row.first("words").unwrap_or("");
     let (kind, command) = words.split_once(' ').unwrap_or((words, ""));
@@ -67,7 +67,7 @@ pub(crate) fn tell(out: &mut Page, row: &Row<'_>, text: &str) {
     }
 }
 
-/// Writes how many faults a writer that takes nothing had before it is asked, and then.
+/// Writes how many faults a writer that accepts nothing has before and after a write.
 fn write_counted(out: &mut Page, writer: &mut Narrow) {
     pen::without_memory(out);
     let mut counted = Counted::new(writer);
@@ -77,7 +77,7 @@ fn write_counted(out: &mut Page, writer: &mut Narrow) {
     writeln!(out, ", faults {}", counted.faults());
 }
 
-/// Writes what is answered of a report.
+/// Writes the result of a report.
 fn tell_report(out: &mut Page, row: &Row<'_>, asked: &Report<'_>) {
     if row.first("show") == Some("without-memory") {
         return write_counted(out, &mut Narrow::new(asked.alloc, 1, 0, End::Fails));

@@ -5,14 +5,14 @@ use std::alloc::AllocError;
 use vectors_rows::page::Page;
 use vectors_rows::pen;
 
-/// What is run over one writer after the other.
+/// What is run over one writer after another.
 pub(crate) trait Run {
-    /// Runs it over a writer, which then knows its faults, and answers in a word how it ended.
+    /// Runs it over a writer, which then knows its faults, and returns a word for how it ended.
     fn ended(&self, writer: &mut Narrow) -> Result<&'static str, AllocError>;
 }
 
 /// Writes how a run ends on writers with room for none of the bytes, for one, and so on up to all of them: how many
-/// bytes each took, and the word. They take one byte at a time, four, or all that they are given.
+/// bytes each accepted, and the word. They accept one byte at a time, four, or all that they are given.
 pub(crate) fn write_rooms<R: Run>(out: &mut Page, run: &R, whole: &[u8]) {
     for step in [1, 4, usize::MAX] {
         write_ended(out, run, (step, End::Fails), whole);
@@ -21,7 +21,7 @@ pub(crate) fn write_rooms<R: Run>(out: &mut Page, run: &R, whole: &[u8]) {
     }
 }
 
-/// Writes how a run ends on writers that take so many bytes at a time and end so.
+/// Writes how a run ends on writers that accept this many bytes at a time and end like this.
 fn write_ended<R: Run>(out: &mut Page, run: &R, (step, end): (usize, End), whole: &[u8]) {
     let word = word_of(end);
     write!(
@@ -38,7 +38,7 @@ fn write_ended<R: Run>(out: &mut Page, run: &R, (step, end): (usize, End), whole
     out.push('\n');
 }
 
-/// How a writer ends, in words.
+/// A word for how a writer ends.
 fn word_of(end: End) -> &'static str {
     match end {
         End::Fails => "fails",
@@ -47,8 +47,8 @@ fn word_of(end: End) -> &'static str {
     }
 }
 
-/// Writes how many bytes a writer took and how the run ended; and what is wrong: that they are no beginning of all
-/// bytes, or that more than one writing went wrong.
+/// Writes how many bytes a writer accepted and how the run ended; and what is wrong: that they are no prefix of all
+/// bytes, or that more than one write failed.
 fn write_room(out: &mut Page, writer: &Narrow, word: &str, whole: &[u8]) {
     pen::number(out, " ", writer.bytes().len());
     out.push_str(":");

@@ -9,7 +9,7 @@ use vectors_rows::page::Page;
 use vectors_rows::row::Row;
 use vectors_rows::text::{of_turn, write_text};
 
-/// Two files, of which the first that is asked for is `first`, under every name.
+/// Two files; the first one requested is `first`, whatever its name.
 #[derive(Drop)]
 struct TwoFiles {
     first: Option<Input>,
@@ -25,8 +25,8 @@ impl Source for TwoFiles {
     }
 }
 
-/// Runs the row's program on its words, where its file holds the text or what the row says in place of it, and writes
-/// the status, what was written to the two outputs, and how many faults these had.
+/// Runs the row's program on its arguments, where its file contains the text or what the row gives instead. Writes the
+/// status, what was written to the two outputs, and how many faults these had.
 pub(crate) fn tell(out: &mut Page, row: &Row<'_>, text: &str) {
     let words = row.first("words").unwrap_or("");
     let mut output = Narrow::of_row(out.alloc, row, "out");
@@ -49,7 +49,7 @@ pub(crate) fn program_of(row: &Row<'_>) -> &'static str {
     }
 }
 
-/// Writes how the program ends on outputs of every room, where the row asks for one of the two.
+/// Writes how the program ends on outputs of every room, if the row requests this for one of the two.
 fn write_asked_rooms(out: &mut Page, row: &Row<'_>, text: &str, (output, errors): (&[u8], &[u8])) {
     let is_errors = row.first("rooms") == Some("err");
     let run = OneOutput {
@@ -85,7 +85,7 @@ impl Run for OneOutput<'_> {
     }
 }
 
-/// A status in a word.
+/// A word for a status.
 fn word_of(status: u8) -> &'static str {
     match status {
         0 => "0",
@@ -95,7 +95,7 @@ fn word_of(status: u8) -> &'static str {
     }
 }
 
-/// Runs the program over two writers, and answers its status. The writers then know their faults.
+/// Runs the program over two writers, and returns its status. The writers then know their faults.
 fn run_over(
     alloc: Global,
     row: &Row<'_>,
@@ -123,7 +123,7 @@ fn run_over(
     Ok(status)
 }
 
-/// What the row's file holds.
+/// The content of the row's file.
 fn input(alloc: Global, row: &Row<'_>, text: &str) -> Result<Input, AllocError> {
     Ok(match row.first("input") {
         Some("unreadable") => Input::Unreadable,
@@ -133,7 +133,7 @@ fn input(alloc: Global, row: &Row<'_>, text: &str) -> Result<Input, AllocError> 
     })
 }
 
-/// What the second file holds, where the row says that: a lexer's names, or a grammar.
+/// The content of the second file, if the row gives it: a lexer's names, or a grammar.
 fn second_input(alloc: Global, row: &Row<'_>) -> Result<Option<Input>, AllocError> {
     match row.first("names") {
         Some(line) => {
@@ -144,14 +144,14 @@ fn second_input(alloc: Global, row: &Row<'_>) -> Result<Option<Input>, AllocErro
     }
 }
 
-/// Writes what an output took.
+/// Writes what an output accepted.
 pub(crate) fn write_taken(out: &mut Page, name: &str, taken: &Narrow) {
     let (bytes, faults) = (taken.bytes(), taken.faults);
     writeln!(out, "{name} of {} bytes, {faults} faults", bytes.len());
     write_bytes(out, bytes);
 }
 
-/// Writes bytes as the text that they are.
+/// Writes bytes as the text that they are in UTF-8.
 pub(crate) fn write_bytes(out: &mut Page, bytes: &[u8]) {
     match std::str::from_utf8(bytes) {
         Ok(text) => write_text(out, text),

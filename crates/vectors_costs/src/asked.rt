@@ -1,4 +1,4 @@
-//! What a row asks for besides: lists for the checkers, counted openings, and printed refusals.
+//! What a row requests in addition: lists for the checkers, counted openings, and printed errors.
 
 ghost use Rattle.std.specs.Prelude.{◌≡◌};
 ghost use Rattle.cfgrammar.specs.Numbered.{core};
@@ -10,7 +10,7 @@ use cfgrammar::yacc::sentences::SentenceGenerator;
 use vectors_rows::page::Page;
 use vectors_rows::row::Row;
 
-/// Writes what each line of the row asks for.
+/// Writes what each line of the row requests.
 pub(crate) fn write_asked(
     out: &mut Page,
     row: &Row<'_>,

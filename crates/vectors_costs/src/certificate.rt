@@ -10,7 +10,7 @@ use std::alloc::{AllocError, Global};
 use vectors_rows::page::Page;
 use vectors_rows::pen::{self, Piece};
 
-/// A cost for each rule, or none, and a choice for each rule, or none.
+/// For each rule a cost, or none, and a choice, or none.
 #[derive(Drop)]
 pub(crate) struct Certificate {
     least: Vec<Option<u16>>,
@@ -18,7 +18,7 @@ pub(crate) struct Certificate {
 }
 
 impl Certificate {
-    /// What the generator answers.
+    /// The generator's results.
     pub(crate) fn of_generator(
         alloc: Global,
         grammar: &YaccGrammar<u32>,
@@ -34,7 +34,7 @@ impl Certificate {
         Ok(certificate)
     }
 
-    /// Adds what the generator answers of each rule.
+    /// Adds the generator's results for each rule.
     fn add_rules(
         &mut self,
         grammar: &YaccGrammar<u32>,
@@ -49,7 +49,7 @@ impl Certificate {
         Ok(())
     }
 
-    /// The costs that words spell, and behind `by` the choices.
+    /// The costs that words spell, and after `by` the choices.
     pub(crate) fn read(alloc: Global, words: &str) -> Result<Self, AllocError> {
         let (costs, pairs) = words.split_once(" by ").unwrap_or((words, ""));
         let least = costs
@@ -75,7 +75,7 @@ impl Certificate {
             && check_reached(grammar, costs, &self.least, &self.choices)
     }
 
-    /// Whether there is a cost for each token and one for each rule.
+    /// Whether there is a cost for each token and each rule.
     fn is_whole(&self, grammar: &YaccGrammar<u32>, costs: &[u8]) -> bool
         ensures costs { IsTrue result → length costs.now ≡ length grammar.now.tokens }
         ensures least { IsTrue result → length self.now.least.items ≡ length grammar.now.rules }
@@ -85,7 +85,7 @@ impl Certificate {
     }
 }
 
-/// The production and the number that stand on both sides of a colon.
+/// The production and the number on the two sides of a colon.
 fn read_choice(word: &str) -> Option<(PIdx<u32>, u32)> {
     let (production, number) = word.split_once(':')?;
     match (production.parse(), number.parse()) {
@@ -94,7 +94,7 @@ fn read_choice(word: &str) -> Option<(PIdx<u32>, u32)> {
     }
 }
 
-/// Writes which of the two checkers refuses what the generator answers.
+/// Writes which of the two checkers rejects the generator's results.
 pub(crate) fn write_failures(
     out: &mut Page,
     grammar: &YaccGrammar<u32>,

@@ -13,7 +13,7 @@ use vectors_rows::row::Row;
 use vectors_rows::{pen, text};
 use vectors_trees::read::kind_of;
 
-/// Writes a row's text, where the row isn't brief, and what is answered of its costs.
+/// Writes a row's text, unless the row is brief, and the results for its costs.
 pub fn tell(out: &mut Page, row: &Row<'_>, text: &str) {
     let kind = kind_of(row).unwrap_or(YaccKind::Original(YaccOriginalActionKind::GenericParseTree));
     writeln!(out, "text of {} bytes, {kind:?}", text.len());
@@ -23,7 +23,7 @@ pub fn tell(out: &mut Page, row: &Row<'_>, text: &str) {
     tell_text(out, row, kind, text);
 }
 
-/// Writes what is answered of the costs of a text's grammar, where it has one.
+/// Writes the results for the costs of a text's grammar, if it has one.
 fn tell_text(out: &mut Page, row: &Row<'_>, kind: YaccKind, text: &str) {
     match YaccGrammar::new(out.alloc, kind, text) {
         Ok(grammar) => tell_grammar(out, row, &grammar),
@@ -32,7 +32,7 @@ fn tell_text(out: &mut Page, row: &Row<'_>, kind: YaccKind, text: &str) {
     }
 }
 
-/// Writes what is answered of the costs of a grammar.
+/// Writes the results for the costs of a grammar.
 fn tell_grammar(out: &mut Page, row: &Row<'_>, grammar: &YaccGrammar<u32>) {
     let asked = Cell::new(0);
     let made = grammar.sentence_generator(out.alloc, |tidx| asked_cost(row, &asked, tidx));
@@ -43,7 +43,7 @@ fn tell_grammar(out: &mut Page, row: &Row<'_>, grammar: &YaccGrammar<u32>) {
     }
 }
 
-/// What a token costs. It is counted where it is the next one to be asked of.
+/// What a token costs. The call is counted if the token is the next one in order.
 fn asked_cost(row: &Row<'_>, asked: &Cell<usize>, tidx: TIdx<u32>) -> u8
     ensures { 0 < result }
 {
@@ -58,7 +58,7 @@ fn asked_cost(row: &Row<'_>, asked: &Cell<usize>, tidx: TIdx<u32>) -> u8
     cost_of(row, tidx)
 }
 
-/// What a token costs by the row's `costs`, where the list is so long, or else by its `cost`, or else 1.
+/// What a token costs by the row's `costs`, if the list is long enough, or else by its `cost`, or else 1.
 fn cost_of(row: &Row<'_>, tidx: TIdx<u32>) -> u8
     ensures { 0 < result }
 {
@@ -69,7 +69,7 @@ fn cost_of(row: &Row<'_>, tidx: TIdx<u32>) -> u8
     word.parse().unwrap_or(1).max(1)
 }
 
-/// Writes the tokens' costs and what the generator answers, and what the row asks for.
+/// Writes the tokens' costs and the generator's results, and what the row requests.
 fn tell_costs(
     out: &mut Page,
     row: &Row<'_>,

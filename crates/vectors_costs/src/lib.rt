@@ -1,4 +1,4 @@
-//! Worked rows on what sentences cost: a grammar's costs, its minimal sentences, and what is asked of their checkers.
+//! Worked rows on what sentences cost: a grammar's costs, its minimal sentences, and the results of their checkers.
 #![tactic(auto)]
 
 mod asked;

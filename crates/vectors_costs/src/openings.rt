@@ -25,7 +25,7 @@ pub(crate) fn write_openings(out: &mut Page, grammar: &YaccGrammar<u32>) {
     out.push('\n');
 }
 
-/// Writes how many productions are opened, all together, on the way to a minimal sentence of the rule of this name.
+/// Writes how many productions are opened in total on the way to a minimal sentence of the rule with this name.
 pub(crate) fn write_opened(
     out: &mut Page,
     grammar: &YaccGrammar<u32>,
@@ -58,7 +58,7 @@ fn wants_memory<T: Drop>(answer: Result<T, SentenceError>) -> bool {
     matches!(answer, Err(SentenceError::OutOfMemory))
 }
 
-/// How many productions may be opened, all together, where memory ends on the way to a sentence of this cost.
+/// How many productions may be opened in total if memory runs out on the way to a sentence of this cost.
 fn most_openings(cost: Result<u16, CostError>, rules: RIdx<u32>) -> u64 {
     match cost {
         Ok(cost) => u64::from(cost)

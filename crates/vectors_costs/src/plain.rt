@@ -1,4 +1,4 @@
-//! What a generator answers, once it is made, by calls that take no memory.
+//! A generator's results, once it is made, of calls that don't allocate.
 
 ghost use Rattle.std.specs.Prelude.{◌≡◌, ◌<◌};
 ghost use Rattle.cfgrammar.specs.Numbered.{core};
@@ -35,8 +35,8 @@ pub(crate) fn write_without_memory(
     }
 }
 
-/// Writes a rule's costs and its choice; where there is no least cost, also why the three calls that answer sentences
-/// refuse.
+/// Writes a rule's costs and its choice; if there is no least cost, also the errors of the three calls that return
+/// sentences.
 fn write_rule(out: &mut Page, generator: &SentenceGenerator<'_, u32>, ridx: RIdx<u32>)
     requires { ridx.0 < generator.now.grammar.rules }
 {

@@ -10,10 +10,10 @@ use vectors_rows::page::Page;
 use vectors_rows::pen::{self, Piece};
 use vectors_rows::row::Row;
 
-/// How many sentences of a rule are written, and how many tokens of a sentence; of more than these their number is.
+/// If a rule has more sentences, or a sentence more tokens, their number is written instead.
 const MOST: usize = 20;
 
-/// Writes for each rule a line.
+/// Writes a line for each rule.
 pub(crate) fn write_rules(
     out: &mut Page,
     row: &Row<'_>,
@@ -33,7 +33,7 @@ pub(crate) fn write_rules(
     }
 }
 
-/// Whether all minimal sentences of a rule are asked for: of each rule where the row doesn't name some.
+/// Whether all minimal sentences of a rule are requested: they are for each rule, unless the row names some.
 fn is_asked(row: &Row<'_>, name: &str) -> bool {
     match row.first("sentences") {
         Some(names) => names.split(' ').any(|other| other == name),
@@ -86,7 +86,7 @@ fn write_cost(out: &mut Page, before: &str, cost: Result<Option<u16>, CostError>
     }
 }
 
-/// Writes what is printed of why costs of the rule of this name are refused.
+/// Writes the printed errors for the costs of the rule with this name.
 pub(crate) fn write_refused(
     out: &mut Page,
     grammar: &YaccGrammar<u32>,
@@ -108,7 +108,7 @@ pub(crate) fn write_refused(
     out.push('\n');
 }
 
-/// Writes what is printed of why a cost is refused.
+/// Writes the printed error for a cost.
 fn write_reason(out: &mut Page, before: &str, cost: Result<Option<u16>, CostError>) {
     if let Err(reason) = cost {
         write!(out, "{before}{reason}");
@@ -151,7 +151,7 @@ fn write_sentences(out: &mut Page, sentences: Result<Vec<Vec<TIdx<u32>>>, Senten
     }
 }
 
-/// Writes sentences, each behind a space.
+/// Writes sentences, each after a space.
 fn write_each(out: &mut Page, sentences: &[Vec<TIdx<u32>>]) {
     out.push_str("; all");
     for sentence in sentences {

@@ -1,4 +1,4 @@
-//! What the accessors answer of each rule, production and token of a grammar and of the whole, also where that is
+//! What the accessors return for each rule, production and token of a grammar and for the whole, also if that is
 //! nothing.
 
 ghost use Rattle.std.specs.Prelude.{◌<◌, length};
@@ -24,7 +24,7 @@ fn write_rules(out: &mut Page, grammar: &YaccGrammar<u32>) {
     }
 }
 
-/// Writes a rule's name, by the two calls that answer it, and its type.
+/// Writes a rule's name, by the two calls that return it, and its type.
 fn write_rule(out: &mut Page, grammar: &YaccGrammar<u32>, ridx: RIdx<u32>)
     requires { ridx.0 < length grammar.now.rules }
 {
@@ -45,7 +45,7 @@ fn write_productions(out: &mut Page, grammar: &YaccGrammar<u32>) {
     }
 }
 
-/// Writes a production's action and its place, and the production's precedence.
+/// Writes a production's action and its span, and the production's precedence.
 fn write_production(out: &mut Page, grammar: &YaccGrammar<u32>, pidx: PIdx<u32>)
     requires { pidx.0 < length grammar.now.productions }
 {
@@ -67,7 +67,7 @@ fn write_tokens(out: &mut Page, grammar: &YaccGrammar<u32>) {
     }
 }
 
-/// Writes a token's printed form, its precedence, and whether it is not to be inserted.
+/// Writes a token's printed form, its precedence, and whether it should not be inserted.
 fn write_token(out: &mut Page, grammar: &YaccGrammar<u32>, tidx: TIdx<u32>)
     requires { tidx.0 < length grammar.now.tokens }
 {

@@ -12,10 +12,10 @@ use vectors_rows::{pen, text};
 use vectors_trees::read::{kind_of, parse};
 use vectors_trees::{cuts, errors, syntax, warnings};
 
-/// What is wrong where a text that names no kind isn't refused for that.
+/// The message if a text that names no kind doesn't have just these errors.
 const NOT_SO: &str = "    and its grammar isn't refused so\n";
 
-/// Writes all that is answered of a row's text, or as much as the row asks for.
+/// Writes all results for a row's text, or as much as the row requests.
 pub fn tell(out: &mut Page, row: &Row<'_>, text: &str) {
     let parsed = parse(out.alloc, kind_of(row), text);
     write_made(out, &Asked { row, text }, parsed);
@@ -54,7 +54,7 @@ impl Writer<YaccGrammar<u32>, YaccFault> for Asked<'_> {
     }
 }
 
-/// Writes what is answered of a text that names no kind.
+/// Writes the results for a text that names no kind.
 fn tell_refused(out: &mut Page, row: &Row<'_>, text: &str, errors: &[YaccGrammarError]) {
     pen::number(out, "text of ", text.len());
     out.push_str(" bytes, no kind\n");
@@ -72,7 +72,7 @@ fn tell_errors(out: &mut Page, text: &str, errors: &[YaccGrammarError]) {
     write_made(out, &Refused { errors }, grammar);
 }
 
-/// The errors of a text that names no kind, for which it has no grammar.
+/// The errors of a text that names no kind, because of which it has no grammar.
 #[derive(Drop)]
 struct Refused<'a> {
     errors: &'a [YaccGrammarError],
@@ -95,7 +95,7 @@ impl Writer<YaccGrammar<u32>, YaccFault> for Refused<'_> {
     }
 }
 
-/// Writes what is answered of a text that was read.
+/// Writes the results for a text that was read.
 fn tell_parsed(out: &mut Page, row: &Row<'_>, text: &str, parsed: &ASTWithValidityInfo) {
     writeln!(
         out,
@@ -121,7 +121,7 @@ fn tell_shown(out: &mut Page, row: &Row<'_>, text: &str, parsed: &ASTWithValidit
     }
 }
 
-/// Writes the errors of a text, how much there is in its syntax and its tables, and what the analyses do.
+/// Writes the errors of a text, the lengths of its syntax and its tables, and what the analyses do.
 fn tell_brief(out: &mut Page, row: &Row<'_>, text: &str, parsed: &ASTWithValidityInfo) {
     errors::write_errors(out, text, parsed.errors());
     syntax::write_lengths(out, parsed.ast());
@@ -129,13 +129,13 @@ fn tell_brief(out: &mut Page, row: &Row<'_>, text: &str, parsed: &ASTWithValidit
     tell_grammar(out, row, text);
 }
 
-/// Writes what takes no memory to be told of a text's grammar, where it has one, and of what was read.
+/// Writes the results of calls that don't allocate for a text's grammar, if it has one, and for what was read.
 fn tell_without_memory(out: &mut Page, row: &Row<'_>, text: &str, parsed: &ASTWithValidityInfo) {
     tell_grammar(out, row, text);
     syntax::write_without_memory(out, parsed);
 }
 
-/// Writes all that is answered of a text.
+/// Writes all results for a text.
 fn tell_whole(out: &mut Page, row: &Row<'_>, text: &str, parsed: &ASTWithValidityInfo) {
     write_parsed(out, text, parsed);
     tables::write_tables(out, text, parsed, false);
@@ -153,7 +153,7 @@ pub(crate) fn write_parsed(out: &mut Page, text: &str, parsed: &ASTWithValidityI
     warnings::write_warnings(out, parsed.ast());
 }
 
-/// Writes what the row asks of a text's grammar, where it has one.
+/// Writes what the row requests of a text's grammar, if it has one.
 fn tell_grammar(out: &mut Page, row: &Row<'_>, text: &str) {
     let grammar = grammar_of(out.alloc, kind_of(row), text);
     write_made(out, &Asked { row, text }, grammar);
@@ -171,8 +171,8 @@ fn grammar_of(
     }
 }
 
-/// Writes what the row asks of a grammar: what its accessors answer, what takes no memory to be told, or what its
-/// analyses do beside what they answer.
+/// Writes what the row requests of a grammar: what its accessors return, the results of calls that don't allocate, or
+/// what its analyses do besides their results.
 fn tell_held(out: &mut Page, row: &Row<'_>, grammar: &YaccGrammar<u32>) {
     match row.first("show") {
         Some("accessors") => accessors::write_accessors(out, grammar),
@@ -181,7 +181,7 @@ fn tell_held(out: &mut Page, row: &Row<'_>, grammar: &YaccGrammar<u32>) {
     }
 }
 
-/// Writes how often the analyses open productions, where that isn't expected, and what the row's lines ask of them.
+/// Writes how often the analyses open productions, if that isn't expected, and what the row's lines request of them.
 fn tell_analyses(out: &mut Page, row: &Row<'_>, grammar: &YaccGrammar<u32>) {
     openings::write_openings(out, grammar);
     for (word, rest) in &row.lines {

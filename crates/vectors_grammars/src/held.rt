@@ -1,4 +1,4 @@
-//! What a grammar holds: its tables, and its FIRST and FOLLOW sets.
+//! The content of a grammar: its tables, and its FIRST and FOLLOW sets.
 
 pub(crate) mod firsts;
 pub(crate) mod follows;

@@ -1,4 +1,4 @@
-//! Worked rows on the texts of grammars: all that the public calls answer of a text.
+//! Worked rows on the texts of grammars: all results of the public calls for a text.
 #![tactic(auto)]
 
 mod accessors;

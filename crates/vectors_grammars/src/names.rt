@@ -1,4 +1,4 @@
-//! Where names that a lexer gives and a grammar's tokens differ.
+//! Differences between the names that a lexer has and a grammar's tokens.
 
 use cfgrammar::TIdx;
 use cfgrammar::yacc::YaccGrammar;
@@ -7,7 +7,7 @@ use std::collections::HashMap;
 use vectors_rows::page::Page;
 use vectors_rows::pen;
 
-/// Writes where the tokens and these names, which white space parts, differ.
+/// Writes the differences between the tokens and these names, which are separated by white space.
 pub(crate) fn write_names(out: &mut Page, grammar: &YaccGrammar<u32>, names: &str) {
     match names.split_whitespace().collect::<Vec<&str>>(out.alloc) {
         Ok(names) => write_checked(out, grammar, &names),
@@ -34,7 +34,7 @@ fn write_report(
     out.push('\n');
 }
 
-/// Writes whether the map of tokens isn't what it says.
+/// Writes whether the map of tokens is wrong.
 fn write_map(out: &mut Page, grammar: &YaccGrammar<u32>) {
     match grammar.tokens_map(out.alloc) {
         Ok(tokens) => {
@@ -45,7 +45,7 @@ fn write_map(out: &mut Page, grammar: &YaccGrammar<u32>) {
     }
 }
 
-/// Whether a map has just the tokens that have a name, each under its name.
+/// Whether a map has exactly the tokens that have a name, each under its name.
 fn is_mapped(grammar: &YaccGrammar<u32>, tokens: &HashMap<&str, TIdx<u32>>) -> bool {
     let mut named = 0usize;
     for tidx in grammar.iter_tidxs() {

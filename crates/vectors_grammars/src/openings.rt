@@ -8,8 +8,8 @@ use cfgrammar::{PIdx, Storage};
 use std::alloc::{AllocError, Global};
 use vectors_rows::page::Page;
 
-/// Writes how often a production of a grammar was opened at the most while the FIRST sets were found, and while the
-/// FOLLOW sets were, where that is never, or more than rules x (tokens + 1) + 1 times.
+/// Writes the greatest number of times that a production was opened for the FIRST sets, and for the FOLLOW sets, if
+/// that is 0 or more than rules x (tokens + 1) + 1.
 pub(crate) fn write_openings(out: &mut Page, grammar: &YaccGrammar<u32>) {
     let firsts = opened_by_firsts(out.alloc, grammar);
     write_unexpected(out, grammar, firsts, "firsts");
@@ -17,7 +17,7 @@ pub(crate) fn write_openings(out: &mut Page, grammar: &YaccGrammar<u32>) {
     write_unexpected(out, grammar, follows, "follows");
 }
 
-/// Writes how often a production was opened at the most, where it may not have been opened so often.
+/// Writes the greatest number of times that a production was opened, if that isn't expected.
 fn write_unexpected(
     out: &mut Page,
     grammar: &YaccGrammar<u32>,
@@ -31,7 +31,7 @@ fn write_unexpected(
     }
 }
 
-/// Whether a production may have been opened so often at the most.
+/// Whether this may be the greatest number of times that a production was opened.
 fn is_expected(grammar: &YaccGrammar<u32>, most: u64) -> bool {
     let rules = u64::from(grammar.rules_len().0);
     let tokens = u64::from(grammar.tokens_len().0);
@@ -57,7 +57,7 @@ fn was_refused<T: Drop>(answer: Result<T, AllocError>) -> bool {
     answer.is_err()
 }
 
-/// A count, or want of memory where an analysis was refused. Then too no production may have been opened more often.
+/// A count, or out of memory if an analysis failed. In that case too, no production may have been opened more often.
 fn counted(grammar: &YaccGrammar<u32>, is_refused: bool, most: u64) -> Result<u64, AllocError> {
     if is_refused && (most == 0 || is_expected(grammar, most)) {
         return Err(AllocError);

@@ -7,14 +7,14 @@ use cfgrammar::yacc::YaccGrammar;
 use vectors_rows::page::Page;
 use vectors_rows::pen;
 
-/// Writes for each rule the rules to which it leads.
+/// Writes for each rule the rules that it leads to.
 pub(crate) fn write_paths(out: &mut Page, grammar: &YaccGrammar<u32>) {
     for ridx in grammar.iter_rules() {
         write_paths_of(out, grammar, ridx);
     }
 }
 
-/// Writes the rules to which a rule leads, by their names.
+/// Writes the rules that a rule leads to, by name.
 fn write_paths_of(out: &mut Page, grammar: &YaccGrammar<u32>, from: RIdx<u32>)
     requires { from.0 < length grammar.now.rules }
 {

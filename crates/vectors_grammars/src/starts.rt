@@ -9,7 +9,7 @@ use vectors_rows::pen;
 use vectors_rows::row::Row;
 use vectors_trees::written::restarted;
 
-/// Writes what is answered of each other start that the row asks for.
+/// Writes the results for each other start that the row requests.
 pub(crate) fn write_starts(
     out: &mut Page,
     row: &Row<'_>,

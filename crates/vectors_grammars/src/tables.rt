@@ -1,4 +1,4 @@
-//! The tables of a grammar at every index type, and of a syntax.
+//! The tables of a grammar, and of a syntax, for every index type.
 
 use crate::held::tables::{write_grammar, write_lengths};
 use crate::held::{firsts, follows};
@@ -11,7 +11,7 @@ use vectors_rows::page::Page;
 use vectors_rows::pen;
 use vectors_trees::errors::write_error_lines;
 
-/// Writes the tables of a text at every index type, or how much there is in them, once where that is the same.
+/// Writes the tables of a text for every index type, or their lengths, once if they are the same.
 pub(crate) fn write_tables(
     out: &mut Page,
     text: &str,
@@ -29,7 +29,7 @@ pub(crate) fn write_tables(
     write_once(out, narrow.as_str(), middle.as_str(), wide.as_str());
 }
 
-/// Writes what was told at the index types, once where it is the same.
+/// Writes the results for the index types, once if they are the same.
 fn write_once(out: &mut Page, narrow: &str, middle: &str, wide: &str) {
     if narrow == middle && middle == wide {
         return pen::words(out, "grammar over u8, u16 and u32", wide);
@@ -39,7 +39,7 @@ fn write_once(out: &mut Page, narrow: &str, middle: &str, wide: &str) {
     pen::words(out, "grammar over u32", wide);
 }
 
-/// Tells the tables of a text that was read, by both calls that make them, or how much there is in them.
+/// Writes the tables of a text that was read, by both calls that make them, or their lengths.
 fn tell_text<S: Storage>(
     told: &mut Page,
     text: &str,
@@ -53,7 +53,7 @@ fn tell_text<S: Storage>(
     }
 }
 
-/// Adds the tables of a text's syntax to those of the text, where they aren't the same.
+/// Adds the tables of a text's syntax to those of the text, if they aren't the same.
 fn add_tree<S: Storage>(told: &mut Page, text: &str, parsed: &ASTWithValidityInfo) {
     let mut of_tree = Page::new(told.alloc);
     tell_tree::<S>(&mut of_tree, text, parsed);
@@ -63,7 +63,7 @@ fn add_tree<S: Storage>(told: &mut Page, text: &str, parsed: &ASTWithValidityInf
     }
 }
 
-/// Tells the tables of a syntax.
+/// Writes the tables of a syntax.
 fn tell_tree<S: Storage>(told: &mut Page, text: &str, parsed: &ASTWithValidityInfo) {
     let of_tree = YaccGrammar::<S>::new_from_ast_with_validity_info(told.alloc, parsed);
     tell_answer(told, text, parsed, false, of_tree);
@@ -75,7 +75,7 @@ pub(crate) fn write_tables_of_tree(out: &mut Page, text: &str, parsed: &ASTWithV
     tell_tree::<u32>(out, text, parsed);
 }
 
-/// Writes the tables of a text as the kind that it names, where they aren't those of its syntax.
+/// Writes the tables of a text as the kind that it names, if they aren't those of its syntax.
 pub(crate) fn write_tables_by_name(out: &mut Page, text: &str, parsed: &ASTWithValidityInfo) {
     let (mut by_name, mut of_tree) = (Page::new(out.alloc), Page::new(out.alloc));
     let named = YaccGrammar::<u32>::from_str(out.alloc, text);
@@ -88,7 +88,7 @@ pub(crate) fn write_tables_by_name(out: &mut Page, text: &str, parsed: &ASTWithV
     }
 }
 
-/// Tells what a call that makes tables answers, or how much there is in it.
+/// Writes the result of a call that makes tables, or their lengths.
 fn tell_answer<S: Storage>(
     told: &mut Page,
     text: &str,
@@ -104,7 +104,7 @@ fn tell_answer<S: Storage>(
     write_made(told, &asked, answer);
 }
 
-/// A text that was read, and whether only how much there is in its tables is told.
+/// A text that was read, and whether only the lengths of its tables are written.
 #[derive(Drop)]
 struct Asked<'a> {
     text: &'a str,
@@ -117,7 +117,7 @@ impl<S: Storage> Writer<YaccGrammar<S>, YaccFault> for Asked<'_> {
         tell_grammar(told, grammar, self.is_brief);
     }
 
-    /// Tells why there are no tables: the text's errors, or others, each in a line.
+    /// Writes why there are no tables: the text's errors, or others, one per line.
     fn refuse(&self, told: &mut Page, fault: &YaccFault) {
         match fault {
             YaccFault::Errors(errors) => tell_errors(told, self.text, self.parsed, errors),
@@ -138,7 +138,7 @@ fn tell_errors(
     }
 }
 
-/// Tells all that a grammar holds, or how much there is in its tables and in its FIRST and FOLLOW sets.
+/// Writes all of a grammar, or the lengths of its tables and of its FIRST and FOLLOW sets.
 fn tell_grammar<S: Storage>(told: &mut Page, grammar: &YaccGrammar<S>, is_brief: bool) {
     told.push('\n');
     if !is_brief {

@@ -1,4 +1,4 @@
-//! What is written of a large row in place of all that is answered of it.
+//! What is written for a large row instead of all its results.
 
 use crate::page::Page;
 use crate::row::Row;
@@ -6,8 +6,8 @@ use crate::row::Row;
 /// How many characters of a line are written.
 const WIDTH: usize = 100;
 
-/// Writes how many lines and bytes all that is answered has, its digest, and for each `line` of the row the first
-/// line that begins as it says.
+/// Writes the number of lines and bytes of all results, their digest, and for each `line` of the row the first line
+/// that begins with its text.
 pub fn write_digest(out: &mut Page, row: &Row<'_>, answers: &str) {
     let (lines, bytes) = (answers.lines().count(), answers.len());
     let digest = digest(answers.as_bytes());
@@ -22,7 +22,7 @@ pub fn write_digest(out: &mut Page, row: &Row<'_>, answers: &str) {
     }
 }
 
-/// The FNV-1a hash of these bytes, of 64 bits.
+/// The 64-bit FNV-1a hash of these bytes.
 fn digest(bytes: &[u8]) -> u64 {
     let mut digest = 0xcbf2_9ce4_8422_2325u64;
     for byte in bytes {
@@ -31,7 +31,8 @@ fn digest(bytes: &[u8]) -> u64 {
     digest
 }
 
-/// Writes the first line that begins so, apart from its blanks. Of a long line its beginning is written.
+/// Writes the first line that begins like this, without its leading blanks. If the line is long, only a prefix is
+/// written.
 fn write_line(out: &mut Page, beginning: &str, answers: &str) {
     for line in answers.lines() {
         if line.trim_start().starts_with(beginning) {
@@ -41,7 +42,7 @@ fn write_line(out: &mut Page, beginning: &str, answers: &str) {
     writeln!(out, "    no line begins with {beginning}");
 }
 
-/// Writes a line behind a bar, or its beginning where it is long.
+/// Writes a line after a bar, or a prefix of it if it is long.
 fn write_beginning(out: &mut Page, line: &str) {
     out.push_str("    |");
     for character in line.trim_start().chars().take(WIDTH) {

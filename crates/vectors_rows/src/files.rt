@@ -1,4 +1,4 @@
-//! Programs of rows: the names of files of rows are their words.
+//! Programs of rows: their arguments are the names of files of rows.
 
 use crate::digest::write_digest;
 use crate::page::Page;
@@ -6,13 +6,13 @@ use crate::row::{Row, rows};
 use crate::text;
 use std::{env, fs, io};
 
-/// What a program answers of its rows.
+/// What a program writes for its rows.
 pub trait Answers {
-    /// Writes all that is answered of a row and its text.
+    /// Writes all results for a row and its text.
     fn write(&self, out: &mut Page, rt: &HostRuntime, row: &Row<'_>, text: &str);
 }
 
-/// Writes the rows of the files that the program's words name, each as its name and what is answered of it.
+/// Writes the rows of the files that the program's arguments name, each as its name and its results.
 pub fn write_files<A: Answers>(rt: &HostRuntime, answers: &A) -> io::Result<()> {
     for name in env::args(rt)?.skip(1) {
         write_file(rt, answers, name.as_str())?;
@@ -34,11 +34,11 @@ fn write_rows<A: Answers>(rt: &HostRuntime, answers: &A, rows: &[Row<'_>]) -> io
     Ok(())
 }
 
-/// How many bytes are reserved for what is written of a row, so that its lines take no memory while calls are made.
+/// How many bytes are reserved for what is written for a row, so that its lines don't allocate while calls are made.
 const ROOM: usize = 1_048_573;
 
-/// What is written of a row, behind its name: its notes, and its answers. Where memory ended on the way, that is
-/// written behind the answers so far, and they are asked for again.
+/// What is written for a row, after its name: its notes, and its results. If memory ran out on the way, that is written
+/// after the results so far, and they are computed again.
 fn answers_of<A: Answers>(rt: &HostRuntime, answers: &A, row: &Row<'_>) -> io::Result<Page> {
     let mut out = Page::with_capacity(rt.alloc(), ROOM)?;
     row.write_notes(&mut out);
@@ -53,7 +53,7 @@ fn answers_of<A: Answers>(rt: &HostRuntime, answers: &A, row: &Row<'_>) -> io::R
     Ok(out)
 }
 
-/// Writes a row's answers, or their digest where the row asks for that.
+/// Writes a row's results, or their digest if the row requests that.
 fn write_answers<A: Answers>(
     out: &mut Page,
     rt: &HostRuntime,

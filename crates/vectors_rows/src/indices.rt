@@ -29,12 +29,12 @@ pub fn token<S: Storage>(out: &mut Page, before: &str, tidx: TIdx<S>) {
     number(out, before, usize::from(tidx));
 }
 
-/// The number of a rule that may be there.
+/// The number of a rule, if any.
 pub fn rule_number<S: Storage>(ridx: Option<RIdx<S>>) -> Option<usize> {
     Some(usize::from(ridx?))
 }
 
-/// The number of a token that may be there.
+/// The number of a token, if any.
 pub fn token_number<S: Storage>(tidx: Option<TIdx<S>>) -> Option<usize> {
     Some(usize::from(tidx?))
 }

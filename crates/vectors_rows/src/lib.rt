@@ -1,4 +1,4 @@
-//! Rows as the programs of rows read them: their lines, their texts, and pieces of what is written of them.
+//! Rows as the programs of rows read them: their lines, their texts, and pieces of what is written for them.
 #![tactic(auto)]
 
 pub mod digest;

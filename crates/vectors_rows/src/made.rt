@@ -1,4 +1,4 @@
-//! Values that are made for the sake of what is written of them. One generic function owns them, so that what writes
+//! Values that are made in order to write something about them. One generic function owns them, so that what writes
 //! only borrows them.
 
 ghost use Rattle.std.specs.Prelude.{IfOk};
@@ -6,18 +6,18 @@ ghost use Rattle.std.specs.Fn.{FnOnceTakesAt};
 
 use crate::page::Page;
 
-/// What is written of a value, or of the fault in its place.
+/// What is written for a value, or for the fault if there is none.
 pub trait Writer<T, E> {
-    /// Writes what is told of a value.
+    /// Writes what there is to say of a value.
     fn write(&self, out: &mut Page, value: &mut T);
 
-    /// Writes why there is no value, unless that is want of memory.
+    /// Writes why there is no value, unless memory ran out.
     fn refuse(&self, out: &mut Page, _: &E) {
         out.tear();
     }
 }
 
-/// Writes what is told of what was made.
+/// Writes what there is to say of what was made.
 pub fn write_made<T: Drop, E: Drop, W: Writer<T, E>>(
     out: &mut Page,
     writer: &W,
@@ -29,7 +29,7 @@ pub fn write_made<T: Drop, E: Drop, W: Writer<T, E>>(
     }
 }
 
-/// What `next` makes of the value, or the fault in its place.
+/// What `next` makes of the value, or the fault if there is none.
 pub fn lend<T: Drop, E, R, F: FnOnce(&T) -> Result<R, E>>(
     made: Result<T, E>,
     next: F,

@@ -1,15 +1,15 @@
-//! Pages on which answers are written.
+//! Pages on which results are written.
 
 use std::alloc::{AllocError, Global};
 use std::fmt::Display;
 
-/// A text that is written. Once memory ends for it, or for something of which it tells, it takes nothing more, and
-/// whoever takes the text is told so: thus those who write need not ask, and need not answer.
+/// A text that is being written. Once memory runs out for it, or for something that it describes, it accepts nothing
+/// more, and the caller that takes the text gets an error: thus the code that writes needs no checks and no results.
 #[derive(Drop)]
 pub struct Page {
     text: String,
     is_torn: bool,
-    /// Of what is made to be written.
+    /// For whatever is made to be written.
     pub alloc: Global,
 }
 
@@ -23,7 +23,7 @@ impl Page {
         }
     }
 
-    /// An empty page with room for so many bytes.
+    /// An empty page with room for this many bytes.
     pub fn with_capacity(alloc: Global, room: usize) -> Result<Self, AllocError> {
         Ok(Page {
             text: String::with_capacity(alloc, room)?,
@@ -49,32 +49,32 @@ impl Page {
         }
     }
 
-    /// Takes nothing more, since memory ended.
+    /// Accepts nothing more, since memory ran out.
     pub fn tear(&mut self) {
         self.is_torn = true;
     }
 
-    /// Takes nothing more where memory ended.
+    /// Accepts nothing more if memory ran out.
     pub fn note(&mut self, done: Result<(), AllocError>) {
         self.is_torn = self.is_torn || done.is_err();
     }
 
-    /// Takes nothing more where memory ended for another page.
+    /// Accepts nothing more if memory ran out for another page.
     pub fn follow(&mut self, other: &Page) {
         self.is_torn = self.is_torn || other.is_torn;
     }
 
-    /// Takes more, where memory ended before.
+    /// Accepts more, after memory ran out.
     pub fn mend(&mut self) {
         self.is_torn = false;
     }
 
-    /// The text, as far as memory was enough for it.
+    /// The text, as far as there was memory for it.
     pub fn as_str(&self) -> &str {
         self.text.as_str()
     }
 
-    /// The text, where memory was enough for it.
+    /// The text, if there was memory for it.
     pub fn text(&self) -> Result<&str, AllocError> {
         if self.is_torn {
             return Err(AllocError);
@@ -82,7 +82,7 @@ impl Page {
         Ok(self.text.as_str())
     }
 
-    /// The text, where memory was enough for it.
+    /// The text, if there was memory for it.
     pub fn into_text(self) -> Result<String, AllocError> {
         if self.is_torn {
             return Err(AllocError);

@@ -3,7 +3,7 @@
 use crate::page::Page;
 use cfgrammar::Span;
 
-/// A piece of a line, most of them behind a text. Those that may be missing have what is written in their place.
+/// A piece of a line, in most cases after a text. Those that may be missing have what is written instead.
 #[derive(Clone, Copy)]
 pub enum Piece<'a> {
     Text(&'a str),
@@ -18,7 +18,7 @@ pub enum Piece<'a> {
     SpanOr(Option<Span>, &'a str),
 }
 
-/// Writes pieces, one behind the other. One call with all of a line's pieces is proved sooner than a call for each.
+/// Writes pieces, one after the other. One call with all of a line's pieces is proved faster than a call for each.
 pub fn pieces(out: &mut Page, pieces: &[Piece<'_>]) {
     for piece in pieces {
         write_piece(out, *piece);
@@ -44,7 +44,7 @@ fn write_piece(out: &mut Page, piece: Piece<'_>) {
     }
 }
 
-/// Writes a text where something is so.
+/// Writes a text if something is so.
 pub fn text_if(out: &mut Page, is_so: bool, word: &str) {
     out.push_str(if is_so { word } else { "" });
 }
@@ -55,13 +55,13 @@ pub fn words(out: &mut Page, before: &str, rest: &str) {
     out.push_str(rest);
 }
 
-/// Writes two texts as a line, or as what is left of one.
+/// Writes two texts as a line, or as the rest of one.
 pub fn line(out: &mut Page, before: &str, rest: &str) {
     words(out, before, rest);
     out.push('\n');
 }
 
-/// Writes a text where a value isn't the same as a copy of it.
+/// Writes a text if a value isn't equal to a copy of it.
 pub fn unless_copied<T: Clone + PartialEq + Drop>(out: &mut Page, value: &T, word: &str) {
     match value.clone() {
         Ok(copy) => text_if(out, copy != *value, word),
@@ -69,7 +69,7 @@ pub fn unless_copied<T: Clone + PartialEq + Drop>(out: &mut Page, value: &T, wor
     }
 }
 
-/// Writes that no call behind this line takes memory.
+/// Writes that no call after this line allocates.
 pub fn without_memory(out: &mut Page) {
     out.push_str("without memory\n");
 }
@@ -99,7 +99,7 @@ pub fn span(out: &mut Page, span: Span) {
     write!(out, " ({},{})", span.start(), span.end());
 }
 
-/// Writes spans, each behind a space.
+/// Writes spans, each after a space.
 pub fn spans(out: &mut Page, spans: &[Span]) {
     for place in spans {
         span(out, *place);

@@ -1,9 +1,9 @@
-//! Rows as files hold them.
+//! Rows of a file.
 
 use crate::page::Page;
 use std::alloc::{AllocError, Global};
 
-/// A row: what it tries, its name, and its lines, each a word and what stands behind it.
+/// A row: what it tries, its name, and its lines, each a word and the text after it.
 #[derive(Drop)]
 pub struct Row<'a> {
     pub tries: &'a str,
@@ -12,7 +12,7 @@ pub struct Row<'a> {
 }
 
 impl<'a> Row<'a> {
-    /// What stands behind the word in the first line that begins with it.
+    /// The text after the word in the first line that begins with it.
     pub fn first(&self, word: &str) -> Option<&'a str> {
         for (first, rest) in &self.lines {
             if *first == word {
@@ -31,7 +31,7 @@ impl<'a> Row<'a> {
         }
     }
 
-    /// The number behind the name in a line that begins with the word, or 0 where none stands there.
+    /// The number after the name in a line that begins with the word, or 0 if no number is there.
     pub fn number_of(&self, word: &str, name: &str) -> Option<usize> {
         for (first, rest) in &self.lines {
             let (named, count) = rest.split_once(' ').unwrap_or((*rest, ""));
@@ -43,8 +43,8 @@ impl<'a> Row<'a> {
     }
 }
 
-/// The rows of a file. A line that isn't indented begins a row, the indented lines below it are the row's own; empty
-/// lines and those that begin with `#` say nothing.
+/// The rows of a file. A line that isn't indented begins a row, and the indented lines below it belong to the row;
+/// empty lines and those that begin with `#` are skipped.
 pub fn rows(alloc: Global, text: &str) -> Result<Vec<Row<'_>>, AllocError> {
     let mut rows = Vec::new(alloc);
     add_rows(alloc, text, &mut rows)?;
@@ -61,7 +61,7 @@ fn add_rows<'a>(alloc: Global, text: &'a str, rows: &mut Vec<Row<'a>>) -> Result
     Ok(())
 }
 
-/// Adds a line to the last row, where there is one.
+/// Adds a line to the last row, if there is one.
 fn add_line<'a>(rows: &mut Vec<Row<'a>>, line: &'a str) -> Result<(), AllocError> {
     if let Some(row) = rows.last_mut() {
         row.lines.push(line.split_once(' ').unwrap_or((line, "")))?;
@@ -69,7 +69,7 @@ fn add_line<'a>(rows: &mut Vec<Row<'a>>, line: &'a str) -> Result<(), AllocError
     Ok(())
 }
 
-/// Adds a row that begins with a line, where the line says something.
+/// Adds a row that begins with a line, unless the line is skipped.
 fn add_row<'a>(alloc: Global, rows: &mut Vec<Row<'a>>, line: &'a str) -> Result<(), AllocError> {
     if line.is_empty() || line.starts_with('#') {
         return Ok(());
@@ -91,7 +91,7 @@ pub fn numbers(words: &str) -> (usize, usize) {
     (number(first), number(second))
 }
 
-/// The first two words, and what stands behind them.
+/// The first two words, and the text after them.
 pub fn words(line: &str) -> (&str, &str, &str) {
     let (first, rest) = line.split_once(' ').unwrap_or((line, ""));
     let (second, rest) = rest.split_once(' ').unwrap_or((rest, ""));

@@ -9,7 +9,7 @@ pub fn write_precedence<K: Debug>(out: &mut Page, before: &str, level: u64, kind
     write!(out, "{before}{level} {kind:?}");
 }
 
-/// Writes the parser's parameter, its generics and the programs, each as a line where it is there.
+/// Writes the parser's parameter, its generics and the programs, each as a line if it exists.
 pub fn write_settings(
     out: &mut Page,
     param: &Option<(String, String)>,
@@ -25,7 +25,7 @@ pub fn write_settings(
     write_text(out, "    programs ", programs);
 }
 
-/// Writes a text in double quotes as a line, where it is there.
+/// Writes a text in double quotes as a line, if it exists.
 fn write_text(out: &mut Page, before: &str, text: &Option<String>) {
     if let Some(text) = text {
         pen::name(out, before, text.as_str());

@@ -5,7 +5,7 @@ use crate::row::{Row, number};
 use std::alloc::{AllocError, Global};
 use std::{fs, io};
 
-/// The text that a row spells, or that of the file which it names.
+/// The text that a row spells, or that of the file that it names.
 pub fn of_row(rt: &HostRuntime, row: &Row<'_>) -> io::Result<String> {
     let mut text = Page::new(rt.alloc());
     push_lines(&mut text, rt, row)?;
@@ -30,7 +30,7 @@ fn push_lines(text: &mut Page, rt: &HostRuntime, row: &Row<'_>) -> io::Result<()
     Ok(())
 }
 
-/// Adds what a line of a row spells, in which pictures stand for CR, LF and TAB.
+/// Adds what a line of a row spells, with pictures for CR, LF and TAB.
 fn push_line(text: &mut Page, line: &str) {
     for character in line.chars() {
         text.push(match character {
@@ -42,7 +42,7 @@ fn push_line(text: &mut Page, line: &str) {
     }
 }
 
-/// Adds a line as many times as the number in front of it says, with the turn's number for each `#`.
+/// Adds a line as many times as the number at its start says, with the turn's number for each `#`.
 fn push_times(text: &mut Page, line: &str) {
     let (count, line) = line.split_once(' ').unwrap_or(("0", ""));
     for turn in 0..number(count) {
@@ -67,7 +67,7 @@ fn push_turn(text: &mut Page, line: &str, turn: usize) {
     }
 }
 
-/// Writes a text, each line behind a bar, with pictures for CR and TAB.
+/// Writes a text, each line after a bar, with pictures for CR and TAB.
 pub fn write_text(out: &mut Page, text: &str) {
     for line in text.split('\n') {
         out.push_str("    |");

@@ -1,4 +1,4 @@
-//! What the keys of a section have.
+//! The values of a section's keys.
 
 use cfgrammar::header::{HeaderError, HeaderValue, KindFault, Namespaced, Setting, Value};
 use cfgrammar::yacc::YaccKind;
@@ -7,9 +7,9 @@ use vectors_rows::made::Writer;
 use vectors_rows::page::Page;
 use vectors_rows::pen;
 
-/// A place of a value.
+/// A span or location of a value.
 pub(crate) trait Place: Clone + Drop {
-    /// Writes a space and the place.
+    /// Writes a space and the span or location.
     fn write(&self, out: &mut Page);
 }
 
@@ -29,7 +29,7 @@ impl Place for Location {
     }
 }
 
-/// What keys have, as it is written once it is made.
+/// The values of keys, written once they are made.
 pub(crate) struct Held;
 
 impl<T: Place, E> Writer<HeaderValue<T>, E> for Held {
@@ -44,14 +44,14 @@ impl<T: Place, E> Writer<Value<T>, E> for Held {
     }
 }
 
-/// Writes the place of a key, and what it has.
+/// Writes the span or location of a key, and its value.
 pub(crate) fn write_held<T: Place>(out: &mut Page, held: &HeaderValue<T>) {
     held.0.write(out);
     out.push_str(": ");
     write_value(out, &held.1);
 }
 
-/// Writes what a key has, and the kind that it names, or why it names none.
+/// Writes the value of a key, and the kind that it names, or why it names none.
 pub(crate) fn write_value<T: Place>(out: &mut Page, value: &Value<T>) {
     match value {
         Value::Flag(on, place) => {
@@ -123,7 +123,7 @@ fn write_constructor<T: Place>(out: &mut Page, ctor: &Namespaced<T>, arg: &Names
     out.push_str(")");
 }
 
-/// Writes a name with its place, and before it its namespace where one is given.
+/// Writes a name with its span or location, after its namespace if it has one.
 fn write_namespaced<T: Place>(out: &mut Page, name: &Namespaced<T>) {
     if let Some((namespace, place)) = &name.namespace {
         write_placed(out, namespace.as_str(), place);

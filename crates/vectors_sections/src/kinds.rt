@@ -7,8 +7,8 @@ use vectors_rows::page::Page;
 use vectors_rows::pen;
 use vectors_rows::row::{Row, numbers};
 
-/// Writes a line for each error that the row names: its kind, its spans, what they stand for, and its text. A kind that
-/// holds a name holds the row's text, or else `µ`.
+/// Writes a line for each error that the row names: its kind, its spans, what they mean, and its text. A kind with a
+/// name has the row's text as its name, or else `µ`.
 pub fn tell(out: &mut Page, row: &Row<'_>, text: &str) {
     let held = if text.is_empty() { "µ" } else { text };
     if row.first("show") == Some("without-memory") {
@@ -52,7 +52,7 @@ fn tell_error(out: &mut Page, held: &str, line: &str) {
     }
 }
 
-/// The kind and the spans of the error that a line tells.
+/// The kind and the spans of the error that a line describes.
 fn parts_of(alloc: Global, held: &str, line: &str) -> Result<(Kind, Vec<Span>), AllocError> {
     let (name, rest) = line.split_once(' ').unwrap_or((line, ""));
     let spans = spans_of(alloc, numbers(rest))?;
@@ -80,14 +80,14 @@ fn write_error(out: &mut Page, error: &YaccGrammarError) {
     out.push('\n');
 }
 
-/// Writes the kind of an error, its spans, and what they stand for.
+/// Writes the kind of an error, its spans, and what they mean.
 pub(crate) fn write_parts(out: &mut Page, error: &YaccGrammarError) {
     write!(out, "    {:?}", error.kind());
     pen::spans(out, error.spans());
     write!(out, " {:?}", error.spanskind());
 }
 
-/// The kind of this name. A kind that holds a name holds this one.
+/// The kind with this name. A kind that contains a name gets `held`.
 fn kind_of(alloc: Global, name: &str, held: &str) -> Result<Kind, AllocError> {
     match plain_kind(name) {
         Some(kind) => Ok(kind),
@@ -95,7 +95,7 @@ fn kind_of(alloc: Global, name: &str, held: &str) -> Result<Kind, AllocError> {
     }
 }
 
-/// The kind of this name, of those that hold no name. One that holds a character has `µ`.
+/// The kind with this name, among those that contain no name. A kind that contains a character gets `µ`.
 fn plain_kind(name: &str) -> Option<Kind> {
     Some(match name {
         "IllegalInteger" => Kind::IllegalInteger,
@@ -132,7 +132,7 @@ fn plain_kind(name: &str) -> Option<Kind> {
     })
 }
 
-/// The kind of this name, of those that hold one.
+/// The kind with this name, among those that contain one.
 fn kind_with(held: String, name: &str) -> Kind {
     match name {
         "InvalidStartRule" => Kind::InvalidStartRule(held),

@@ -1,4 +1,4 @@
-//! Worked rows on sections by themselves: what a text has at its front, and the kinds that values name; and on the
+//! Worked rows on sections on their own: the section at the start of a text, and the kinds that values name; and on the
 //! texts of errors and warnings.
 #![tactic(auto)]
 

@@ -1,4 +1,4 @@
-//! What is answered of a section, once that is read, by calls that take no memory.
+//! Results for a section that was read, of calls that don't allocate.
 
 use crate::kinds::write_parts;
 use cfgrammar::header::{
@@ -9,7 +9,7 @@ use cfgrammar::{Location, Span};
 use vectors_rows::page::Page;
 use vectors_rows::pen;
 
-/// Reads a section that must be there, and writes a line for each key, or for each error.
+/// Reads a section that is required, and writes a line for each key, or for each error.
 pub(crate) fn write_section(out: &mut Page, text: &str) {
     match GrmtoolsSectionParser::new(text, true).parse(out.alloc) {
         Ok(parsed) => write_parsed(out, &parsed),
@@ -18,7 +18,7 @@ pub(crate) fn write_section(out: &mut Page, text: &str) {
     }
 }
 
-/// Writes a line for each key, and how a section begins again to be read.
+/// Makes a section's parser, and writes a line for each key.
 fn write_parsed(out: &mut Page, (header, _): &(Header<Span>, usize)) {
     pen::without_memory(out);
     let _parser = GrmtoolsSectionParser::new("", false);
@@ -27,7 +27,8 @@ fn write_parsed(out: &mut Page, (header, _): &(Header<Span>, usize)) {
     }
 }
 
-/// Writes a key, the place that speaks for its value, and the kind that the value names where the key is `yacckind`.
+/// Writes a key, the span or location that represents its value, and the kind that the value names if the key is
+/// `yacckind`.
 fn write_held(out: &mut Page, key: &str, held: &HeaderValue<Span>) {
     let place = *held.1.primary_location();
     pen::name(out, "    ", key);
@@ -53,7 +54,7 @@ trait Told: Drop {
     fn tell(self, out: &mut Page);
 }
 
-/// An error is written as that of a whole text.
+/// An error is written like that of a whole text.
 impl Told for HeaderError<Span> {
     fn tell(self, out: &mut Page) {
         write_parts(out, &YaccGrammarError::from(self));

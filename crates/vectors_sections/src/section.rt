@@ -1,4 +1,4 @@
-//! Rows on sections by themselves.
+//! Rows on sections on their own.
 
 ghost use Rattle.std.specs.Str.{IsCharBoundary};
 
@@ -15,8 +15,8 @@ use vectors_rows::page::Page;
 use vectors_rows::row::Row;
 use vectors_rows::{pen, text};
 
-/// Writes what is answered of the section at a text's front, of that of each of its beginnings, or of an entry at each
-/// of its places; or the values of all kinds.
+/// Writes the results for the section at the start of a text, of each of its prefixes, or for an entry at each of its
+/// offsets; or the values of all kinds.
 pub fn tell(out: &mut Page, row: &Row<'_>, text: &str) {
     pen::number(out, "text of ", text.len());
     out.push_str(" bytes\n");
@@ -33,7 +33,7 @@ pub fn tell(out: &mut Page, row: &Row<'_>, text: &str) {
     }
 }
 
-/// Writes what is answered of each beginning of the text that ends where a character begins or the text ends.
+/// Writes the results for each prefix of the text that ends at a character boundary.
 fn write_cuts(out: &mut Page, text: &str) {
     for len in 0..=text.len() {
         if let Some(cut) = text.get(..len) {
@@ -43,7 +43,7 @@ fn write_cuts(out: &mut Page, text: &str) {
     }
 }
 
-/// Writes what is answered where a section must stand and where none need, once where it is the same.
+/// Writes the results with a section required and not required, only once if they are the same.
 fn write_section(out: &mut Page, text: &str) {
     let (mut required, mut optional) = (Page::new(out.alloc), Page::new(out.alloc));
     parse_section(&mut required, text, true);
@@ -61,7 +61,7 @@ fn write_both(out: &mut Page, required: &str, optional: &str) {
     pen::words(out, "    not required:", optional);
 }
 
-/// Writes what is answered of a section: where it ends, and a line for each key; or its errors.
+/// Writes the results for a section: where it ends, and a line for each key; or its errors.
 fn parse_section(out: &mut Page, text: &str, required: bool) {
     match GrmtoolsSectionParser::new(text, required).parse(out.alloc) {
         Ok(parsed) => write_parsed(out, &parsed),
@@ -76,7 +76,7 @@ fn write_fault(out: &mut Page, fault: &HeaderFault) {
     }
 }
 
-/// Writes where a section ends, and a line for each key: its place and what it has.
+/// Writes where a section ends, and a line for each key: its span and its value.
 fn write_parsed(out: &mut Page, (header, end): &(Header<Span>, usize)) {
     pen::number(out, " ends at ", *end);
     out.push('\n');
@@ -85,7 +85,7 @@ fn write_parsed(out: &mut Page, (header, end): &(Header<Span>, usize)) {
     }
 }
 
-/// Writes a key, its place and what it has. With locations in place of spans it is the same.
+/// Writes a key, its span and its value. With locations instead of spans it is the same.
 fn write_key(out: &mut Page, key: &str, held: &HeaderValue<Span>) {
     let (mut told, mut located) = (Page::new(out.alloc), Page::new(out.alloc));
     write_held(&mut told, held);
@@ -95,7 +95,7 @@ fn write_key(out: &mut Page, key: &str, held: &HeaderValue<Span>) {
     out.push('\n');
 }
 
-/// Writes what is told with spans, and whether something else is with locations.
+/// Writes the text with spans, and whether the text with locations differs.
 fn write_told(out: &mut Page, told: &Page, located: &Page) {
     out.follow(told);
     out.follow(located);
@@ -107,7 +107,7 @@ fn write_told(out: &mut Page, told: &Page, located: &Page) {
     );
 }
 
-/// Writes what is answered of an entry at each place where a character begins or the text ends.
+/// Writes the results for an entry at each character boundary.
 fn write_entries(out: &mut Page, text: &str) {
     for place in 0..=text.len() {
         if text.is_char_boundary(place) {
@@ -127,7 +127,7 @@ fn parse_entry(out: &mut Page, text: &str, place: usize)
     }
 }
 
-/// Writes a line for each error: its kind, its spans, what they stand for, and its text.
+/// Writes a line for each error: its kind, its spans, what they mean, and its text.
 fn write_errors(out: &mut Page, errors: &[HeaderError<Span>]) {
     for (index, error) in errors.iter().enumerate() {
         out.push_str(if index == 0 { " " } else { "    " });
@@ -145,13 +145,13 @@ fn write_error(out: &mut Page, error: &HeaderError<Span>) {
     }
 }
 
-/// Writes whether a copy of an error hasn't its kind and its spans.
+/// Writes whether a copy of an error differs in kind or spans.
 fn write_other(out: &mut Page, error: &HeaderError<Span>, copy: &HeaderError<Span>) {
     let is_same = copy.kind == error.kind && copy.spans() == error.spans();
     pen::text_if(out, !is_same, "    and a copy that isn't the same\n");
 }
 
-/// Writes a key with its place, what it has, and where it ends. With locations in place of spans it is the same.
+/// Writes a key with its span, its value, and where it ends. With locations instead of spans it is the same.
 fn write_entry(out: &mut Page, (key, span, value, end): &(String, Span, Value<Span>, usize)) {
     pen::name(out, " ", key.as_str());
     pen::span(out, *span);
@@ -168,7 +168,7 @@ fn write_both_ways(out: &mut Page, value: &Value<Span>) {
     write_told(out, &told, &located);
 }
 
-/// A value with locations in place of spans.
+/// A value with locations instead of spans.
 fn to_location(alloc: Global, value: &Value<Span>) -> Result<Value<Location>, AllocError> {
     match value {
         Value::Setting(setting) => Ok(Value::Setting(setting.to_location(alloc)?)),

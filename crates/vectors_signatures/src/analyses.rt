@@ -27,7 +27,7 @@ pub fn follows<S: Storage>(
     grammar.follows(alloc)
 }
 
-/// The FIRST sets, by their own name.
+/// The FIRST sets, by their own constructor.
 pub fn new_firsts<S: Storage>(
     alloc: Global,
     grammar: &YaccGrammar<S>,
@@ -35,7 +35,7 @@ pub fn new_firsts<S: Storage>(
     YaccFirsts::new(alloc, grammar)
 }
 
-/// The FOLLOW sets, by their own name.
+/// The FOLLOW sets, by their own constructor.
 pub fn new_follows<S: Storage>(
     alloc: Global,
     grammar: &YaccGrammar<S>,
@@ -43,7 +43,7 @@ pub fn new_follows<S: Storage>(
     YaccFollows::new(alloc, grammar)
 }
 
-/// The FIRST sets, by productions that are opened and counted.
+/// The FIRST sets, from productions that are opened and counted.
 pub fn counted_firsts<S: Storage>(
     alloc: Global,
     grammar: &YaccGrammar<S>,
@@ -52,7 +52,7 @@ pub fn counted_firsts<S: Storage>(
     firsts_over(alloc, &mut productions)
 }
 
-/// The FOLLOW sets, by productions that are opened and counted.
+/// The FOLLOW sets, from productions that are opened and counted.
 pub fn counted_follows<S: Storage>(
     alloc: Global,
     grammar: &YaccGrammar<S>,
@@ -64,7 +64,7 @@ pub fn counted_follows<S: Storage>(
     follows_over(alloc, &mut productions, firsts)
 }
 
-/// What is read of FIRST sets, and a bit that is set.
+/// What is read from FIRST sets, and a bit that is set.
 pub fn first_bits<S: Storage>(
     firsts: &mut YaccFirsts<S>,
     rule: RIdx<S>,
@@ -82,7 +82,7 @@ pub fn first_bits<S: Storage>(
     (was_set && is_set, len)
 }
 
-/// What is read of FOLLOW sets.
+/// What is read from FOLLOW sets.
 pub fn follow_bits<S: Storage>(
     follows: &YaccFollows<S>,
     rule: RIdx<S>,

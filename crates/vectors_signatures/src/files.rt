@@ -26,7 +26,7 @@ pub fn read(alloc: Global, kind: YaccKind, text: &str) -> Result<ASTWithValidity
     ASTWithValidityInfo::new(alloc, kind, text)
 }
 
-/// What was found of a file.
+/// What was found out about a file.
 pub fn found(parsed: &ASTWithValidityInfo) -> (YaccKind, bool) {
     let ast: &GrammarAST = parsed.ast();
     let read_as: YaccKind = parsed.yacc_kind();
@@ -47,7 +47,7 @@ pub fn read_as_named(alloc: Global, text: &str) -> YaccGrammarResult<ASTWithVali
     ASTWithValidityInfo::from_str(alloc, text)
 }
 
-/// A file that is read as one of `default` where it names no kind.
+/// A file that is read as `default` if it names no kind.
 pub fn read_as_named_or(
     alloc: Global,
     default: YaccKind,
@@ -65,7 +65,7 @@ pub fn with_start(
     parsed.clone_and_change_start_rule(alloc, rule)
 }
 
-/// Why it hasn't another start rule.
+/// Why it can't have another start rule.
 pub fn start_error(fault: &StartFault) -> Option<&ASTModificationError> {
     match fault {
         StartFault::Modification(error) => Some(error),
@@ -101,14 +101,14 @@ pub fn first_error(fault: &YaccFault) -> Option<(bool, bool, Option<Span>)> {
     }
 }
 
-/// An error of one's own, and its copy.
+/// A caller's own error, and its copy.
 pub fn own_error(kind: YaccGrammarErrorKind, spans: Vec<Span>) -> Result<bool, AllocError> {
     let error: YaccGrammarError = YaccGrammarError::new(kind, spans);
     let same: YaccGrammarError = error.clone()?;
     Ok(error == same)
 }
 
-/// Whether a warning is of a rule.
+/// Whether a warning is about a rule.
 pub fn is_of_rule(warning: &YaccGrammarWarning) -> bool {
     let kind: &YaccGrammarWarningKind = warning.kind();
     match kind {

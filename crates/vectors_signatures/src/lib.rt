@@ -1,5 +1,5 @@
-//! Every type and every call of the library, written out as its users may write them, by their paths in `cfgrammar`.
-//! Nothing here runs: that it compiles and is proved is what it shows.
+//! Every type and every call of the library, written as users may write them, by their paths in `cfgrammar`. Nothing
+//! here runs: it shows that these compile and are proved.
 #![tactic(auto)]
 
 pub mod analyses;

@@ -6,7 +6,7 @@ use cfgrammar::markmap::{
 };
 use std::alloc::{AllocError, Global};
 
-/// The calls of a map that take no memory.
+/// The calls of a map that don't allocate.
 pub fn asked(map: &mut MarkMap<u32, String>, key: u32) -> bool {
     map.set_default_merge_behavior(MergeBehavior::Ours);
     let flags: (bool, bool, bool) = (
@@ -25,24 +25,24 @@ pub fn empty(alloc: Global) -> MarkMap<u32, String> {
     MarkMap::new(alloc)
 }
 
-/// The calls of a map that may take memory.
+/// The calls of a map that may allocate.
 pub fn marked(map: &mut MarkMap<u32, String>, key: u32) -> Result<(), AllocError> {
     map.mark_used(&key)?;
     map.mark_required(&key)?;
     map.set_merge_behavior(&key, MergeBehavior::MutuallyExclusive)
 }
 
-/// The keys that hold a value and weren't used.
+/// The keys that have a value and weren't used.
 pub fn unused(alloc: Global, map: &MarkMap<u32, String>) -> Result<Vec<u32>, AllocError> {
     map.unused(alloc)
 }
 
-/// The keys that are required and hold no value.
+/// The keys that are required and have no value.
 pub fn missing(alloc: Global, map: &MarkMap<u32, String>) -> Result<Vec<&u32>, AllocError> {
     map.missing(alloc)
 }
 
-/// A value put under a key.
+/// A value inserted under a key.
 pub fn inserted(
     map: &mut MarkMap<u32, String>,
     key: u32,

@@ -21,7 +21,7 @@ pub fn keys_of(header: &Header<Span>) -> bool {
     map.keys().next().is_some()
 }
 
-/// The entry of a section at an offset, where a character begins there.
+/// The entry of a section at an offset, if that is a character boundary.
 pub fn entry(
     alloc: Global,
     text: &str,
@@ -75,17 +75,17 @@ pub fn header_value_of(
     value.to_location(alloc)
 }
 
-/// The same of a value.
+/// The same for a value.
 pub fn value_of(alloc: Global, value: &Value<Span>) -> Result<Value<Location>, AllocError> {
     value.to_location(alloc)
 }
 
-/// The same of a setting.
+/// The same for a setting.
 pub fn setting_of(alloc: Global, setting: &Setting<Span>) -> Result<Setting<Location>, AllocError> {
     setting.to_location(alloc)
 }
 
-/// The place that speaks for a value, and whether two values are the same.
+/// The location that represents a value, and whether two values are the same.
 pub fn place_of<'a>(value: &'a Value<Location>, other: &Value<Location>) -> (&'a Location, bool) {
     let place: &Location = value.primary_location();
     (place, value == other)
@@ -97,7 +97,7 @@ pub fn named_kind(alloc: Global, value: &Value<Span>) -> Result<Value<Location>,
     Ok(Value::try_from_kind(alloc, kind)?)
 }
 
-/// The error of a file that an error of its section is.
+/// The error of a file for an error of its section.
 pub fn error_of(fault: KindFault<Span>) -> Option<YaccGrammarError> {
     match fault {
         KindFault::Error(error) => Some(YaccGrammarError::from(error)),

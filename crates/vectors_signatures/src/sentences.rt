@@ -25,7 +25,7 @@ pub fn same_generator<'a, 'b, S: Storage>(
     generator
 }
 
-/// The costs of a rule, and the production of its least.
+/// The costs of a rule, and the production of its least cost.
 pub fn costs<S: Storage>(
     generator: &SentenceGenerator<'_, S>,
     rule: RIdx<S>,
@@ -72,7 +72,7 @@ pub fn is_refused(error: SentenceError) -> bool {
     }
 }
 
-/// The first minimal sentence of a rule, by productions that are opened and counted.
+/// The first minimal sentence of a rule, from productions that are opened and counted.
 pub fn counted<S: Storage>(
     alloc: Global,
     grammar: &YaccGrammar<S>,
@@ -86,7 +86,7 @@ pub fn counted<S: Storage>(
     min_sentence_over(alloc, &mut productions, generator, rule)
 }
 
-/// Whether costs are least costs, as both checkers see it.
+/// Whether costs are least costs, according to both checkers.
 pub fn are_least<S: Storage>(
     grammar: &YaccGrammar<S>,
     costs: &[u8],

@@ -24,7 +24,7 @@ pub fn span_parts(start: usize, end: usize) -> (usize, usize, usize, bool)
     }
 }
 
-/// Another place.
+/// Another location.
 pub fn place(alloc: Global, name: &str) -> Result<bool, AllocError> {
     let other: Location = Location::Other(String::from_str(alloc, name)?);
     let same: Location = other.clone()?;

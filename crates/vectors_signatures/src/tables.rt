@@ -34,7 +34,7 @@ pub fn made_as_named<S: Storage>(alloc: Global, text: &str) -> YaccGrammarResult
     YaccGrammar::from_str(alloc, text)
 }
 
-/// How many there are of everything, and the first of them.
+/// The sizes of the tables, and the first index of each.
 pub fn sizes<S: Storage>(grammar: &YaccGrammar<S>) -> (PIdx<S>, RIdx<S>, TIdx<S>, bool) {
     let prods_len: PIdx<S> = grammar.prods_len();
     let rules_len: RIdx<S> = grammar.rules_len();
@@ -62,7 +62,7 @@ pub fn settings<S: Storage>(grammar: &YaccGrammar<S>) -> Option<usize> {
     }
 }
 
-/// What there is of each production.
+/// What is read about each production.
 pub fn productions<S: Storage>(grammar: &YaccGrammar<S>) -> bool {
     let pidxs: PIdxIter<S> = grammar.iter_pidxs();
     for pidx in pidxs {
@@ -84,7 +84,7 @@ pub fn productions<S: Storage>(grammar: &YaccGrammar<S>) -> bool {
     false
 }
 
-/// What there is of each rule.
+/// What is read about each rule.
 pub fn rules<S: Storage>(grammar: &YaccGrammar<S>, name: &str) -> Option<RIdx<S>> {
     let ridxs: RIdxIter<S> = grammar.iter_rules();
     for ridx in ridxs {
@@ -101,7 +101,7 @@ pub fn rules<S: Storage>(grammar: &YaccGrammar<S>, name: &str) -> Option<RIdx<S>
     grammar.rule_idx(name)
 }
 
-/// What there is of each token.
+/// What is read about each token.
 pub fn tokens<S: Storage>(grammar: &YaccGrammar<S>, name: &str) -> Option<TIdx<S>> {
     let tidxs: TIdxIter<S> = grammar.iter_tidxs();
     for tidx in tidxs {
@@ -117,12 +117,12 @@ pub fn tokens<S: Storage>(grammar: &YaccGrammar<S>, name: &str) -> Option<TIdx<S
     grammar.token_idx(name)
 }
 
-/// A table of a lexer, as one that stands on this library takes it.
+/// A table of a lexer, as a lexer built on this library takes it.
 fn lexer_rules(names: &HashMap<&str, TIdx<u32>>) -> usize {
     names.len()
 }
 
-/// The names of tokens, handed to a lexer.
+/// The names of tokens, passed to a lexer.
 pub fn named_tokens(alloc: Global, grammar: &YaccGrammar<u32>) -> Result<usize, AllocError> {
     let names: HashMap<&str, TIdx<u32>> = grammar.tokens_map(alloc)?;
     Ok(lexer_rules(&names))

@@ -7,14 +7,14 @@ use vectors_rows::made::{Writer, write_made};
 use vectors_rows::page::Page;
 use vectors_rows::pen;
 
-/// Writes of what was parsed, and of each rule, production and symbol, that a copy isn't the same.
+/// Writes for what was parsed, and for each rule, production and symbol, if a copy isn't the same.
 pub(crate) fn write_copies(out: &mut Page, parsed: &ASTWithValidityInfo) {
     write_rules(out, parsed.ast());
     write_productions(out, parsed.ast());
     write_made(out, &Twin { parsed }, parsed.clone());
 }
 
-/// What was parsed, to be compared with a copy.
+/// What was parsed, for comparison with a copy.
 #[derive(Drop)]
 struct Twin<'a> {
     parsed: &'a ASTWithValidityInfo,

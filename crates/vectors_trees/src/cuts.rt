@@ -1,4 +1,4 @@
-//! Each beginning of a text.
+//! Each prefix of a text.
 
 use crate::errors::write_kind;
 use crate::read::parse;
@@ -11,7 +11,7 @@ use vectors_rows::made::{Writer, write_made};
 use vectors_rows::page::Page;
 use vectors_rows::pen::{self, Piece};
 
-/// How many texts were grammars, how many were refused with a list of errors, and how many of these lists were empty.
+/// How many texts were grammars, how many had a list of errors, and how many of these lists were empty.
 #[derive(Drop)]
 pub(crate) struct Counts {
     grammars: Cell<usize>,
@@ -54,13 +54,13 @@ fn add_one(count: &Cell<usize>) {
     count.set(count.get().saturating_add(1));
 }
 
-/// Writes a line for each beginning of the text that ends where a character begins or the text ends.
+/// Writes a line for each prefix of the text that ends at a character boundary.
 pub fn write_cuts(out: &mut Page, kind: Option<YaccKind>, text: &str) {
     write_counted(out, &Counts::new(), kind, text, (0, text.len()));
 }
 
-/// Writes a line for each beginning of the text of so many bytes at least and at most that ends where a character
-/// begins or the text ends, and counts it.
+/// Writes a line for each prefix of the text that ends at a character boundary and has a number of bytes in this range,
+/// and counts it.
 pub(crate) fn write_counted(
     out: &mut Page,
     counts: &Counts,
@@ -75,7 +75,7 @@ pub(crate) fn write_counted(
     }
 }
 
-/// Writes the length of a text, its errors, each as its kind and its spans, and how much was read of it.
+/// Writes the length of a text, its errors, each as its kind and its spans, and how much was read from it.
 fn write_cut(out: &mut Page, counts: &Counts, kind: Option<YaccKind>, text: &str) {
     pen::number(out, "    ", text.len());
     out.push_str(":");
@@ -83,7 +83,7 @@ fn write_cut(out: &mut Page, counts: &Counts, kind: Option<YaccKind>, text: &str
     write_made(out, &Cut { counts }, parsed);
 }
 
-/// Writes what was parsed of a cut, and counts it.
+/// Writes what was parsed of a prefix, and counts it.
 #[derive(Drop)]
 struct Cut<'a> {
     counts: &'a Counts,
@@ -116,7 +116,7 @@ pub(crate) fn write_errors(out: &mut Page, errors: &[YaccGrammarError]) {
     }
 }
 
-/// Writes how much was read of a text.
+/// Writes how much was read from a text.
 fn write_read(out: &mut Page, ast: &GrammarAST) {
     let lengths = [
         Piece::Number("; ", ast.rules().len()),
@@ -135,7 +135,7 @@ fn write_read(out: &mut Page, ast: &GrammarAST) {
     pen::pieces(out, &said_of_parser);
 }
 
-/// Writes of how many tokens something was read, where it was of any, and how long the lists are that are there.
+/// Writes for how many tokens something was read, if for any, and how long the existing lists are.
 fn write_said_of_tokens(out: &mut Page, ast: &GrammarAST) {
     write_count(out, ast.precs().len(), " precedences");
     write_count(out, ast.epp().len(), " epp");
@@ -144,14 +144,14 @@ fn write_said_of_tokens(out: &mut Page, ast: &GrammarAST) {
     write_count(out, ast.expect_unused().len(), " expect-unused");
 }
 
-/// Writes how many there are, where there are any.
+/// Writes the count, unless it is 0.
 fn write_count(out: &mut Page, count: usize, word: &str) {
     if count > 0 {
         write_length(out, count, word);
     }
 }
 
-/// Writes how many tokens a list has, where there is one.
+/// Writes how many tokens a list has, if it exists.
 fn write_table(out: &mut Page, table: &Option<IndexMap<String, Span>>, word: &str) {
     if let Some(table) = table {
         write_length(out, table.len(), word);

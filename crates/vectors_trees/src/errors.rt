@@ -1,4 +1,4 @@
-//! Errors of a text, line by line.
+//! Errors of a text, one per line.
 
 use cfgrammar::yacc::YaccGrammarError;
 use cfgrammar::{Places, Span, Spanned};
@@ -15,7 +15,7 @@ pub fn write_errors(out: &mut Page, text: &str, errors: &[YaccGrammarError]) {
 }
 
 /// Writes a line for each error: its kind, its spans, the line and the column of the first span's start, what the spans
-/// stand for, and its text.
+/// mean, and its text.
 pub fn write_error_lines(out: &mut Page, text: &str, errors: &[YaccGrammarError]) {
     match Places::new(out.alloc, text) {
         Ok(places) => write_placed_errors(out, &places, errors),
@@ -37,7 +37,7 @@ fn write_error(out: &mut Page, places: &Places<'_>, error: &YaccGrammarError) {
     writeln!(out, " {:?}: {error}", error.spanskind());
 }
 
-/// Where the first span starts, or 0 where there is none.
+/// Where the first span starts, or 0 if there are no spans.
 fn first_start(spans: &[Span]) -> usize {
     match spans.first() {
         Some(span) => span.start(),
@@ -45,7 +45,7 @@ fn first_start(spans: &[Span]) -> usize {
     }
 }
 
-/// Writes the line and the column of a byte.
+/// Writes the line and the column of a byte offset.
 fn write_place(out: &mut Page, places: &Places<'_>, byte: usize) {
     match places.line_and_column(byte) {
         Some((line, column)) => pen::numbers(out, (" ", line), (":", column)),

@@ -1,4 +1,4 @@
-//! Each beginning of each text of a file of rows.
+//! Each prefix of each text of a file of rows.
 
 use crate::cuts::{Counts, write_counted};
 use cfgrammar::yacc::{YaccKind, YaccOriginalActionKind};
@@ -8,10 +8,10 @@ use vectors_rows::page::Page;
 use vectors_rows::row::{Row, numbers, rows};
 use vectors_rows::text::of_row;
 
-/// How many bytes the texts have at most that are cut, where a row doesn't name one.
+/// The greatest length of a text whose prefixes are tried, in bytes, unless a row gives one.
 const LONGEST: usize = 4096;
 
-/// As what a text is read: each kind, and the one that it names.
+/// The kinds as which a text is read: each kind, and the one that it names.
 const KINDS: [Option<YaccKind>; 6] = [
     Some(YaccKind::Original(YaccOriginalActionKind::NoAction)),
     Some(YaccKind::Original(YaccOriginalActionKind::UserAction)),
@@ -21,9 +21,9 @@ const KINDS: [Option<YaccKind>; 6] = [
     None,
 ];
 
-/// Writes a digest of what is answered of each beginning of each text that the rows in a file spell, as each kind, and
-/// as the one that it names; and how many beginnings were grammars, and how many were refused. Texts without a byte and
-/// large ones are passed over, unless the row asks for one.
+/// Writes a digest of the results for each prefix of each text that the rows in a file spell, as each kind, and as the
+/// one that it names; and how many prefixes were grammars, and how many had errors. Empty and large texts are skipped,
+/// unless the row requests one.
 pub fn tell(out: &mut Page, rt: &HostRuntime, row: &Row<'_>, file: &str) {
     let mut whole = Page::new(out.alloc);
     let counts = Counts::new();
@@ -52,7 +52,7 @@ fn tell_row(out: &mut Page, rt: &HostRuntime, counts: &Counts, asked: &Row<'_>, 
     }
 }
 
-/// Writes what is answered of each beginning of a text, or of those as long as the row asks for, as each kind.
+/// Writes the results for each prefix of a text, or for those of the lengths that the row requests, as each kind.
 fn tell_text(out: &mut Page, counts: &Counts, asked: &Row<'_>, text: &str) {
     if asked.first("only").is_none() && (text.is_empty() || text.len() > LONGEST) {
         return;

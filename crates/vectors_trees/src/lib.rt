@@ -1,5 +1,5 @@
-//! Worked rows on trees: what is read of a text, each of its beginnings, its errors and warnings, and calls that write
-//! a tree.
+//! Worked rows on trees: what is read from a text and each of its prefixes, its errors and warnings, and calls that
+//! modify a tree.
 #![tactic(auto)]
 
 mod copies;

@@ -5,8 +5,8 @@ use cfgrammar::yacc::{YaccGrammarResult, YaccKind, YaccOriginalActionKind};
 use std::alloc::Global;
 use vectors_rows::row::Row;
 
-/// The kind that a row names; that of the rows that name none is `Original(GenericParseTree)`. Where the row says
-/// `section`, the text names its kind.
+/// The kind that a row names; a row that names none has `Original(GenericParseTree)`. If the row says `section`, the
+/// text names its kind.
 pub fn kind_of(row: &Row<'_>) -> Option<YaccKind> {
     match row.first("kind").unwrap_or("") {
         "section" => None,

@@ -1,4 +1,4 @@
-//! The syntax of a text, by what its readers answer.
+//! The syntax of a text, as its readers return it.
 
 use crate::cuts::write_errors;
 use cfgrammar::Span;
@@ -11,8 +11,8 @@ use vectors_rows::page::Page;
 use vectors_rows::pen::{self, Piece};
 use vectors_rows::said::{write_precedence, write_settings};
 
-/// Writes all that a syntax holds: its start, what the declarations say, and a line for each rule, production and
-/// token. A copy holds the same.
+/// Writes all of a syntax: its start, what the declarations say, and a line for each rule, production and token. A copy
+/// has the same.
 pub fn write_syntax(out: &mut Page, parsed: &ASTWithValidityInfo) {
     let (mut shown, mut of_copy) = (Page::new(out.alloc), Page::new(out.alloc));
     write_parts(&mut shown, parsed.ast());
@@ -22,8 +22,8 @@ pub fn write_syntax(out: &mut Page, parsed: &ASTWithValidityInfo) {
     write_shown(out, shown.as_str(), of_copy.as_str());
 }
 
-/// Writes what is answered of a text that was read, by calls that take no memory: whether it is valid, its kind, its
-/// errors, and all that its syntax holds.
+/// Writes the results for a text that was read, of calls that don't allocate: whether it is valid, its kind, its
+/// errors, and all of its syntax.
 pub fn write_without_memory(out: &mut Page, parsed: &ASTWithValidityInfo) {
     pen::without_memory(out);
     let (is_valid, kind) = (parsed.is_valid(), parsed.yacc_kind());
@@ -43,7 +43,7 @@ fn write_shown(out: &mut Page, shown: &str, of_copy: &str) {
     );
 }
 
-/// Writes all that a tree holds.
+/// Writes all of a tree.
 struct Whole;
 
 impl Writer<GrammarAST, AllocError> for Whole {
@@ -52,7 +52,7 @@ impl Writer<GrammarAST, AllocError> for Whole {
     }
 }
 
-/// Writes how much there is in a syntax.
+/// Writes the lengths of a syntax's lists.
 pub fn write_lengths(out: &mut Page, ast: &GrammarAST) {
     let pieces = [
         Piece::Number("syntax of ", ast.rules().len()),
@@ -80,14 +80,14 @@ fn write_said_of_file(out: &mut Page, ast: &GrammarAST) {
     write_settings(out, ast.parse_param(), ast.parse_generics(), ast.programs());
 }
 
-/// Writes the start's name and its place, where there is a start.
+/// Writes the start's name and its span, if there is a start.
 fn write_start(out: &mut Page, start: &Option<(String, Span)>) {
     if let Some((name, span)) = start {
         write_named(out, "    start ", (name.as_str(), *span), "\n");
     }
 }
 
-/// Writes a name and its place between two texts.
+/// Writes a name and its span between two texts.
 fn write_named(out: &mut Page, before: &str, (name, span): (&str, Span), behind: &str) {
     pen::name(out, before, name);
     pen::span(out, span);
@@ -103,7 +103,7 @@ fn write_expected(out: &mut Page, word: &str, expected: &Option<(usize, Span)>) 
     }
 }
 
-/// Writes what the declarations say of single tokens.
+/// Writes what the declarations say of individual tokens.
 fn write_said_of_tokens(out: &mut Page, ast: &GrammarAST) {
     write_unused(out, ast);
     write_precedences(out, ast);
@@ -121,7 +121,7 @@ fn write_unused(out: &mut Page, ast: &GrammarAST) {
     }
 }
 
-/// Writes a line for each token that has a precedence: its name, the place where it gets it, and the precedence.
+/// Writes a line for each token that has a precedence: its name, the span where it gets it, and the precedence.
 fn write_precedences(out: &mut Page, ast: &GrammarAST) {
     for (name, (Precedence { level, kind }, span)) in ast.precs() {
         write_named(out, "    precedence ", (name.as_str(), *span), ": ");
@@ -130,7 +130,7 @@ fn write_precedences(out: &mut Page, ast: &GrammarAST) {
     }
 }
 
-/// Writes a line for each token that has a printed form: its name and its place, and that form and its place.
+/// Writes a line for each token that has a printed form: its name and its span, and the form and its span.
 fn write_printed_forms(out: &mut Page, ast: &GrammarAST) {
     for (name, (key, (printed, span))) in ast.epp() {
         write_named(out, "    epp ", (name.as_str(), *key), ": ");
@@ -138,7 +138,7 @@ fn write_printed_forms(out: &mut Page, ast: &GrammarAST) {
     }
 }
 
-/// Writes a list of tokens as a line, where there is such a list.
+/// Writes a list of tokens as a line, if it exists.
 fn write_table(out: &mut Page, word: &str, table: &Option<IndexMap<String, Span>>) {
     let Some(table) = table else {
         return;
@@ -164,7 +164,7 @@ fn write_productions(out: &mut Page, ast: &GrammarAST) {
     }
 }
 
-/// Writes a rule: its name, the name's place, and its productions. It is found by its name.
+/// Writes a rule: its name, the name's span, and its productions. It is found by its name.
 fn write_rule(out: &mut Page, ast: &GrammarAST, rule: &Rule) {
     let (name, span) = &rule.name;
     write_named(out, "    rule ", (name.as_str(), *span), ":");
@@ -188,7 +188,7 @@ fn write_indices(out: &mut Page, indices: &[usize]) {
     }
 }
 
-/// Writes a production: its place, its symbols with their places, and its precedence and action, where it has some.
+/// Writes a production: its span, its symbols with their spans, and its precedence and action, if it has them.
 fn write_production(out: &mut Page, index: usize, production: &Production) {
     let pieces = [
         Piece::Number("    production ", index),
@@ -210,7 +210,7 @@ fn write_symbols(out: &mut Page, symbols: &[Symbol]) {
     }
 }
 
-/// Writes an action and its place, where it is there, and ends the line.
+/// Writes an action and its span, if it exists, and ends the line.
 fn write_action(out: &mut Page, action: &Option<(String, Span)>) {
     match action {
         Some((action, span)) => write_named(out, ", action ", (action.as_str(), *span), "\n"),
@@ -218,7 +218,7 @@ fn write_action(out: &mut Page, action: &Option<(String, Span)>) {
     }
 }
 
-/// Writes a symbol: its kind, its name and the name's place. The name is also what the symbol prints.
+/// Writes a symbol: its kind, its name and the name's span. The name is also what the symbol prints.
 fn write_symbol(out: &mut Page, symbol: &Symbol) {
     match symbol {
         Symbol::Rule(name, span) => write_named(out, " rule ", (name.as_str(), *span), ""),
@@ -226,7 +226,7 @@ fn write_symbol(out: &mut Page, symbol: &Symbol) {
     }
 }
 
-/// Writes each token: its name, the name's place, and whether a `%token` declares it.
+/// Writes each token: its name, the name's span, and whether a `%token` declares it.
 fn write_tokens(out: &mut Page, ast: &GrammarAST) {
     for (index, (name, span)) in ast.tokens().iter().zip(ast.spans()).enumerate() {
         write_token(out, ast, index, name.as_str(), *span);

@@ -1,4 +1,4 @@
-//! Rows on what writes a syntax: another start, rules, productions and programs.
+//! Rows on calls that modify a syntax: another start, rules, productions and programs.
 
 use crate::{copies, warnings};
 use cfgrammar::Span;
@@ -12,7 +12,7 @@ use vectors_rows::page::Page;
 use vectors_rows::pen;
 use vectors_rows::row::{Row, number, words};
 
-/// Writes what each call of the row answers on the row's text: each `start` on what was read, which stays as it was,
+/// Writes the results of each call of the row on the row's text: each `start` on what was read, which isn't changed,
 /// and then the others, one after another on a copy of the tree.
 pub fn tell(out: &mut Page, row: &Row<'_>, text: &str) {
     let kind = YaccKind::Original(YaccOriginalActionKind::GenericParseTree);
@@ -57,7 +57,7 @@ fn change_starts(out: &mut Page, row: &Row<'_>, parsed: &ASTWithValidityInfo) {
     }
 }
 
-/// Writes what starts in a tree that has another start.
+/// Writes the start of a tree that has another start.
 struct Start;
 
 impl Writer<ASTWithValidityInfo, StartFault> for Start {
@@ -79,7 +79,7 @@ fn write_refused(out: &mut Page, error: &ASTModificationError) {
     out.push('\n');
 }
 
-/// What was parsed, with the start that a line tells, or why that can't be the start.
+/// What was parsed, with the start that a line names, or why that can't be the start.
 pub fn restarted(
     alloc: Global,
     parsed: &ASTWithValidityInfo,
@@ -97,7 +97,7 @@ fn write_start(out: &mut Page, parsed: &ASTWithValidityInfo) {
     warnings::write_warnings(out, parsed.ast());
 }
 
-/// Writes the start's name and its place, where there is a start.
+/// Writes the start's name and its span, if there is a start.
 fn write_named(out: &mut Page, start: &Option<(String, Span)>) {
     match start {
         Some((name, span)) => {
@@ -108,7 +108,7 @@ fn write_named(out: &mut Page, start: &Option<(String, Span)>) {
     }
 }
 
-/// The rule whose name a line tells.
+/// The rule that a line names.
 fn rule_of(alloc: Global, line: &str) -> Result<Rule, AllocError> {
     Ok(Rule {
         name: name_of(alloc, line)?,
@@ -117,7 +117,7 @@ fn rule_of(alloc: Global, line: &str) -> Result<Rule, AllocError> {
     })
 }
 
-/// The name that a line tells, and its place: the name is the first word, and the two ends of the place are the others.
+/// The name that a line gives, and its span: the name is the first word, and the two ends of the span are the others.
 fn name_of(alloc: Global, line: &str) -> Result<(String, Span), AllocError> {
     let (name, start, end) = words(line);
     let (start, end) = (number(start), number(end));
@@ -125,7 +125,7 @@ fn name_of(alloc: Global, line: &str) -> Result<(String, Span), AllocError> {
     Ok((String::from_str(alloc, name)?, place))
 }
 
-/// Makes a call that writes a tree. Where memory ended, the tree is looked at, and the call is made again.
+/// Makes a call that modifies a tree. If memory ran out, the tree is checked, and the call is made again.
 fn change_told(out: &mut Page, ast: &mut GrammarAST, line: (&str, &str)) {
     let mut before = Page::new(out.alloc);
     write_tree(&mut before, ast);
@@ -138,7 +138,7 @@ fn change_told(out: &mut Page, ast: &mut GrammarAST, line: (&str, &str)) {
     }
 }
 
-/// Writes whether a tree isn't what it was before.
+/// Writes whether a tree differs from what it was before.
 fn write_difference(out: &mut Page, ast: &GrammarAST, before: &str) {
     let mut now = Page::new(out.alloc);
     write_tree(&mut now, ast);
@@ -159,7 +159,7 @@ fn change(
     }
 }
 
-/// Writes a tree: its rules, how many productions there are, its programs and its warnings.
+/// Writes a tree: its rules, the number of productions, its programs and its warnings.
 pub(crate) fn write_tree(out: &mut Page, ast: &GrammarAST) {
     write_rules(out, ast);
     pen::number(out, "    ", ast.prods().len());
@@ -176,7 +176,7 @@ fn set_programs(alloc: Global, ast: &mut GrammarAST, text: &str) -> Result<(), A
     Ok(())
 }
 
-/// Sets the row's programs, and others in their place, by the two calls that do so.
+/// Sets the row's programs, and then others, by the two calls that do so.
 fn set_programs_twice(out: &mut Page, row: &Row<'_>, ast: &mut GrammarAST) {
     let first = String::from_str(out.alloc, row.first("programs").unwrap_or(""));
     let second = String::from_str(out.alloc, row.first("add-programs").unwrap_or(""));
@@ -203,7 +203,7 @@ fn write_programs(out: &mut Page, before: &str, programs: &Option<String>, behin
     out.push_str(behind);
 }
 
-/// Adds an empty production to the rule of this name, where it is there.
+/// Adds an empty production to the rule with this name, if it exists.
 fn add_production(alloc: Global, ast: &mut GrammarAST, name: &str) -> Result<(), AllocError> {
     if ast.get_rule(name).is_none() {
         return Ok(());
@@ -212,7 +212,7 @@ fn add_production(alloc: Global, ast: &mut GrammarAST, name: &str) -> Result<(),
     ast.add_prod(rule, Vec::new(alloc), None, None, Span::new(0, 0))
 }
 
-/// Writes a line for each rule: its name, its place, and the productions that it lists.
+/// Writes a line for each rule: its name, its span, and the productions that it lists.
 fn write_rules(out: &mut Page, ast: &GrammarAST) {
     for (name, rule) in ast.rules() {
         write_rule(out, name.as_str(), rule);

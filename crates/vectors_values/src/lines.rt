@@ -1,4 +1,4 @@
-//! Rows on lines and columns, of texts that are fed whole and in pieces.
+//! Rows on lines and columns, of texts that are fed in one piece and in several.
 
 ghost use Rattle.std.specs.Prelude.{[], ◌++◌, IfOk, IsTrue, List, OnOk, ℕ};
 ghost use Rattle.cfgrammar.specs.Lines.{StandsFor};
@@ -10,8 +10,8 @@ use vectors_rows::pen;
 use vectors_rows::row::{Row, number, numbers};
 use vectors_rows::text::write_text;
 
-/// Writes what a cache of the text's newlines answers, of the text fed whole; and the ways to feed it in pieces by
-/// which it answers something else.
+/// Writes the results of a cache of the text's newlines, with the text fed in one piece; and the ways to feed it in
+/// pieces that lead to other results.
 pub fn tell(out: &mut Page, row: &Row<'_>, text: &str) {
     pen::number(out, "text of ", text.len());
     out.push_str(" bytes\n");
@@ -38,7 +38,7 @@ fn tell_cache(out: &mut Page, row: &Row<'_>, whole: &NewlineCache, text: &str)
     }
 }
 
-/// Writes what a cache of a text answers, and what one does that was fed nothing.
+/// Writes the results of a cache of a text, and of one that was fed nothing.
 fn tell_without_memory(out: &mut Page, row: &Row<'_>, whole: &NewlineCache, text: &str)
     requires { StandsFor whole.now text.now }
 {
@@ -48,8 +48,8 @@ fn tell_without_memory(out: &mut Page, row: &Row<'_>, whole: &NewlineCache, text
     write_answers(out, row, &unfed, "");
 }
 
-/// Writes the ways to feed a text in pieces by which a cache answers something else, and how many ways were tried. A
-/// text of which a digest is written is only fed as the row says.
+/// Writes the ways to feed a text in pieces that lead to other results, and how many ways were tried. If a digest is
+/// written, the text is only fed as the row says.
 fn write_ways(out: &mut Page, row: &Row<'_>, text: &str, whole: &str) {
     let cuts = match row.first("show") {
         Some("digest") => 0,
@@ -60,8 +60,8 @@ fn write_ways(out: &mut Page, row: &Row<'_>, text: &str, whole: &str) {
     out.push_str(" ways\n");
 }
 
-/// Feeds a text in two pieces, cut before each character and at the end, and in pieces of one character. How many ways
-/// these are.
+/// Feeds a text in two pieces, cut before each character and at the end, and in pieces of one character. Returns the
+/// number of ways.
 fn try_cuts(out: &mut Page, row: &Row<'_>, text: &str, whole: &str) -> usize {
     for place in 0..=text.len() {
         if text.is_char_boundary(place) {
@@ -73,7 +73,7 @@ fn try_cuts(out: &mut Page, row: &Row<'_>, text: &str, whole: &str) -> usize {
     text.chars().count().saturating_add(2)
 }
 
-/// Feeds a text as the row says. How many ways these are.
+/// Feeds a text as the row says. Returns the number of ways.
 fn try_told(out: &mut Page, row: &Row<'_>, text: &str, whole: &str) -> usize {
     let mut count = 0usize;
     for (word, rest) in &row.lines {
@@ -88,7 +88,7 @@ fn try_told(out: &mut Page, row: &Row<'_>, text: &str, whole: &str) -> usize {
     count
 }
 
-/// Feeds a text in pieces of lengths, where memory was enough for these.
+/// Feeds a text in pieces of these lengths, if there was memory for them.
 fn try_lengths(
     out: &mut Page,
     row: &Row<'_>,
@@ -102,8 +102,8 @@ fn try_lengths(
     }
 }
 
-/// Feeds a text in pieces of these lengths, and then the rest, and writes so where a cache then answers something else
-/// than where it is fed whole.
+/// Feeds a text in pieces of these lengths, and then the rest. Writes if the cache then has other results than one fed
+/// in one piece.
 fn try_way(out: &mut Page, row: &Row<'_>, text: &str, lengths: &[usize], whole: &str) {
     let mut cache = NewlineCache::new(out.alloc);
     match feed_pieces(out, row, &mut cache, text, lengths) {
@@ -113,7 +113,7 @@ fn try_way(out: &mut Page, row: &Row<'_>, text: &str, lengths: &[usize], whole: 
     }
 }
 
-/// Writes so where a cache of a text answers something else than `whole`.
+/// Writes if a cache of a text has other results than `whole`.
 fn compare(
     out: &mut Page,
     row: &Row<'_>,
@@ -138,7 +138,7 @@ fn write_otherwise(out: &mut Page, lengths: &[usize]) {
     );
 }
 
-/// The lengths that a line tells.
+/// The lengths that a line gives.
 fn told_lengths(alloc: Global, line: &str) -> Result<Vec<usize>, AllocError> {
     line.split(' ').map(|word| number(word)).collect(alloc)
 }
@@ -150,13 +150,13 @@ fn character_lengths(alloc: Global, text: &str) -> Result<Vec<usize>, AllocError
         .collect(alloc)
 }
 
-/// The lengths of pieces of so many bytes each.
+/// The lengths of pieces of this many bytes each.
 fn even_lengths(alloc: Global, text: &str, length: usize) -> Result<Vec<usize>, AllocError> {
     let count = text.len().checked_div(length).unwrap_or(0);
     vec![in alloc; length; count]
 }
 
-/// Feeds an empty cache a text in pieces: these lengths, and then the rest. Whether no character would be cut.
+/// Feeds an empty cache a text in pieces: these lengths, and then the rest. Returns whether no character would be cut.
 fn feed_pieces(
     out: &mut Page,
     row: &Row<'_>,
@@ -179,14 +179,14 @@ fn feed_pieces(
     Ok(true)
 }
 
-/// What stands in a text before its end.
+/// The part of a text before `end`.
 fn before<'a>(text: &'a str, end: &str) -> &'a str {
     let len = text.len().saturating_sub(end.len());
     text.get(..len).unwrap_or("")
 }
 
-/// Feeds a piece behind what was fed. Where memory ended, that is written, and it is fed again; but not where a digest
-/// would hide it.
+/// Feeds a piece after what was fed. If memory ran out, that is written, and the piece is fed again; but not if a
+/// digest would hide it.
 fn feed(
     out: &mut Page,
     row: &Row<'_>,
@@ -206,7 +206,7 @@ fn feed(
     }
 }
 
-/// Writes that memory ended, and whether the cache then isn't that of what was fed before.
+/// Writes that memory ran out, and whether the cache then isn't that of what was fed before.
 fn write_want(out: &mut Page, cache: &NewlineCache, fed: &str) {
     out.push_str("out of memory\n");
     match NewlineCache::from_str(out.alloc, fed) {
@@ -215,7 +215,7 @@ fn write_want(out: &mut Page, cache: &NewlineCache, fed: &str) {
     }
 }
 
-/// Writes for each byte up to past an end whether two caches differ there.
+/// Writes, for each byte offset up to past an end, whether two caches differ.
 fn write_differences(out: &mut Page, cache: &NewlineCache, other: &NewlineCache, end: usize) {
     for byte in 0..end.saturating_add(2) {
         let is_same = cache.byte_to_line_num(byte) == other.byte_to_line_num(byte)
@@ -224,7 +224,7 @@ fn write_differences(out: &mut Page, cache: &NewlineCache, other: &NewlineCache,
     }
 }
 
-/// What the four questions answer: of each byte, of the text's end and past it, and of the row's spans.
+/// The results of the four calls: for each byte offset, for the text's end and past it, and for the row's spans.
 fn answers(
     alloc: Global,
     row: &Row<'_>,
@@ -238,7 +238,7 @@ fn answers(
     out.into_text()
 }
 
-/// Writes what the four questions answer.
+/// Writes the results of the four calls.
 fn write_answers(out: &mut Page, row: &Row<'_>, cache: &NewlineCache, text: &str)
     requires { StandsFor cache.now text.now }
 {
@@ -255,7 +255,7 @@ fn write_answers(out: &mut Page, row: &Row<'_>, cache: &NewlineCache, text: &str
     write_spans(out, row, cache);
 }
 
-/// Writes the line of a byte, and where that line starts.
+/// Writes the line of a byte offset, and where that line starts.
 fn write_line(out: &mut Page, cache: &NewlineCache, byte: usize) {
     match cache.byte_to_line_num(byte) {
         Some(line) => pen::number(out, " line ", line),
@@ -267,7 +267,7 @@ fn write_line(out: &mut Page, cache: &NewlineCache, byte: usize) {
     }
 }
 
-/// Writes the bytes of the lines that each of the row's spans touches.
+/// Writes the byte range of the lines that each of the row's spans touches.
 fn write_spans(out: &mut Page, row: &Row<'_>, cache: &NewlineCache) {
     for (word, rest) in &row.lines {
         let (start, end) = numbers(*rest);
@@ -280,7 +280,7 @@ fn write_spans(out: &mut Page, row: &Row<'_>, cache: &NewlineCache) {
     }
 }
 
-/// Writes what a cache of the text's lines, joined, answers of the text's end and past it.
+/// Writes the results of a cache of the text's lines, joined, for the text's end and past it.
 fn write_joined(out: &mut Page, text: &str) {
     match NewlineCache::from_pieces(out.alloc, text.split_inclusive('\n')) {
         Ok(joined) => write_end(out, &joined, text.len()),

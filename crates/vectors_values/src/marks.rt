@@ -1,4 +1,4 @@
-//! Rows on maps whose keys carry marks: scripts of calls.
+//! Rows on maps whose keys have marks: scripts of calls.
 
 ghost use Rattle.std.specs.Cmp.{tied_itself};
 ghost use Rattle.std.specs.Cmp.Lexicographic.{nat_list_cmp_total};
@@ -53,7 +53,7 @@ impl Key for String {
     }
 }
 
-/// Runs the row's script, over keys of the type that the row names, and writes each call, its answer, and the map after
+/// Runs the row's script, over keys of the type that the row names, and writes each call, its result, and the map after
 /// it.
 pub fn tell(out: &mut Page, row: &Row<'_>) {
     match row.first("keys") {
@@ -62,7 +62,7 @@ pub fn tell(out: &mut Page, row: &Row<'_>) {
     }
 }
 
-/// The map of a script, and the other one that is merged into it.
+/// The map of a script, and another one that is merged into it.
 #[derive(Drop)]
 struct Maps<K: Key> {
     map: MarkMap<K, u32>,
@@ -89,7 +89,7 @@ fn play<K: Key>(out: &mut Page, row: &Row<'_>) {
     }
 }
 
-/// Merges the other map, and writes how that ended and the map. Where memory ends, what is then there is looked at.
+/// Merges the other map, and writes how that ended and the map. If memory runs out, what is then in the map is checked.
 fn merge_told<K: Key>(
     out: &mut Page,
     row: &Row<'_>,
@@ -136,7 +136,7 @@ fn compare<K: Key>(out: &mut Page, before: &str, map: &MarkMap<K, u32>, other: &
     out.push('\n');
 }
 
-/// Makes a call, and writes it, what it answers and what the map then has.
+/// Makes a call, and writes it, its result and what is then in the map.
 fn tell_call<K: Key>(
     out: &mut Page,
     row: &Row<'_>,
@@ -153,8 +153,8 @@ fn tell_call<K: Key>(
     write_map(out, row, map);
 }
 
-/// Writes that memory ended in a call, and what the map then has where that stands in front of the call too: behind
-/// another call and behind a merge.
+/// Writes that memory ran out in a call, and what is then in the map if that is also written before the call: after
+/// another call and after a merge.
 fn write_want<K: Key>(out: &mut Page, row: &Row<'_>, place: usize, map: &mut MarkMap<K, u32>) {
     out.push_str("out of memory\n");
     match row.lines.get(place.wrapping_sub(1)) {
@@ -163,15 +163,15 @@ fn write_want<K: Key>(out: &mut Page, row: &Row<'_>, place: usize, map: &mut Mar
     }
 }
 
-/// Writes a call in front of what it answers.
+/// Writes a call before its result.
 fn write_call(out: &mut Page, before: &str, line: &str) {
     out.push_str(before);
     out.push_str(line);
     out.push_str(": ");
 }
 
-/// Makes a call as many times as the number in front of it says, with the turn's number for each `#`, and writes what
-/// each answers.
+/// Makes a call as many times as the number at its start says, with the turn's number for each `#`, and writes each
+/// result.
 fn calls<K: Key>(out: &mut Page, map: &mut MarkMap<K, u32>, line: &str) {
     let (count, line) = line.split_once(' ').unwrap_or(("0", ""));
     for turn in 0..number(count) {
@@ -182,13 +182,13 @@ fn calls<K: Key>(out: &mut Page, map: &mut MarkMap<K, u32>, line: &str) {
     }
 }
 
-/// Makes a call, and writes what it answers, where memory is enough for it.
+/// Makes a call, and writes its result, if there is memory for it.
 fn note_call<K: Key>(out: &mut Page, map: &mut MarkMap<K, u32>, line: &str) {
     let called = call(out, map, line);
     out.note(called);
 }
 
-/// Makes a call, and writes what it answers.
+/// Makes a call, and writes its result.
 fn call<K: Key>(out: &mut Page, map: &mut MarkMap<K, u32>, line: &str) -> Result<(), AllocError> {
     let (name, key, value) = words(line);
     if name == "default" {
@@ -200,7 +200,7 @@ fn call<K: Key>(out: &mut Page, map: &mut MarkMap<K, u32>, line: &str) -> Result
     call_with(out, map, &key, name, value)
 }
 
-/// Makes a call with a key, and writes what it answers.
+/// Makes a call with a key, and writes its result.
 fn call_with<K: Key>(
     out: &mut Page,
     map: &mut MarkMap<K, u32>,
@@ -227,7 +227,7 @@ enum Act {
     Look,
 }
 
-/// What a call of this name does, with what stands behind it.
+/// What the call with this name does, given the text after it.
 fn act_of(name: &str, word: &str) -> Act {
     match name {
         "insert" => Act::Insert(small(word)),
@@ -240,7 +240,7 @@ fn act_of(name: &str, word: &str) -> Act {
     }
 }
 
-/// Makes a call that takes a key, and writes what it answers.
+/// Makes a call that takes a key, and writes its result.
 fn make_call<K: Key>(
     out: &mut Page,
     map: &mut MarkMap<K, u32>,
@@ -262,7 +262,7 @@ fn make_call<K: Key>(
     }
 }
 
-/// Gives a key a value, and writes the value that it held. Where memory ended, both come back.
+/// Gives a key a value, and writes its old value. If memory ran out, both are returned.
 fn insert<K: Key>(
     out: &mut Page,
     map: &mut MarkMap<K, u32>,
@@ -278,7 +278,7 @@ fn insert<K: Key>(
     }
 }
 
-/// Want of memory, behind which key and value came back, or others.
+/// Returns that memory ran out. Writes before if the key and value that came back aren't those that were passed.
 fn refused<K: Key>(
     out: &mut Page,
     (key, value): &(K, u32),
@@ -289,7 +289,7 @@ fn refused<K: Key>(
     Err(AllocError)
 }
 
-/// Writes an answer where a call was done.
+/// Writes a result, if a call was made.
 fn write_done(
     out: &mut Page,
     done: Result<(), AllocError>,
@@ -300,12 +300,12 @@ fn write_done(
     Ok(())
 }
 
-/// Writes the value that a key held, and ends the line.
+/// Writes the old value of a key, and ends the line.
 fn write_old(out: &mut Page, old: Option<u32>) {
     writeln!(out, "{old:?}");
 }
 
-/// The number that a word spells, or what is left of it where it is large.
+/// The number that a word spells, or what is left of it if it is large.
 fn small(word: &str) -> u32 {
     (number(word) % 4096) as u32
 }
@@ -359,7 +359,7 @@ fn write_conflict<K: Key>(out: &mut Page, conflict: &MergeError<K, Box<u32>>) {
     writeln!(out, "{conflict}, at {key:?} against {}", **value);
 }
 
-/// Writes a map: what each of the row's keys has, and its lists of keys.
+/// Writes a map: the value and marks of each of the row's keys, and its lists of keys.
 fn write_map<K: Key>(out: &mut Page, row: &Row<'_>, map: &mut MarkMap<K, u32>) {
     out.push_str("       ");
     write_watched(out, row.first("watch").unwrap_or(""), map);
@@ -371,7 +371,7 @@ fn write_map<K: Key>(out: &mut Page, row: &Row<'_>, map: &mut MarkMap<K, u32>) {
     }
 }
 
-/// Writes what each of these keys has.
+/// Writes the value and marks of each of these keys.
 fn write_watched<K: Key>(out: &mut Page, watched: &str, map: &mut MarkMap<K, u32>) {
     for word in watched.split_whitespace() {
         entry::write_key(out, map, word);

@@ -7,7 +7,7 @@ use vectors_rows::page::Page;
 use vectors_rows::pen::{self, Piece};
 use vectors_rows::row::{Row, number, numbers};
 
-/// Writes what is answered of each value of the row. The row's text, or else `a script`, is the place that no span is.
+/// Writes the results for each value of the row. The row's text, or else `a script`, is a location that isn't a span.
 pub fn tell(out: &mut Page, row: &Row<'_>, text: &str) {
     if row.first("show") == Some("without-memory") {
         return tell_without_memory(out, row);
@@ -27,7 +27,7 @@ fn tell_line(out: &mut Page, row: &Row<'_>, script: &str, (word, rest): (&str, &
     }
 }
 
-/// Writes what is answered of each value of the row, and of the row's list of bits, all of them made before.
+/// Writes the results for each value of the row, and for the row's list of bits, which were all made before.
 fn tell_without_memory(out: &mut Page, row: &Row<'_>) {
     let (len, first) = numbers(row.first("bits").unwrap_or(""));
     match (
@@ -39,7 +39,7 @@ fn tell_without_memory(out: &mut Page, row: &Row<'_>) {
     }
 }
 
-/// Writes what is answered of each span and each number of the row, and of a list of bits.
+/// Writes the results for each span and each number of the row, and for a list of bits.
 fn write_values(out: &mut Page, row: &Row<'_>, bits: &mut Vob, others: &Vob) {
     pen::without_memory(out);
     for (word, rest) in &row.lines {
@@ -53,7 +53,7 @@ fn write_values(out: &mut Page, row: &Row<'_>, bits: &mut Vob, others: &Vob) {
     }
 }
 
-/// Writes the parts of a span, and of the place that it is; and whether the place that a script is equals its copy.
+/// Writes the parts of a span, and of its location; and whether the location of a script equals its copy.
 fn write_span(out: &mut Page, script: Option<&str>, (start, end): (usize, usize)) {
     if start > end {
         return out.push_str("    no span\n");
@@ -65,7 +65,7 @@ fn write_span(out: &mut Page, script: Option<&str>, (start, end): (usize, usize)
     out.push('\n');
 }
 
-/// Writes the parts of a span, and of the place that it is, and whether that equals a copy, and the command line.
+/// Writes the parts of a span, and of its location; whether that equals a copy; and the command line.
 fn write_parts(out: &mut Page, span: Span) {
     let pieces = [
         Piece::Number("    (", span.start()),
@@ -88,7 +88,7 @@ fn write_other(out: &mut Page, script: &str) {
     }
 }
 
-/// Writes whether a place equals a copy.
+/// Writes whether a location equals a copy.
 fn write_copied(out: &mut Page, place: &Location) {
     match place.clone() {
         Ok(copy) => pen::flag(out, " ", copy == *place),
@@ -106,7 +106,7 @@ fn write_number(out: &mut Page, number: usize) {
     out.push('\n');
 }
 
-/// Writes a number as one index type stores it, and as the indices of this type tell it.
+/// Writes a number as one index type stores it, and as the indices of this type show it.
 fn write_stored<S: Storage>(out: &mut Page, storage: &str, number: usize) {
     out.push_str(storage);
     let Some(stored) = S::from_usize(number) else {
@@ -135,7 +135,7 @@ fn write_stored<S: Storage>(out: &mut Page, storage: &str, number: usize) {
     }
 }
 
-/// Writes a list of bits that are all off or all on, the answers of the row's calls, and the list after each.
+/// Writes a list of bits that are all off or all on, the results of the row's calls, and the list after each.
 fn write_bits(out: &mut Page, row: &Row<'_>, (len, first): (usize, usize)) {
     match Vob::from_elem(out.alloc, first == 1, len) {
         Ok(mut bits) => write_calls(out, row, &mut bits),
@@ -143,7 +143,7 @@ fn write_bits(out: &mut Page, row: &Row<'_>, (len, first): (usize, usize)) {
     }
 }
 
-/// Writes a list of bits, the answers of the row's calls, and the list after each.
+/// Writes a list of bits, the results of the row's calls, and the list after each.
 fn write_calls(out: &mut Page, row: &Row<'_>, bits: &mut Vob) {
     write_list(out, bits);
     for (word, rest) in &row.lines {
@@ -155,7 +155,7 @@ fn write_calls(out: &mut Page, row: &Row<'_>, bits: &mut Vob) {
     }
 }
 
-/// Writes what a call on a list of bits answers.
+/// Writes the result of a call on a list of bits.
 fn write_call(out: &mut Page, bits: &mut Vob, word: &str, place: usize, bit: usize) {
     match word {
         "set" if place < bits.len() => write_set(out, bits, place, bit),
@@ -164,7 +164,7 @@ fn write_call(out: &mut Page, bits: &mut Vob, word: &str, place: usize, bit: usi
     }
 }
 
-/// Sets a bit, and writes whether it changed, and the list.
+/// Sets a bit, and writes whether that changed it, and the list.
 fn write_set(out: &mut Page, bits: &mut Vob, place: usize, bit: usize)
     requires { place < length bits.old }
 {
@@ -174,7 +174,7 @@ fn write_set(out: &mut Page, bits: &mut Vob, place: usize, bit: usize)
     write_list(out, bits);
 }
 
-/// Takes in the bits of a list of bits that are all off or all on.
+/// Adds the bits of a list of bits that are all off or all on.
 fn write_or_all(out: &mut Page, bits: &mut Vob, bit: usize) {
     match Vob::from_elem(out.alloc, bit == 1, bits.len()) {
         Ok(other) => write_or(out, bits, bit, &other),
@@ -182,7 +182,8 @@ fn write_or_all(out: &mut Page, bits: &mut Vob, bit: usize) {
     }
 }
 
-/// Takes in the bits of another list as long, and writes whether that changed it, whether they are equal, and the list.
+/// Adds the bits of another list of the same length, and writes whether that changed this one, whether they are equal,
+/// and the list.
 fn write_or(out: &mut Page, bits: &mut Vob, place: usize, other: &Vob)
     requires { length other.now ≡ length bits.old }
 {

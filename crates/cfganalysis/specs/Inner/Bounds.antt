@@ -1,4 +1,4 @@
--- No more bits are on than there are.
+-- The number of bits that are on is at most the number of bits.
 use Rattle.std.proofs.Common.{◌≡◌, ℕ, ◌+◌, ◌*◌, ◌≤◌, subst, sym, ap, ◌∙◌, get_or, arith}
 use Rattle.std.proofs.Math.Nat.{add-le-add, mul-add, mul-one}
 use Rattle.std.proofs.lemmas.List.Sums.{sum_by-le, count_by-le-length}

@@ -1,4 +1,4 @@
--- A table of bits in one list of words, with a row of words for each row.
+-- A table of bits in one list of words, with the same number of words for each row.
 use Rattle.std.specs.Prelude.{◌≡◌, ◌≢◌, ◌⊎◌, ℕ, ◌+◌, ◌*◌, ◌<◌, ◌≤◌, Bool, List, map, length, slice_index_or, MatchBool}
 use Rattle.std.specs.List.{between, range_with_len}
 use Rattle.cfgindex.specs.BitWords.{AreWords, AreJoined, bits_of}
@@ -13,12 +13,12 @@ abbrev pub table_of : ℕ → ℕ → ℕ → List ℕ → Table
 table_of rows columns row_words words =
     record { columns = columns; rows = map (λ row. bits_of (words_of row_words words row) columns) (range_with_len 0 rows) }
 
--- so many rows, each of words for so many bits; bits that are spare are off
+-- this many rows, each with words for this many bits; spare bits are off
 pub record AreRows (rows columns row_words : ℕ) (words : List ℕ) : Type 0 where
   pub long : length words ≡ rows * row_words
   pub each : (row : ℕ) → row < rows → AreWords columns (words_of row_words words row)
 
--- the words from a place on were joined with others, and the rest stayed
+-- the words from an index on were joined with others, and the rest stayed
 pub record JoinsWords (to many : ℕ) (others old new : List ℕ) (changed : Bool) : Type 0 where
   pub long : length new ≡ length old
   pub joined : AreJoined (between to (to + many) old) others (between to (to + many) new)

@@ -6,13 +6,13 @@ use Rattle.derivation.specs.FirstSets.{Vanishes, Begins, Covers}
 use Rattle.cfganalysis.specs.Table.{no_bits, bits_on, count_of}
 use Rattle.cfganalysis.specs.Firsts.{FirstSets, FitsGrammar, IsAmongFirsts, IsEpsilon, epsilon_bit}
 
--- nothing but what derivations show
+-- the sets contain nothing but what derivations show
 pub record SayFirsts (g : Grammar) (x : FirstSets) : Type 0 where
   pub fits : FitsGrammar g x
   pub first : (r t : ℕ) → IsAmongFirsts x r t → First (HasProduction g) r t
   pub empty : (r : ℕ) → IsEpsilon x r → Empty (HasProduction g) r
 
--- they have all that the production gives
+-- the sets contain all that the production gives
 abbrev pub HaveFirstsOf : FirstSets → Production → Type 0
 HaveFirstsOf x p = Covers (IsEpsilon x) (IsAmongFirsts x) p.rule p.symbols
 
@@ -20,7 +20,7 @@ HaveFirstsOf x p = Covers (IsEpsilon x) (IsAmongFirsts x) p.rule p.symbols
 abbrev pub HoldsRule : Production → ℕ → Type 0
 HoldsRule p r = Contains p.symbols (Rule r)
 
--- the rule's set has no more than it had, and the rule is empty only if it was
+-- the rule's set has no more than it had, and the rule is nullable only if it was
 pub record HasNoMoreFirsts (r : ℕ) (old new : FirstSets) : Type 0 where
   pub first : (t : ℕ) → IsAmongFirsts new r t → IsAmongFirsts old r t
   pub empty : IsEpsilon new r → IsEpsilon old r
@@ -32,18 +32,18 @@ count_firsts x = count_of x.firsts + bits_on x.epsilons
 abbrev pub no_firsts : ℕ → ℕ → FirstSets
 no_firsts rules tokens = record { firsts = no_bits rules tokens; epsilons = replicate rules false }
 
--- with this rule among the empty ones
+-- the sets with this rule added to the nullable ones
 abbrev pub with_epsilon : FirstSets → ℕ → FirstSets
 with_epsilon x r = record { firsts = x.firsts; epsilons = slice_set x.epsilons r true }
 
--- what begins the list, by the sets
+-- the tokens that the list begins with, by the sets
 abbrev pub BeginsBy : FirstSets → List Sym → ℕ → Type 0
 BeginsBy x a t = Begins (IsEpsilon x) (IsAmongFirsts x) a t
 
 abbrev pub VanishesBy : FirstSets → List Sym → Type 0
 VanishesBy x a = Vanishes (IsEpsilon x) a
 
--- whether the symbol is an empty rule
+-- whether the symbol is a nullable rule
 abbrev pub is_empty_symbol : FirstSets → Sym → Bool
 is_empty_symbol x (Rule r) = epsilon_bit x r
 is_empty_symbol x (Token u) = false

@@ -1,4 +1,4 @@
--- FOLLOW sets that grow by what productions give, beside the FIRST sets.
+-- FOLLOW sets that grow by what productions give, with the FIRST sets that they are computed from.
 use Rattle.std.specs.Prelude.{◌≡◌, ◌↔◌, ◌⊎◌, ⊤, ◌<◌, ◌≤◌, ℕ, ◌+◌, Bool, false, List, [], ◌∷◌, length, IsTrue, slice_index_or}
 use Rattle.derivation.specs.Grammar.{Sym, Grammar, IsSymbolOf, Production}
 use Rattle.derivation.specs.Follow.{MayFollow}
@@ -11,17 +11,17 @@ use Rattle.cfganalysis.specs.Firsts.{FirstSets, FitsGrammar, AreFirsts, IsAmongF
 use Rattle.cfganalysis.specs.declared.follows.Front.{Front}
 use Rattle.cfganalysis.specs.declared.follows.Front.TheVariants as fronts
 
--- a row of tokens for each rule, beside the FIRST sets
+-- the FIRST sets, and a row of tokens for each rule
 pub record FollowSets : Type 0 where
   pub firsts : FirstSets
   pub follows : Table
 
--- a row for each rule, a column for each token
+-- the table has a row for each rule and a column for each token
 pub record FitFollows (g : Grammar) (x : FollowSets) : Type 0 where
   pub firsts : FitsGrammar g x.firsts
   pub follows : IsTable g.rules g.tokens x.follows
 
--- nothing but what derivations show, and the end token behind the start rule
+-- the sets contain nothing but what derivations show; the end token follows the start rule
 pub record SayFollows (g : Grammar) (x : FollowSets) : Type 0 where
   pub firsts : AreFirsts g x.firsts
   pub fits : IsTable g.rules g.tokens x.follows
@@ -32,11 +32,11 @@ pub record SayFollows (g : Grammar) (x : FollowSets) : Type 0 where
 abbrev pub FlowIn : FollowSets → ℕ → List Sym → Type 0
 FlowIn x rule a = Flows (IsEpsilon x.firsts) (IsAmongFirsts x.firsts) (HasBit x.follows) a (HasBit x.follows rule)
 
--- they have all that the production gives
+-- the sets contain all that the production gives
 abbrev pub HaveFollowsOf : FollowSets → Production → Type 0
 HaveFollowsOf x p = FlowIn x p.rule p.symbols
 
--- what a production gives depends on the set of its own rule
+-- what a production gives depends on its rule's set
 abbrev pub IsOwner : Production → ℕ → Type 0
 IsOwner p r = r ≡ p.rule
 
@@ -48,24 +48,23 @@ HasNoMoreFollows r old new = (t : ℕ) → HasBit new.follows r t → HasBit old
 abbrev pub count_follows : FollowSets → ℕ
 count_follows x = count_of x.follows
 
--- what begins the list
+-- the tokens that the list begins with
 abbrev pub BeginsList : FollowSets → List Sym → ℕ → Type 0
 BeginsList x a t = Begins (IsEpsilon x.firsts) (IsAmongFirsts x.firsts) a t
 
 abbrev pub VanishesList : FollowSets → List Sym → Type 0
 VanishesList x a = Vanishes (IsEpsilon x.firsts) a
 
--- what stands behind a symbol of the rule's production: what begins the rest, or, where it vanishes, what follows
--- the rule
+-- the tokens that follow a symbol of the rule's production: what the rest begins with and, if the rest is nullable, what follows the rule
 abbrev pub Behind : FollowSets → ℕ → List Sym → ℕ → Type 0
 Behind x rule rest t = BeginsList x rest t ⊎ (VanishesList x rest × HasBit x.follows rule t)
 
--- tokens were put behind rules
+-- tokens were added to the FOLLOW sets of rules
 pub record Puts (gives : ℕ → ℕ → Type 0) (old new : FollowSets) (changed : Bool) : Type 0 where
   pub firsts : new.firsts ≡ old.firsts
   pub joins : Joins gives old.follows new.follows changed
 
--- tokens were put behind rules, and each rule whose set gained waits
+-- tokens were added to the FOLLOW sets of rules, and each rule whose set grew waits
 pub record PutsBehind (gives : ℕ → ℕ → Type 0) (old new : FollowSets) (waiting waiting' : List Bool) : Type 0 where
   pub firsts : new.firsts ≡ old.firsts
   pub shape : (rows columns : ℕ) → IsTable rows columns old.follows → IsTable rows columns new.follows
@@ -81,18 +80,18 @@ pub record PutsBehind (gives : ℕ → ℕ → Type 0) (old new : FollowSets) (w
 abbrev pub IsGathered : List Bool → ℕ → Type 0
 IsGathered tokens t = IsTrue (slice_index_or tokens t false)
 
--- tokens were gathered beside those that were before
+-- tokens were added to those gathered before
 pub record Gathers (gives : ℕ → Type 0) (old new : List Bool) : Type 0 where
   pub long : length new ≡ length old
   pub tokens : (t : ℕ) → (IsGathered new t ↔ (IsGathered old t ⊎ gives t))
 
--- what stands at a front: what follows the rule, what begins the symbol, or what was gathered
+-- the next tokens at a position of a production: what follows the rule, what the symbol begins with, or what was gathered
 abbrev pub FrontGives : {S : Type 0} → (S → ℕ) → FollowSets → ℕ → List Bool → Front S → ℕ → Type 0
 FrontGives number x rule tokens fronts.End t = HasBit x.follows rule t
 FrontGives number x rule tokens (fronts.Symbol symbol) t = BeginsList x (sym_of number symbol ∷ []) t
 FrontGives number x rule tokens fronts.Gathered t = IsGathered tokens t
 
--- its symbol is one of the grammar
+-- its symbol, if any, is a symbol of the grammar
 abbrev pub IsFrontOf : {S : Type 0} → (S → ℕ) → Grammar → Front S → Type 0
 IsFrontOf number g fronts.End = ⊤
 IsFrontOf number g (fronts.Symbol symbol) = IsSymbolOf g (sym_of number symbol)
@@ -103,7 +102,7 @@ IsEnd fronts.End = ⊤
 IsEnd (fronts.Symbol symbol) = ⊥
 IsEnd fronts.Gathered = ⊥
 
--- the front before a symbol: what begins the symbol, and, where it vanishes, what stands at the front behind it
+-- the next tokens before a symbol: what the symbol begins with and, if it is nullable, the next tokens after it
 pub record StepsBack {S : Type 0} (number : S → ℕ) (x : FollowSets) (rule : ℕ) (s : Sym) (front : Front S) (tokens : List Bool)
     (front' : Front S) (tokens' : List Bool) : Type 0 where
   pub past : (t : ℕ) → (FrontGives number x rule tokens' front' t

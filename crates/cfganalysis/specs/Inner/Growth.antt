@@ -1,4 +1,4 @@
--- Sets that grow by what productions give; what a production gives depends on the sets of the rules on which it rests.
+-- Sets that grow by what productions give; what a production gives depends on the sets of some rules.
 use Rattle.std.specs.Prelude.{◌≡◌, ℕ, ◌+◌, ◌-◌, ◌*◌, ◌^◌, ◌<◌, ◌≤◌, ◌⊎◌, ◌↔◌, Bool, false, cond, List, map, length, Contains}
 use Rattle.derivation.specs.Grammar.{Grammar, Production, IsGrammar}
 use Rattle.cfgindex.specs.declared.idxnewtype.RIdx.{RIdx}
@@ -9,20 +9,20 @@ use Rattle.cfganalysis.specs.Table.{bits_on}
 use Rattle.cfganalysis.specs.Inner.Waiting.{waits, Waits, NoneWaits}
 use Rattle.cfganalysis.specs.Inner.Work.{users_of, RestsOnGained}
 
--- a production, as its rule and its symbols show it
+-- a production with this rule and these symbols
 abbrev pub shown : {S : Type 0} → (S → ℕ) → RIdx S → List (Symbol S) → Production
 shown number rule symbols = record { rule = number rule.0; symbols = map (sym_of number) symbols }
 
--- it is one of a grammar that has these rules
+-- it is a production of a grammar with these rules
 abbrev pub CanNote : List (List ℕ) → Production → Type 0
 CanNote users p = (g : Grammar) × IsGrammar g × (length users ≡ g.rules) × Contains g.productions p
 
--- and the sets are of that grammar, and no rule has gained
+-- in addition, the sets are sets of that grammar, and no rule's set has grown
 abbrev pub CanTakeIn : {X : Type 0} → (Grammar → X → Type 0) → X → List Bool → Production → Type 0
 CanTakeIn holds x gained p = (g : Grammar) × IsGrammar g × holds g x × NoneWaits gained × (length gained ≡ g.rules) × Contains g.productions p
 
--- of sets: what they say is so, they have all that a production gives, how many bits are on, on which rules a
--- production rests
+-- for the sets: what they say is true, they contain all that a production gives, how many bits are on, and the rules whose sets a
+-- production depends on
 module _ {X : Type 0} (holds : Grammar → X → Type 0) (covers : X → Production → Type 0) (bits : X → ℕ) (rests_on : Production → ℕ → Type 0) where
   -- The first n productions were visited: each of them is covered, or waits; and how often productions were opened.
   pub record Visited (g : Grammar) (n : ℕ) (x : X) (users : List (List ℕ)) (waiting gained : List Bool) (opened : ℕ → ℕ) (all : ℕ) : Type 0 where
@@ -39,10 +39,10 @@ module _ {X : Type 0} (holds : Grammar → X → Type 0) (covers : X → Product
     pub fresh : (q : ℕ) → n ≤ q → q < length g.productions → opened q ≡ 0
     pub together : all + bits_on waiting ≤ n + length g.productions * bits x
 
-  -- of a rule: its set has no more in the second sets than in the first
+  -- for a rule: its set has no more in the second sets than in the first
   module _ (no_more : ℕ → X → X → Type 0) where
-    -- a production was taken in: the sets have what it gives, and have still what each other one gives, but for
-    -- productions that rest on a rule that gained
+    -- what a production gives was added, and the sets still contain what each other production gives, except productions that depend on a
+    -- rule whose set grew
     pub record TakesIn (p : Production) (old new : X) (gained : ℕ → Type 0) : Type 0 where
       pub sound : (g : Grammar) → IsGrammar g → Contains g.productions p → holds g old → holds g new
       pub no_less : bits old ≤ bits new
@@ -51,7 +51,7 @@ module _ {X : Type 0} (holds : Grammar → X → Type 0) (covers : X → Product
       pub closed : ((r : ℕ) → rests_on p r → gained r → ⊥) → covers new p
       pub stays : (q : Production) → ((r : ℕ) → rests_on q r → gained r → ⊥) → covers old q → covers new q
 
-    -- a production was taken in, and those that rest on a rule that gained wait, beside those that waited
+    -- what a production gives was added, and the productions that depend on a rule whose set grew wait, as do those that waited before
     pub record TakesInto (p : Production) (users : List (List ℕ)) (old new : X) (waiting waiting' : List Bool) : Type 0 where
       pub sound : (g : Grammar) → IsGrammar g → Contains g.productions p → holds g old → holds g new
       pub no_less : bits old ≤ bits new
@@ -62,14 +62,14 @@ module _ {X : Type 0} (holds : Grammar → X → Type 0) (covers : X → Product
       pub stays : (q : Production) (n : ℕ) → ((r : ℕ) → rests_on q r → Contains (users_of users r) n) → waits waiting' n ≡ false
           → covers old q → covers new q
 
--- productions that can all be opened as often as it may be needed: they are counted up to `most`, and so are their openings
+-- the productions and their openings, as often as they may be needed, can be counted up to `most`
 pub record CanVisit (most : ℕ) (g : Grammar) : Type 0 where
   pub grammar : IsGrammar g
   pub fits : length g.productions ≤ most
   pub small : most_openings g < 2 ^ 64 - 1
   pub all_small : most_openings_all g < 2 ^ 128 - 1
 
--- no production gives more
+-- no production has anything to add
 abbrev pub CoversEach : {X : Type 0} → (X → Production → Type 0) → Grammar → X → Type 0
 CoversEach covers g x = (q : ℕ) → q < length g.productions → covers x (nth_production g q)
 

@@ -1,4 +1,4 @@
--- Numbers that wait, a bit for each, and the stack in which they stand.
+-- Numbers that wait, with a bit for each, and the stack that contains them.
 use Rattle.std.specs.Prelude.{◌≡◌, ℕ, ◌==◌, Bool, false, cond, List, length, IsTrue, count_by, slice_index_or, slice_set}
 use Rattle.cfganalysis.specs.Table.{bits_on}
 
@@ -11,12 +11,12 @@ Waits x n = IsTrue (waits x n)
 abbrev pub NoneWaits : List Bool → Type 0
 NoneWaits x = (n : ℕ) → waits x n ≡ false
 
--- a number that waited waits no more
+-- a number that waited no longer waits
 pub record WaitsNoMore (n : ℕ) (old new : List Bool) : Type 0 where
   pub waited : Waits old n
   pub rest : new ≡ slice_set old n false
 
--- each number that waits stands in the stack once, and no other stands there
+-- the stack contains each waiting number once, and no other number
 pub record IsStack (x : List Bool) (stack : List ℕ) : Type 0 where
   pub once : (n : ℕ) → count_by (λ m. m == n) stack ≡ cond (waits x n) 1 0
   pub together : length stack ≡ bits_on x

@@ -1,11 +1,11 @@
--- The one sentence of a rule that choices of productions give.
+-- The single sentence of a rule that the chosen productions give.
 use Rattle.std.specs.Prelude.{◌≡◌, ℕ, List, [], ◌∷◌, ◌++◌, Some}
 use Rattle.derivation.specs.Grammar.{Sym, Rule, Token}
 use Rattle.cfgtables.specs.Openings.{nth_production}
 use Rattle.cfgleast.specs.Generator.{CostTables, cost_answer, choice_answer}
 
--- What the choices give for a list of symbols: for a token the token, for a rule of cost 0 nothing, and for another rule what they give
--- for the symbols of the production that is chosen for it.
+-- What the choices give for a list of symbols: for a token the token, for a rule of cost 0 nothing, and for another rule what they give for
+-- the symbols of its chosen production.
 pub data ChoicesGive (x : CostTables) : List Sym → List ℕ → Type 0 where
   empty : ChoicesGive x [] []
   token : {t : ℕ} {a : List Sym} {w : List ℕ} → ChoicesGive x a w → ChoicesGive x (Token t ∷ a) (t ∷ w)

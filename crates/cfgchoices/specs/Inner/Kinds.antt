@@ -1,4 +1,4 @@
--- Productions that cost just what their rules do: they hand on to a rule of the same cost, or are their rules' own.
+-- Optimal productions: they are chain productions, which lead to a rule of the same cost, or base productions.
 use Rattle.std.specs.Prelude.{◌≡◌, ℕ, ◌<◌, List, Option, Some, Contains, length, map, slice_index_or}
 use Rattle.cfgindex.specs.declared.idxnewtype.PIdx.{PIdx}
 use Rattle.derivation.specs.Grammar.{Grammar, Sym, Rule, HasProduction}
@@ -12,7 +12,7 @@ use Rattle.cfgchoices.specs.declared.kinds.Kind.{Kind}
 use Rattle.cfgchoices.specs.declared.kinds.Kind.TheVariants.{Slack, Own, HandsOn}
 use Rattle.cfgindex.specs.declared.idxnewtype.RIdx.{RIdx}
 
--- a production that costs just what its rule does, where that isn't 0
+-- an optimal production: it costs just what its rule does, and that isn't 0
 pub record IsTight (x : CostTables) (p : ℕ) : Type 0 where
   pub place : p < length x.grammar.productions
   pub cost : ℕ
@@ -20,18 +20,18 @@ pub record IsTight (x : CostTables) (p : ℕ) : Type 0 where
   pub rule : cost_answer x (nth_production x.grammar p).rule ≡ Some cost
   pub sum : sum_of (symbol_cost (token_cost x) (rule_cost x.least)) (nth_production x.grammar p).symbols ≡ Some cost
 
--- a rule in such a production that costs as much
+-- a chain production leads to q: q is in it, and costs as much as its rule
 pub record IsHeir (x : CostTables) (p q : ℕ) : Type 0 where
   pub tight : IsTight x p
   pub among : Contains (nth_production x.grammar p).symbols (Rule q)
   pub same : cost_answer x q ≡ Some tight.cost
 
--- such a production without a rule that costs as much
+-- a base production: optimal, and no rule in it costs as much as its rule
 pub record HasNoHeir (x : CostTables) (p : ℕ) : Type 0 where
   pub tight : IsTight x p
   pub none : (q : ℕ) → IsHeir x p q → ⊥
 
--- what a production of these symbols is to its rule, which has this cost
+-- the kind of a production with these symbols, whose rule has this cost
 abbrev pub IsRowKind : {S : Type 0} → (S → ℕ) → (ℕ → ℕ) → (ℕ → Option ℕ) → ℕ → List Sym → Kind S → Type 0
 IsRowKind number cost settled c symbols Slack = sum_of (symbol_cost cost settled) symbols ≡ Some c → ⊥
 IsRowKind number cost settled c symbols Own = (sum_of (symbol_cost cost settled) symbols ≡ Some c)
@@ -39,18 +39,18 @@ IsRowKind number cost settled c symbols Own = (sum_of (symbol_cost cost settled)
 IsRowKind number cost settled c symbols (HandsOn r) = (sum_of (symbol_cost cost settled) symbols ≡ Some c)
     × Contains symbols (Rule (number r.0)) × (settled (number r.0) ≡ Some c)
 
--- what a production is to its rule
+-- the kind of a production
 abbrev pub IsKind : {S : Type 0} → (S → ℕ) → CostTables → ℕ → Kind S → Type 0
 IsKind number x p Slack = IsTight x p → ⊥
 IsKind number x p Own = HasNoHeir x p
 IsKind number x p (HandsOn r) = IsHeir x p (number r.0)
 
--- what each production is to its rule
+-- the kind of each production
 pub record AreKinds {S : Type 0} (number : S → ℕ) (x : CostTables) (kinds : List (Kind S)) : Type 0 where
   pub all : length kinds ≡ length x.grammar.productions
   pub each : (p : ℕ) → p < length kinds → IsKind number x p (slice_index_or kinds p Slack)
 
--- a rule that is an heir in a production of the rule
+-- a chain production of rule r leads to rule q
 pub record HasHeir (x : CostTables) (r q : ℕ) : Type 0 where
   pub place : ℕ
   pub owner : (nth_production x.grammar place).rule ≡ r
@@ -60,7 +60,7 @@ pub record HasHeir (x : CostTables) (r q : ℕ) : Type 0 where
 abbrev pub IsMinimal : CostTables → ℕ → List ℕ → Type 0
 IsMinimal x = Minimal (HasProduction x.grammar) (token_cost x)
 
--- a production without an heir, of the rule, or of a rule to which heirs lead from it
+-- a base production of the rule, or of a rule that chain productions lead to from it
 pub record IsOwnBelow (x : CostTables) (r p : ℕ) : Type 0 where
   pub leads : Along (HasHeir x) r (nth_production x.grammar p).rule
   pub own : HasNoHeir x p
@@ -69,6 +69,6 @@ pub record IsOwnBelow (x : CostTables) (r p : ℕ) : Type 0 where
 abbrev pub places_of : {S : Type 0} → (S → ℕ) → List (PIdx S) → List ℕ
 places_of number productions = map (λ p. number p.0) productions
 
--- a production hands on to a rule of the grammar
+-- the rule that a chain production leads to is a rule of the grammar
 abbrev pub HasRulesAsHeirs : {S : Type 0} → (S → ℕ) → Grammar → List (Kind S) → Type 0
 HasRulesAsHeirs {S} number g kinds = (p : ℕ) (heir : RIdx S) → slice_index_or kinds p Slack ≡ HandsOn heir → number heir.0 < g.rules

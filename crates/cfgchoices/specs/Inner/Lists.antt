@@ -1,4 +1,4 @@
--- Productions in lists: those that hand on to one rule, and the own ones of one cost.
+-- Lists of productions: the chain productions that lead to one rule, and the base productions of one cost.
 use Rattle.std.specs.Prelude.{◌≡◌, ℕ, ◌+◌, ◌<◌, ◌≤◌, List, Option, Some, None, MatchOption, length, slice_index_or}
 use Rattle.cfgindex.specs.declared.idxnewtype.PIdx.{PIdx}
 use Rattle.cfgleast.specs.Generator.{CostTables, cost_answer}
@@ -7,26 +7,26 @@ use Rattle.cfgchoices.specs.declared.first.lists.Listed.{Listed}
 use Rattle.cfgchoices.specs.declared.first.lists.Listed.TheVariants.{Own, HandingTo}
 use Rattle.cfgchoices.specs.declared.first.lists.Lists.{Lists}
 
--- a production is its rule's own, and costs this
+-- a base production that costs this
 abbrev pub IsOwnAt : CostTables → ℕ → ℕ → Type 0
 IsOwnAt x c p = (own : HasNoHeir x p) × (own.tight.cost ≡ c)
 
--- a production stands in the list
+-- a production is in the list
 abbrev pub IsIn : {S : Type 0} → (S → ℕ) → CostTables → Listed S → ℕ → Type 0
 IsIn number x (Own c) p = IsOwnAt x c p
 IsIn number x (HandingTo r) p = IsHeir x p (number r.0)
 
--- the first production from place n on of which this holds
+-- the first production, from number n on, of which this is true
 abbrev pub IsFirstFrom : {S : Type 0} → (S → ℕ) → (ℕ → Type 0) → ℕ → Option (PIdx S) → Type 0
 IsFirstFrom number Is n first = MatchOption first ((p : ℕ) → n ≤ p → Is p → ⊥)
     (λ p. (n ≤ number p.0) × Is (number p.0) × ((q : ℕ) → n ≤ q → q < number p.0 → Is q → ⊥))
 
--- for each list the first production from place n on, and for each of these the next one of its list
+-- for each list its first production from number n on, and for each of these productions the next one in its list
 pub record AreListed {S : Type 0} (number : S → ℕ) (Is : ℕ → ℕ → Type 0) (n : ℕ) (firsts next : List (Option (PIdx S))) : Type 0 where
   pub first : (k : ℕ) → IsFirstFrom number (Is k) n (slice_index_or firsts k None)
   pub behind : (k p : ℕ) → n ≤ p → Is k p → IsFirstFrom number (Is k) (p + 1) (slice_index_or next p None)
 
--- the lists of own productions and of those that hand on, from place n on
+-- the lists of base productions and of chain productions, from number n on
 pub record AreLists {S : Type 0} (number : S → ℕ) (x : CostTables) (n : ℕ) (lists : Lists S) : Type 0 where
   pub own : AreListed number (IsOwnAt x) n lists.own.items lists.next.items
   pub handing : AreListed number (λ r p. IsHeir x p r) n lists.handing.items lists.next.items

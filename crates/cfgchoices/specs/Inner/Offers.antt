@@ -1,4 +1,4 @@
--- Productions that are offered to their rules, and the choices that are made among them.
+-- Candidates, which are optimal productions, and the choices that are made among them.
 use Rattle.std.specs.Prelude.{◌≡◌, ℕ, zero, suc, ◌+◌, ◌-◌, ◌*◌, ◌<◌, ◌≤◌, ◌⊎◌, Bool, true, false, List, [], ◌∷◌, Option, Some, None, Contains, IsSomeAnd, count_by, is_some, length, map, reverse, slice_index_or, sum_by}
 use Rattle.std.specs.Ordering.{nat_cmp}
 use Rattle.std.specs.declared.cmp.Ordering.{Ordering}
@@ -24,17 +24,17 @@ Choices = List (Option (ℕ × ℕ))
 abbrev pub by : CostTables → Choices → CostTables
 by x l = record { grammar = x.grammar; costs = x.costs; least = x.least; choices = l }
 
--- a rule is free, or has a choice with a number below n
+-- a rule costs nothing, or has a choice with a number less than n
 abbrev pub IsReady : CostTables → Choices → ℕ → ℕ → Type 0
 IsReady x l n q = (cost_answer x q ≡ Some 0) ⊎ IsSomeAnd (rule_choice l q) (λ choice. choice.1 < n)
 
--- the choice of a rule: a production that costs just what the rule does, whose rules are ready
+-- the choice of a rule: an optimal production of the rule, whose rules are ready
 pub record IsChoice (x : CostTables) (l : Choices) (r p m : ℕ) : Type 0 where
   pub tight : IsTight x p
   pub owner : (nth_production x.grammar p).rule ≡ r
   pub ready : (q : ℕ) → Contains (nth_production x.grammar p).symbols (Rule q) → IsReady x l m q
 
--- so far n rules have choices
+-- n rules have choices so far
 pub record Choosing (x : CostTables) (l : Choices) (n : ℕ) : Type 0 where
   pub listed : length l ≡ x.grammar.rules
   pub count : count_by is_some l ≡ n
@@ -44,14 +44,14 @@ abbrev pub steps_of : Grammar → ℕ → (Sym → ℕ) → Option (ℕ × ℕ) 
 steps_of g each f None = each
 steps_of g each f (Some choice) = sum_by f (nth_production g choice.0).symbols + each
 
--- one for a token, and for a rule `each` and those of the symbols that replace it, by choices that go n deep
+-- 1 for a token; for a rule `each`, and the steps of the symbols that replace it, by choices nested at most n deep
 unfoldable pub steps : Grammar → Choices → ℕ → ℕ → Sym → ℕ
 steps g choices each zero (Token t) = 1
 steps g choices each zero (Rule r) = each
 steps g choices each (suc n) (Token t) = 1
 steps g choices each (suc n) (Rule r) = steps_of g each (steps g choices each n) (rule_choice choices r)
 
--- each element is before those behind it
+-- each element is before those after it
 abbrev pub IsInOrder : {X : Type 0} → (X → X → Type 0) → X → List X → Type 0
 IsInOrder R d xs = (i j : ℕ) → i < j → j < length xs → R (slice_index_or xs i d) (slice_index_or xs j d)
 
@@ -61,15 +61,15 @@ row x p = (nth_production x.grammar p).symbols
 abbrev pub owner : CostTables → ℕ → ℕ
 owner x p = (nth_production x.grammar p).rule
 
--- what the choices make of symbols
+-- what the choices give for symbols
 abbrev pub Gives : CostTables → Choices → List Sym → List ℕ → Type 0
 Gives x l = ChoicesGive (by x l)
 
--- what the choices make of the pending symbols, the last of which comes first
+-- what the choices give for the pending symbols, the last of which comes first
 abbrev pub Pends : CostTables → Choices → List Sym → List ℕ → Type 0
 Pends x l pending w = ChoicesGive (by x l) (reverse pending) w
 
--- rows of symbols begin with tokens that stand so
+-- both lists of symbols begin with tokens, which compare like this
 pub record FirstTokensAre (a b : List Sym) (ordering : Ordering) : Type 0 where
   pub one : ℕ
   pub other : ℕ
@@ -79,36 +79,36 @@ pub record FirstTokensAre (a b : List Sym) (ordering : Ordering) : Type 0 where
   pub second : b ≡ Token other ∷ others
   pub is : ordering ≡ nat_cmp one other
 
--- how many steps are left till none pends
+-- how many steps are left until no symbol is pending
 abbrev pub left_to_open : CostTables → Choices → List Sym → ℕ
 left_to_open x l pending = sum_by (steps x.grammar l 1 x.grammar.rules) pending
 
--- what the choices make of these symbols doesn't come behind what they make of those
+-- what the choices give for a isn't greater than what they give for b
 abbrev pub NotAfter : CostTables → Choices → List Sym → List Sym → Type 0
 NotAfter x l a b = (u v : List ℕ) → ChoicesGive (by x l) a u → ChoicesGive (by x l) b v → dictionary u v ≡ Greater → ⊥
 
 abbrev pub HasChoice : Choices → ℕ → Type 0
 HasChoice l r = (choice : ℕ × ℕ) × (rule_choice l r ≡ Some choice)
 
--- the rule of a production has a choice, which makes nothing greater
+-- the rule of a production has a choice, which gives nothing greater than the production
 pub record IsDone (x : CostTables) (l : Choices) (p : ℕ) : Type 0 where
   pub chosen : HasChoice l (owner x p)
   pub given : (w : List ℕ) × ChoicesGive (by x l) (row x p) w
   pub first : NotAfter x l (Rule (owner x p) ∷ []) (row x p)
 
--- of two productions of one rule the first makes nothing greater than the second
+-- two productions of one rule, the first of which gives nothing greater than the second
 pub record StandsFor (x : CostTables) (l : Choices) (p q : ℕ) : Type 0 where
   pub same : owner x p ≡ owner x q
   pub given : (w : List ℕ) × ChoicesGive (by x l) (row x q) w
   pub before : NotAfter x l (row x p) (row x q)
 
--- what is known of productions that cost just what their rules do: whether a rule has more than one; and a number above all costs
+-- what is known of optimal productions: which rules have only one; and a number above all costs
 pub record Known : Type 0 where
   pub tables : CostTables
   pub alone : List Bool
   pub limit : ℕ
 
--- there is such a list
+-- the list exists
 abbrev pub HasList : {S : Type 0} → (S → ℕ) → Known → Listed S → Type 0
 HasList number k (Own c) = c < k.limit
 HasList number k (HandingTo r) = number r.0 < k.tables.grammar.rules
@@ -127,7 +127,7 @@ pub record IsKnown (k : Known) (n : ℕ) : Type 0 where
   pub kinds : (p : ℕ) → IsTight k.tables p → HasNoHeir k.tables p ⊎ ((q : ℕ) × IsHeir k.tables p q)
   pub costs : (r c : ℕ) → cost_answer k.tables r ≡ Some c → c < k.limit
 
--- a production that costs just what its rule does, as its kind tells
+-- an optimal production, as its kind says
 abbrev pub IsCounted : {S : Type 0} → List (Kind S) → ℕ → Type 0
 IsCounted kinds p = (p < length kinds) × (slice_index_or kinds p Slack ≡ Slack → ⊥)
 
@@ -136,8 +136,8 @@ abbrev pub place_of : {S : Type 0} → (S → ℕ) → Option (PIdx S) → Optio
 place_of number None = None
 place_of number (Some p) = Some (number p.0)
 
--- the choices that were made, what productions cost that are offered now, those that are alone in their rules, and the others;
--- and for each rule the one that makes the first word of those that were offered to it
+-- the choices made so far; the cost of the current candidates; those that are their rule's only optimal production, and the others; and for
+-- each rule the candidate that gives the lexicographically first sentence
 pub record Offers : Type 0 where
   pub choices : Choices
   pub number : ℕ
@@ -166,15 +166,15 @@ Waits f p = Contains f.ready p ⊎ Contains f.level p
 abbrev pub waiting : Offers → ℕ
 waiting f = length f.ready + length f.level
 
--- a production is done, or one that stands for it waits
+-- a production is done, or a candidate of its rule that gives nothing greater waits
 abbrev pub IsHandled : CostTables → Offers → ℕ → Type 0
 IsHandled x f q = IsDone x f.choices q ⊎ ((p : ℕ) × Waits f p × StandsFor x f.choices p q)
 
--- no choice of this cost makes anything greater, where rules had more than one to choose from
+-- no choice of this cost gives anything greater, for rules with more than one optimal production
 abbrev pub IsFloor : Known → Choices → ℕ → ℕ → Type 0
 IsFloor k l c p = (r : ℕ) → HasChoice l r → cost_answer k.tables r ≡ Some c → is_alone k r ≡ false → NotAfter k.tables l (Rule r ∷ []) (row k.tables p)
 
--- a production of this cost, whose rules have choices, or cost nothing
+-- a candidate: an optimal production of this cost, whose rules have choices or cost nothing
 pub record IsOffered (k : Known) (l : Choices) (n c p : ℕ) : Type 0 where
   pub tight : IsTight k.tables p
   pub cost : tight.cost ≡ c
@@ -189,13 +189,13 @@ pub record Level (k : Known) (f : Offers) : Type 0 where
   pub several : (p : ℕ) → Contains f.level p → is_alone k (owner k.tables p) ≡ false
   pub order : IsInOrder (λ p q. NotAfter k.tables f.choices (row k.tables q) (row k.tables p)) 0 f.level
 
--- the foremost of what was offered to a rule waits, unless the rule has a choice
+-- a rule's foremost candidate waits, unless the rule has a choice
 pub record Offering (k : Known) (f : Offers) : Type 0 where
   pub level : Level k f
   pub listed : length f.foremost ≡ k.tables.grammar.rules
   pub foremost : (r p : ℕ) → slice_index_or f.foremost r None ≡ Some p → (owner k.tables p ≡ r) × (Waits f p ⊎ HasChoice f.choices r)
 
--- what hands on to a rule that has a choice is handled
+-- the chain productions that lead to a rule with a choice are handled
 pub record Going (k : Known) (f : Offers) : Type 0 where
   pub offering : Offering k f
   pub hands : (p q : ℕ) → IsHeir k.tables p q → HasChoice f.choices q → IsHandled k.tables f p
@@ -205,7 +205,7 @@ pub record IsNext (k : Known) (f : Offers) (p : ℕ) : Type 0 where
   pub offered : IsOffered k f.choices f.number f.cost p
   pub least : (is_alone k (owner k.tables p) ≡ true) ⊎ ((q : ℕ) → Waits f q → NotAfter k.tables f.choices (row k.tables p) (row k.tables q))
 
--- it was taken out
+-- it was removed
 pub record Takes (k : Known) (p : ℕ) (f f' : Offers) : Type 0 where
   pub others : f' ≡ record { choices = f.choices; number = f.number; cost = f.cost; ready = f'.ready; level = f'.level; foremost = f.foremost }
   pub level : Level k f'
@@ -213,15 +213,15 @@ pub record Takes (k : Known) (p : ℕ) (f f' : Offers) : Type 0 where
   pub waits : (q : ℕ) → Waits f q → Waits f' q ⊎ (q ≡ p)
   pub together : waiting f ≡ waiting f' + 1
 
--- nothing waits, and all stayed
+-- nothing waits, and nothing changed
 abbrev pub IsDrained : Offers → Offers → Type 0
 IsDrained f f' = (waiting f ≡ 0) × (f' ≡ f)
 
--- what was handled, and this, is handled
+-- what was handled is still handled, and so are these
 abbrev pub Handles : CostTables → (ℕ → Type 0) → Offers → Offers → Type 0
 Handles x Is f f' = (q : ℕ) → IsHandled x f q ⊎ Is q → IsHandled x f' q
 
--- these are handled now too, and at most so many more wait
+-- these are handled now too, and at most n more wait
 pub record Adds (x : CostTables) (Is : ℕ → Type 0) (n : ℕ) (f f' : Offers) : Type 0 where
   pub choices : f'.choices ≡ f.choices
   pub number : f'.number ≡ f.number
@@ -229,11 +229,11 @@ pub record Adds (x : CostTables) (Is : ℕ → Type 0) (n : ℕ) (f f' : Offers)
   pub handles : Handles x Is f f'
   pub together : waiting f' ≤ waiting f + n
 
--- how many steps are left till nothing is offered
+-- how many steps are left until there are no candidates
 abbrev pub left_to_choose : Known → Offers → ℕ
 left_to_choose k f = (k.tables.grammar.rules - f.number) * (length k.tables.grammar.productions + 1) + waiting f
 
--- All rules that cost less have choices that make their first words, and no others have choices.
+-- All rules that cost less than c have choices that give their first sentences, and no other rule has a choice.
 pub record Climbed (k : Known) (f : Offers) (c : ℕ) : Type 0 where
   pub going : Going k f
   pub none : waiting f ≡ 0

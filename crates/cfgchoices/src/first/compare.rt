@@ -1,5 +1,4 @@
-//! Productions in the order of what the choices make of them. Two are compared side by side, from their first tokens
-//! on.
+//! Compares productions by what the choices give for them, two at a time, token by token.
 
 ghost use Rattle.std.specs.Prelude.{◌≡◌, ℕ, ◌<◌, ◌++◌, ◌∷◌, [], List, IfOk, IfSome, MatchOption, OnOk, length, map};
 ghost use Rattle.std.specs.Prelude.{reverse, true};
@@ -16,11 +15,11 @@ use cfgtables::Tables;
 use std::alloc::{AllocError, Global};
 use std::cmp::Ordering;
 
-/// Adds the symbols behind those that are pending, the last one first.
+/// Adds the symbols after the pending ones, in reverse.
 ///
 /// # Errors
 ///
-/// Want of memory.
+/// Out of memory.
 fn push_turned<S: Storage>(
     pending: &mut Vec<Symbol<S>>,
     symbols: &[Symbol<S>],
@@ -33,7 +32,7 @@ fn push_turned<S: Storage>(
     Ok(())
 }
 
-/// How what begins with these symbols stands in a dictionary, where both begin with tokens and these differ.
+/// Compares what begins with these symbols lexicographically, if both begin with tokens that differ.
 fn first_tokens<S: Storage>(ones: &[Symbol<S>], others: &[Symbol<S>]) -> Ordering
     ensures { is_ne result ≡ true → FirstTokensAre (map (sym_of S.number) ones.now)
         (map (sym_of S.number) others.now) result }
@@ -47,11 +46,11 @@ fn first_tokens<S: Storage>(ones: &[Symbol<S>], others: &[Symbol<S>]) -> Orderin
 }
 
 impl<'a, S: Storage, T: Tables<S>> TightTables<'a, S, T> {
-    /// The symbols of a production, pending: the first one is last.
+    /// The symbols of a production as pending symbols: in reverse.
     ///
     /// # Errors
     ///
-    /// Want of memory.
+    /// Out of memory.
     fn pending(&self, alloc: Global, p: PIdx<S>) -> Result<Vec<Symbol<S>>, AllocError>
         requires { S.number p.0 < length self.now.tables.grammar.productions }
         ensures { IfOk result (λ pending.
@@ -64,11 +63,11 @@ impl<'a, S: Storage, T: Tables<S>> TightTables<'a, S, T> {
 }
 
 impl<S: Storage> Firsts<S> {
-    /// The next token of what the choices make of the pending symbols, the last of which comes first.
+    /// The next token that the choices give for the pending symbols, the last of which comes first.
     ///
     /// # Errors
     ///
-    /// Want of memory.
+    /// Out of memory.
     fn next_token<T: Tables<S>>(
         &self,
         tight: &TightTables<S, T>,
@@ -102,11 +101,11 @@ impl<S: Storage> Firsts<S> {
         Ok(None)
     }
 
-    /// How what the choices make of two productions that are offered stands in a dictionary.
+    /// Compares lexicographically what the choices give for two candidates.
     ///
     /// # Errors
     ///
-    /// Want of memory.
+    /// Out of memory.
     pub(crate) fn compare<T: Tables<S>>(
         &self,
         tight: &TightTables<S, T>,

@@ -1,4 +1,4 @@
-//! Levels of rules that cost the same, by rising cost.
+//! Levels of rules of the same cost, by increasing cost.
 
 ghost use Rattle.std.specs.Prelude.{◌≡◌, ◌+◌, ◌<◌, IfOk, OnOk, map};
 ghost use Rattle.cfgleast.specs.Certificate.{choice_of};
@@ -18,11 +18,11 @@ use std::alloc::{AllocError, Global};
 use std::collections::VecDeque;
 
 impl<S: Storage> Firsts<S> {
-    /// Chooses for all rules that cost this, when those that cost less have their choices.
+    /// Chooses for all rules of this cost, after all rules that cost less have their choices.
     ///
     /// # Errors
     ///
-    /// Want of memory.
+    /// Out of memory.
     fn choose_level<T: Tables<S>>(
         &mut self,
         tight: &TightTables<S, T>,
@@ -39,11 +39,11 @@ impl<S: Storage> Firsts<S> {
         Ok(())
     }
 
-    /// Chooses for all rules, by rising cost.
+    /// Chooses for all rules, by increasing cost.
     ///
     /// # Errors
     ///
-    /// Want of memory.
+    /// Out of memory.
     fn choose_by_cost<T: Tables<S>>(&mut self, tight: &TightTables<S, T>) -> Result<(), AllocError>
         requires { Climbed tight.now (offers_of S.number self.old) 1 }
         ensures walks { OnOk result (Walks (chosen_tables tight.now.tables (offers_of S.number self.new))) }
@@ -57,11 +57,11 @@ impl<S: Storage> Firsts<S> {
     }
 }
 
-/// The choices of all rules, made by rising cost.
+/// The choices of all rules, made by increasing cost.
 ///
 /// # Errors
 ///
-/// Want of memory.
+/// Out of memory.
 fn choices_by_cost<S: Storage, T: Tables<S>>(
     alloc: Global,
     tight: &TightTables<S, T>,
@@ -86,12 +86,12 @@ fn choices_by_cost<S: Storage, T: Tables<S>>(
     Ok(firsts.choices)
 }
 
-/// For each rule that costs something the production by which its first minimal sentence is made, and a number, which
-/// is greater than those of the rules in the production.
+/// For each rule that costs something, the production that makes its first minimal sentence, and a number, which is
+/// greater than those of the rules in the production.
 ///
 /// # Errors
 ///
-/// Want of memory.
+/// Out of memory.
 pub fn first_choices<S: Storage, T: Tables<S>>(
     alloc: Global,
     tables: &T,

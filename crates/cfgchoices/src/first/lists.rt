@@ -1,4 +1,4 @@
-//! Productions in lists: those that hand on to one rule, and the own ones of one cost.
+//! Lists of productions: the chain productions that lead to one rule, and the base productions of one cost.
 
 ghost use Rattle.std.specs.Prelude.{◌≡◌, ℕ, ◌+◌, ◌<◌, IfOk, None, Some, length, replicate};
 ghost use Rattle.derivation.specs.CostLists.{rule_cost};
@@ -12,16 +12,16 @@ use cfgleast::settle::Settled;
 use cfgtables::Tables;
 use std::alloc::{AllocError, Global};
 
-/// Which productions stand in a list.
+/// Which productions are in a list.
 #[derive(Clone, Copy)]
 pub(crate) enum Listed<S> {
-    /// Those that are their rules' own, and cost this.
+    /// Base productions of this cost.
     Own(usize),
-    /// Those that hand on to this rule.
+    /// Chain productions that lead to this rule.
     HandingTo(RIdx<S>),
 }
 
-/// Lists of productions: for each the first one, and for each production the next one of its list.
+/// Linked lists of productions: the first production of each list, and the next one after each production.
 #[derive(Drop)]
 pub(crate) struct Lists<S: Storage> {
     pub(crate) own: Vec<Option<PIdx<S>>>,
@@ -29,11 +29,11 @@ pub(crate) struct Lists<S: Storage> {
     pub(crate) next: Vec<Option<PIdx<S>>>,
 }
 
-/// A list with so many places, none of which has a production.
+/// A list of this length, without productions.
 ///
 /// # Errors
 ///
-/// Want of memory.
+/// Out of memory.
 pub(crate) fn no_productions<S: Storage>(
     alloc: Global,
     len: usize,
@@ -43,7 +43,7 @@ pub(crate) fn no_productions<S: Storage>(
     vec![in alloc; None; len]
 }
 
-/// One more than the greatest of these costs.
+/// The greatest of these costs plus one.
 fn costs_len(least: &[Option<u32>]) -> usize
     ensures { (r c : ℕ) → rule_cost least.now r ≡ Some c → c < result }
 {
@@ -59,7 +59,7 @@ fn costs_len(least: &[Option<u32>]) -> usize
 }
 
 impl<S: Storage> Lists<S> {
-    /// Puts a production to the front of its list, if it costs just what its rule does.
+    /// Puts a production at the start of its list, if it is optimal.
     fn add<T: Tables<S>>(
         &mut self,
         tables: &T,
@@ -93,11 +93,11 @@ impl<S: Storage> Lists<S> {
         }
     }
 
-    /// The productions that cost just what their rules do, in lists.
+    /// The optimal productions, in lists.
     ///
     /// # Errors
     ///
-    /// Want of memory.
+    /// Out of memory.
     pub(crate) fn new<T: Tables<S>>(
         alloc: Global,
         tables: &T,

@@ -1,4 +1,4 @@
-//! Productions of one cost that are offered to their rules: each rule's choice is the one that makes the first word.
+//! Candidates of one cost: each rule's choice is the candidate that gives the lexicographically first sentence.
 
 ghost use Rattle.std.specs.Prelude.{◌≡◌, ℕ, ◌<◌, ◌≤◌, IfOk, MatchBool, MatchOption, OnOk, false, length};
 ghost use Rattle.std.specs.Prelude.{slice_index_or, true};
@@ -15,25 +15,25 @@ use cfgtables::Tables;
 use std::alloc::{AllocError, Global};
 use std::collections::VecDeque;
 
-/// Choices of productions, and productions that are offered.
+/// Choices of productions, and candidates.
 #[derive(Drop)]
 pub(crate) struct Firsts<S: Storage> {
     pub(crate) alloc: Global,
-    /// For each rule its choice, with the number of those that were made before.
+    /// For each rule its choice, with the number of choices made before it.
     pub(crate) choices: Vec<Option<(PIdx<S>, u32)>>,
     pub(crate) number: u32,
-    /// What the productions cost that are offered.
+    /// The cost of the current candidates.
     pub(crate) cost: usize,
-    /// Those that are alone in their rules.
+    /// Candidates that are the only optimal production of their rule.
     pub(crate) ready: Vec<PIdx<S>>,
-    /// Of the others those that made less than what was offered to their rules before, by what they make: the first
-    /// word of a dictionary is last.
+    /// The other candidates, except those that gave no less than an earlier one of their rule, in descending
+    /// lexicographic order.
     pub(crate) level: VecDeque<PIdx<S>>,
-    /// For each rule the one of these that was offered last.
+    /// For each rule the last candidate that was added to `level`.
     pub(crate) foremost: Vec<Option<PIdx<S>>>,
 }
 
-/// Where among these places to look next: at the end of the level, at its front, and then in the middle.
+/// Which index of the range to probe next: the level's last, its first, and then the middle one.
 fn probe(low: usize, high: usize, len: usize) -> usize
     requires { low < high }
     ensures from { low ≤ result }
@@ -49,11 +49,11 @@ fn probe(low: usize, high: usize, len: usize) -> usize
 }
 
 impl<S: Storage> Firsts<S> {
-    /// The place of a production in the level: behind those that make nothing less.
+    /// The index at which to insert a production into the level: after those that give nothing less.
     ///
     /// # Errors
     ///
-    /// Want of memory.
+    /// Out of memory.
     fn place<T: Tables<S>>(
         &self,
         tight: &TightTables<S, T>,
@@ -84,11 +84,11 @@ impl<S: Storage> Firsts<S> {
         Ok(low)
     }
 
-    /// Whether a choice, or a production that waits for the same rule, makes nothing greater.
+    /// Whether a choice of the rule, or a candidate that waits for it, gives nothing greater.
     ///
     /// # Errors
     ///
-    /// Want of memory.
+    /// Out of memory.
     fn is_covered<T: Tables<S>>(
         &self,
         tight: &TightTables<S, T>,
@@ -115,11 +115,11 @@ impl<S: Storage> Firsts<S> {
         }
     }
 
-    /// Puts a production to its place in the level.
+    /// Inserts a production into the level.
     ///
     /// # Errors
     ///
-    /// Want of memory.
+    /// Out of memory.
     fn put_in<T: Tables<S>>(
         &mut self,
         tight: &TightTables<S, T>,
@@ -139,11 +139,11 @@ impl<S: Storage> Firsts<S> {
         Ok(())
     }
 
-    /// Offers a production to its rule.
+    /// Adds a production to the candidates of its rule.
     ///
     /// # Errors
     ///
-    /// Want of memory.
+    /// Out of memory.
     fn offer<T: Tables<S>>(
         &mut self,
         tight: &TightTables<S, T>,
@@ -166,11 +166,11 @@ impl<S: Storage> Firsts<S> {
         self.put_in(tight, p)
     }
 
-    /// Offers each production of a list to its rule.
+    /// Adds each production of a list to the candidates of its rule.
     ///
     /// # Errors
     ///
-    /// Want of memory.
+    /// Out of memory.
     pub(crate) fn offer_listed<T: Tables<S>>(
         &mut self,
         tight: &TightTables<S, T>,
@@ -192,7 +192,7 @@ impl<S: Storage> Firsts<S> {
         Ok(())
     }
 
-    /// The production that is chosen next.
+    /// Removes the candidate to choose next.
     fn next(&mut self) -> Option<PIdx<S>>
         ensures { (k : Known) → Level k (offers_of S.number self.old)
             → MatchOption result (IsDrained (offers_of S.number self.old) (offers_of S.number self.new))
@@ -205,12 +205,12 @@ impl<S: Storage> Firsts<S> {
         Some(p)
     }
 
-    /// Makes the next production the choice of its rule, unless that has one, and then offers those that hand on to the
-    /// rule. Whether there was one.
+    /// Makes the next candidate the choice of its rule, unless the rule has one; then adds the chain productions that
+    /// lead to the rule to the candidates. Returns whether there was a candidate.
     ///
     /// # Errors
     ///
-    /// Want of memory.
+    /// Out of memory.
     fn choose<T: Tables<S>>(&mut self, tight: &TightTables<S, T>) -> Result<bool, AllocError>
         requires { Going tight.now (offers_of S.number self.old) }
         ensures going { OnOk result (Going tight.now (offers_of S.number self.new)) }
@@ -235,11 +235,11 @@ impl<S: Storage> Firsts<S> {
         Ok(true)
     }
 
-    /// Chooses among the productions that are offered, till none is left.
+    /// Chooses among the candidates until none is left.
     ///
     /// # Errors
     ///
-    /// Want of memory.
+    /// Out of memory.
     pub(crate) fn choose_all<T: Tables<S>>(
         &mut self,
         tight: &TightTables<S, T>,

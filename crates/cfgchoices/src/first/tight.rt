@@ -1,4 +1,4 @@
-//! What is known of the productions that cost just what their rules do.
+//! What is known of the optimal productions.
 
 ghost use Rattle.std.specs.Prelude.{◌≡◌, ℕ, ◌+◌, ◌^◌, ◌<◌, All, Contains, IfOk, false, length, map, slice_index_or};
 ghost use Rattle.std.specs.Prelude.{true};
@@ -18,11 +18,11 @@ use cfgtables::Tables;
 use std::alloc::{AllocError, Global};
 use std::marker::Model;
 
-/// For each rule whether at most one of its productions costs just what it does.
+/// For each rule, whether at most one of its productions is optimal.
 ///
 /// # Errors
 ///
-/// Want of memory.
+/// Out of memory.
 fn alone_rules<S: Storage, T: Tables<S>>(
     alloc: Global,
     tables: &T,
@@ -53,7 +53,7 @@ fn alone_rules<S: Storage, T: Tables<S>>(
     Ok(alone)
 }
 
-/// The productions that cost just what their rules do, with what is known of them.
+/// The optimal productions, with what is known of them.
 #[derive(Drop)]
 pub(crate) struct TightTables<'a, S: Storage, T: Tables<S>> {
     tables: &'a T,
@@ -91,7 +91,7 @@ impl<'a, S: Storage, T: Tables<S>> TightTables<'a, S, T> {
     ///
     /// # Errors
     ///
-    /// Want of memory.
+    /// Out of memory.
     pub(crate) fn new(
         alloc: Global,
         tables: &'a T,
@@ -116,14 +116,14 @@ impl<'a, S: Storage, T: Tables<S>> TightTables<'a, S, T> {
         })
     }
 
-    /// A law, so the call does nothing: what is known of the productions is so.
+    /// A law, so the call does nothing: what is known of the productions is true.
     pub(crate) fn invariant_holds(&self)
         ensures { (n : ℕ) × IsKnown self.now n }
     {
         let _costs = &self.costs;
     }
 
-    /// One more than the greatest least cost of a rule.
+    /// The greatest least cost of a rule plus one.
     pub(crate) fn costs_len(&self) -> usize
         ensures { result ≡ self.now.limit }
     {
@@ -149,7 +149,7 @@ impl<'a, S: Storage, T: Tables<S>> TightTables<'a, S, T> {
         self.tables.prod(p)
     }
 
-    /// Whether no other production of the rule costs just what the rule does.
+    /// Whether the rule has at most one optimal production.
     pub(crate) fn is_alone(&self, rule: RIdx<S>) -> bool
         requires { S.number rule.0 < self.now.tables.grammar.rules }
         ensures { result ≡ is_alone self.now (S.number rule.0) }
@@ -168,7 +168,7 @@ impl<'a, S: Storage, T: Tables<S>> TightTables<'a, S, T> {
         }
     }
 
-    /// The production behind this one in its list.
+    /// The next production in the list of this one.
     pub(crate) fn next(&self, p: PIdx<S>) -> Option<PIdx<S>>
         requires { S.number p.0 < length self.now.tables.grammar.productions }
         ensures own { (c : ℕ) → IsOwnAt self.now.tables c (S.number p.0)

@@ -1,4 +1,4 @@
--- Rules that hand on to one rule alone, told by what productions are to their rules.
+-- Rules with a single optimal production, a chain production, as the kinds of productions say.
 use Rattle.std.specs.Prelude.{◌≡◌, ◌↔◌, ℕ, ◌<◌, ◌⊎◌, List, All, length, map, slice_index, slice_index_or}
 use Rattle.cfgindex.specs.declared.idxnewtype.RIdx.{RIdx}
 use Rattle.derivation.specs.Grammar.{Grammar}
@@ -14,7 +14,7 @@ abbrev pub rules_of : {S : Type 0} → (S → ℕ) → List (RIdx S) → List �
 rules_of number rules = map (λ r. number r.0) rules
 
 module _ {S : Type 0} (number : S → ℕ) (g : Grammar) (kinds : List (Kind S)) where
-  -- a production of the rule hands on to the other one, and its other productions cost more
+  -- a chain production of rule r leads to rule q, and r has no other optimal production
   pub record IsOnlyHeir (r q : ℕ) : Type 0 where
     pub place : ℕ
     pub within : place < length g.productions
@@ -24,7 +24,7 @@ module _ {S : Type 0} (number : S → ℕ) (g : Grammar) (kinds : List (Kind S))
     pub is : number heir.0 ≡ q
     pub others : (p : ℕ) → p < length g.productions → (nth_production g p).rule ≡ r → (p ≡ place) ⊎ (slice_index_or kinds p Slack ≡ Slack)
 
-  -- for each rule one to which it leads by only heirs
+  -- for each rule r a rule that zero or more links of `IsOnlyHeir` lead to from r
   pub record AreHeirs (heirs : List ℕ) : Type 0 where
     pub all : length heirs ≡ g.rules
     pub within : All (λ heir. heir < g.rules) heirs

@@ -1,4 +1,4 @@
--- All minimal sentences of a rule, from a table that is filled by rising costs.
+-- All minimal sentences of a rule, from a table that is filled by increasing cost.
 use Rattle.std.specs.Prelude.{◌≡◌, ◌↔◌, ℕ, ◌⊎◌, List, [], ◌∷◌, ◌++◌, Some, Contains, map, Vec}
 use Rattle.std.specs.Ordering.{nat_cmp}
 use Rattle.std.specs.BTreeMap.{BTreeMap, get}
@@ -15,11 +15,11 @@ use Rattle.cfgchoices.specs.Splits.{Split}
 use Rattle.cfgchoices.specs.Inner.Kinds.{IsMinimal, IsOwnBelow}
 use Rattle.cfgcosts.specs.Sentences.{numbers_of}
 
--- what was listed, and what is so, are listed now
+-- the new list has what was listed before and what satisfies `Is`
 abbrev pub Lists : (ℕ → Type 0) → List ℕ → List ℕ → Type 0
 Lists Is old new = (p : ℕ) → Contains new p ↔ (Contains old p ⊎ Is p)
 
--- the rule, and the rules that own productions below listed ones hold, are listed, each with its cost
+-- the rule, and each rule in a base production below a listed rule, is listed with its cost
 pub record AreAsked (x : CostTables) (r : ℕ) (listed : List (ℕ × ℕ)) : Type 0 where
   pub costs : (c q : ℕ) → Contains listed (c, q) → cost_answer x q ≡ Some c
   pub first : (c : ℕ) × Contains listed (c, r)
@@ -30,27 +30,27 @@ pub record AreAsked (x : CostTables) (r : ℕ) (listed : List (ℕ × ℕ)) : Ty
 abbrev pub words_of : {S : Type 0} → (S → ℕ) → Vec (Vec (TIdx S) Global) Global → List (List ℕ)
 words_of number words = map (numbers_of number) words.items
 
--- the sentences that a table has of a rule
+-- the sentences that a table has for a rule
 abbrev pub sentences_in : {S : Type 0} → (S → ℕ) → BTreeMap ℕ (Vec (Vec (TIdx S) Global) Global) → ℕ → List (List ℕ)
 sentences_in number table r = unwrap_or (option_map (words_of number) (get nat_cmp table r)) []
 
 abbrev pub HasSentence : (ℕ → List (List ℕ)) → ℕ → List ℕ → Type 0
 HasSentence sentences r w = Contains (sentences r) w
 
--- each word of one list with each of the other behind it
+-- each word of one list followed by each word of the other
 abbrev pub joined : List (List ℕ) → List (List ℕ) → List (List ℕ)
 joined fronts backs = flat_map (λ front. map (λ back. front ++ back) backs) fronts
 
--- the words that a symbol stands for
+-- the words of a symbol: the token itself, or the sentences of the rule
 abbrev pub words_of_symbol : (ℕ → List (List ℕ)) → Sym → List (List ℕ)
 words_of_symbol sentences (Token t) = (t ∷ []) ∷ []
 words_of_symbol sentences (Rule r) = sentences r
 
--- what the symbols of a row stand for, one behind the other
+-- the words of a list's symbols, concatenated
 abbrev pub row_words : (ℕ → List (List ℕ)) → List Sym → List (List ℕ)
 row_words sentences row = fold (λ words s. joined words (words_of_symbol sentences s)) ([] ∷ []) row
 
--- these are the sentences of the rule now, and the other rules have theirs
+-- these are now the sentences of the rule, and the other rules keep theirs
 pub record Puts (r : ℕ) (words : List (List ℕ)) (sentences sentences' : ℕ → List (List ℕ)) : Type 0 where
   pub here : sentences' r ≡ words
   pub others : (q : ℕ) → (q ≡ r → ⊥) → sentences' q ≡ sentences q
@@ -61,11 +61,11 @@ pub record IsMadeBy (g : Grammar) (sentences : ℕ → List (List ℕ)) (places 
   pub among : Contains places place
   pub parts : Split (HasSentence sentences) (nth_production g place).symbols w
 
--- the words are just the minimal sentences of the rule, each once, in the order of a dictionary
+-- the words are exactly the minimal sentences of the rule, each once, in lexicographic order
 pub record AreMinimal (x : CostTables) (r : ℕ) (words : List (List ℕ)) : Type 0 where
   pub all : (w : List ℕ) → Contains words w ↔ IsMinimal x r w
   pub order : IsStrictlySortedBy dictionary words
 
--- so are those of each rule that stands in an own production below the rule
+-- so are those of each rule in a base production below the rule
 abbrev pub IsReadyFor : CostTables → (ℕ → List (List ℕ)) → ℕ → Type 0
 IsReadyFor x sentences r = (p q : ℕ) → IsOwnBelow x r p → Contains (nth_production x.grammar p).symbols (Rule q) → AreMinimal x q (sentences q)

@@ -1,4 +1,4 @@
--- Walks by chosen productions from a rule, from the last token of its first minimal sentence to the first.
+-- Walks from a rule by chosen productions, from the last token of its first minimal sentence to the first token.
 use Rattle.std.specs.Prelude.{◌≡◌, ℕ, ◌+◌, ◌*◌, ◌<◌, ◌≤◌, List, [], ◌∷◌, All, length}
 use Rattle.derivation.specs.Grammar.{Grammar, Sym, Rule, HasProduction}
 use Rattle.derivation.specs.Sentence.{cost_of}
@@ -13,12 +13,12 @@ pub record IsFirstSentence (g : Grammar) (cost : ℕ → ℕ) (r : ℕ) (w : Lis
   pub short : length w ≤ cost_of cost w
   pub within : All (λ t. t + 1 < g.tokens) w
 
--- each production is counted as often as it stands among the opened ones
+-- each production is counted as often as it is among the opened ones
 pub record AreCountsOf (g : Grammar) (opened : ℕ → ℕ) (all : ℕ) (places : List ℕ) : Type 0 where
   pub each : (p : ℕ) → p < length g.productions → opened p ≡ times p places
   pub together : all ≡ length places
 
--- how a walk from the rule has ended: with its first minimal sentence, which the opened productions derive
+-- a finished walk from the rule: it found the first minimal sentence, which the opened productions derive
 pub record HasWalked (g : Grammar) (cost : ℕ → ℕ) (r : ℕ) (HasOpened : List ℕ → Type 0) (w : List ℕ) : Type 0 where
   pub found : IsFirstSentence g cost r w
   pub places : List ℕ
@@ -29,7 +29,7 @@ pub record HasWalked (g : Grammar) (cost : ℕ → ℕ) (r : ℕ) (HasOpened : L
   pub few : length places ≤ 1 + length w * g.rules
   pub free : OpensNoneFree g cost (λ p. times p places)
 
--- or for want of memory
+-- or the walk ran out of memory
 pub record HasStopped (g : Grammar) (cost : ℕ → ℕ) (r : ℕ) (HasOpened : List ℕ → Type 0) : Type 0 where
   pub places : List ℕ
   pub opened : HasOpened places

@@ -20,8 +20,8 @@ use std::alloc::{AllocError, Global};
 use std::collections::BTreeMap;
 
 impl<'a, S: Storage, T: Tables<S>> SentenceGenerator<'a, S, T> {
-    /// A rule of the same minimal sentences: the rule itself, or where it hands on to one rule alone, the last of a row
-    /// of such rules.
+    /// A rule with the same minimal sentences: the rule itself or, if its only optimal production is a chain
+    /// production, the last rule of that chain.
     fn last_heir(&self, rule: RIdx<S>) -> RIdx<S>
         requires { S.number rule.0 < self.now.grammar.rules }
         ensures { HasSameSentences self.now (S.number rule.0) (S.number result.0) }
@@ -30,11 +30,11 @@ impl<'a, S: Storage, T: Tables<S>> SentenceGenerator<'a, S, T> {
         self.last_heirs[usize::from(rule)]
     }
 
-    /// What the productions make of the table's sentences, each word once, in the order of a dictionary.
+    /// What the productions make of the table's sentences, each word once, in lexicographic order.
     ///
     /// # Errors
     ///
-    /// Want of memory.
+    /// Out of memory.
     fn made_words(
         &self,
         alloc: Global,
@@ -56,12 +56,12 @@ impl<'a, S: Storage, T: Tables<S>> SentenceGenerator<'a, S, T> {
         Ok(words)
     }
 
-    /// All minimal sentences of the rule, which costs this, where the table has those of the rules that they are made
+    /// All minimal sentences of the rule, which has this cost, if the table has those of the rules that they are made
     /// of.
     ///
     /// # Errors
     ///
-    /// Want of memory.
+    /// Out of memory.
     fn level_sentences(
         &self,
         alloc: Global,
@@ -84,11 +84,11 @@ impl<'a, S: Storage, T: Tables<S>> SentenceGenerator<'a, S, T> {
         self.made_words(alloc, &own, table)
     }
 
-    /// All minimal sentences of the rule, from a table that is filled by rising costs.
+    /// All minimal sentences of the rule, from a table that is filled by increasing cost.
     ///
     /// # Errors
     ///
-    /// Want of memory.
+    /// Out of memory.
     fn all_sentences(&self, alloc: Global, rule: RIdx<S>) -> Result<Vec<Vec<TIdx<S>>>, AllocError>
         requires rule { S.number rule.0 < self.now.grammar.rules }
         requires known { (c : ℕ) × (cost_answer self.now (S.number rule.0) ≡ Some c) }
@@ -106,14 +106,12 @@ impl<'a, S: Storage, T: Tables<S>> SentenceGenerator<'a, S, T> {
         Ok(all.unwrap_or(Vec::new(alloc)))
     }
 
-    /// All sentences of the rule that no other of its sentences costs less than, each once, in the order of a
-    /// dictionary: by the indices of their tokens. None of them is a prefix of another. Only rules that they are made
-    /// of are gone into.
+    /// All sentences of the rule such that no other costs less, as lists of token indices, each once, in lexicographic
+    /// order. None of them is a prefix of another. Only rules that they are made of are visited.
     ///
     /// # Errors
     ///
-    /// Where [`min_sentence_cost`](SentenceGenerator::min_sentence_cost) refuses, the same refusal; else none but want
-    /// of memory.
+    /// Those of [`min_sentence_cost`](SentenceGenerator::min_sentence_cost); if that succeeds, only out of memory.
     pub fn min_sentences(
         &self,
         alloc: Global,

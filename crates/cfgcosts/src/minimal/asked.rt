@@ -1,4 +1,4 @@
-//! The rules whose minimal sentences those of another are made of.
+//! The rules that a rule's minimal sentences are made of.
 
 ghost use Rattle.std.specs.Prelude.{◌≡◌, ℕ, ◌<◌, IfOk, Some};
 ghost use Rattle.cfgleast.specs.Generator.{cost_answer};
@@ -13,7 +13,7 @@ use search::Search;
 use std::alloc::{AllocError, Global};
 
 impl<'a, S: Storage, T: Tables<S>> SentenceGenerator<'a, S, T> {
-    /// What a rule costs that has a cost.
+    /// The cost of a rule that has one.
     fn known_cost(&self, rule: RIdx<S>) -> u32
         requires rule { S.number rule.0 < self.now.grammar.rules }
         requires known { (c : ℕ) × (cost_answer self.now (S.number rule.0) ≡ Some c) }
@@ -25,12 +25,11 @@ impl<'a, S: Storage, T: Tables<S>> SentenceGenerator<'a, S, T> {
         }
     }
 
-    /// The rule, and the rules in own productions of rules that were asked for, or that these hand on to: each with its
-    /// cost.
+    /// The rule, and the rules in base productions below the rules found so far, each with its cost.
     ///
     /// # Errors
     ///
-    /// Want of memory.
+    /// Out of memory.
     pub(crate) fn asked_rules(&self, alloc: Global, rule: RIdx<S>) -> Result<Queue, AllocError>
         requires rule { S.number rule.0 < self.now.grammar.rules }
         requires known { (c : ℕ) × (cost_answer self.now (S.number rule.0) ≡ Some c) }

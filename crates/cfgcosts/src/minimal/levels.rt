@@ -1,4 +1,4 @@
-//! Productions that cost just what their rules do: they hand on to a rule of the same cost, or are their rules' own.
+//! Optimal productions: chain productions, which lead to a rule of the same cost, and base productions.
 
 ghost use Rattle.std.specs.Prelude.{◌≡◌, ◌↔◌, ℕ, ◌<◌, Contains, IfOk, OnOk, length};
 ghost use Rattle.cfgtables.specs.Openings.{nth_production};
@@ -14,11 +14,11 @@ use search::{Few, Search};
 use std::alloc::{AllocError, Global};
 
 impl<'a, S: Storage, T: Tables<S>> SentenceGenerator<'a, S, T> {
-    /// Where a production costs what its rule does, reaches its heir, or lists it, if it has none.
+    /// Lists a base production; for a chain production, queues the rule that it leads to.
     ///
     /// # Errors
     ///
-    /// Want of memory.
+    /// Out of memory.
     fn take_in(
         &self,
         p: PIdx<S>,
@@ -44,11 +44,11 @@ impl<'a, S: Storage, T: Tables<S>> SentenceGenerator<'a, S, T> {
         }
     }
 
-    /// Reaches the heirs in the productions of a rule, and lists those that have none.
+    /// Queues the rules that the rule's chain productions lead to, and lists its base productions.
     ///
     /// # Errors
     ///
-    /// Want of memory.
+    /// Out of memory.
     fn go_through(
         &self,
         rule: RIdx<S>,
@@ -68,11 +68,11 @@ impl<'a, S: Storage, T: Tables<S>> SentenceGenerator<'a, S, T> {
         Ok(())
     }
 
-    /// The own productions of the rule, and of all rules that it hands on to.
+    /// The base productions of the rule, and of all rules that chain productions lead to from it.
     ///
     /// # Errors
     ///
-    /// Want of memory.
+    /// Out of memory.
     pub(crate) fn own_productions(
         &self,
         alloc: Global,

@@ -1,4 +1,4 @@
-//! What rows of symbols derive by sentences of their rules.
+//! What lists of symbols derive by sentences of their rules.
 
 ghost use Rattle.std.specs.Prelude.{◌≡◌, ◌++◌, IfOk, OnOk, map};
 ghost use Rattle.cfgtables.specs.NumberedSymbols.{sym_of};
@@ -10,14 +10,14 @@ use std::alloc::{AllocError, Global};
 use std::collections::BTreeMap;
 use std::slice::from_ref;
 
-/// Some rules with sentences of theirs.
+/// Sentences of some rules.
 pub(crate) type SentenceTable<S> = BTreeMap<usize, Vec<Vec<TIdx<S>>>>;
 
-/// Two words joined.
+/// Two words, concatenated.
 ///
 /// # Errors
 ///
-/// Want of memory.
+/// Out of memory.
 fn join<S: Storage>(
     alloc: Global,
     front: &[TIdx<S>],
@@ -31,11 +31,11 @@ fn join<S: Storage>(
     Ok(word)
 }
 
-/// Adds the words that begin with `front` and go on with one of `backs`.
+/// Adds the words that are `front` followed by one of `backs`.
 ///
 /// # Errors
 ///
-/// Want of memory.
+/// Out of memory.
 fn join_each<S: Storage>(
     alloc: Global,
     mut front: Vec<TIdx<S>>,
@@ -56,11 +56,11 @@ fn join_each<S: Storage>(
     Ok(())
 }
 
-/// The words that begin with one of `fronts` and go on with one of `backs`.
+/// The words that are one of `fronts` followed by one of `backs`.
 ///
 /// # Errors
 ///
-/// Want of memory.
+/// Out of memory.
 fn join_all<S: Storage>(
     alloc: Global,
     fronts: Vec<Vec<TIdx<S>>>,
@@ -76,11 +76,11 @@ fn join_all<S: Storage>(
     Ok(words)
 }
 
-/// The words, each with what the symbol stands for behind it.
+/// The words, each followed by each word of the symbol.
 ///
 /// # Errors
 ///
-/// Want of memory.
+/// Out of memory.
 fn push_symbol<S: Storage>(
     alloc: Global,
     table: &SentenceTable<S>,
@@ -103,11 +103,11 @@ fn push_symbol<S: Storage>(
     }
 }
 
-/// The words that the symbols derive, where each rule among them has the sentences of the table.
+/// The words that the symbols derive, if the rules among them have just the sentences of the table.
 ///
 /// # Errors
 ///
-/// Want of memory.
+/// Out of memory.
 pub(crate) fn made_by_row<S: Storage>(
     alloc: Global,
     table: &SentenceTable<S>,

@@ -1,4 +1,4 @@
--- Rows of symbols that cost some number or more, and rules that cost as much as others, whatever tokens cost.
+-- Lists of symbols that cost some number or more, and rules that cost as much as others, whatever tokens cost.
 use Rattle.std.specs.Prelude.{ℕ, ◌≤◌, List, [], ◌∷◌}
 use Rattle.derivation.specs.Grammar.{Sym, Rule, Token}
 use Rattle.derivation.specs.Sentence.{cost_of}
@@ -10,20 +10,20 @@ weigh cost costs (Rule r) = costs r
 weigh cost costs (Token t) = cost t
 
 module _ (P : ℕ → List Sym → Type 0) where
-  -- the row yields a word, and the row yields none
+  -- the list yields a word, or it yields none
   abbrev pub HasWord : List Sym → Type 0
   HasWord a = (w : List ℕ) × Yields P a w
 
   abbrev pub IsDead : List Sym → Type 0
   IsDead a = (w : List ℕ) → Yields P a w → ⊥
 
-  -- the row yields a word that costs n or more
+  -- the list yields a word that costs n or more
   pub record AtLeast (cost : ℕ → ℕ) (a : List Sym) (n : ℕ) : Type 0 where
     pub word : List ℕ
     pub tree : Yields P a word
     pub enough : n ≤ cost_of cost word
 
-  -- what the rule costs at least, the row does too
+  -- the list costs at least what the rule does
   abbrev pub IsRowAbove : List Sym → ℕ → Type 0
   IsRowAbove a x = (cost : ℕ → ℕ) (n : ℕ) → AtLeast cost (Rule x ∷ []) n → AtLeast cost a n
 

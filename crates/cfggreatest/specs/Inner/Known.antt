@@ -1,4 +1,4 @@
--- What is known of a rule while groups of rules are searched: nothing yet, its place on the path, or what is told of it.
+-- What is known of a rule while groups of rules are searched: nothing yet, its index on the path, or its result.
 use Rattle.std.specs.Prelude.{◌≡◌, ℕ, nat_lt, nat_le, if◌then◌else◌, ◌&&◌, Bool, true, false, List, Option, Some, None, Result, Ok, Err, slice_index_or}
 use Rattle.derivation.specs.Grammar.{Sym, Rule, Token, Grammar, HasProduction}
 use Rattle.derivation.specs.declared.errors.CostError.{CostError}
@@ -9,7 +9,7 @@ use Rattle.cfggreatest.specs.declared.sums.Known.TheVariants.{New, Open, Told}
 use Rattle.cfggreatest.specs.declared.sums.Stop.{Stop}
 use Rattle.cfggreatest.specs.declared.sums.Stop.TheVariants.{Leads, Grows}
 
--- a number that is no rule's has no sentence
+-- a number that is no rule's counts as unproductive
 abbrev pub no_rule : Known
 no_rule = Told (Err NoSentence)
 
@@ -22,7 +22,7 @@ count_new New = 1
 count_new (Open place) = 0
 count_new (Told answer) = 0
 
--- whether it is told that the rule has no sentence
+-- whether the rule's result is that it is unproductive
 abbrev pub is_dead : Known → Bool
 is_dead New = false
 is_dead (Open place) = false
@@ -30,34 +30,34 @@ is_dead (Told (Ok c)) = false
 is_dead (Told (Err NoSentence)) = true
 is_dead (Told (Err CostTooLarge)) = false
 
--- a token, or a rule of which that isn't told
+-- a token, or a rule without that result
 abbrev pub IsLiveSymbol : List Known → Sym → Type 0
 IsLiveSymbol known (Rule r) = is_dead (known_of known r) ≡ false
 IsLiveSymbol known (Token t) = Unit {0}
 
--- whether the rule stands in the group that begins at this place of the path
+-- whether the rule is in the group that begins at this index of the path
 abbrev pub is_inside : ℕ → Known → Bool
 is_inside start New = false
 is_inside start (Open place) = nat_le start place
 is_inside start (Told answer) = false
 
--- whether nothing is told of the rule, and it stands elsewhere
+-- whether the rule has no result, and isn't in that group
 abbrev pub is_outside : ℕ → Known → Bool
 is_outside start New = true
 is_outside start (Open place) = nat_lt place start
 is_outside start (Told answer) = false
 
--- what is told is true
+-- the results are true
 abbrev pub AreTrue : Grammar → (ℕ → ℕ) → List Known → Type 0
 AreTrue g cost known = (r : ℕ) (answer : Result (Option ℕ) CostError) → known_of known r ≡ Told answer → Means (HasProduction g) cost r answer
 
--- what an answer adds to the sum of a production: its cost, cut down to 65536
+-- what a result adds to the sum of a production: its cost, cut down to 65536
 abbrev pub read_answer : Result (Option ℕ) CostError → Result (Option ℕ) Stop
 read_answer (Ok None) = Err Grows
 read_answer (Ok (Some c)) = Ok (Some c)
 read_answer (Err e) = Ok (Some 65536)
 
--- what a rule adds: nothing, if it stands in the group that begins at this place
+-- what a rule adds: nothing, if it is in the group that begins at this index
 abbrev pub read_known : ℕ → ℕ → Known → Result (Option ℕ) Stop
 read_known start r New = Err (Leads r)
 read_known start r (Open place) = if nat_lt place start then Err (Leads r) else Ok None
@@ -67,7 +67,7 @@ abbrev pub read_symbol : (ℕ → ℕ) → List Known → ℕ → Sym → Result
 read_symbol cost known start (Rule r) = read_known start r (known_of known r)
 read_symbol cost known start (Token t) = Ok (Some (cost t))
 
--- what a rule costs, where rules of the group cost k, and this is what it costs if that is too large to be told
+-- what a rule costs, if rules of the group cost k, and `large` is what this rule costs if that is too large
 abbrev pub known_cost : ℕ → ℕ → ℕ → Known → ℕ
 known_cost start k large New = 0
 known_cost start k large (Open place) = if nat_lt place start then 0 else k
@@ -75,6 +75,7 @@ known_cost start k large (Told (Ok None)) = 0
 known_cost start k large (Told (Ok (Some c))) = c
 known_cost start k large (Told (Err e)) = large
 
--- the answer for rules of a group, by the greatest sum of a production, cut down, and whether one holds two of them
+-- the result for rules of a group: `top` is the greatest sum of a production, cut down, and `twice` says whether a production contains two
+-- of the rules
 abbrev pub group_answer : ℕ → Bool → Result (Option ℕ) CostError
 group_answer top twice = if twice && nat_lt 0 top then Ok None else (if nat_le top 65535 then Ok (Some top) else Err CostTooLarge)

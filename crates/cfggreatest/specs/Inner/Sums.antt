@@ -1,4 +1,4 @@
--- What productions of a group's rules cost, beside the rules of the group.
+-- What productions of a group's rules cost, without the rules of the group.
 use Rattle.std.specs.Prelude.{◌≡◌, ℕ, ◌+◌, ◌*◌, ◌<◌, ◌≤◌, ◌⊎◌, ◌||◌, nat_lt, min, max, true, false, List, [], ◌∷◌, All, Contains, Option, Ok, Err, length, slice_index, sum_by}
 use Rattle.derivation.specs.Grammar.{Sym, Rule, Grammar, HasProduction}
 use Rattle.cfggreatest.specs.Inner.AtLeast.{AtLeast, HasWord, IsAbove, IsDead, weigh}
@@ -10,15 +10,16 @@ use Rattle.cfggreatest.specs.declared.sums.Stop.TheVariants.{Leads, Grows}
 use Rattle.cfggreatest.specs.declared.sums.Sums.{Sums}
 
 module _ (cost : ℕ → ℕ) (known : List Known) (start : ℕ) where
-  -- a symbol that is no way out: a token, a rule with a greatest cost, or one of the group
+  -- a symbol that doesn't lead out of the group: a token, a rule with a greatest cost, or a rule of the group
   abbrev pub IsRead : Sym → Type 0
   IsRead s = (o : Option ℕ) × (read_symbol cost known start s ≡ Ok o)
 
-  -- what the row costs, where rules of the group cost k, and rules with costs that are too large to be told cost these
+  -- what the list costs, if rules of the group cost k, and `large` gives the costs that are too large
   abbrev pub row_cost : (ℕ → ℕ) → ℕ → List Sym → ℕ
   row_cost large k a = sum_by (weigh cost (λ r. known_cost start k (large r) (known_of known r))) a
 
-  -- what stands outside the group costs so much, and this when it is cut down to 65536; so many of the group's rules are in the row
+  -- the symbols outside the group cost this much in total, which is `outer` when it is cut down to 65536; `inner` of the symbols are rules
+  -- of the group
   pub record CostsBeside (large : ℕ → ℕ) (a : List Sym) (outer inner : ℕ) : Type 0 where
     pub rest : ℕ
     pub cut : outer ≡ min rest 65536
@@ -28,8 +29,8 @@ module _ (cost : ℕ → ℕ) (known : List Known) (start : ℕ) where
     pub read : All IsRead a
     pub sum : (large : ℕ → ℕ) → ((r : ℕ) → 65535 < large r) → CostsBeside large a outer inner
 
-  -- the sum of a row is no greater than this one, and the row doesn't grow by itself: it has no rule of the group, or costs nothing
-  -- beside one, or beside more, which is noted
+  -- the sum of a list is no greater than this one, and the list makes no growing cycle: it has no rule of the group; or one, and all else
+  -- costs nothing; or more, which is recorded, and all else costs nothing
   pub record IsUnder (a : List Sym) (x : Sums) : Type 0 where
     pub outer : ℕ
     pub inner : ℕ
@@ -38,7 +39,7 @@ module _ (cost : ℕ → ℕ) (known : List Known) (start : ℕ) where
     pub little : outer ≤ x.top
     pub few : (inner ≡ 0) ⊎ ((outer ≡ 0) × ((inner ≡ 1) ⊎ (x.twice ≡ true)))
 
-  -- a live row whose sum was taken in
+  -- the sum of a list of productive symbols was added
   pub record AddsRow (a : List Sym) (old new : Sums) : Type 0 where
     pub outer : ℕ
     pub inner : ℕ
@@ -54,7 +55,7 @@ module _ (cost : ℕ → ℕ) (known : List Known) (start : ℕ) where
     pub among : Contains a symbol
     pub stops : read_symbol cost known start symbol ≡ Err stop
 
-  -- a rule of the group stands beside what costs something
+  -- a rule of the group is beside something that costs
   pub record GrowsBeside (a : List Sym) (stop : Stop) : Type 0 where
     pub outer : ℕ
     pub inner : ℕ
@@ -69,7 +70,7 @@ module _ (cost : ℕ → ℕ) (known : List Known) (start : ℕ) where
   abbrev pub TakesRow : List Sym → Sums → Sums → Type 0
   TakesRow a old new = ((All (IsLiveSymbol known) a → ⊥) × (new ≡ old)) ⊎ AddsRow a old new
 
--- what is told is true, and the rules at this place of the path and behind it are a group, each above each
+-- the results are true, and the rules from this index of the path on are a group, each above each
 pub record IsGroup (g : Grammar) (cost : ℕ → ℕ) (known : List Known) (path : List ℕ) (start : ℕ) : Type 0 where
   pub so : AreTrue g cost known
   pub lives : (r : ℕ) → is_dead (known_of known r) ≡ false → HasWord (HasProduction g) (Rule r ∷ [])
@@ -82,17 +83,17 @@ module _ (P : ℕ → List Sym → Type 0) (cost : ℕ → ℕ) (path : List ℕ
   abbrev pub CostAtLeast : ℕ → Type 0
   CostAtLeast n = (i : ℕ) → start ≤ i → i < length path → AtLeast P cost (Rule (slice_index path i) ∷ []) n
 
-  -- what rules of the group cost: at least the greatest sum, and where a production holds two of them, twice what all of them do
+  -- what rules of the group cost: at least the greatest sum, and if a production contains two of them, twice what all of them cost
   pub record AreReached (x : Sums) : Type 0 where
     pub small : x.top ≤ 65536
     pub costs : CostAtLeast x.top
     pub doubles : x.twice ≡ true → (n : ℕ) → CostAtLeast n → CostAtLeast (n + n)
 
-  -- each production of the rule yields nothing, or is under the greatest sum
+  -- each production of the rule yields nothing, or its sum is no greater than the greatest one
   abbrev pub AreUnder : List Known → ℕ → Sums → Type 0
   AreUnder known r x = (a : List Sym) → P r a → IsDead P a ⊎ IsUnder cost known start a x
 
-  -- why the sum of a group was stopped: a rule leads to one that isn't told and is not of the group, or the group's costs grow
+  -- why the sum of a group was stopped: the group leads to a rule outside it that has no result, or the group's costs grow
   abbrev pub IsStopped : ℕ → List Known → Stop → Type 0
   IsStopped rules known (Leads x) = (x < rules) × (is_outside start (known_of known x) ≡ true)
       × ((i : ℕ) → start ≤ i → i < length path → IsAbove P (slice_index path i) x)

@@ -1,4 +1,4 @@
--- A walk through rules, by a path of groups, and edges that lead from rules to others that they hold.
+-- A search through rules, with a path of groups, and edges that lead from rules to others that they contain.
 use Rattle.std.specs.Prelude.{◌≡◌, ℕ, ◌+◌, ◌<◌, ◌≤◌, Bool, true, false, List, [], ◌∷◌, All, Option, Result, Err, length, sum_by, slice_index}
 use Rattle.derivation.specs.Grammar.{Sym, Rule, Token, Grammar, HasProduction, IsGrammar}
 use Rattle.derivation.specs.declared.errors.CostError.{CostError}
@@ -11,7 +11,7 @@ use Rattle.cfggreatest.specs.declared.sums.Known.{Known}
 use Rattle.cfggreatest.specs.declared.sums.Known.TheVariants.{New, Open, Told}
 use Rattle.cfggreatest.specs.declared.walk.Walk.{Walk}
 
--- an edge leads from a rule to one that it is above
+-- an edge leads from a rule to a rule that it is above
 pub record IsEdge (g : Grammar) (e : ℕ × ℕ) : Type 0 where
   pub from : e.0 < g.rules
   pub to : e.1 < g.rules
@@ -22,7 +22,7 @@ abbrev pub IsEdgeTo : Grammar → ℕ → Sym → Type 0
 IsEdgeTo g from (Rule r) = IsEdge g (from, r)
 IsEdgeTo g from (Token t) = Unit {0}
 
--- rules that are not told to have no sentence have one; rules stand at their places
+-- rules without the result that they are unproductive are productive; rules are at their indices on the path
 pub record IsWalk (g : Grammar) (x : Walk) : Type 0 where
   pub grammar : IsGrammar g
   pub rules : length x.known.items ≡ g.rules
@@ -32,7 +32,7 @@ pub record IsWalk (g : Grammar) (x : Walk) : Type 0 where
   pub groups : AreGroups (IsAbove (HasProduction g)) x.path.items x.starts.items
   pub edges : All (IsEdge g) x.edges.items
 
--- the rule was not entered, or stands before the last group; and all of the path are above it
+-- the rule was not entered, or is before the last group; and all rules of the path are above it
 pub record IsWayOut (g : Grammar) (x : Walk) (r : ℕ) : Type 0 where
   pub rule : r < g.rules
   pub word : HasWord (HasProduction g) (Rule r ∷ [])
@@ -40,11 +40,11 @@ pub record IsWayOut (g : Grammar) (x : Walk) (r : ℕ) : Type 0 where
   pub before : (place start : ℕ) → known_of x.known.items r ≡ Open place → IsLast x.starts.items start → place < start
   pub untold : (answer : Result (Option ℕ) CostError) → known_of x.known.items r ≡ Told answer → ⊥
 
--- nothing more is told
+-- no rule got a result
 abbrev pub TellsNoMore : Walk → Walk → Type 0
 TellsNoMore old new = (r : ℕ) (answer : Result (Option ℕ) CostError) → known_of new.known.items r ≡ Told answer → known_of old.known.items r ≡ Told answer
 
--- how many rules were not entered, twice, and how many groups are on the path
+-- twice the number of rules that were not entered, plus the number of groups on the path
 abbrev pub left_to_do : Walk → ℕ
 left_to_do x = sum_by count_new x.known.items + sum_by count_new x.known.items + length x.starts.items
 
@@ -53,7 +53,7 @@ abbrev pub first_known : Bool → Known
 first_known true = New
 first_known false = Told (Err NoSentence)
 
--- a rule of the last group is above the rule, which stands outside it
+-- a rule of the last group is above this rule, which is outside the group
 pub record IsLedOut (g : Grammar) (start : ℕ) (known : List Known) (r : ℕ) : Type 0 where
   pub from : ℕ
   pub inside : is_inside start (known_of known from) ≡ true
@@ -61,19 +61,19 @@ pub record IsLedOut (g : Grammar) (start : ℕ) (known : List Known) (r : ℕ) :
   pub rule : r < g.rules
   pub above : IsAbove (HasProduction g) from r
 
--- the answer is true of each rule of the last group, which has a sentence
+-- the result is true of each rule of the last group, and says that the rule is productive
 pub record CanTell (g : Grammar) (cost : ℕ → ℕ) (x : Walk) (start : ℕ) (answer : Result (Option ℕ) CostError) : Type 0 where
   pub so : AreTrue g cost x.known.items
   pub live : is_dead (Told answer) ≡ false
   pub means : (i : ℕ) → start ≤ i → i < length x.path.items → Means (HasProduction g) cost (slice_index x.path.items i) answer
 
--- a step that follows an edge: nothing more is told, and less is left to do
+-- a step that follows an edge: no rule gets a result, and less is left to do
 pub record GoesOn (g : Grammar) (old new : Walk) : Type 0 where
   pub walk : IsWalk g new
   pub told : TellsNoMore old new
   pub less : left_to_do new < left_to_do old
 
--- a step after which what is told is true
+-- a step after which the results are true
 pub record Steps (g : Grammar) (cost : ℕ → ℕ) (old new : Walk) : Type 0 where
   pub walk : IsWalk g new
   pub so : AreTrue g cost new.known.items

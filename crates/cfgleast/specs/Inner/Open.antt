@@ -1,5 +1,5 @@
--- Productions on the way to their sums: they are queued when their rules are all settled, and till then wait for a rule.
--- `settled` says which rules are settled, and at which cost.
+-- Productions on the way to their sums: each is queued when its rules are all settled, and waits for one of its rules until then. `settled`
+-- says which rules are settled, and at which cost.
 use Rattle.std.specs.Prelude.{◌≡◌, ℕ, ◌+◌, ◌<◌, ◌≤◌, ◌++◌, min, List, [], ◌∷◌, Option, Some, None, All, Contains, length, take, drop, sum_by, slice_index_or, slice_set, Vec}
 use Rattle.std.specs.declared.alloc.Global.{Global}
 use Rattle.std.specs.List.Sorted.{IsPermutation}
@@ -23,13 +23,13 @@ pub record IsAmong (list : List Partial) (p : ℕ) : Type 0 where
   pub is : entry.production ≡ p
 
 module _ (cost : ℕ → ℕ) (settled : ℕ → Option ℕ) where
-  -- what the symbols cost together, cut down to 65536
+  -- what the symbols cost in total, cut down to 65536
   pub record IsCutSum (symbols : List Sym) (sum : ℕ) : Type 0 where
     pub total : ℕ
     pub is : sum_of (symbol_cost cost settled) symbols ≡ Some total
     pub cut : sum ≡ min total 65536
 
-  -- behind the symbols that were summed stands a rule that isn't settled
+  -- after the symbols that were summed comes a rule that isn't settled
   pub record StopsAt (symbols : List Sym) (r : ℕ) (x : Partial) : Type 0 where
     pub taken : x.taken < length symbols
     pub symbol : slice_index_or symbols x.taken (Rule r) ≡ Rule r
@@ -37,7 +37,7 @@ module _ (cost : ℕ → ℕ) (settled : ℕ → Option ℕ) where
     pub unset : settled r ≡ None
 
   module _ (g : Grammar) where
-    -- the production is there, and its first symbols were summed
+    -- the production exists, and its first symbols were summed
     pub record IsPartial (x : Partial) : Type 0 where
       pub place : x.production < length g.productions
       pub taken : x.taken ≤ length (nth_production g x.production).symbols
@@ -50,7 +50,7 @@ module _ (cost : ℕ → ℕ) (settled : ℕ → Option ℕ) where
       pub symbol : slice_index_or (nth_production g x.production).symbols x.taken (Rule r) ≡ Rule r
       pub sum : IsCutSum (take x.taken (nth_production g x.production).symbols) x.sum
 
-    -- production p went into the queue with its sum, or waits for a rule that isn't settled
+    -- production p entered the queue with its sum, or waits for a rule that isn't settled
     pub data MovesOn (p : ℕ) (queue queue' : List (ℕ × ℕ)) (waiting waiting' : List (List Partial)) : Type 0 where
       enters : (c : ℕ) → IsCutSum (nth_production g p).symbols c → IsPermutation ((c, p) ∷ queue) queue' → waiting' ≡ waiting
           → MovesOn p queue queue' waiting waiting'
@@ -58,7 +58,7 @@ module _ (cost : ℕ → ℕ) (settled : ℕ → Option ℕ) where
           → waiting' ≡ slice_set waiting r (waiting_for waiting r ++ x ∷ []) → MovesOn p queue queue' waiting waiting'
 
     module _ (queue : List (ℕ × ℕ)) (waiting : List (List Partial)) (moving : ℕ → Type 0) where
-      -- where a production is: in the queue, waiting for a rule that isn't settled, past both, or taken out of both
+      -- where a production is: in the queue, waiting for a rule that isn't settled, past both, or removed from both
       pub data Phase (p : ℕ) : Type 0 where
         queued : (c : ℕ) → Contains queue (c, p) → Phase p
         held : (r : ℕ) (x : Partial) → settled r ≡ None → Contains (waiting_for waiting r) x → x.production ≡ p → Phase p
@@ -66,7 +66,7 @@ module _ (cost : ℕ → ℕ) (settled : ℕ → Option ℕ) where
             → ((n : ℕ) → sum_of (symbol_cost cost settled) (nth_production g p).symbols ≡ Some n → d ≤ min n 65536) → Phase p
         moved : moving p → Phase p
 
-      -- each production is somewhere, and what is settled costs at most what is queued
+      -- each production is in one of these phases, and what is settled costs at most what is queued
       pub record AreOpen (floor : ℕ) : Type 0 where
         pub queued_sum : (c p : ℕ) → Contains queue (c, p) → IsCutSum (nth_production g p).symbols c
         pub queued_place : (c p : ℕ) → Contains queue (c, p) → p < length g.productions
@@ -80,7 +80,8 @@ module _ (cost : ℕ → ℕ) (settled : ℕ → Option ℕ) where
     abbrev pub AreAllOpen : List (ℕ × ℕ) → List (List Partial) → Type 0
     AreAllOpen queue waiting = (floor : ℕ) × AreOpen queue waiting (λ p. ⊥) floor
 
-    -- of those that waited for a rule the first i have moved on, and the rule is settled at what the others cost at least
+    -- of the productions that waited for a rule, the first i have moved on; the rule is settled, at a cost that is at most what the others
+    -- cost
     pub record AreWaking (queue : List (ℕ × ℕ)) (waiting : List (List Partial)) (woken : List Partial) (i : ℕ) : Type 0 where
       pub rule : ℕ
       pub floor : ℕ

@@ -1,11 +1,11 @@
--- Queues of sums, the least first.
+-- Queues of sums, with the least first.
 use Rattle.std.specs.Prelude.{ℕ, List}
 use Rattle.std.specs.declared.cmp.Ordering.{Ordering}
 use Rattle.std.specs.declared.cmp.Reverse.{Reverse}
 use Rattle.std.specs.Ordering.{nat_cmp, ordering_then}
 use Rattle.std.specs.BinaryHeap.{IsHeap}
 
--- what an element of the heap holds
+-- what an element of the heap contains
 abbrev pub entry_of : Reverse (ℕ × ℕ) → ℕ × ℕ
 entry_of x = x.0
 

@@ -1,4 +1,4 @@
--- Rules that are settled at their least costs, and the productions by which they were.
+-- Rules that are settled at their least costs, and the productions that settled them.
 use Rattle.std.specs.Prelude.{◌≡◌, ℕ, ◌+◌, ◌<◌, ◌≤◌, min, List, ◌∷◌, Option, Some, None, All, length, sum_by}
 use Rattle.std.specs.List.Sorted.{IsPermutation}
 use Rattle.derivation.specs.Grammar.{Grammar}
@@ -9,13 +9,13 @@ use Rattle.cfgleast.specs.Certificate.{IsChosenBelow, rule_choice}
 use Rattle.cfgleast.specs.declared.partial.Partial.{Partial}
 use Rattle.cfgleast.specs.Inner.Open.{IsCutSum, AreAllOpen}
 
--- one for a rule that isn't settled
+-- 1 for a rule that isn't settled
 abbrev pub unsettled : Option ℕ → ℕ
 unsettled None = 1
 unsettled (Some c) = 0
 
 module _ (g : Grammar) (cost : ℕ → ℕ) (least : List (Option ℕ)) (choices : List (Option (ℕ × ℕ))) where
-  -- the rule was settled by a production of its own, when all rules of that were settled
+  -- the rule was settled by one of its productions, when all rules in that were settled
   pub record IsSettledBy (r c p n : ℕ) : Type 0 where
     pub choice : rule_choice choices r ≡ Some (p, n)
     pub place : p < length g.productions
@@ -23,7 +23,7 @@ module _ (g : Grammar) (cost : ℕ → ℕ) (least : List (Option ℕ)) (choices
     pub sum : IsCutSum cost (rule_cost least) (nth_production g p).symbols c
     pub below : All (IsChosenBelow choices n) (nth_production g p).symbols
 
-  -- so many rules were settled, each by a production, and the others have no choice
+  -- n rules were settled, each by a production, and the others have no choice
   pub record AreChosen (n : ℕ) : Type 0 where
     pub costs : length least ≡ g.rules
     pub listed : length choices ≡ g.rules
@@ -31,7 +31,7 @@ module _ (g : Grammar) (cost : ℕ → ℕ) (least : List (Option ℕ)) (choices
     pub chosen : (r c : ℕ) → rule_cost least r ≡ Some c → (p : ℕ) × (m : ℕ) × IsSettledBy r c p m × (m < n)
     pub none : (r : ℕ) → rule_cost least r ≡ None → rule_choice choices r ≡ None
 
-  -- each rule with a sentence was settled at its least cost, cut down to 65536
+  -- each productive rule was settled at its least cost, cut down to 65536
   pub record AreSettled (n : ℕ) : Type 0 where
     pub chosen : AreChosen n
     pub covered : (p m : ℕ) → p < length g.productions → sum_of (symbol_cost cost (rule_cost least)) (nth_production g p).symbols ≡ Some m

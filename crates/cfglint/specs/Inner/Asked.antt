@@ -1,4 +1,4 @@
--- The places of tokens that a production's `%prec` names, as a set.
+-- The spans of tokens that a production's `%prec` names, as a set.
 use Rattle.std.specs.Prelude.{◌≡◌, ℕ, ◌⊎◌, false, List, Contains, Some, MatchBool, IsTrue, slice_get, Bool}
 use Rattle.std.specs.BTreeSet.{BTreeSet, contains}
 use Rattle.std.specs.Ordering.{nat_cmp, ordering_then}
@@ -6,22 +6,22 @@ use Rattle.std.specs.declared.cmp.Ordering.{Ordering}
 use Rattle.cfgrammar.specs.Span.{Span}
 use Rattle.cfgrammar.specs.Syntax.{Production, Syntax}
 
--- an order of places
+-- an order of spans
 abbrev pub place_cmp : ℕ × ℕ → ℕ × ℕ → Ordering
 place_cmp x y = ordering_then (nat_cmp x.0 y.0) (nat_cmp x.1 y.1)
 
--- a span is among the places
+-- a span is in the set
 abbrev pub has_span : BTreeSet (ℕ × ℕ) → Span → Bool
 has_span places span = contains place_cmp places (span.start, span.end)
 
 module _ (s : Syntax) where
-  -- the token of this name stands first at this place
+  -- the token with this name first occurs at this span
   pub record IsPlaceOf (name : List ℕ) (span : Span) : Type 0 where
     pub place : ℕ
     pub token : slice_get s.tokens place ≡ Some name
     pub there : slice_get s.spans place ≡ Some span
 
-  -- the `%prec` of one of the productions names the token that stands first at this place
+  -- the `%prec` of one of the productions names the token that first occurs at this span
   pub record IsAskedBy (productions : List Production) (span : Span) : Type 0 where
     pub production : Production
     pub listed : Contains productions production
@@ -29,10 +29,10 @@ module _ (s : Syntax) where
     pub asked : production.precedence ≡ Some name
     pub place : IsPlaceOf name span
 
-  -- the places of all tokens that the productions' `%prec`s name
+  -- the spans of all tokens that the productions' `%prec`s name
   abbrev pub AreAskedBy : List Production → BTreeSet (ℕ × ℕ) → Type 0
   AreAskedBy productions places = (span : Span) → MatchBool (has_span places span) (IsAskedBy productions span) (IsAskedBy productions span → ⊥)
 
-  -- the place of the token of this name was added, if there is one
+  -- the span of the token with this name was added, if such a token exists
   abbrev pub Notes : List ℕ → BTreeSet (ℕ × ℕ) → BTreeSet (ℕ × ℕ) → Type 0
   Notes name old new = (span : Span) → MatchBool (has_span new span) (IsTrue (has_span old span) ⊎ IsPlaceOf name span) ((has_span old span ≡ false) × (IsPlaceOf name span → ⊥))

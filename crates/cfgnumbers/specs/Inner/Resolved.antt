@@ -1,4 +1,4 @@
--- Syntaxes in which every name is that of something that is there.
+-- Syntaxes in which every name refers to something that exists.
 use Rattle.std.specs.Prelude.{◌≡◌, ℕ, List, Option, true, All, IfSome, Some, None}
 use Rattle.cfgwords.specs.FileWords.{Word}
 use Rattle.cfgast.specs.Building.{has_name, has_rule}
@@ -15,6 +15,6 @@ pub record IsResolved (s : Syntax) : Type 0 where
   pub start_is_rule : has_rule start.name s.rules ≡ true
   pub symbols : All (Resolves s) s.productions
 
--- the names are those of tokens of the syntax, where there are some
+-- if there are names, they are those of tokens of the syntax
 abbrev pub AreTokens : Syntax → Option (List (List ℕ)) → Type 0
 AreTokens s implicit = IfSome implicit (All (λ name. has_name name s.tokens ≡ true))

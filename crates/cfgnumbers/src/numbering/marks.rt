@@ -1,4 +1,4 @@
-//! What a file says of single tokens, and the precedences of productions.
+//! What a file says of individual tokens, and the precedences of productions.
 
 ghost use Rattle.std.specs.Prelude.{◌≡◌, option_map, string_bytes, map, IfOk};
 ghost use Rattle.std.specs.Option.{option_map_or};
@@ -21,7 +21,7 @@ pub(super) fn precedence_of_token(ast: &GrammarAST, name: &str) -> Option<Preced
     }
 }
 
-/// The printed form of a token, where the file says one.
+/// The printed form of a token, if the file gives one.
 pub(super) fn printed_form(ast: &GrammarAST, name: &str) -> Result<Option<String>, AllocError>
     ensures { IfOk result (λ form. option_map_or string_bytes form name.now
         ≡ printed_form (syntax ast.now) name.now) }
@@ -32,7 +32,7 @@ pub(super) fn printed_form(ast: &GrammarAST, name: &str) -> Result<Option<String
     }
 }
 
-/// Whether a `%avoid_insert` list has the token.
+/// Whether the token is in an `%avoid_insert` list.
 pub(super) fn avoids_insert(ast: &GrammarAST, name: &str) -> bool
     ensures { result ≡ avoids_insert (syntax ast.now) name.now }
 {
@@ -42,7 +42,7 @@ pub(super) fn avoids_insert(ast: &GrammarAST, name: &str) -> bool
     }
 }
 
-/// The precedence of a production: that of the token behind its `%prec`, else of its last token (POSIX yacc).
+/// The precedence of a production: that of the token after its `%prec`, or else of its last token (POSIX yacc).
 pub(super) fn precedence_of(ast: &GrammarAST, production: &Production) -> Option<Precedence>
     ensures { result ≡ precedence_of (syntax ast.now) (production_view production.now) }
 {

@@ -19,7 +19,7 @@ use cfgkinds::YaccKind;
 use cfgtree::GrammarAST;
 use indexmap::IndexMap;
 
-/// What a numbering goes by: the syntax of a file, and its implicit tokens, where it is an Eco file with lists of them.
+/// What a numbering uses: the syntax of a file, and its implicit tokens, if it is an Eco file with lists of them.
 #[derive(Clone, Copy)]
 pub struct Numbering<'a> {
     ast: &'a GrammarAST,
@@ -39,7 +39,7 @@ impl<'a> Numbering<'a> {
         Numbering { ast, implicit }
     }
 
-    /// The rule that stands for the implicit tokens, where there are some.
+    /// The rule for the implicit tokens, if there are any.
     pub fn implicit_rule<S: Storage>(&self) -> Option<RIdx<S>>
         requires { LeavesRoom S.MAX (implicit_in self.now) (file_of self.now) }
         ensures { option_map (λ rule. S.number rule.0) result ≡ option_map (λ names. 1) (implicit_in self.now) }
@@ -50,7 +50,7 @@ impl<'a> Numbering<'a> {
         }
     }
 
-    /// How many rules stand before those of the file.
+    /// How many rules come before those of the file.
     fn rules_before(&self) -> usize
         ensures { result ≡ rules_before (implicit_in self.now) }
     {

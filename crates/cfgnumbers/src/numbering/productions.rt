@@ -25,11 +25,11 @@ use indexmap::IndexMap;
 use std::alloc::{AllocError, Global};
 
 impl Numbering<'_> {
-    /// The productions: the file's, and then those that are added.
+    /// The productions: those of the file, and then the added ones.
     ///
     /// # Errors
     ///
-    /// Want of memory.
+    /// Out of memory.
     pub fn production_rows<S: Storage>(
         &self,
         alloc: Global,
@@ -50,7 +50,7 @@ impl Numbering<'_> {
         Ok(rows)
     }
 
-    /// Puts the productions of the file behind the rows.
+    /// Adds the productions of the file to the rows.
     fn push_file_rows<S: Storage>(
         &self,
         alloc: Global,
@@ -71,8 +71,7 @@ impl Numbering<'_> {
         Ok(())
     }
 
-    /// Puts a production of the file, of the rule at this place, behind the rows. Its symbols are numbered in
-    /// `symbols`.
+    /// Adds a production of the file to the rows; its rule has this index. Its symbols are numbered in `symbols`.
     fn push_file_row<S: Storage>(
         &self,
         rows: &mut ProductionRows<S>,
@@ -97,7 +96,7 @@ impl Numbering<'_> {
         rows.push(self.rule_at(rule), symbols.as_slice(), row)
     }
 
-    /// Puts the productions that are added behind the rows.
+    /// Adds the productions that the file doesn't have to the rows.
     fn push_added<S: Storage>(
         &self,
         alloc: Global,
@@ -115,7 +114,7 @@ impl Numbering<'_> {
         }
     }
 
-    /// Puts the productions that are added to a file with implicit tokens behind the rows.
+    /// Adds the productions for a file with implicit tokens to the rows.
     fn push_for_implicit<S: Storage>(
         &self,
         alloc: Global,
@@ -137,8 +136,7 @@ impl Numbering<'_> {
         push_added_row(alloc, rows, 2, Some(implicit), Some(self.start_symbol()))
     }
 
-    /// Puts a production of the rule for implicit tokens behind the rows for each of these: the token, and the rule
-    /// again.
+    /// For each implicit token, adds a production of the rule for these to the rows: the token, and the rule again.
     fn push_implicit<S: Storage>(
         &self,
         alloc: Global,
@@ -161,7 +159,7 @@ impl Numbering<'_> {
     }
 }
 
-/// Puts a production that the file doesn't have behind the rows. It has these symbols, two at most.
+/// Adds a production that the file doesn't have to the rows. It has these symbols, at most two.
 fn push_added_row<S: Storage>(
     alloc: Global,
     rows: &mut ProductionRows<S>,
@@ -183,7 +181,7 @@ fn push_added_row<S: Storage>(
     rows.push(RIdx(to_storage(rule)), &symbols, row)
 }
 
-/// Those of the two that are there.
+/// The values of those that are `Some`.
 fn in_order<T: Drop>(
     alloc: Global,
     first: Option<T>,
@@ -201,7 +199,7 @@ fn in_order<T: Drop>(
     Ok(both)
 }
 
-/// The text of a production's action, and its place.
+/// The text of a production's action, and its span.
 fn action_parts(production: &Production) -> Result<(Option<String>, Option<Span>), AllocError>
     ensures text { IfOk result (λ parts. option_map string_bytes parts.0
         ≡ option_map (λ action. string_bytes action.0) production.now.action) }

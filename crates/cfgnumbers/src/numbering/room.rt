@@ -1,4 +1,4 @@
-//! Whether an index type counts all that a grammar will have, what is added to the file's counted in.
+//! Whether an index type can count all that a grammar will have, including what is added to the file's.
 
 ghost use Rattle.std.specs.Prelude.{◌≡◌, ◌↔◌, ◌+◌, ◌≤◌, ◌<◌, All, length, map, IsTrue};
 ghost use Rattle.cfgast.specs.SyntaxView.{symbol_view};
@@ -11,16 +11,16 @@ use cfgast::{Production, Symbol};
 use cfgindex::Storage;
 
 impl Numbering<'_> {
-    /// Whether the index type counts the rules, tokens and productions of the numbered grammar, and the symbols of each
-    /// production. In an Eco file with implicit tokens three rules stand before the file's, and each token of a
-    /// production counts twice, since a rule stands behind it.
+    /// Whether the index type can count the rules, tokens and productions of the numbered grammar, and the symbols of
+    /// each production. In an Eco file with implicit tokens, three rules come before the file's, and each token of a
+    /// production counts twice, since a rule follows it.
     pub fn fits<S: Storage>(&self) -> bool
         ensures { IsTrue result ↔ LeavesRoom S.MAX (implicit_in self.now) (file_of self.now) }
     {
         self.counts_fit::<S>() && self.all_symbols_fit::<S>(self.ast.prods())
     }
 
-    /// Whether it counts the rules, tokens and productions.
+    /// Whether it can count the rules, tokens and productions.
     fn counts_fit<S: Storage>(&self) -> bool
         ensures { IsTrue result
             ↔ ((rules_before (implicit_in self.now) + length (file_of self.now).rules ≤ S.MAX)
@@ -36,7 +36,7 @@ impl Numbering<'_> {
             && leaves_room::<S>(self.ast.prods().len(), behind)
     }
 
-    /// Whether it counts the symbols of each of these productions.
+    /// Whether it can count the symbols of each of these productions.
     fn all_symbols_fit<S: Storage>(&self, productions: &[Production]) -> bool
         ensures { IsTrue result
             ↔ All (λ production. length (file_symbols (implicit_in self.now) (file_of self.now)
@@ -50,7 +50,7 @@ impl Numbering<'_> {
         true
     }
 
-    /// Whether it counts these symbols, with the rules behind tokens.
+    /// Whether it can count these symbols, with the rules that follow tokens.
     fn symbols_fit<S: Storage>(&self, symbols: &[Symbol]) -> bool
         ensures { IsTrue result ↔ (length
             (file_symbols (implicit_in self.now) (file_of self.now) (map symbol_view symbols.now)) ≤ S.MAX) }
@@ -66,7 +66,7 @@ impl Numbering<'_> {
         true
     }
 
-    /// How many symbols of the numbered grammar a symbol of the file makes.
+    /// How many symbols of the numbered grammar a symbol of the file gives.
     fn width(&self, symbol: &Symbol) -> usize
         ensures { result ≡ length (spaced (implicit_in self.now)
             (file_symbol (implicit_in self.now) (file_of self.now) (symbol_view symbol.now))) }
@@ -78,7 +78,7 @@ impl Numbering<'_> {
     }
 }
 
-/// Whether the index type counts so many, and those that are added.
+/// Whether the index type can count this many, and those that are added.
 fn leaves_room<S: Storage>(count: usize, added: usize) -> bool
     ensures { IsTrue result ↔ (count + added ≤ S.MAX) }
 {

@@ -18,7 +18,7 @@ use cfgindex::{PIdx, Storage, to_storage};
 use indexmap::IndexMap;
 use std::alloc::{AllocError, Global};
 
-// The names of the added rules, which cannot be those of a file's.
+// The names of the added rules, which a file can't use.
 const START_RULE: &str = "^";
 
 const IMPLICIT_RULE: &str = "~";
@@ -26,11 +26,11 @@ const IMPLICIT_RULE: &str = "~";
 const IMPLICIT_START_RULE: &str = "^~";
 
 impl Numbering<'_> {
-    /// The rules: those that are added, and then the file's.
+    /// The rules: the added ones, and then the file's.
     ///
     /// # Errors
     ///
-    /// Want of memory.
+    /// Out of memory.
     pub fn rule_rows<S: Storage>(
         &self,
         alloc: Global,
@@ -47,7 +47,7 @@ impl Numbering<'_> {
         Ok(rows)
     }
 
-    /// Puts the rules that are added into the rows. Their productions stand behind those of the file.
+    /// Adds the rules that the file doesn't have to the rows. Their productions come after those of the file.
     fn put_added_rules<S: Storage>(
         &self,
         alloc: Global,
@@ -68,7 +68,7 @@ impl Numbering<'_> {
         Ok(())
     }
 
-    /// Puts the rules of the file behind those that are added.
+    /// Adds the rules of the file to the rows, after the added ones.
     fn put_rules<S: Storage>(
         &self,
         alloc: Global,
@@ -89,7 +89,7 @@ impl Numbering<'_> {
     }
 }
 
-/// Puts a rule that the file doesn't have behind the rows. It has so many productions, from the first on.
+/// Adds a rule that the file doesn't have to the rows. It has this many productions, from `first` on.
 fn put_added_rule<S: Storage>(
     alloc: Global,
     rows: &mut IndexMap<String, RuleRow<S>>,
@@ -112,7 +112,7 @@ fn put_added_rule<S: Storage>(
     Ok(())
 }
 
-/// So many productions in order, from the first on.
+/// This many productions in order, from `first` on.
 fn places_in_order<S: Storage>(
     alloc: Global,
     first: usize,
@@ -129,7 +129,7 @@ fn places_in_order<S: Storage>(
     Ok(prods)
 }
 
-/// Puts a rule of the file behind the rows.
+/// Adds a rule of the file to the rows.
 fn put_rule<S: Storage>(
     alloc: Global,
     rows: &mut IndexMap<String, RuleRow<S>>,
@@ -153,7 +153,7 @@ fn put_rule<S: Storage>(
     Ok(())
 }
 
-/// The productions at these places, as indices.
+/// The productions with these numbers, as indices.
 fn stored_places<S: Storage>(alloc: Global, places: &[usize]) -> Result<Vec<PIdx<S>>, AllocError>
     requires { All (λ place. place ≤ S.MAX) places.now }
     ensures { IfOk result (λ prods. map (λ p. S.number p.0) prods.items ≡ places.now) }

@@ -1,4 +1,4 @@
-//! The symbols of productions, by their indices.
+//! The symbols of productions, by index.
 
 ghost use Rattle.std.specs.Prelude.{◌≡◌, ◌+◌, ◌≤◌, ◌++◌, ◌∷◌, [], true, All, None, map, OnOk};
 ghost use Rattle.cfgast.specs.Building.{has_name, has_rule};
@@ -16,8 +16,8 @@ use cfgindex::{RIdx, Storage, Symbol, TIdx, to_storage};
 use std::alloc::AllocError;
 
 impl Numbering<'_> {
-    /// Makes `numbered` be the symbols of a production of the file. Behind each token stands the rule for implicit
-    /// tokens, where there are some.
+    /// Replaces the content of `numbered` by the symbols of a production of the file. If there are implicit tokens, the
+    /// rule for these follows each token.
     pub(super) fn number_symbols<S: Storage>(
         &self,
         numbered: &mut Vec<Symbol<S>>,
@@ -36,7 +36,7 @@ impl Numbering<'_> {
         Ok(())
     }
 
-    /// Puts a symbol of the file behind those that are numbered.
+    /// Adds a symbol of the file to those that are numbered.
     fn push_symbol<S: Storage>(
         &self,
         numbered: &mut Vec<Symbol<S>>,
@@ -73,7 +73,7 @@ impl Numbering<'_> {
         Symbol::Rule(self.rule_of(name.as_str()))
     }
 
-    /// The rule of this name.
+    /// The rule with this name.
     fn rule_of<S: Storage>(&self, name: &str) -> RIdx<S>
         requires known { has_rule name.now (file_of self.now).rules ≡ true }
         requires room { LeavesRoom S.MAX (implicit_in self.now) (file_of self.now) }
@@ -82,7 +82,7 @@ impl Numbering<'_> {
         self.rule_at(self.ast.rules().get_index_of(name).unwrap())
     }
 
-    /// The rule at this place of the file.
+    /// The rule with this index in the file.
     pub(super) fn rule_at<S: Storage>(&self, place: usize) -> RIdx<S>
         requires { rules_before (implicit_in self.now) + place ≤ S.MAX }
         ensures { S.number result.0 ≡ rules_before (implicit_in self.now) + place }
@@ -91,7 +91,7 @@ impl Numbering<'_> {
         RIdx(to_storage(self.rules_before() + place))
     }
 
-    /// The token of this name.
+    /// The token with this name.
     pub(super) fn token_of<S: Storage>(&self, name: &str) -> TIdx<S>
         requires known { has_name name.now (file_of self.now).tokens ≡ true }
         requires room { LeavesRoom S.MAX (implicit_in self.now) (file_of self.now) }

@@ -19,7 +19,7 @@ impl Numbering<'_> {
     ///
     /// # Errors
     ///
-    /// Want of memory.
+    /// Out of memory.
     pub fn token_rows(&self, alloc: Global) -> Result<IndexMap<String, TokenRow>, AllocError>
         requires well_formed { IsWellFormed (file_of self.now) }
         ensures { IfOk result (λ rows. map token_view rows.entries
@@ -32,7 +32,7 @@ impl Numbering<'_> {
         Ok(rows)
     }
 
-    /// Puts a token behind the rows.
+    /// Adds a token to the rows.
     fn put_token(
         &self,
         alloc: Global,

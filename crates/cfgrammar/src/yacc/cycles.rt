@@ -1,3 +1,3 @@
-//! Rules that derive themselves, and shortest ways on which they do.
+//! Cyclic rules, and shortest cycles.
 
 pub use loops::{Step, Steps, alone_steps, shortest_loop, shortest_loops};

@@ -1,3 +1,3 @@
-//! FOLLOW sets: the tokens that stand right after rules.
+//! FOLLOW sets: the tokens that come right after rules.
 
 pub use cfganalysis::{YaccFollows, follows_over};

@@ -1,4 +1,4 @@
-//! Yacc files, and the grammars that they hold.
+//! Yacc files and their grammars.
 pub mod cycles;
 pub mod firsts;
 pub mod follows;

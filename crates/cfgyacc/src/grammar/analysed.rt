@@ -1,4 +1,4 @@
-//! A grammar as analyses go through it, and what they find.
+//! A grammar as analyses see it, and their results.
 
 ghost use Rattle.std.specs.Prelude.{◌≡◌, ◌↔◌, ℕ, ◌<◌, All, length, replicate, IfOk, IsTrue};
 ghost use Rattle.derivation.specs.Grammar.{HasProduction};
@@ -60,36 +60,37 @@ impl<S: Storage> Tables<S> for YaccGrammar<S> {
 }
 
 impl<S: Storage> YaccGrammar<S> {
-    /// The FIRST sets of the grammar: for each rule the tokens that begin a list of symbols which it derives, and
+    /// The FIRST sets of the grammar: for each rule, the tokens that begin a list of symbols that it derives, and
     /// whether it derives the empty list (Aho, Lam, Sethi and Ullman, 4.4.2).
     ///
     /// # Errors
     ///
-    /// Want of memory.
+    /// Out of memory.
     pub fn firsts(&self, alloc: Global) -> Result<YaccFirsts<S>, AllocError>
         ensures { IfOk result (AreFirsts (core self.now)) }
     {
         YaccFirsts::new(alloc, self)
     }
 
-    /// The FOLLOW sets of the grammar: for each rule the tokens that stand right after it in what some rule derives,
-    /// and the end token where the start rule derives a list that ends in it (Aho, Lam, Sethi and Ullman, 4.4.2).
+    /// The FOLLOW sets of the grammar: for each rule, the tokens that come right after it in any list that some rule
+    /// derives; and the end token, if the start rule derives a list that ends in the rule (Aho, Lam, Sethi and Ullman,
+    /// 4.4.2).
     ///
     /// # Errors
     ///
-    /// Want of memory.
+    /// Out of memory.
     pub fn follows(&self, alloc: Global) -> Result<YaccFollows<S>, AllocError>
         ensures { IfOk result (AreFollows (core self.now)) }
     {
         YaccFollows::new(alloc, self)
     }
 
-    /// Whether one rule leads to another by one or more references: a production of it holds the other, or holds a
-    /// rule that leads to it.
+    /// Whether one rule leads to another in one or more references: one of its productions contains the other rule, or
+    /// contains a rule that leads to it.
     ///
     /// # Errors
     ///
-    /// Want of memory.
+    /// Out of memory.
     pub fn has_path(&self, alloc: Global, from: RIdx<S>, to: RIdx<S>) -> Result<bool, AllocError>
         requires { S.number from.0 < length self.now.rules }
         ensures { IfOk result (λ b. IsTrue b
@@ -98,12 +99,12 @@ impl<S: Storage> YaccGrammar<S> {
         has_path(alloc, self, from, to)
     }
 
-    /// What the sentences of the grammar's rules cost, where a token costs what `cost` answers of it, at least 1. That
-    /// is asked once of each token, in order, the end token too.
+    /// The costs of the sentences of the grammar's rules, where a token costs what `cost` returns for it, but at least
+    /// 1. It is called once for each token, in order, and also for the end token.
     ///
     /// # Errors
     ///
-    /// Want of memory.
+    /// Out of memory.
     pub fn sentence_generator<F: Fn(TIdx<S>) -> u8>(
         &self,
         alloc: Global,
@@ -125,7 +126,7 @@ impl<S: Storage> YaccGrammar<S> {
     ///
     /// # Errors
     ///
-    /// Want of memory.
+    /// Out of memory.
     pub fn productions(
         &self,
         alloc: Global,

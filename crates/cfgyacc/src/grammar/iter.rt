@@ -8,13 +8,13 @@ use cfgindex::{PIdx, RIdx, Storage, TIdx, to_storage};
 use std::marker::{Model, PhantomData};
 use std::ops::Range;
 
-/// An index: what stands for a number.
+/// An index, which represents a number.
 pub trait Index: Sized {
     ghost MAX: { ℕ };
 
     ghost number: { Self → ℕ };
 
-    /// The index that stands for the number `place`.
+    /// The index that represents the number `place`.
     fn at(place: usize) -> Self
         requires { place ≤ MAX }
         ensures { number result ≡ place };
@@ -63,7 +63,7 @@ pub type PIdxIter<S> = IdxIter<PIdx<S>>;
 /// The indices of a grammar's rules, from the first to the last.
 pub type RIdxIter<S> = IdxIter<RIdx<S>>;
 
-/// The indices of a grammar's tokens, from the first to the last, which is the end token's.
+/// The indices of a grammar's tokens, from the first to the last, which is that of the end token.
 pub type TIdxIter<S> = IdxIter<TIdx<S>>;
 
 impl<I: Index> Model for IdxIter<I> {

@@ -1,4 +1,4 @@
-//! Grammars in numbers: rules, productions and tokens by their indices.
+//! Grammars in numbers: rules, productions and tokens by index.
 
 mod analysed;
 mod fault;
@@ -10,9 +10,9 @@ pub use cfgast::{AssocKind, Precedence};
 pub use iter::{PIdxIter, RIdxIter, TIdxIter};
 pub use tables::YaccGrammar;
 
-/// What the sentences of a grammar's rules cost, and its minimal sentences. A third type names other [`Tables`] than a
-/// `YaccGrammar`.
+/// The costs of the sentences of a grammar's rules, and its minimal sentences. The third type parameter names
+/// [`Tables`] other than a `YaccGrammar`.
 pub type SentenceGenerator<'a, S, T = YaccGrammar<S>> = cfgcosts::SentenceGenerator<'a, S, T>;
 
-/// The level of a precedence: the number of declarations of precedence before its own.
+/// The level of a precedence: the number of precedence declarations before its own.
 pub type PrecedenceLevel = u64;

@@ -39,14 +39,14 @@ use std::alloc::{AllocError, Global};
 use std::collections::HashMap;
 use std::marker::Model;
 
-/// A grammar whose rules, productions and tokens have numbers, from 0 on, which `S` stores.
+/// A grammar whose rules, productions and tokens are numbered from 0, with numbers stored in `S`.
 ///
-/// Rule 0 is the start rule, of the name `^`, and has one production: the rule that the file starts from. The last
-/// token is the end token, which has no name and stands in no production.
+/// Rule 0 is the start rule, named `^`, and has one production: the rule that the file starts from. The last token is
+/// the end token, which has no name and is in no production.
 ///
-/// In an Eco file with implicit tokens rule 1, `~`, derives each row of them, and stands behind each token of the
-/// file's productions. The production of rule 0 then is rule 2, `^~`, whose one production is `~` and the rule that the
-/// file starts from.
+/// In an Eco file with implicit tokens, rule 1, `~`, derives each list of them, and follows each token of the file's
+/// productions. The production of rule 0 then is rule 2, `^~`, whose only production is `~` and the rule that the file
+/// starts from.
 #[derive(Drop)]
 pub struct YaccGrammar<S: Storage> {
     rules: IndexMap<String, RuleRow<S>>,
@@ -72,11 +72,11 @@ impl<S: Storage> Model for YaccGrammar<S> {
 }
 
 impl YaccGrammar<u32> {
-    /// Reads a Yacc file of the kind as a grammar, with indices of 32 bits.
+    /// Reads a Yacc file of this kind as a grammar, with 32-bit indices.
     ///
     /// # Errors
     ///
-    /// As of [`new_with_storaget`](YaccGrammar::new_with_storaget).
+    /// Those of [`new_with_storaget`](YaccGrammar::new_with_storaget).
     pub fn new(alloc: Global, kind: YaccKind, text: &str) -> YaccGrammarResult<Self>
         ensures answer { IsGrammarOf kind text.now 4294967295 result }
         ensures places { EachAnswerSpan (IsPiece text.now) (IsWithin text.now) result }
@@ -87,19 +87,19 @@ impl YaccGrammar<u32> {
 }
 
 impl<S: Storage> YaccGrammar<S> {
-    /// Reads a Yacc file of the kind as a grammar.
+    /// Reads a Yacc file of this kind as a grammar.
     ///
-    /// The text has exactly one reading. Where that has no errors, and `S` can count the grammar, the answer is the
+    /// The text has exactly one reading. If that has no errors, and `S` can count the grammar, the result is the
     /// grammar of what was read.
     ///
-    /// Each error has a span. Each span of the grammar and of an error begins and ends at a place of the text: where a
-    /// character begins, or where the text ends. That of an action, which has the length of the trimmed text, lies
-    /// within the text. That of what is added is (0,0).
+    /// Each error has a span. Each span of the grammar and of an error begins and ends at a character boundary of the
+    /// text. The span of an action, which is as long as the trimmed text, lies within the text. The span of anything
+    /// added is (0,0).
     ///
     /// # Errors
     ///
-    /// The errors of the text; for a valid text `StorageTooSmall`, alone, where `S` cannot count the grammar's rules,
-    /// tokens, productions or the symbols of a production, those that are added counted in; and want of memory.
+    /// The errors of the text; for a valid text only `StorageTooSmall`, if `S` cannot count the grammar's rules,
+    /// tokens, productions or the symbols of a production, including those that are added; and out of memory.
     pub fn new_with_storaget(alloc: Global, kind: YaccKind, text: &str) -> YaccGrammarResult<Self>
         ensures answer { IsGrammarOf kind text.now S.MAX result }
         ensures places { EachAnswerSpan (IsPiece text.now) (IsWithin text.now) result }
@@ -109,13 +109,13 @@ impl<S: Storage> YaccGrammar<S> {
         YaccGrammar::of_parsed(alloc, parsed.map_err(YaccFault::from))
     }
 
-    /// Reads a Yacc file of the kind that its section names as a grammar, as
+    /// Reads a Yacc file as a grammar of the kind that its section names, as
     /// [`new_with_storaget`](YaccGrammar::new_with_storaget) does.
     ///
     /// # Errors
     ///
-    /// Those of the section, which must be there; where it has none, one where it has no key `yacckind`, or what it
-    /// gives that isn't a kind; else those of reading the file as the kind.
+    /// Those of the section, which is required; if it has none, one error if it has no key `yacckind` or gives it
+    /// something that isn't a kind; otherwise those of reading the file as the kind.
     pub fn from_str(alloc: Global, text: &str) -> YaccGrammarResult<Self>
         ensures answer { IsGrammarOfItself text.now S.MAX result }
         ensures places { EachAnswerSpan (IsPiece text.now) (IsWithin text.now) result }
@@ -141,13 +141,13 @@ impl<S: Storage> YaccGrammar<S> {
         )
     }
 
-    /// The grammar of a syntax that was read. Its spans, and those of errors, are places of the text where those of the
-    /// syntax and of its errors are, and those of actions lie within the text where the syntax's do.
+    /// The grammar of a syntax that was read. Its spans, and those of errors, begin and end at character boundaries of
+    /// the text if those of the syntax and of its errors do; those of actions lie within the text if the syntax's do.
     ///
     /// # Errors
     ///
-    /// The errors that were found in reading; where there are none, `StorageTooSmall`, alone, where `S` cannot count
-    /// the grammar's rules, tokens, productions or the symbols of a production; and want of memory.
+    /// The errors that were found in reading; if there are none, only `StorageTooSmall`, if `S` cannot count the
+    /// grammar's rules, tokens, productions or the symbols of a production; and out of memory.
     pub fn new_from_ast_with_validity_info(
         alloc: Global,
         parsed: &ASTWithValidityInfo,
@@ -196,16 +196,17 @@ impl<S: Storage> YaccGrammar<S> {
 impl<S: Storage> YaccGrammar<S> {
     ghost use Rattle.cfgtables.specs.NumberedSymbols.{sym_of};
 
-    /// A law, so the call does nothing: what holds of every grammar holds of this one. Rule 0 is the start rule, with
-    /// the one production `start_prod`; the last token is the end token, which no production holds; all that is
-    /// referred to is there, and `S` counts it; names differ; and each production is listed once, by its own rule.
+    /// A law, so the call does nothing: what is true of every grammar is true of this one. Rule 0 is the start rule,
+    /// with the single production `start_prod`; the last token is the end token, which is in no production; whatever is
+    /// referred to exists, and `S` can count it; names are distinct; and each production is listed once, by its own
+    /// rule.
     pub fn invariant_holds(&self)
         ensures { IsWellNumbered S.MAX self.now }
     {
         let _tables = &self.rules;
     }
 
-    /// How many productions there are.
+    /// The number of productions.
     pub fn prods_len(&self) -> PIdx<S>
         ensures { S.number result.0 ≡ length self.now.productions }
     {
@@ -230,7 +231,7 @@ impl<S: Storage> YaccGrammar<S> {
         self.prods.symbols(usize::from(pidx))
     }
 
-    /// How many symbols a production has.
+    /// The number of symbols of a production.
     pub fn prod_len(&self, pidx: PIdx<S>) -> SIdx<S>
         requires { S.number pidx.0 < length self.now.productions }
         ensures { production_part (λ x. length x.symbols) self.now (S.number pidx.0) ≡ Some (S.number result.0) }
@@ -247,8 +248,8 @@ impl<S: Storage> YaccGrammar<S> {
         self.prods.rule(usize::from(pidx))
     }
 
-    /// The precedence of a production: that of the token behind its `%prec`, else of its last token (POSIX yacc). One
-    /// that the file does not have has none.
+    /// The precedence of a production: that of the token after its `%prec`, or else of its last token (POSIX yacc). A
+    /// production that the file does not have has none.
     pub fn prod_precedence(&self, pidx: PIdx<S>) -> Option<Precedence>
         requires { S.number pidx.0 < length self.now.productions }
         ensures { production_part (λ x. x.precedence) self.now (S.number pidx.0) ≡ Some result }
@@ -256,7 +257,7 @@ impl<S: Storage> YaccGrammar<S> {
         self.prods.row(usize::from(pidx)).precedence
     }
 
-    /// The place of a production in the file, (0,0) for one that the file does not have.
+    /// The span of a production in the file, or (0,0) for one that the file does not have.
     pub fn prod_span(&self, pidx: PIdx<S>) -> Span
         requires { S.number pidx.0 < length self.now.productions }
         ensures { production_part (λ x. x.span) self.now (S.number pidx.0) ≡ Some result }
@@ -273,7 +274,7 @@ impl<S: Storage> YaccGrammar<S> {
         &self.prods.row(usize::from(pidx)).action
     }
 
-    /// The place of a production's action in the file.
+    /// The span of a production's action in the file.
     pub fn action_span(&self, pidx: PIdx<S>) -> Option<Span>
         requires { S.number pidx.0 < length self.now.productions }
         ensures { production_part (λ x. x.action_span) self.now (S.number pidx.0) ≡ Some result }
@@ -289,7 +290,7 @@ impl<S: Storage> YaccGrammar<S> {
         self.start_prod
     }
 
-    /// How many rules there are.
+    /// The number of rules.
     pub fn rules_len(&self) -> RIdx<S>
         ensures { S.number result.0 ≡ length self.now.rules }
     {
@@ -304,7 +305,7 @@ impl<S: Storage> YaccGrammar<S> {
         RIdxIter::new(self.rules.len())
     }
 
-    /// The productions of a rule: each of its own once, and no other.
+    /// The productions of a rule: each of them once, and no others.
     pub fn rule_to_prods(&self, ridx: RIdx<S>) -> &[PIdx<S>]
         requires { S.number ridx.0 < length self.now.rules }
         ensures value { rule_part (λ x. x.productions) self.now (S.number ridx.0)
@@ -335,7 +336,7 @@ impl<S: Storage> YaccGrammar<S> {
         name.as_str()
     }
 
-    /// The place of a rule's name in the file, (0,0) for a rule that the file does not have.
+    /// The span of a rule's name in the file, or (0,0) for a rule that the file does not have.
     pub fn rule_name_span(&self, ridx: RIdx<S>) -> Span
         requires { S.number ridx.0 < length self.now.rules }
         ensures { rule_part (λ x. x.span) self.now (S.number ridx.0) ≡ Some result }
@@ -343,7 +344,7 @@ impl<S: Storage> YaccGrammar<S> {
         self.rules[usize::from(ridx)].span
     }
 
-    /// The type of what a rule's actions answer.
+    /// The type of what a rule's actions return.
     pub fn actiontype(&self, ridx: RIdx<S>) -> &Option<String>
         requires { S.number ridx.0 < length self.now.rules }
         ensures { rule_part (λ x. x.action_type) self.now (S.number ridx.0)
@@ -352,7 +353,7 @@ impl<S: Storage> YaccGrammar<S> {
         &self.rules[usize::from(ridx)].actiont
     }
 
-    /// The rule that stands for the implicit tokens, where there are some.
+    /// The rule for the implicit tokens, if there are any.
     pub fn implicit_rule(&self) -> Option<RIdx<S>>
         ensures value { option_map (λ x. S.number x.0) result ≡ self.now.implicit_rule }
         ensures within { IfSome result (λ ridx. S.number ridx.0 < length self.now.rules) }
@@ -360,7 +361,7 @@ impl<S: Storage> YaccGrammar<S> {
         self.implicit_rule
     }
 
-    /// The rule of a name: a rule is found by its own.
+    /// The rule with this name: a rule is found by its own name.
     pub fn rule_idx(&self, name: &str) -> Option<RIdx<S>>
         ensures value { option_map (λ x. S.number x.0) result
             ≡ position (λ rule. bytes_eq name.now rule.name) self.now.rules }
@@ -383,7 +384,7 @@ impl<S: Storage> YaccGrammar<S> {
         RIdx(to_storage(0))
     }
 
-    /// How many tokens there are, with the end token.
+    /// The number of tokens, including the end token.
     pub fn tokens_len(&self) -> TIdx<S>
         ensures { S.number result.0 ≡ length self.now.tokens }
     {
@@ -406,7 +407,7 @@ impl<S: Storage> YaccGrammar<S> {
         TIdx(to_storage(self.tokens.len()))
     }
 
-    /// The name of a token. The end token, which is the last, has none, and every other has one.
+    /// The name of a token. The end token, which is the last, has none; every other token has one.
     pub fn token_name(&self, tidx: TIdx<S>) -> Option<&str>
         requires { S.number tidx.0 < length self.now.tokens }
         ensures value { token_part (λ x. x.name) self.now (S.number tidx.0)
@@ -419,7 +420,7 @@ impl<S: Storage> YaccGrammar<S> {
         }
     }
 
-    /// The place of a token's name in the file; the end token has none.
+    /// The span of a token's name in the file; the end token has none.
     pub fn token_span(&self, tidx: TIdx<S>) -> Option<Span>
         requires { S.number tidx.0 < length self.now.tokens }
         ensures { token_part (λ x. x.span) self.now (S.number tidx.0) ≡ Some result }
@@ -430,7 +431,7 @@ impl<S: Storage> YaccGrammar<S> {
         }
     }
 
-    /// The precedence of a token, where the file gives it one.
+    /// The precedence of a token, if the file gives it one.
     pub fn token_precedence(&self, tidx: TIdx<S>) -> Option<Precedence>
         requires { S.number tidx.0 < length self.now.tokens }
         ensures { token_part (λ x. x.precedence) self.now (S.number tidx.0) ≡ Some result }
@@ -441,7 +442,7 @@ impl<S: Storage> YaccGrammar<S> {
         }
     }
 
-    /// How a token is printed: as its `%epp` says, else by its name. The end token, which is the last, has no such
+    /// How a token is printed: as its `%epp` says, or else by its name. The end token, which is the last, has no such
     /// text.
     pub fn token_epp(&self, tidx: TIdx<S>) -> Option<&str>
         requires { S.number tidx.0 < length self.now.tokens }
@@ -457,7 +458,7 @@ impl<S: Storage> YaccGrammar<S> {
         }
     }
 
-    /// Whether the file asks that a repair of errors avoids to insert the token.
+    /// Whether the file asks error recovery to avoid inserting the token.
     pub fn avoid_insert(&self, tidx: TIdx<S>) -> bool
         requires { S.number tidx.0 < length self.now.tokens }
         ensures { token_part (λ x. x.avoid_insert) self.now (S.number tidx.0) ≡ Some result }
@@ -468,7 +469,7 @@ impl<S: Storage> YaccGrammar<S> {
         }
     }
 
-    /// The token of a name: a token is found by its own.
+    /// The token with this name: a token is found by its own name.
     pub fn token_idx(&self, name: &str) -> Option<TIdx<S>>
         ensures value { option_map (λ x. S.number x.0) result ≡ position (has_token_name name.now) self.now.tokens }
         ensures found { (t : ℕ) → token_part (λ x. x.name) self.now t ≡ Some (Some name.now)
@@ -481,11 +482,11 @@ impl<S: Storage> YaccGrammar<S> {
         }
     }
 
-    /// The tokens that have a name, under their names.
+    /// The tokens that have a name, by name.
     ///
     /// # Errors
     ///
-    /// Want of memory.
+    /// Out of memory.
     pub fn tokens_map(&self, alloc: Global) -> Result<HashMap<&str, TIdx<S>>, AllocError>
         ensures { IfOk result (λ map. (name : List ℕ)
             → option_map (λ x. S.number x.0) (get_by (λ key. bytes_eq name key.now) map)
@@ -494,7 +495,7 @@ impl<S: Storage> YaccGrammar<S> {
         tokens_by_name(alloc, &self.tokens)
     }
 
-    /// How many conflicts between shifting and reducing the file expects, where it says so (Bison's `%expect`).
+    /// How many shift/reduce conflicts the file expects, if it says so (Bison's `%expect`).
     pub fn expect(&self) -> Option<usize>
         ensures { result ≡ option_map (λ number. number.0) self.now.settings.expect }
     {
@@ -504,7 +505,7 @@ impl<S: Storage> YaccGrammar<S> {
         }
     }
 
-    /// How many conflicts between reductions the file expects, where it says so (Bison's `%expect-rr`).
+    /// How many reduce/reduce conflicts the file expects, if it says so (Bison's `%expect-rr`).
     pub fn expectrr(&self) -> Option<usize>
         ensures { result ≡ option_map (λ number. number.0) self.now.settings.expect_reduce_reduce }
     {
@@ -528,7 +529,7 @@ impl<S: Storage> YaccGrammar<S> {
         &self.settings.parse_param
     }
 
-    /// The text of the programs part.
+    /// The text of the programs section.
     pub fn programs(&self) -> &Option<String>
         ensures { option_map string_bytes result.now ≡ self.now.settings.programs }
     {

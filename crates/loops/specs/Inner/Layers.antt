@@ -1,11 +1,11 @@
--- Rules that were found from one rule by steps, in layers: those of a layer by one step more than those of the one before.
+-- Rules that were found from one rule by steps, in layers: those of a layer by one more step than those of the layer before.
 use Rattle.std.specs.Prelude.{◌≡◌, ℕ, suc, ◌+◌, ◌<◌, ◌≤◌, ◌⊎◌, ◌↔◌, List, Option, None, Some, Contains, get_or, is_none, length}
 use Rattle.std.specs.List.{count_by}
 use Rattle.loops.specs.declared.shortest.Found.{Found}
 use Rattle.loops.specs.declared.rows.Step.{Step}
 use Rattle.loops.specs.Rows.{Leads}
 
--- what is noted of a rule
+-- what is recorded for a rule
 abbrev pub noted : List (Option Found) → ℕ → Option Found
 noted table rule = get_or table rule None
 
@@ -13,14 +13,14 @@ noted table rule = get_or table rule None
 abbrev pub left : List (Option Found) → ℕ
 left table = count_by is_none table
 
--- the rule was found, by a row of so many steps
+-- the rule was found, by a path of this many steps
 pub record IsFound (table : List (Option Found)) (rule n : ℕ) : Type 0 where
   pub found : Found
   pub is : noted table rule ≡ Some found
   pub long : found.length ≡ n
 
--- Rules to which such steps lead were found by rows of n steps, unless they were found before, and put behind those that wait. No others
--- were.
+-- Rules that such steps lead to were found by paths of n steps, unless they were found before, and added after those that wait. No other
+-- rules were.
 pub record Finds (n : ℕ) (Taken : ℕ → Step → Type 0) (old : List (Option Found)) (before : List ℕ) (new : List (Option Found)) (after : List ℕ) : Type 0 where
   pub shape : length new ≡ length old
   pub kept : (rule : ℕ) (found : Found) → noted old rule ≡ Some found → noted new rule ≡ Some found
@@ -32,18 +32,18 @@ pub record Finds (n : ℕ) (Taken : ℕ → Step → Type 0) (old : List (Option
   pub once : left new + length after ≡ left old + length before
 
 module _ (Has : ℕ → Step → Type 0) (first : ℕ) where
-  -- a row of n steps leads from the first rule to this one
+  -- a path of n steps leads from the first rule to this one
   pub record RowTo (rule n : ℕ) : Type 0 where
     pub row : List Step
     pub leads : Leads Has first row rule
     pub long : length row ≡ n
 
-  -- the rule stands in the layer of rules that were found by n steps
+  -- the rule is in the layer of rules that were found by n steps
   abbrev pub InLayer : List (Option Found) → ℕ → ℕ → Type 0
   InLayer table n rule = ((n ≡ 0) × (rule ≡ first)) ⊎ ((0 < n) × IsFound table rule n)
 
-  -- The first n layers: each rule to which a row of at most n steps leads was found by a shortest one, and the last layer has those that n
-  -- steps are needed for.
+  -- The first n layers: each rule that a path of at most n steps leads to was found by a shortest one, and the last layer has the rules
+  -- that need n steps.
   pub record AreLayers (n : ℕ) (table : List (Option Found)) (layer : List ℕ) : Type 0 where
     pub has : (rule : ℕ) (found : Found) → noted table rule ≡ Some found → Has found.from found.step × (found.step.rule ≡ rule)
     pub behind : (rule : ℕ) (found : Found) → noted table rule ≡ Some found → (m : ℕ) × (found.length ≡ suc m) × InLayer table m found.from
@@ -56,7 +56,7 @@ module _ (Has : ℕ → Step → Type 0) (first : ℕ) where
     pub layer : List ℕ
     pub are : AreLayers count table layer
 
-  -- the row leads to the rule, and is as long as what is noted of it says
+  -- the path leads to the rule, and is as long as recorded for it
   pub record IsRowTo (table : List (Option Found)) (rule : ℕ) (row : List Step) : Type 0 where
     pub found : Found
     pub is : noted table rule ≡ Some found

@@ -1,4 +1,4 @@
--- Steps that are put into lists, and symbols that are found to derive the empty list.
+-- Steps that are put into lists, and symbols that are found to be nullable.
 use Rattle.std.specs.Prelude.{◌≡◌, ℕ, ◌<◌, ◌≤◌, ◌⊎◌, ◌↔◌, Bool, false, List, IsTrue, get_or, length}
 use Rattle.derivation.specs.Grammar.{Sym, Rule, Token}
 use Rattle.cfganalysis.specs.Firsts.{FirstSets, epsilon_bit}
@@ -10,11 +10,11 @@ pub record ArePut (Put : ℕ → Step → Type 0) (old new : List (List Step)) :
   pub shape : length new ≡ length old
   pub steps : (rule : ℕ) (step : Step) → HasStep new rule step ↔ (HasStep old rule step ⊎ Put rule step)
 
--- whether the symbol is a rule that is empty
+-- whether the symbol is a nullable rule
 abbrev pub is_empty : FirstSets → Sym → Bool
 is_empty x (Rule r) = epsilon_bit x r
 is_empty x (Token t) = false
 
--- so are the symbols from one place up to another
+-- so are the symbols from one index up to another
 abbrev pub AreEmpty : FirstSets → List Sym → ℕ → ℕ → Type 0
 AreEmpty x symbols from to = (k : ℕ) → from ≤ k → k < to → IsTrue (is_empty x (get_or symbols k (Token 0)))

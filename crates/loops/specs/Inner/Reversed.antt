@@ -1,12 +1,12 @@
--- Steps that are turned round.
+-- Reversed steps.
 use Rattle.std.specs.Prelude.{ℕ, ◌↔◌, List}
 use Rattle.loops.specs.StepLists.{HasStep}
 use Rattle.loops.specs.declared.rows.Step.{Step}
 
--- the step by the same place, to this rule
+-- the step by the same production and index, to this rule
 abbrev pub turned : ℕ → Step → Step
 turned rule step = record { rule = rule; production = step.production; place = step.place }
 
--- a rule has just the steps by which others lead to it, turned round
+-- a rule's steps are exactly the reversed steps that led to it
 abbrev pub AreReversed : List (List Step) → List (List Step) → Type 0
 AreReversed steps back = (rule : ℕ) (step : Step) → HasStep back rule step ↔ HasStep steps step.rule (turned rule step)

@@ -8,7 +8,7 @@ use std::alloc::{AllocError, Global};
 ///
 /// # Errors
 ///
-/// Want of memory. The tree may have the rule without its production.
+/// Out of memory. The tree may have the rule without its production.
 pub fn add_program(alloc: Global, ast: &mut GrammarAST, name: &str) -> Result<(), AllocError> {
     let nowhere = Span::new(0, 0);
     let mut symbols = Vec::new(alloc);

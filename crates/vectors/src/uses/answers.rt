@@ -1,4 +1,4 @@
-//! What these callers answer of a text, by their names.
+//! What these callers return for a text, by their names.
 
 use super::errors::show_errors;
 use super::findings::show_findings;
@@ -13,11 +13,11 @@ use cfgrammar::yacc::{YaccFault, YaccGrammar, YaccKind, YaccOriginalActionKind};
 use std::alloc::{AllocError, Global};
 use vectors_rows::made::lend;
 
-/// What the caller of this name answers of a text.
+/// What the caller with this name returns for a text.
 ///
 /// # Errors
 ///
-/// Want of memory.
+/// Out of memory.
 pub fn tell(alloc: Global, call: &str, text: &str) -> Result<String, AllocError> {
     match answer(alloc, call, text) {
         Ok(answer) => Ok(answer),

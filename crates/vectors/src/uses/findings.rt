@@ -1,4 +1,4 @@
-//! What is odd about a grammar.
+//! The findings about a grammar.
 
 use cfglint::findings;
 use cfgrammar::render_all;
@@ -6,12 +6,12 @@ use cfgrammar::yacc::YaccGrammar;
 use cfgrammar::yacc::ast::GrammarAST;
 use std::alloc::{AllocError, Global};
 
-/// What is odd about the grammar of a text, which is this tree and these numbers, as people read it; empty where
-/// nothing is.
+/// The findings about the grammar of a text, given its tree and its numbers, as people read them; empty if there are
+/// none.
 ///
 /// # Errors
 ///
-/// Want of memory.
+/// Out of memory.
 pub fn show_findings(
     alloc: Global,
     name: &str,

@@ -1,4 +1,4 @@
-//! A key of one's own in the section of a file.
+//! A caller's own key in the section of a file.
 
 use cfgrammar::Span;
 use cfgrammar::header::{GrmtoolsSectionParser, Header, HeaderFault, HeaderValue, Setting, Value};
@@ -9,7 +9,7 @@ use std::alloc::{AllocError, Global};
 ///
 /// # Errors
 ///
-/// The errors of the section, or want of memory.
+/// The errors of the section, or out of memory.
 pub fn print_indent(alloc: Global, text: &str) -> Result<String, HeaderFault> {
     let (mut header, _) = GrmtoolsSectionParser::new(text, false).parse(alloc)?;
     Ok(indent_of(alloc, &mut header)?)

@@ -1,4 +1,4 @@
-//! The rules that derive the empty list, and a theorem of a caller's own.
+//! The nullable rules, and a caller's own theorem.
 
 ghost use Rattle.cfgrammar.specs.First.{Empty};
 ghost use Rattle.cfgrammar.specs.Grammar.{HasProduction};
@@ -9,7 +9,7 @@ use cfgrammar::RIdx;
 use cfgrammar::yacc::YaccGrammar;
 use std::alloc::{AllocError, Global};
 
-/// Whether the rule derives the empty list.
+/// Whether the rule is nullable.
 ///
 /// # Errors
 ///
@@ -26,7 +26,7 @@ pub fn is_nullable(
     Ok(firsts.is_epsilon_set(rule))
 }
 
-/// The names of the rules that derive the empty list, a line each.
+/// The names of the nullable rules, one per line.
 ///
 /// # Errors
 ///

@@ -3,11 +3,11 @@
 use cfgrammar::yacc::YaccGrammar;
 use std::alloc::{AllocError, Global};
 
-/// The productions of a grammar, a line each.
+/// The productions of a grammar, one per line.
 ///
 /// # Errors
 ///
-/// Want of memory.
+/// Out of memory.
 pub fn print_productions(alloc: Global, grammar: &YaccGrammar<u32>) -> Result<String, AllocError> {
     let mut lines = String::new(alloc);
     for pidx in grammar.iter_pidxs() {

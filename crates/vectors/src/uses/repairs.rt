@@ -5,11 +5,12 @@ use cfgrammar::yacc::YaccGrammar;
 use cfgrammar::yacc::sentences::SentenceError;
 use std::alloc::{AllocError, Global};
 
-/// The sentences of least cost of each rule, where a token that the file wouldn't have inserted costs 4, any other 1.
+/// The sentences of least cost of each rule, where a token that the file asks not to insert costs 4, and any other
+/// costs 1.
 ///
 /// # Errors
 ///
-/// Want of memory.
+/// Out of memory.
 pub fn print_repairs(alloc: Global, grammar: &YaccGrammar<u32>) -> Result<String, AllocError> {
     let cost = |tidx| if grammar.avoid_insert(tidx) { 4 } else { 1 };
     let generator = grammar.sentence_generator(alloc, cost)?;

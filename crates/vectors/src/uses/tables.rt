@@ -6,11 +6,11 @@ use cfgrammar::yacc::follows::YaccFollows;
 use cfgrammar::{RIdx, Symbol, TIdx};
 use std::alloc::{AllocError, Global};
 
-/// The table of an LL(1) parser: each production, and the tokens at which the parser takes it.
+/// The table of an LL(1) parser: each production, and the tokens at which the parser uses it.
 ///
 /// # Errors
 ///
-/// Want of memory.
+/// Out of memory.
 pub fn print_table(
     alloc: Global,
     grammar: &YaccGrammar<u32>,
@@ -29,7 +29,7 @@ pub fn print_table(
     Ok(table)
 }
 
-/// Whether the parser takes the rule's production of these symbols at the token.
+/// Whether the parser uses the rule's production with these symbols at the token.
 fn is_taken(
     (firsts, follows): (&YaccFirsts<u32>, &YaccFollows<u32>),
     rule: RIdx<u32>,

@@ -17,7 +17,7 @@ pub(crate) fn write_firsts<S: Storage>(out: &mut Page, grammar: &YaccGrammar<S>)
     }
 }
 
-/// Writes how many tokens the FIRST sets of a grammar have, all together, and how many rules are empty.
+/// Writes how many tokens the FIRST sets of a grammar have in total, and how many rules are nullable.
 pub(crate) fn write_lengths<S: Storage>(out: &mut Page, grammar: &YaccGrammar<S>) {
     match grammar.firsts(out.alloc) {
         Ok(firsts) => write_counts(out, grammar, &firsts),
@@ -49,7 +49,7 @@ fn tokens_in<S: Storage>(grammar: &YaccGrammar<S>, firsts: &YaccFirsts<S>, ridx:
     tokens
 }
 
-/// Writes each rule's set: the tokens by their indices, where the two accessors differ, and whether the rule is empty.
+/// Writes each rule's set: the tokens by index, where the two accessors differ, and whether the rule is nullable.
 pub(crate) fn write_sets<S: Storage>(
     out: &mut Page,
     grammar: &YaccGrammar<S>,
@@ -92,7 +92,7 @@ fn write_tokens<S: Storage>(
     }
 }
 
-/// Writes a token's index where the token is in a set, and whether the set's list of bits says otherwise.
+/// Writes a token's index if the token is in a set, and whether the set's list of bits disagrees.
 pub(crate) fn write_bit<S: Storage>(out: &mut Page, tidx: TIdx<S>, is_set: bool, listed: &Vob) {
     if is_set {
         indices::token(out, " ", tidx);
@@ -123,7 +123,7 @@ fn write_with_bit(out: &mut Page, grammar: &YaccGrammar<u32>, rule: u32, token: 
     write_sets(out, grammar, &firsts);
 }
 
-/// Writes whether a bit was set before, and again.
+/// Writes whether a bit was set before the first call, and before the second.
 pub(crate) fn write_set_twice(out: &mut Page, before: &str, was_set: bool, is_set: bool) {
     let pieces = [
         Piece::Flag(before, was_set),

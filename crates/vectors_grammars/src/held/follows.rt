@@ -9,7 +9,7 @@ use cfgrammar::{RIdx, Storage};
 use vectors_rows::page::Page;
 use vectors_rows::{indices, pen};
 
-/// Writes each rule's FOLLOW set: the tokens by their indices, and where the two accessors differ.
+/// Writes each rule's FOLLOW set: the tokens by index, and where the two accessors differ.
 pub(crate) fn write_follows<S: Storage>(out: &mut Page, grammar: &YaccGrammar<S>) {
     match grammar.follows(out.alloc) {
         Ok(follows) => write_sets(out, grammar, &follows),
@@ -59,7 +59,7 @@ fn write_tokens<S: Storage>(
     }
 }
 
-/// Writes how many tokens the FOLLOW sets of a grammar have, all together.
+/// Writes how many tokens the FOLLOW sets of a grammar have in total.
 pub(crate) fn write_lengths<S: Storage>(out: &mut Page, grammar: &YaccGrammar<S>) {
     match YaccFollows::new(out.alloc, grammar) {
         Ok(follows) => write_count(out, grammar, &follows),

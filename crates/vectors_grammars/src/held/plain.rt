@@ -1,5 +1,4 @@
-//! What is answered of a grammar, of its sets and of its productions, once these are made, by calls that take no
-//! memory.
+//! Results for a grammar, its sets and its productions, once these are made, of calls that don't allocate.
 
 ghost use Rattle.std.specs.Prelude.{◌≡◌, length};
 
@@ -13,7 +12,7 @@ use cfgrammar::yacc::grammar::Productions;
 use vectors_rows::page::Page;
 use vectors_rows::{indices, pen};
 
-/// Makes the sets and the productions of a grammar, and writes all that it and they hold; then sets a bit twice.
+/// Makes the sets and the productions of a grammar, and writes all of it and of them; then sets a bit twice.
 pub(crate) fn write_without_memory(out: &mut Page, grammar: &YaccGrammar<u32>) {
     let Ok(mut firsts) = grammar.firsts(out.alloc) else {
         return out.tear();
@@ -34,7 +33,7 @@ fn write_with_firsts(out: &mut Page, grammar: &YaccGrammar<u32>, firsts: &YaccFi
     }
 }
 
-/// Makes the productions, writes what the tables and the sets hold, and opens the start's production.
+/// Makes the productions, writes the tables and the sets, and opens the start production.
 fn write_with_sets(
     out: &mut Page,
     grammar: &YaccGrammar<u32>,
@@ -56,7 +55,7 @@ fn write_with_sets(
     write_opened(out, &productions);
 }
 
-/// Writes what the tables and the sets hold.
+/// Writes the tables and the sets.
 fn write_plain(
     out: &mut Page,
     grammar: &YaccGrammar<u32>,
@@ -72,7 +71,7 @@ fn write_plain(
     follows::write_sets(out, grammar, follows);
 }
 
-/// Writes how many rules and tokens there are, and how often each production was opened, and all together.
+/// Writes the numbers of rules and tokens, and how often each production was opened, and all in total.
 fn write_opened<S: Storage, P: Productions<S>>(out: &mut Page, productions: &P) {
     indices::rule(out, ", rules ", productions.rules_len());
     indices::token(out, ", tokens ", productions.tokens_len());

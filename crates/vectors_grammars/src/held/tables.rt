@@ -1,4 +1,4 @@
-//! What the tables of a grammar hold, by what their accessors answer.
+//! The content of a grammar's tables, as their accessors return it.
 
 ghost use Rattle.std.specs.Prelude.{◌<◌, length};
 
@@ -12,14 +12,14 @@ use vectors_rows::pen::{self, Piece};
 use vectors_rows::said::{write_precedence, write_settings};
 use vectors_rows::text::push_pictures;
 
-/// Writes all that a grammar holds.
+/// Writes all of a grammar.
 pub(crate) fn write_grammar<S: Storage>(out: &mut Page, grammar: &YaccGrammar<S>) {
     write_tables(out, grammar, true);
     write_firsts(out, grammar);
     write_follows(out, grammar);
 }
 
-/// Writes all that the tables of a grammar hold, and productions as text, which take memory, where they are asked for.
+/// Writes all of a grammar's tables, and productions as text, which allocates, if requested.
 pub(crate) fn write_tables<S: Storage>(out: &mut Page, grammar: &YaccGrammar<S>, is_printed: bool) {
     write_lengths(out, grammar);
     write_rules(out, grammar);
@@ -31,8 +31,8 @@ pub(crate) fn write_tables<S: Storage>(out: &mut Page, grammar: &YaccGrammar<S>,
     write_token_names(out, grammar);
 }
 
-/// Writes how many rules, productions and tokens there are, which of them are the start's and the end's, and what is
-/// said of the grammar as a whole.
+/// Writes the numbers of rules, productions and tokens, the start and end ones, and what is said of the grammar as a
+/// whole.
 pub(crate) fn write_lengths<S: Storage>(out: &mut Page, grammar: &YaccGrammar<S>) {
     write_counts(out, grammar);
     write_expected(out, grammar);
@@ -40,7 +40,7 @@ pub(crate) fn write_lengths<S: Storage>(out: &mut Page, grammar: &YaccGrammar<S>
     write_settings(out, param, generics, grammar.programs());
 }
 
-/// Writes how many rules, productions and tokens there are, and which of them are the start's and the end's.
+/// Writes the numbers of rules, productions and tokens, and the start and end ones.
 fn write_counts<S: Storage>(out: &mut Page, grammar: &YaccGrammar<S>) {
     let pieces = [
         Piece::Number("    rules ", usize::from(grammar.rules_len())),
@@ -53,8 +53,8 @@ fn write_counts<S: Storage>(out: &mut Page, grammar: &YaccGrammar<S>) {
     pen::pieces(out, &pieces);
 }
 
-/// Writes the rule of the implicit tokens, ends the line, and writes how many conflicts are expected, each where it is
-/// there.
+/// Writes the rule for the implicit tokens, ends the line, and writes how many conflicts are expected, each if it
+/// exists.
 fn write_expected<S: Storage>(out: &mut Page, grammar: &YaccGrammar<S>) {
     let implicit = indices::rule_number(grammar.implicit_rule());
     let (expect, expectrr) = (grammar.expect(), grammar.expectrr());
@@ -74,7 +74,7 @@ fn write_rules<S: Storage>(out: &mut Page, grammar: &YaccGrammar<S>) {
     }
 }
 
-/// Writes a rule: its index, its name, the name's place, and its productions; and where the two calls that answer its
+/// Writes a rule: its index, its name, the name's span, and its productions; and whether the two calls that return its
 /// name differ.
 fn write_rule<S: Storage>(out: &mut Page, grammar: &YaccGrammar<S>, ridx: RIdx<S>)
     requires { S.number ridx.0 < length grammar.now.rules }
@@ -102,8 +102,8 @@ fn write_indices<S: Storage>(out: &mut Page, pidxs: &[PIdx<S>]) {
     }
 }
 
-/// Writes a production: its index, its place, its rule, its symbols, itself as text, and its precedence and its action,
-/// where it has them.
+/// Writes a production: its index, its span, its rule, its symbols, itself as text, and its precedence and its action,
+/// if it has them.
 fn write_production<S: Storage>(
     out: &mut Page,
     grammar: &YaccGrammar<S>,
@@ -147,7 +147,7 @@ fn write_printed<S: Storage>(out: &mut Page, grammar: &YaccGrammar<S>, pidx: PId
     }
 }
 
-/// Writes a production's precedence and its action, where it has them, and ends the line.
+/// Writes a production's precedence and its action, if it has them, and ends the line.
 fn write_action<S: Storage>(out: &mut Page, grammar: &YaccGrammar<S>, pidx: PIdx<S>)
     requires { S.number pidx.0 < length grammar.now.productions }
 {
@@ -167,8 +167,8 @@ fn write_tokens<S: Storage>(out: &mut Page, grammar: &YaccGrammar<S>) {
     }
 }
 
-/// Writes a token: its index, its name, the name's place, its precedence, its printed form where that isn't its name,
-/// and whether it is not to be inserted.
+/// Writes a token: its index, its name, the name's span, its precedence, its printed form if that isn't its name, and
+/// whether it should not be inserted.
 fn write_token<S: Storage>(out: &mut Page, grammar: &YaccGrammar<S>, tidx: TIdx<S>)
     requires { S.number tidx.0 < length grammar.now.tokens }
 {
@@ -185,7 +185,7 @@ fn write_token<S: Storage>(out: &mut Page, grammar: &YaccGrammar<S>, tidx: TIdx<
     out.push('\n');
 }
 
-/// Writes a token's printed form where that isn't its name.
+/// Writes a token's printed form, unless that is its name.
 fn write_epp(out: &mut Page, epp: Option<&str>, name: Option<&str>) {
     if epp == name {
         return;
@@ -193,7 +193,7 @@ fn write_epp(out: &mut Page, epp: Option<&str>, name: Option<&str>) {
     pen::name(out, ", epp ", epp.unwrap_or("none"));
 }
 
-/// Writes a precedence behind `before`, or what stands for one that is missing.
+/// Writes a precedence after `before`, or a text for a missing one.
 pub(crate) fn write_level(
     out: &mut Page,
     before: &str,
@@ -206,14 +206,14 @@ pub(crate) fn write_level(
     }
 }
 
-/// Writes what each rule's name stands for.
+/// Writes what is found by each rule's name.
 fn write_rule_names<S: Storage>(out: &mut Page, grammar: &YaccGrammar<S>) {
     for ridx in grammar.iter_rules() {
         write_name(out, grammar, grammar.rule_name_str(ridx));
     }
 }
 
-/// Writes what each token's name stands for, and the empty name, which the end token stands for here.
+/// Writes what is found by each token's name, and by the empty name, which is written here for the end token.
 fn write_token_names<S: Storage>(out: &mut Page, grammar: &YaccGrammar<S>) {
     for tidx in grammar.iter_tidxs() {
         write_name(out, grammar, grammar.token_name(tidx).unwrap_or(""));

@@ -1,4 +1,4 @@
-//! Calls at the place of a key.
+//! Calls on the entry of a key.
 
 use super::{Act, Key, refused, write_done};
 use cfgrammar::markmap::{Entry, MarkMap, OccupiedEntry, VacantEntry};
@@ -6,7 +6,7 @@ use std::alloc::AllocError;
 use vectors_rows::page::Page;
 use vectors_rows::pen::{self, Piece};
 
-/// Makes a call at the place of a key, and writes what it answers.
+/// Makes a call on the entry of a key, and writes its result.
 pub(super) fn call<K: Key>(
     out: &mut Page,
     map: &mut MarkMap<K, u32>,
@@ -23,7 +23,7 @@ pub(super) fn call<K: Key>(
     }
 }
 
-/// Makes a call at the place of a key that holds a value, and answers what is written of it.
+/// Makes a call on the entry of a key with a value, and returns what is written for it.
 fn call_occupied<K: Key>(entry: &mut OccupiedEntry<'_, K, u32>, act: Act) -> Piece<'static> {
     match act {
         Act::Insert(value) => Piece::Number("occupied, ", entry.insert(value) as usize),
@@ -43,7 +43,7 @@ fn call_occupied<K: Key>(entry: &mut OccupiedEntry<'_, K, u32>, act: Act) -> Pie
     }
 }
 
-/// Makes a call at the place of a key that holds no value, and writes what it answers.
+/// Makes a call on the entry of a key without a value, and writes its result.
 fn call_vacant<K: Key>(
     out: &mut Page,
     mut entry: VacantEntry<'_, K, u32>,
@@ -67,12 +67,12 @@ fn call_vacant<K: Key>(
     }
 }
 
-/// Gives a key at its place a value, and answers the one that is lent.
+/// Gives the key of an entry a value, and returns the value that is borrowed.
 fn lend<K: Key>(entry: VacantEntry<'_, K, u32>, value: u32) -> Result<usize, (K, u32)> {
     Ok(*entry.insert(value)? as usize)
 }
 
-/// Gives a key at its place a value, and answers the marks that it then has.
+/// Gives the key of an entry a value, and returns the marks that it then has.
 fn occupy<K: Key>(entry: VacantEntry<'_, K, u32>, value: u32) -> Result<usize, (K, u32)> {
     match entry.insert_entry(value) {
         Ok(occupied) => Ok(usize::from(occupied.get_mark())),
@@ -96,7 +96,7 @@ fn write_filled<K: Key>(
     }
 }
 
-/// Marks a key at its place where it holds no value, or writes it.
+/// Marks the key of an entry without a value, or writes the key.
 fn mark_vacant<K: Key>(
     out: &mut Page,
     entry: &mut VacantEntry<'_, K, u32>,
@@ -142,7 +142,7 @@ fn write_value(out: &mut Page, value: Option<&u32>) {
     }
 }
 
-/// Writes the mark of a key that holds a value.
+/// Writes the mark of a key with a value.
 fn write_mark<K: Key>(out: &mut Page, entry: &Entry<'_, K, u32>) {
     match entry {
         Entry::Occupied(entry) => write!(out, ", mark {}]", entry.get_mark()),

@@ -1,4 +1,4 @@
-//! Where merging stops for want of memory.
+//! Where merging stops when memory runs out.
 
 use super::{Key, Maps, merge, play_line};
 use cfgrammar::markmap::MarkMap;
@@ -7,9 +7,9 @@ use vectors_rows::page::Page;
 use vectors_rows::pen;
 use vectors_rows::row::Row;
 
-/// Want of memory while the other map was merged by the line at this place; and before that, that the map isn't one
-/// into which just the keys below one of the other map's are merged. A row of which a digest is written doesn't watch
-/// all keys, and isn't looked at.
+/// Notes that memory ran out while the line at this index merged the other map. Writes before if the map isn't one into
+/// which exactly the keys below one of the other map's are merged. A row with a digest doesn't watch all keys, and
+/// isn't checked.
 pub(super) fn tell_stop<K: Key>(
     out: &mut Page,
     row: &Row<'_>,
@@ -23,8 +23,8 @@ pub(super) fn tell_stop<K: Key>(
     out.tear();
 }
 
-/// Whether a map is one into which just the keys below one of the other map's are merged. The row watches all keys, in
-/// order.
+/// Whether a map is one into which exactly the keys below one of the other map's are merged. The row watches all keys,
+/// in order.
 fn is_merged_so_far<K: Key>(
     alloc: Global,
     row: &Row<'_>,
@@ -40,7 +40,7 @@ fn is_merged_so_far<K: Key>(
     Ok(false)
 }
 
-/// Whether a map is one into which just so many of the keys that are watched are merged, where the next is one of the
+/// Whether a map is one into which exactly this many of the watched keys are merged, and the next one is one of the
 /// other map's.
 fn is_merged_below<K: Key>(
     alloc: Global,
@@ -54,8 +54,8 @@ fn is_merged_below<K: Key>(
     Ok(is_theirs && maps.map == *map)
 }
 
-/// Runs the lines of a script in front of a place, and merges just so many of the keys that are watched. Whether the
-/// next is one of the other map's.
+/// Runs the lines of a script before an index, and merges exactly this many of the watched keys. Returns whether the
+/// next one is one of the other map's.
 fn merge_below<K: Key>(
     alloc: Global,
     row: &Row<'_>,
@@ -70,7 +70,7 @@ fn merge_below<K: Key>(
     Ok(is_theirs)
 }
 
-/// Runs the lines of a script in front of a place.
+/// Runs the lines of a script before an index.
 fn play_before<K: Key>(out: &mut Page, row: &Row<'_>, place: usize, maps: &mut Maps<K>) {
     for (place, line) in row.lines.iter().take(place).enumerate() {
         match line.0 {
@@ -83,7 +83,7 @@ fn play_before<K: Key>(out: &mut Page, row: &Row<'_>, place: usize, maps: &mut M
     }
 }
 
-/// Removes the keys that are watched, but for so many of them, and answers whether the first of these was known.
+/// Removes the watched keys except this many of them, and returns whether the first one removed was known.
 fn remove_from<K: Key>(
     alloc: Global,
     row: &Row<'_>,
@@ -99,7 +99,7 @@ fn remove_from<K: Key>(
     Ok(is_known)
 }
 
-/// Removes a key, and answers whether it was known.
+/// Removes a key, and returns whether it was known.
 fn remove<K: Key>(map: &mut MarkMap<K, u32>, key: &K) -> bool {
     let is_known = map.contains_key(key) || map.is_used(key) || map.is_required(key);
     map.remove(key);

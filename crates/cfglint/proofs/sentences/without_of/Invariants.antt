@@ -2,7 +2,7 @@ use Rattle.std.proofs.Common.{◌≡◌, ◌<◌, ◌≤◌, ℕ, false, get_or,
 use Rattle.cfglint.specs.Inner.Lacks.{LacksOrHas}
 use Rattle.cfglint.proofs.sentences.without_of.Given as goal
 
--- the indices that are left are those of rules, and it is said of those before them whether they have no sentence
+-- the indices that are left are those of rules, and for those before them it is known whether they are unproductive
 abbrev pub invariant-loop-rule : goal.invariant-loop-rule
 invariant-loop-rule l = record {
   all : l.rule-iterator.end ≡ length l.grammar.rules;

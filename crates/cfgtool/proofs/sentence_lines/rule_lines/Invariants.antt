@@ -3,7 +3,7 @@ use Rattle.cfgrammar.specs.Generator.{token_cost}
 use Rattle.cfgtool.specs.SentenceLines.{TellsEach, TellsRule}
 use Rattle.cfgtool.proofs.sentence_lines.rule_lines.Given as goal
 
--- the indices that are left are those of rules, and those before them are told
+-- the indices that are left are those of rules, and the lines of those before them are written
 abbrev pub invariant-loop-ridx : goal.invariant-loop-ridx
 invariant-loop-ridx l = record {
   all : l.ridx-iterator.end ≡ length l.grammar.rules;

@@ -6,7 +6,7 @@ use Rattle.cfgrammar.proofs.Turns.{All-shown, more_joined}
 use Rattle.cfgtool.specs.SentenceLines.{AreNamed, sentence_line, token_text}
 use Rattle.cfgtool.proofs.sentence_lines.write_sentences.Goals as goal
 
--- three parts behind what is there
+-- three parts after what was written before
 three_more : (before first second third one two all : List ℕ) → one ≡ before ++ first → two ≡ one ++ second → all ≡ two ++ third
     → all ≡ before ++ (first ++ (second ++ third))
 three_more before first second third one two all e f g =

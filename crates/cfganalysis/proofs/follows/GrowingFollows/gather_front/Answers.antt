@@ -22,7 +22,7 @@ bare_wide : (grm : Grammar) (x : FollowSets) (old none : List Bool) → FitFollo
     → length none ≡ x.follows.columns
 bare_wide grm x old none fits wide bare = ap length bare ∙ length-replicate (length old) false ∙ wide ∙ sym fits.follows.width
 
--- what follows the rule, gathered where nothing was
+-- what follows the rule, gathered when nothing was gathered before
 gathers_follows : (grm : Grammar) (x : FollowSets) (rule columns : ℕ) (old none new : List Bool) (words : List ℕ) → FitFollows grm x → rule < grm.rules
     → length old ≡ grm.tokens → none ≡ replicate (length old) false → columns ≡ x.follows.columns → bits_of words columns ≡ row_of x.follows rule
     → new ≡ joined none (bits_of words (length none)) → Gathers (HasBit x.follows rule) none new

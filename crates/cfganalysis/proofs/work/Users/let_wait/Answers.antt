@@ -4,7 +4,7 @@ use Rattle.std.proofs.lemmas.List.Elements.{Contains-get_or}
 use Rattle.cfganalysis.proofs.Noting.{row_shown, lets_wait_one, lets_wait_all}
 use Rattle.cfganalysis.proofs.work.Users.let_wait.Goals as goal
 
--- a production of the list is one that may wait
+-- a production in the list is one that may wait
 below : (list row : List ℕ) (i m n : ℕ) → i < length list → list ≡ row → ((p : ℕ) → Contains row p → p < n) → m ≡ n → get_or list i 0 < m
 below list row i m n lt is within e =
     subst (λ k. get_or list i 0 < k) (sym e) (within (get_or list i 0) (subst (λ l. Contains l (get_or list i 0)) is (Contains-get_or list i 0 lt)))

@@ -10,7 +10,7 @@ index-requires c =
     let is : AreLacks c.args.self.now bits = subst (λ (g : Numbered). AreLacks g bits) c.self.view_is c.self.invariant in
     subst (λ n. c.from.result < n) (sym (c.self.inside.rules.ok.0 ∙ is.long)) (subst (λ n. n < length c.args.self.now.rules) (sym c.from.ensures) c.requires)
 
--- what is said of a rule stands at its number
+-- what is known of a rule is at its number
 pub returns : goal.returns
 returns c =
     let bits = c.self.inside.rules.items in

@@ -8,7 +8,7 @@ use Rattle.cfglint.proofs.Texts.{shown_at, unusable_told}
 use Rattle.cfglint.proofs.Unusable.{UsesByRules, first_read, is_unusable, not_unusable}
 use Rattle.cfglint.proofs.sentences.Lacks.tell_production.Goals as goal
 
--- a production before the start rule's is there
+-- a production before the start rule's exists
 inside : (g h : Numbered) → h ≡ g → (p start : ℕ) → start ≡ h.start_production → start < length h.productions → p < g.start_production → p < length g.productions
 inside g h view p start is there before =
     let begins : g.start_production ≡ h.start_production = ap (λ (n : Numbered). n.start_production) (sym view) in
