@@ -17,7 +17,7 @@ PAGE, README = f"{ROOT}/docs/PERFORMANCE.md", f"{ROOT}/README.md"
 BEGIN, END = "<!-- tools/bench --beside -->\n", "<!-- end of tools/bench --beside -->\n"
 THERE = ["reading", "tables", "firsts", "follows", "path", "greatest", "least", "min_sentence", "min_sentences", "every"]
 NEED_LEAST = {"min_sentence", "min_sentences", "every"}
-# the phases that a column takes together, here and in the crate, which finds costs when they are asked for
+# the phases that a column sums up, here and in the crate, which computes costs when they are requested
 COLUMNS = {
     "reading": (["reading"], ["reading"]), "tables": (["tables"], ["tables"]), "FIRST": (["firsts"], ["firsts"]),
     "FOLLOW": (["follows"], ["follows"]), "path": (["path"], ["path"]),
@@ -36,7 +36,7 @@ class Crate:
         self.program, self.seconds, self.before = program, seconds, before
 
     def run(self, words):
-        """What a run wrote, line by line, and why it ended, unless it ended well."""
+        """The lines that a run printed, and why it failed if it did."""
         with tempfile.TemporaryFile("w+") as out:
             try:
                 ran = subprocess.run(words, stdout=out, stderr=subprocess.DEVNULL, timeout=self.seconds, preexec_fn=self.before)
@@ -47,7 +47,7 @@ class Crate:
             return out.read().splitlines(), why
 
     def once(self, file, phases):
-        """What one run wrote of these phases, and why it ended before the last."""
+        """The results of one run on these phases, and why it ended before the last."""
         lines, why = self.run([self.program, "time", file, *phases])
         return {it[0]: int(it[2]) / 1000 for it in map(str.split, lines[1:])}, why
 
@@ -69,7 +69,7 @@ class Crate:
 
 
 class CountedCrate(Crate):
-    """The same in millions of instructions, as valgrind counts them between what the program writes."""
+    """The same in millions of instructions, as valgrind counts them between the lines that the program prints."""
 
     def once(self, file, phases):
         with tempfile.TemporaryDirectory() as room:

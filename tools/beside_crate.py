@@ -29,7 +29,7 @@ def build(original):
         with open(f'{COPY}/project/Cargo.toml', 'a', encoding='utf-8') as it:
             it.write(f'\n[patch.crates-io]\ncfgrammar = {{ path = "{crate}" }}\n')
         words.append('--offline')
-    # cargo reads the configuration of the folder that it is run in
+    # cargo reads the configuration of the folder in which it runs
     ran = subprocess.run([*words, '--manifest-path', f'{COPY}/project/Cargo.toml'], cwd=folder, capture_output=True, text=True)
     if ran.returncode:
         sys.exit(f'{ran.stderr}tools/original is not built')
@@ -46,13 +46,13 @@ def is_crate(folder):
 
 
 def parts(written, count):
-    """What was written of each of so many rows, line by line."""
+    """The lines that were printed for each of so many rows."""
     found = re.split(r'(?:\A|\n)== \S+\n', written)[1:]
     return [part.rstrip('\n').split('\n') for part in found] if len(found) == count else None
 
 
 def written(words, rows):
-    """What a program writes of each row. Where it ends in another way, the rows are halved, down to the one."""
+    """The lines that a program prints for each row. If it fails, the rows are halved, until the one is found."""
     with tempfile.NamedTemporaryFile('w', suffix='.rows', encoding='utf-8', newline='') as file:
         file.writelines(rows)
         file.flush()
@@ -80,15 +80,15 @@ class Both:
         return [normal(row_of(spelled), answered) for spelled, answered in zip(rows, written([self.program], rows))]
 
     def answers(self, rows, milliseconds=None):
-        """Each row, as it was asked, with what the crate and what the port answer of it. Of a rule's minimal sentences the port is
-        only asked where the crate lists them."""
+        """Each row, with the requests of the answers, and the answers of the crate and of the port. The minimal sentences of a rule are
+        only requested from the port if the crate lists them."""
         by_crate = self.of_crate(rows, milliseconds)
         asked = [spelled + listed(answered) if spelled.startswith('generator ') else spelled for spelled, answered in zip(rows, by_crate)]
         return list(zip(asked, by_crate, self.of_port(asked)))
 
     def explained(self, rows):
-        """The same, each with the names of the differences, or None. What isn't explained is asked again with ten times the time,
-        since a busy machine makes a call look as if it had no end."""
+        """The same, each with the names of the differences, or None. What isn't explained is tried again with ten times the time, since
+        on a busy machine a call may look endless."""
         found = []
         for spelled, (asked, crate, port) in zip(rows, self.answers(rows)):
             names = explained(row_of(asked), crate, port)
@@ -100,6 +100,6 @@ class Both:
 
 
 def listed(answered):
-    """The line that asks a row for the minimal sentences of the rules whose the crate listed."""
+    """The line of a row that requests the minimal sentences of the rules whose sentences the crate listed."""
     names = [line.split(' ')[6].rstrip(':') for line in answered if line.startswith('    rule ') and '; all ' in line]
     return f'  sentences {" ".join(names) or "-"}\n'

@@ -1,7 +1,7 @@
-"""By which lines of docs/DIFFERENCES.md the Rust crate answers a row as it does: for tools/beside and tools/original_rows.
+"""Which lines of docs/DIFFERENCES.md explain the answer of the Rust crate to a row: for tools/beside and tools/original_rows.
 
-Answers are lists of lines, as the program of rows writes them, but for the row's text, and of costs but for the productions that are
-chosen, which the crate doesn't show."""
+Answers are lists of lines, as the program of rows prints them, without the text of the row, and for costs without the chosen
+productions, which the crate doesn't show."""
 import os
 import re
 import sys
@@ -29,7 +29,7 @@ rows = costs.rows
 
 
 def row_of(spelled):
-    """The row that a text spells."""
+    """The row of this text."""
     lines = spelled.rstrip('\n').split('\n')
     row = rows.Row(*lines[0].split(' ', 1))
     for line in lines[1:]:
@@ -40,9 +40,9 @@ def row_of(spelled):
 
 
 def normal(row, answered):
-    """What the program of rows wrote, without what the crate doesn't show."""
+    """The output of the program of rows, without what the crate doesn't show."""
     lines = [line for line in answered if not line.startswith('    |')]
-    if row.type == 'lines':                        # only of a text that is fed whole
+    if row.type == 'lines':                        # only for a text that is fed as a whole
         return [line for line in lines if not line.startswith(('fed in ', 'of its lines'))]
     if row.type != 'generator':
         return lines
@@ -54,10 +54,10 @@ def head_of_costs(row):
     return 'costs of %d bytes' % len(row.text())
 
 
-# ---------------------------------------------------------------- what the rules answer with some of the differences
+# ---------------------------------------------------------------- answers by the rules, with some of the differences
 
 def by_rules(row, names=(), answered=Answered()):
-    """What the rules answer of a row with these differences."""
+    """The answer to a row by the rules with these differences."""
     answer = costs_answer if row.type == 'generator' else row_answer
     try:
         with answering_as(names, answered):
@@ -84,7 +84,7 @@ ADDED = re.compile(r'    production (\d+) \(0,0\)( of rule .*)')
 
 
 def with_panics(lines):
-    """The lines of tables in which the crate's calls on added productions panic, but for the first one's action."""
+    """The lines of tables if the crate's calls on added productions panic, except for the action of the first one."""
     start, out = None, []
     for line in lines:
         lengths = re.match(r'    rules \d+, start \d+; productions \d+, start (\d+);', line)
@@ -98,8 +98,8 @@ def with_panics(lines):
 
 
 def with_other_types(row, lines, answered):
-    """The lines in which an index type that is too small isn't refused: the crate panics where what the file has isn't counted by it,
-    and answers anything where only what is added isn't."""
+    """The lines if an index type that is too small isn't refused: the crate panics if the file has more than it counts, and returns
+    anything if only what is added is too much."""
     named = rows.KINDS[row.kind] or rows.named_kind(row.text())[0]
     out = []
     for at, line in enumerate(lines):
@@ -131,7 +131,7 @@ def costs_answer(row, names, answered):
     if errors:
         return [head_of_costs(row), 'no grammar']
     grammar = OriginalGrammar(tree, names, answered)
-    listed = dict(row.asked).get('costs', ())
+    listed = dict(row.requests).get('costs', ())
     each = ([int(it) for it in listed] + [1] * (len(grammar.tokens) + 1))[:len(grammar.tokens) + 1]
     found = OriginalCosts(grammar, each, names)
     tokens = [' %s %d' % (rows.quoted_debug(name), cost) for (name, _), cost in zip(grammar.tokens, each)]
@@ -140,26 +140,26 @@ def costs_answer(row, names, answered):
 
 
 def rule_line(row, found, rule, answered):
-    name, asked = found.grammar.rules[rule].name, dict(row.asked).get('sentences')
-    least, greatest = cost_text(found.least, found.least_there, rule), cost_text(found.greatest, found.greatest_there, rule)
+    name, requested = found.grammar.rules[rule].name, dict(row.requests).get('sentences')
+    least, greatest = cost_text(found.least, found.least_in_crate, rule), cost_text(found.greatest, found.greatest_in_crate, rule)
     line = '    rule %d %s: least %s, greatest %s; sentence %s' % (rule, name, least, greatest, sentence_text(found, rule, least))
-    return line + ('; all ' + all_text(found, rule, answered) if asked is None or name in asked else '')
+    return line + ('; all ' + all_text(found, rule, answered) if requested is None or name in requested else '')
 
 
-def cost_text(by_rules, there, rule):
-    """A rule's cost: in the crate, if it has its own ways, or else by the rules."""
-    if isinstance(there, str):
-        return there
-    return costs.word((by_rules if there is None else there)[rule])
+def cost_text(by_rules, in_crate, rule):
+    """The cost of a rule: in the crate, if it computes costs differently, or else by the rules."""
+    if isinstance(in_crate, str):
+        return in_crate
+    return costs.cost_text((by_rules if in_crate is None else in_crate)[rule])
 
 
 def sentence_text(found, rule, least):
-    if isinstance(found.least_there, str):
-        return found.least_there
+    if isinstance(found.least_in_crate, str):
+        return found.least_in_crate
     if 'first-sentence' in found.names and not isinstance(found.least_by_rounds(), str):
-        sentences = found.all_first_there()
+        sentences = found.all_first_in_crate()
         return 'no end' if sentences is None else costs.tokens_text(sentences[rule])
-    return costs.tokens_text(first_sentences(found)[rule]) if found.is_told(rule) else least
+    return costs.tokens_text(first_sentences(found)[rule]) if found.has_cost(rule) else least
 
 
 def first_sentences(found):
@@ -169,18 +169,18 @@ def first_sentences(found):
 
 
 def all_text(found, rule, answered):
-    """The minimal sentences; or as the crate answered, if those differ in nothing but order and repeats."""
-    if not found.is_told(rule):
-        return costs.word(found.least[rule])
+    """The minimal sentences; or those of the crate's answer, if they differ only in their order and in repeats."""
+    if not found.has_cost(rule):
+        return costs.cost_text(found.least[rule])
     listed = found.minimal_sentences(rule)
     texts = [costs.tokens_text(it) for it in listed]
-    there = answered.sentences(rule) if 'all-sentences' in found.names else None
-    if there is not None:
-        counted = re.fullmatch(r'(\d+), (\d+) of them different', there)
-        if counted and int(counted[2]) == len(listed) or there == str(len(listed)):
-            return there
-        if set(re.findall(r'\[.*?\]|\d+ tokens', there)) == set(texts):
-            return there
+    in_crate = answered.sentences(rule) if 'all-sentences' in found.names else None
+    if in_crate is not None:
+        counted = re.fullmatch(r'(\d+), (\d+) of them different', in_crate)
+        if counted and int(counted[2]) == len(listed) or in_crate == str(len(listed)):
+            return in_crate
+        if set(re.findall(r'\[.*?\]|\d+ tokens', in_crate)) == set(texts):
+            return in_crate
     return str(len(listed)) if len(listed) > costs.LISTED else ' '.join(texts)
 
 
@@ -201,8 +201,8 @@ def of_lines(row, crate, port):
 
 
 def of_marks(_, crate, port):
-    """Why a line of the answers on marked maps differs: the entries end at a key that is only marked, or a key has lost its value and
-    keeps its marks."""
+    """Why a line of the answers on marked maps differs: the entries end at a key with marks but no value, or a key has lost its value
+    and keeps its marks."""
     lists = [re.fullmatch(r'        keys(.*); entries(.*); unused(.*); missing(.*)', line) for line in (crate, port)]
     if all(lists):
         entries = [it[2] for it in lists]
@@ -211,7 +211,7 @@ def of_marks(_, crate, port):
             return 'marked-iteration'
         return 'merge-theirs' if len(lists[0][1]) < len(lists[1][1]) else None
     keys = zip(*(line.split(' [') for line in (crate, port)), strict=True)
-    lost = [re.sub(r' \d+( used)?( required)?, mark \d+\]', r' -\1\2]', there) == here for here, there in keys if here != there]
+    lost = [re.sub(r' \d+( used)?( required)?, mark \d+\]', r' -\1\2]', ours) == theirs for theirs, ours in keys if theirs != ours]
     return 'merge-theirs' if all(lost) else None
 
 
@@ -224,8 +224,8 @@ def by_pairs(why, row, crate, port):
 # ---------------------------------------------------------------- why the two differ
 
 def explained(row, crate, port):
-    """The names of the differences by which the crate answers as it does where the port answers as it does, or None where the rules and
-    these don't say so. None of them can be left out."""
+    """The names of the differences that explain the answers of the crate and of the port, or None if the rules don't give these
+    answers. No name can be left out."""
     if crate == port:
         return []
     if row.type in ('lines', 'marks'):

@@ -1,4 +1,4 @@
-"""Texts for tools/fuzz: of random words, of random grammars, and of the texts of rows and examples, changed here and there."""
+"""Texts for tools/fuzz: random words, random grammars, and the texts of rows and examples with random changes."""
 import glob
 import os
 
@@ -7,7 +7,7 @@ NAMES = ('A', 'B', 'C', 'D', 'E', 'S', 'a', 'b', 'x', 'T', 'a.b', '_', 'Ab_1', '
 TOKENS = ("'x'", '"y"', "'+'", "'a'", '"a"', "'''", '""x"', "'é'", '"日"', "'𝄞'", "'/*'", "'%%'", "'\r'", 'a', 'b', 'T', 'x')
 KEYWORDS = ('%token', '%start', '%left', '%right', '%nonassoc', '%epp', '%expect', '%expect-rr', '%expect-unused',
             '%avoid_insert', '%implicit_tokens', '%actiontype', '%parse-param', '%parse-generics', '%prec', '%empty', '%%')
-OWN = {'%actiontype': 'original', '%implicit_tokens': 'eco'}
+KIND_OF = {'%actiontype': 'original', '%implicit_tokens': 'eco'}
 MARKS = ('%', ':', '::', ';', '|', '{', '}', '->', "'", '"', '\\', '/', '*', '//', '/*', '*/', ',', '(', ')', '[', ']', '!', '-')
 BLANKS = (' ', ' ', ' ', '\n', '\t', '\r\n', '\r', '  ', '/* c */', '// c\n', '// c\r\n', '/*\n*/', '/*/*/', '// é\r', '', '')
 CHARACTERS = ('é', 'ß', '日', '♠', '𝄞', '🂡', '\u0085', '\u00a0', '\u2028', '\u200e', '\u3000', '\0', '\x0b', '\x0c')
@@ -19,7 +19,7 @@ LONGEST = 1500
 
 
 def seeds(root, read_rows):
-    """The texts of the rows and of the examples, each with its row's type and kind, but for the large ones."""
+    """The texts of the rows and of the examples, each with the type and kind of its row, without the large ones."""
     found = []
     for path in sorted(glob.glob(f'{root}/crates/vectors/data/vectors/*.rows')):
         if os.path.basename(path) not in ('large.rows', 'limits.rows'):
@@ -31,13 +31,13 @@ def seeds(root, read_rows):
 
 
 class Texts:
-    """Makes texts, by a generator of random numbers."""
+    """Makes texts from random numbers."""
 
     def __init__(self, random, found):
         self.random, self.found, self.names = random, found, 'A'
 
     def make(self):
-        """A row's type, its kind, and its text. Of some texts it is told what cfglint says, where there need be no kind."""
+        """The type of a row, its kind, and its text. Some texts are for cfglint, for which no kind is needed."""
         ty, kind, text = self.made()
         if ty == 'row' and self.random.random() < 0.25:
             return 'lint', self.random.choice((kind, '')), text
@@ -83,29 +83,29 @@ class Texts:
                 self.joined, self.line_ends, self.other_character))(text)
         return text[:4 * LONGEST]
 
-    def place(self, text):
-        """A place, most often one where a blank or a mark stands."""
+    def offset(self, text):
+        """An offset into the text, in characters, most often that of a blank or a mark."""
         marks = [at for at, character in enumerate(text) if not character.isalnum()]
         return self.random.choice(marks) if marks and self.random.random() < 0.7 else self.random.randint(0, len(text))
 
-    def places(self, text, longest=None):
-        first, second = sorted(self.place(text) for _ in range(2))
+    def part(self, text, longest=None):
+        first, second = sorted(self.offset(text) for _ in range(2))
         return first, second if longest is None else min(second, first + self.random.randint(1, longest))
 
     def without(self, text):
-        first, second = self.places(text, 8)
+        first, second = self.part(text, 8)
         return text[:first] + text[second:]
 
     def with_word(self, text):
-        place = self.place(text)
-        return text[:place] + self.blank() + self.word() + self.blank() + text[place:]
+        at = self.offset(text)
+        return text[:at] + self.blank() + self.word() + self.blank() + text[at:]
 
     def twice(self, text):
-        first, second = self.places(text, 40)
+        first, second = self.part(text, 40)
         return text[:second] + text[first:]
 
     def swapped(self, text):
-        (a, b), c = self.places(text, 20), self.place(text)
+        (a, b), c = self.part(text, 20), self.offset(text)
         return text[:a] + text[b:c] + text[a:b] + text[max(b, c):] if c > b else text[:a] + text[b:]
 
     def cut(self, text):
@@ -119,8 +119,8 @@ class Texts:
         return text.replace('\n', self.random.choice(('\r\n', '\r', ' ', '\n\n')))
 
     def other_character(self, text):
-        place = self.place(text)
-        return text[:place] + self.random.choice(CHARACTERS + MARKS + TOKENS) + text[place + 1:]
+        at = self.offset(text)
+        return text[:at] + self.random.choice(CHARACTERS + MARKS + TOKENS) + text[at + 1:]
 
     # ------------------------------------------------------------ grammars and sections
 
@@ -131,7 +131,7 @@ class Texts:
         return self.random.choice(TOKENS)
 
     def declaration(self, kind):
-        keywords = [it for it in KEYWORDS[:14] if OWN.get(it, kind[:8]) == kind[:8]]
+        keywords = [it for it in KEYWORDS[:14] if KIND_OF.get(it, kind[:8]) == kind[:8]]
         keyword = self.random.choice(keywords)
         what = {
             '%start': self.name, '%expect': lambda: '3', '%expect-rr': lambda: '4',

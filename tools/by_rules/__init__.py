@@ -1,5 +1,5 @@
-"""What the rules of docs/BEHAVIOUR.md make of the text of a Yacc file: a tree, errors, a numbered grammar and its costs, and
-what is odd about it.
+"""What the rules of docs/BEHAVIOUR.md make of the text of a Yacc file: a tree, errors, a numbered grammar, its costs, and
+findings.
 
 A plain reading of that page, which shares nothing with the crates. The comments name its sections.
 """

@@ -1,8 +1,8 @@
 """What the sentences of a numbered grammar cost: "Sentences and their costs" of docs/BEHAVIOUR.md, plain and slow.
 
-Costs here are whole numbers of any size, and None where a rule has no sentence. What a rule derives is found by growth:
-a derivation tree of a rule is one of its productions with a tree for each rule in it, so all that trees of one more
-level give is made from what the trees so far give, till nothing is new.
+Costs here are whole numbers of any size, and None for an unproductive rule. What a rule derives is found by growth: a
+derivation tree of a rule is one of its productions with a tree for each rule in it. So what trees of one more level
+derive comes from what the trees so far derive, until nothing is new.
 """
 import itertools
 
@@ -21,30 +21,30 @@ class Costs:
         self.minimal = {}
 
     def sum(self, production, of_rules):
-        """What a production costs by the costs of rules: None where one of them has none."""
+        """The cost of a production by the costs of rules: None if one of them has none."""
         each = [self.costs[index] if what == 'token' else of_rules[index] for what, index in production.symbols]
         if None in each:
             return None
         return UNBOUNDED if UNBOUNDED in each else sum(each)
 
     def best(self, of_rules, pick):
-        """For each rule what its productions cost at the best, by the costs of rules."""
+        """For each rule the best cost of its productions, by the costs of rules."""
         sums = [[self.sum(self.grammar.productions[p], of_rules) for p in rule.productions]
                 for rule in self.grammar.rules]
-        return [pick(known) if known else None for known in ([it for it in row if it is not None] for row in sums)]
+        return [pick(known) if known else None for known in ([it for it in each if it is not None] for each in sums)]
 
     def least_costs(self):
-        """A tree that no other is cheaper than needs no rule twice on a way from its root, so it has at most as many
-        levels as there are rules."""
+        """A cheapest tree needs no rule twice on a path from its root, so it has at most as many levels as there are
+        rules."""
         least = [None] * len(self.grammar.rules)
         while (after := self.best(least, min)) != least:
             least = after
         return least
 
     def greatest_costs(self):
-        """Trees of as many levels as there are rules give the greatest cost, if there is one: where a way has a rule
-        twice, the tree without what stands between costs as much, or else what stands between can be put in again and
-        again. So a rule that costs more by trees of more levels is unbounded, and what holds it too."""
+        """Trees of as many levels as there are rules have the greatest cost, if there is one: where a path has a rule
+        twice, the tree without what is between them costs as much, or else that can be inserted again and again. So a
+        rule that costs more by trees of more levels is unbounded, and so is a rule that refers to it."""
         rules = range(len(self.grammar.rules))
         greatest, levels = [None] * len(rules), 0
         while (after := self.best(greatest, max)) != greatest:
@@ -54,12 +54,12 @@ class Costs:
             greatest = after
         return greatest
 
-    def is_told(self, rule):
-        """Whether the least cost is answered as a number."""
+    def has_cost(self, rule):
+        """Whether the rule has a least cost of at most the limit."""
         return self.least[rule] is not None and self.least[rule] <= LIMIT
 
     def is_cheapest(self, p):
-        """Whether a production has sentences of its rule's least cost."""
+        """Whether a production has sentences of the least cost of its rule."""
         production = self.grammar.productions[p]
         total = self.sum(production, self.least)
         return total is not None and total == self.least[production.rule]
@@ -68,8 +68,8 @@ class Costs:
         return [index for what, index in self.grammar.productions[p].symbols if what == 'rule']
 
     def minimal_sentences(self, rule):
-        """All sentences of least cost in the order of a dictionary: those of its productions of least cost, with
-        minimal sentences for the rules in them."""
+        """All sentences of least cost in lexicographic order: those of its productions of least cost, with minimal
+        sentences for the rules in them."""
         if rule not in self.minimal:
             needed, todo = [], [rule]
             while todo:
@@ -94,13 +94,13 @@ class Costs:
     def products(self, p):
         pieces = [[(index,)] if what == 'token' else self.minimal[index]
                   for what, index in self.grammar.productions[p].symbols]
-        for row in itertools.product(*pieces):
-            yield tuple(itertools.chain.from_iterable(row))
+        for each in itertools.product(*pieces):
+            yield tuple(itertools.chain.from_iterable(each))
 
     def choices(self):
-        """For each rule of a told cost a production of least cost and a number, above those of the rules in it: the
-        numbers 0, 1, 2 .. in the order of costs."""
-        found, left = {}, [rule for rule in range(len(self.grammar.rules)) if self.is_told(rule)]
+        """For each rule with a cost a production of least cost and a number, above those of the rules in it: the numbers
+        0, 1, 2 .. in the order of costs."""
+        found, left = {}, [rule for rule in range(len(self.grammar.rules)) if self.has_cost(rule)]
         while left:
             ready = [(self.least[rule], p, rule) for rule in left for p in self.cheapest[rule]
                      if all(it in found for it in self.rules_in(p))]
@@ -110,27 +110,27 @@ class Costs:
         return found
 
     def made(self, p, of_rules):
-        """What a production makes of these sentences of rules: None where one of them has none."""
+        """The sentence of a production with these sentences for its rules: None if one of them has none."""
         if any(it not in of_rules for it in self.rules_in(p)):
             return None
         return [token for what, index in self.grammar.productions[p].symbols
                 for token in ([index] if what == 'token' else of_rules[index])]
 
     def first_sentences(self):
-        """For each rule of a told cost the first of its sentences of least cost in the order of a dictionary. None of
-        these begins another of the rule's, so the first of a production is what it makes of the first of its rules."""
-        told = [rule for rule in range(len(self.grammar.rules)) if self.is_told(rule)]
+        """For each rule with a cost the first of its sentences of least cost in lexicographic order. None of these is a
+        prefix of another of the rule's, so the first of a production consists of its tokens and the first of its rules."""
+        rules = [rule for rule in range(len(self.grammar.rules)) if self.has_cost(rule)]
         first, changed = {}, True
         while changed:
             changed = False
-            for rule in told:
+            for rule in rules:
                 made = [it for it in (self.made(p, first) for p in self.cheapest[rule]) if it is not None]
                 if made and min(made) != first.get(rule):
                     first[rule], changed = min(made), True
         return first
 
     def fewest_openings(self, first):
-        """For each rule how few productions derive its first sentence, past rules that cost nothing."""
+        """For each rule how few productions derive its first sentence, not counting those of rules that cost nothing."""
         fewest = {rule: UNBOUNDED if self.least[rule] else 0 for rule in first}
         makers = {rule: [p for p in self.cheapest[rule] if self.made(p, first) == first[rule]] for rule in first}
 
@@ -145,15 +145,15 @@ class Costs:
     # ------------------------------------------------------------ checkers
 
     def covers(self, least):
-        """Whether each production whose rules all have a cost sums up to more than the limit, or its rule has a cost of
-        at most that sum."""
+        """Whether each production whose rules all have a cost costs more than the limit, or its rule has a cost of at
+        most as much."""
         sums = [(p.rule, self.sum(p, least)) for p in self.grammar.productions]
         return all(total is None or total > LIMIT or least[rule] is not None and least[rule] <= total
                    for rule, total in sums)
 
     def reaches(self, least, choices):
-        """Whether each rule with a cost has a choice of a production of its own that costs just that, whose rules all
-        have choices with lesser numbers."""
+        """Whether each rule with a cost has a choice: one of its productions that costs just that, whose rules all have
+        choices with lower numbers."""
         return all(cost is None or self.is_reached(rule, least, choices) for rule, cost in enumerate(least))
 
     def is_reached(self, rule, least, choices):

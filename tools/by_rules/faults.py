@@ -1,8 +1,8 @@
-"""Errors, as "Printed texts" has them, and where they stand: "Lines and columns"."""
+"""Errors, as "Printed texts" has them, and their positions: "Lines and columns"."""
 
 
 class Fault(Exception):
-    """An error: its kind, the name that it holds or None, its span, and the spans of repeats."""
+    """An error: its kind, the name in it or None, its span, and the spans of repeats."""
 
     def __init__(self, kind, span, name=None, repeats=()):
         Exception.__init__(self, kind)
@@ -48,7 +48,7 @@ class Fault(Exception):
 
 
 class HeaderFault(Fault):
-    """An error in a section: its kind, its spans, and the characters and texts that the kind holds."""
+    """An error in a section: its kind, its spans, and the characters and texts in its kind."""
 
     def __init__(self, kind, spans, holds=()):
         Fault.__init__(self, kind, spans[0], None, spans[1:])
@@ -72,7 +72,8 @@ def at(kind, p):
     return Fault(kind, (p, p))
 
 
-def place(t, p):
+def position(t, p):
+    """The line and the column of an offset."""
     before = t[:p]
     line = before.count(b'\n') + 1
     begin = before.rfind(b'\n') + 1

@@ -35,7 +35,7 @@ class Grammar:
                 self.productions[p].rule = i
 
     def symbols(self, production):
-        """The symbols of a production of the file; where there are implicit tokens, `~` stands behind each token."""
+        """The symbols of a production of the file; with implicit tokens, `~` comes after each token."""
         symbols = []
         for is_token, n, _ in production.symbols:
             symbols.append(('token', self.token_index[n]) if is_token else ('rule', self.rule_index[n]))
@@ -78,60 +78,60 @@ class Grammar:
         return self.tokens[index][0] if what == 'token' else self.rules[index].name
 
     def firsts(self):
-        """For each rule the set of its tokens and whether it derives the empty list: the least such sets."""
-        sets, empty = [set() for _ in self.rules], [False] * len(self.rules)
+        """For each rule the set of its tokens and whether it is nullable: the least such sets."""
+        sets, nullable = [set() for _ in self.rules], [False] * len(self.rules)
         changed = True
         while changed:
             changed = False
             for p in self.productions:
-                before = (len(sets[p.rule]), empty[p.rule])
+                before = (len(sets[p.rule]), nullable[p.rule])
                 for what, index in p.symbols:
                     if what == 'token':
                         sets[p.rule].add(index)
                         break
                     sets[p.rule] |= sets[index]
-                    if not empty[index]:
+                    if not nullable[index]:
                         break
                 else:
-                    empty[p.rule] = True
-                changed = changed or before != (len(sets[p.rule]), empty[p.rule])
-        return sets, empty
+                    nullable[p.rule] = True
+                changed = changed or before != (len(sets[p.rule]), nullable[p.rule])
+        return sets, nullable
 
     def follows(self):
-        """For each rule the tokens right after it in what some rule derives, and the end token where the start rule
-        derives a list that ends in it.
+        """For each rule the tokens right after it in what some rule derives, and the end token if the start rule derives a
+        list that ends with it.
 
-        A production X: .. B c puts what begins c right after B. Where c can be empty, what comes after X comes after B.
+        By a production X: .. B c, FIRST of c comes right after B, and if c is nullable, what comes after X comes after B.
         """
-        sets, empty = self.firsts()
+        sets, nullable = self.firsts()
         after, ends = [set() for _ in self.rules], [set() for _ in self.rules]
         after[0].add(len(self.tokens))
         for p in self.productions:
-            begins, is_empty = set(), True         # of what stands behind the symbol
+            begins, is_nullable = set(), True      # of what comes after the symbol
             for what, index in reversed(p.symbols):
                 if what == 'token':
-                    begins, is_empty = {index}, False
+                    begins, is_nullable = {index}, False
                     continue
                 after[index] |= begins
-                if is_empty:
+                if is_nullable:
                     ends[p.rule].add(index)
-                begins = sets[index] | begins if empty[index] else sets[index]
-                is_empty = is_empty and empty[index]
+                begins = sets[index] | begins if nullable[index] else sets[index]
+                is_nullable = is_nullable and nullable[index]
         follows = [set() for _ in self.rules]
         for rule, tokens in enumerate(after):
-            for last in reached(ends, [rule]) if tokens else ():
+            for last in reachable(ends, [rule]) if tokens else ():
                 follows[last] |= tokens
         return follows
 
     def paths(self, rule):
-        """The rules to which a rule leads by one or more references."""
+        """The rules that are reachable from a rule by one or more references."""
         refers = [{index for p in r.productions for what, index in self.productions[p].symbols if what == 'rule'}
                   for r in self.rules]
-        return reached(refers, refers[rule])
+        return reachable(refers, refers[rule])
 
 
-def reached(steps, begin):
-    """All to which steps lead from these, with these."""
+def reachable(steps, begin):
+    """These, and all to which steps lead from them."""
     seen, todo = set(begin), list(begin)
     while todo:
         found = steps[todo.pop()] - seen

@@ -1,4 +1,4 @@
-"""What the program `cfglint` writes, and its status: "The program cfglint"."""
+"""The output of the program `cfglint`, and its status: "The program cfglint"."""
 from .faults import Fault
 from .findings import findings_of
 from .grammar import Grammar
@@ -25,46 +25,46 @@ read or the output can't be written; 3 where there is no memory left
 '''
 KINDS = ('original-noaction', 'original-useraction', 'original-genericparsetree', 'grmtools', 'eco', 'section')
 GREATEST = 4294967295
-UNREADABLE, NO_MEMORY = object(), object()         # what may stand in place of a file's bytes
+UNREADABLE, NO_MEMORY = object(), object()         # in place of the bytes of a file
 
 
-class Wanted:
+class Options:
     def __init__(self):
         self.kind, self.denies, self.files = None, False, []
 
 
-def asked(words):
-    """What the words ask for: `help`, `version`, `wrong`, or files to lint."""
-    wanted, left = Wanted(), list(words)
+def options_of(arguments):
+    """The options and files of the command line, or `help`, `version` or `wrong`."""
+    options, left = Options(), list(arguments)
     while left:
-        word = left.pop(0)
-        if word in ('--help', '--version'):
-            return word[2:]
-        if word == '--deny-warnings':
-            wanted.denies = True
-        elif word == '--kind':
+        argument = left.pop(0)
+        if argument in ('--help', '--version'):
+            return argument[2:]
+        if argument == '--deny-warnings':
+            options.denies = True
+        elif argument == '--kind':
             if not left or left[0] not in KINDS:
                 return 'wrong'
-            wanted.kind = left.pop(0)
-        elif word.startswith('-') and word != '-':
+            options.kind = left.pop(0)
+        elif argument.startswith('-') and argument != '-':
             return 'wrong'
         else:
-            wanted.files.append(word)
-    return wanted if wanted.files else 'wrong'
+            options.files.append(argument)
+    return options if options.files else 'wrong'
 
 
 class Tally:
-    """What was told of files: the lines on their texts, and on those that have none, and how many of what there are."""
+    """What was printed: the lines on texts, the lines on files without one, and the counts of the summary."""
 
     def __init__(self):
-        self.lines, self.faults, self.texts, self.taken, self.errors, self.warnings = '', '', 0, 0, 0, 0
+        self.lines, self.faults, self.texts, self.defaults, self.errors, self.warnings = '', '', 0, 0, 0, 0
 
-    def add_text(self, kind, name, t, is_told):
+    def add_text(self, kind, name, t, is_printed):
         values, errors, _ = section(t, False)
-        is_taken = kind is None and not errors and 'yacckind' not in values
+        is_default = kind is None and not errors and 'yacckind' not in values
         self.texts += 1
-        self.taken += is_taken
-        kind, refused = read_kind('original-noaction' if is_taken else kind or 'section', t)
+        self.defaults += is_default
+        kind, refused = read_kind('original-noaction' if is_default else kind or 'section', t)
         if kind is None:
             return self.add_errors(name, t, refused)
         tree, errors = errors_of(kind, t)
@@ -73,7 +73,7 @@ class Tally:
         grammar = Grammar(tree)
         if not grammar.fits(GREATEST):
             return self.add_errors(name, t, [Fault('StorageTooSmall', (0, 0))])
-        found = findings_of(tree, grammar, is_told)
+        found = findings_of(tree, grammar, is_printed)
         self.warnings += len(found)
         for finding in found:
             self.add_lines(rendered(name, t, finding.text, finding.spans, finding.spans_kind()))
@@ -87,9 +87,9 @@ class Tally:
         self.lines += ''.join(line + '\n' for line in lines)
 
     def summary(self):
-        taken = '; %s read as original-noaction' % counted(self.taken, 'file') if self.taken else ''
+        defaults = '; %s read as original-noaction' % counted(self.defaults, 'file') if self.defaults else ''
         return '%s: %s, %s%s\n' % (counted(self.texts, 'file'), counted(self.errors, 'error'),
-                                   counted(self.warnings, 'warning'), taken)
+                                   counted(self.warnings, 'warning'), defaults)
 
     def status(self, denies):
         if self.faults:
@@ -98,7 +98,7 @@ class Tally:
 
 
 def read_kind(kind, t):
-    """As a text of which kind (Original, Grmtools or Eco) the text is read, or None with the errors that it is then told of."""
+    """The kind as which the text is read (Original, Grmtools or Eco), or None with the errors that are then printed."""
     if kind == 'section':
         kind, errors = named_kind(t)
         return kind and kind.partition('(')[0], errors
@@ -109,14 +109,14 @@ def counted(n, word):
     return '%d %s%s' % (n, word, '' if n == 1 else 's')
 
 
-def answer(words, fetch, is_told):
-    """What the words' answer has: output, errors, status. `fetch` gives the bytes of a file, UNREADABLE or NO_MEMORY.
-    Without memory there is no answer, which is None."""
-    wanted = asked(words)
-    if not isinstance(wanted, Wanted):
-        return {'help': (HELP, '', 0), 'version': (VERSION, '', 0), 'wrong': ('', USAGE, 2)}[wanted]
+def result(arguments, fetch, is_printed):
+    """The output, the errors and the status of a run, or None if memory runs out. `fetch` returns the bytes of a file, UNREADABLE or
+    NO_MEMORY."""
+    options = options_of(arguments)
+    if not isinstance(options, Options):
+        return {'help': (HELP, '', 0), 'version': (VERSION, '', 0), 'wrong': ('', USAGE, 2)}[options]
     tally = Tally()
-    for name in wanted.files:
+    for name in options.files:
         t = fetch(name)
         if t is NO_MEMORY:
             return None
@@ -125,8 +125,8 @@ def answer(words, fetch, is_told):
         elif not is_utf8(t):
             tally.faults += 'cfglint: %s is not UTF-8\n' % name
         else:
-            tally.add_text(wanted.kind, name, t, is_told)
-    return tally.lines + tally.summary(), tally.faults, tally.status(wanted.denies)
+            tally.add_text(options.kind, name, t, is_printed)
+    return tally.lines + tally.summary(), tally.faults, tally.status(options.denies)
 
 
 def is_utf8(t):
@@ -137,12 +137,12 @@ def is_utf8(t):
         return False
 
 
-def ending(words, fetch, room, is_told):
-    """How a run ends whose output takes so many bytes: what that is given, what the errors are, and the status."""
-    answered = answer(words, fetch, is_told)
-    if answered is None:
+def ending(arguments, fetch, room, is_printed):
+    """How a run ends if its output has room for so many bytes: what is written to it, the errors, and the status."""
+    found = result(arguments, fetch, is_printed)
+    if found is None:
         return '', 'cfglint: out of memory\n', 3
-    output, errors, status = answered
+    output, errors, status = found
     if len(output.encode('utf-8')) > room:
         return output, errors + 'cfglint: cannot write\n', 2
     return output, errors, status

@@ -1,7 +1,7 @@
-"""What the Rust crate answers: the rules of docs/BEHAVIOUR.md, but for the lines of docs/DIFFERENCES.md that an answer on a text shows.
+"""What the Rust crate returns: the rules of docs/BEHAVIOUR.md, except for the lines of docs/DIFFERENCES.md that an answer on a text shows.
 
-Each of these lines has a name here, the same as on that page. `answering_as` changes the rules by the lines of some names, for as long as a block
-runs. Hashed maps have another order in each run of the crate: that order is read from what the crate answered, if it may be one.
+Each of these lines has a name here, the same as on that page. `answering_as` changes the rules by the lines of some names while a block
+runs. Hashed maps have a different order in each run of the crate: it is read from the crate's answer, if it can be one.
 """
 import re
 from contextlib import ExitStack, contextmanager
@@ -10,7 +10,7 @@ from unittest import mock
 from . import section, validation, words
 from .costs import UNBOUNDED, Costs
 from .faults import Fault, HeaderFault
-from .grammar import Grammar, reached
+from .grammar import Grammar, reachable
 
 IN_READING = ('comment-closed-by-line-end', 'array-item', 'digits', 'nesting', 'space-after-bracket', 'letters')
 IN_ANSWERS = ('added-productions', 'index-type', 'hashed-order', 'follow', 'least-costs', 'first-sentence', 'all-sentences',
@@ -18,7 +18,7 @@ IN_ANSWERS = ('added-productions', 'index-type', 'hashed-order', 'follow', 'leas
 DIFFERENCES = IN_READING + IN_ANSWERS
 OF_VALUES = ('span-lines', 'column-inside', 'merge-theirs', 'marked-iteration')    # of lines and maps, by explained.py
 LIMIT, STEPS = 65535, 500_000
-KNOWN = {}                                          # the least costs that were found last, which may take 65535 rounds
+KNOWN = {}                                          # the least costs found last, since finding them may take 65535 rounds
 
 
 class Panics(Exception):
@@ -26,10 +26,10 @@ class Panics(Exception):
 
 
 class NeverEnds(Exception):
-    """The crate goes on for ever."""
+    """The crate runs forever."""
 
 
-# ---------------------------------------------------------------- in what is read
+# ---------------------------------------------------------------- differences in reading
 
 COMMENT_END = re.compile(rb'[*\r\n]/')
 LETTER = rb'[a-zA-Z]|\xc5\xbf|\xe2\x84\xaa'
@@ -49,7 +49,7 @@ def number(t, p, read=section.number):
 
 
 def array(t, p, brackets, read=section.array):
-    """One with an item that isn't read, or without an end, never ends. Of brackets the innermost decides."""
+    """An array with an invalid item, or without an end, is read forever. Of nested arrays the innermost decides."""
     try:
         return read(t, p, brackets)
     except HeaderFault as fault:
@@ -59,7 +59,7 @@ def array(t, p, brackets, read=section.array):
 
 
 def entry(t, p, read=section.entry):
-    """White space after an array isn't passed."""
+    """White space after an array isn't skipped."""
     (key, value), end = read(t, p)
     if value[0] == 'array':
         end = value[3][1]
@@ -67,7 +67,7 @@ def entry(t, p, read=section.entry):
 
 
 def entries(t, opening, found, read=section.entries):
-    """White space may stand before the section's `}`, but not before a comma."""
+    """White space is allowed before the `}` of the section, but not before a comma."""
     try:
         return read(t, opening, found)
     except HeaderFault as fault:
@@ -81,63 +81,63 @@ def entries(t, opening, found, read=section.entries):
         raise HeaderFault('ExpectedToken', [(opening, end)], ('}',)) from None
 
 
-# ---------------------------------------------------------------- in what is answered
+# ---------------------------------------------------------------- differences in answers
 
 class OriginalGrammar(Grammar):
-    """The tables, with the productions of `~` in the order of the crate's answer, and with FOLLOW sets that miss tokens."""
+    """The tables, with the productions of `~` in the order of the crate's answer, and with FOLLOW sets without some of the tokens."""
 
     def __init__(self, tree, names, answered):
         self.names, self.answered = names, answered
         Grammar.__init__(self, tree)
 
     def added(self):
-        rows = Grammar.added(self)
-        implicit = rows[1:-2]
+        added = Grammar.added(self)
+        implicit = added[1:-2]
         if 'hashed-order' in self.names and implicit:
             order = self.answered.implicit_tokens()
             if sorted(order) == sorted(index for (_, index), _ in implicit):
                 tilde = implicit[0][1]
-                rows[1:-2] = [[('token', index), tilde] for index in order]
-        return rows
+                added[1:-2] = [[('token', index), tilde] for index in order]
+        return added
 
     def follows(self):
-        """FIRST of the symbol right after a rule; and FOLLOW of the production's own rule, where all after it may be empty."""
+        """FIRST of the symbol right after a rule, and FOLLOW of the rule of the production if all after it is nullable."""
         if 'follow' not in self.names:
             return Grammar.follows(self)
-        sets, empty = self.firsts()
+        sets, nullable = self.firsts()
         after, ends = [set() for _ in self.rules], [set() for _ in self.rules]
         after[0].add(len(self.tokens))
         for p in self.productions:
-            is_empty, begins = True, set()
+            is_nullable, begins = True, set()
             for what, index in reversed(p.symbols):
                 if what == 'rule':
                     after[index] |= begins
-                    if is_empty:
+                    if is_nullable:
                         ends[p.rule].add(index)
-                is_empty = is_empty and what == 'rule' and empty[index]
+                is_nullable = is_nullable and what == 'rule' and nullable[index]
                 begins = {index} if what == 'token' else sets[index]
         follows = [set() for _ in self.rules]
         for rule, tokens in enumerate(after):
-            for last in reached(ends, [rule]) if tokens else ():
+            for last in reachable(ends, [rule]) if tokens else ():
                 follows[last] |= tokens
         return follows
 
 
 class OriginalCosts(Costs):
-    """Costs as rounds over the rules find them, each of which sets a rule's cost once the best of its productions is known."""
+    """Costs as rounds over the rules find them: each round sets the cost of a rule once the best of its productions is known."""
 
     def __init__(self, grammar, costs, names):
         Costs.__init__(self, grammar, costs)
         self.names = names
-        self.least_there = self.least_by_rounds() if 'least-costs' in names else None
-        self.greatest_there = self.greatest_by_rounds() if 'greatest-costs' in names else None
+        self.least_in_crate = self.least_by_rounds() if 'least-costs' in names else None
+        self.greatest_in_crate = self.greatest_by_rounds() if 'greatest-costs' in names else None
 
     def least_by_rounds(self):
-        asked = tuple(self.costs), tuple((p.rule, tuple(p.symbols)) for p in self.grammar.productions)
-        if asked not in KNOWN:
+        key = tuple(self.costs), tuple((p.rule, tuple(p.symbols)) for p in self.grammar.productions)
+        if key not in KNOWN:
             KNOWN.clear()
-            KNOWN[asked] = self.rounds([0] * len(self.grammar.rules), self.settled_least)
-        return KNOWN[asked]
+            KNOWN[key] = self.rounds([0] * len(self.grammar.rules), self.settled_least)
+        return KNOWN[key]
 
     def greatest_by_rounds(self):
         recursive = [rule in self.grammar.paths(rule) for rule in range(len(self.grammar.rules))]
@@ -159,7 +159,7 @@ class OriginalCosts(Costs):
         return costs
 
     def sums(self, rule, costs, done):
-        """What the rule's productions cost so far, each with whether that is known for good."""
+        """The costs so far of the productions of the rule, each with whether it is final."""
         for p in self.grammar.rules[rule].productions:
             yield (sum(self.costs[index] if what == 'token' else costs[index] for what, index in self.grammar.productions[p].symbols),
                    all(done[index] for index in self.rules_in(p)))
@@ -192,20 +192,20 @@ class OriginalCosts(Costs):
             return max(known), True
         return (max(open_ones) if open_ones else costs[rule]), False
 
-    def all_first_there(self):
-        """The first sentence of each rule, or None where one takes too long: the crate is asked for all at once."""
-        if not hasattr(self, 'firsts_there'):
-            self.firsts_there = []
+    def all_first_in_crate(self):
+        """The first sentence of each rule, or None if one takes too long, since all of them are requested from the crate at once."""
+        if not hasattr(self, 'firsts_in_crate'):
+            self.firsts_in_crate = []
             for rule in range(len(self.grammar.rules)):
-                self.firsts_there.append(self.first_there(rule))
-                if self.firsts_there[-1] is None:
-                    self.firsts_there = None
+                self.firsts_in_crate.append(self.first_in_crate(rule))
+                if self.firsts_in_crate[-1] is None:
+                    self.firsts_in_crate = None
                     break
-        return self.firsts_there
+        return self.firsts_in_crate
 
-    def first_there(self, rule):
-        """A walk that goes on after a rule before it is replaced, and then again: over a production of n rules 2 to the n times.
-        None where that takes too long."""
+    def first_in_crate(self, rule):
+        """A walk that continues after a rule before it replaces the rule, and then again: 2 to the n times for a production of n
+        rules. None if that takes too long."""
         found, stack, left = [], [(self.cheapest[rule][0], 0)], STEPS
         while stack:
             left -= 1
@@ -221,13 +221,13 @@ class OriginalCosts(Costs):
 
 
 class Answered:
-    """What the crate answered, line by line: what differs from run to run is read from it."""
+    """The lines of the crate's answer: what differs from run to run is read from them."""
 
     def __init__(self, lines=()):
         self.lines = list(lines)
 
     def implicit_tokens(self):
-        """The tokens of the productions of `~`, in their order, as the first tables have them."""
+        """The tokens of the productions of `~`, in the order of the first tables."""
         begin = next((at for at, line in enumerate(self.lines) if line.startswith('grammar over')), len(self.lines))
         end = next((at for at, line in enumerate(self.lines[begin:], begin) if line.startswith('    name ')), len(self.lines))
         found = (re.match(r'    production \d+ \S+ of rule 1, 2 symbols: token (\d+) rule 1; ~:', line)
@@ -235,7 +235,7 @@ class Answered:
         return [int(it[1]) for it in found if it]
 
     def unknown_form(self):
-        """The place of the printed form that is said to have no token."""
+        """The span of the printed form of which the crate says that it has no token."""
         found = (re.match(r'    UnknownEPP\(.*\) \((\d+),(\d+)\) \d', line) for line in self.lines)
         return next(((int(it[1]), int(it[2])) for it in found if it), None)
 
@@ -245,7 +245,7 @@ class Answered:
 
 
 def validated(tree, answered, validate=validation.validate):
-    """Of several printed forms without a token the one that the crate named."""
+    """Of several printed forms without a token the one that the crate reported."""
     fault = validate(tree)
     if fault is not None and fault.kind == 'UnknownEPP':
         for n, (key, _, _) in tree.printed.items():
@@ -256,7 +256,7 @@ def validated(tree, answered, validate=validation.validate):
 
 @contextmanager
 def answering_as(names, answered):
-    """For a block, the rules of reading with these differences."""
+    """The rules of reading with these differences, while a block runs."""
     changed = {
         'comment-closed-by-line-end': [(words, 'comment_end', comment_end)],
         'array-item': [(section, 'array', array)],

@@ -1,10 +1,10 @@
-"""What is read of a text: "The parts of a file", "What a file says", "Declared more than once", "Where a reading stops"."""
+"""What is read from a text: "The parts of a file", "What a file says", "Declared more than once", "Where a reading stops"."""
 from .faults import Fault, at
 from .section import section
 from .words import (
     QUOTES, action_text, blank, colon_text, integer, line_rest, name, same_line_blank, string, token)
 
-# what may be declared once, with the kind of error where it is declared again
+# what may be declared once, and the kind of the error for a second declaration
 DUPLICATES = {
     'start': 'DuplicateStartDeclaration',
     'actiontype': 'DuplicateActiontypeDeclaration',
@@ -40,7 +40,7 @@ class Tree:
         self.generics = None       # text
         self.programs = None       # text
         self.unused = []           # [(is it a token, name, span)] of the %expect-unused lists
-        self.levels = 0            # how many declarations of precedences there are
+        self.levels = 0            # the number of precedence declarations
         self.precedences = {}      # name: (level, associativity, span), in order
         self.printed = {}          # name: (span of the key, text, span of the string), in order
         self.avoid_insert = None   # name: span, in order
@@ -48,28 +48,28 @@ class Tree:
         self.rules = {}            # name: Rule, in order
         self.productions = []
         self.tokens = {}           # name: span, in order
-        self.declared = {}         # names that a %token list has
-        self.places = {}           # (what may be declared once, token): [span of each place]
+        self.declared = {}         # the names in %token lists
+        self.spans = {}            # (what may be declared once, token): [span of each declaration]
         self.repeated = []         # what is declared more than once, in order of the first repeats
 
     def once(self, what, span, token=None):
-        """Notes a declaration of what may be declared once, and tells whether it is the first."""
-        places = self.places.setdefault((what, token), [])
-        places.append(span)
-        if len(places) == 2:
+        """Adds a declaration of what may be declared once. Whether it is the first."""
+        spans = self.spans.setdefault((what, token), [])
+        spans.append(span)
+        if len(spans) == 2:
             self.repeated.append((what, token))
-        return len(places) == 1
+        return len(spans) == 1
 
     def add_token(self, name, span):
         self.tokens.setdefault(name, span)
 
     def duplicates(self):                          # "Declared more than once"
-        return [Fault(DUPLICATES[what], self.places[what, token][0], None, self.places[what, token][1:])
+        return [Fault(DUPLICATES[what], self.spans[what, token][0], None, self.spans[what, token][1:])
                 for what, token in self.repeated]
 
 
 def read(kind, t):
-    """What was read of t, and the faults that stopped the reading: those of its section, or one behind that."""
+    """What was read from t, and the faults that stopped the reading: those of its section, or one after it."""
     tree = Tree(kind)
     _, errors, end = section(t, False)
     if errors:
@@ -197,7 +197,7 @@ def implicit_tokens_declared(t, p, tree):
 
 
 def marked_tokens(t, keyword, p, tree, what, table):
-    """Reads a list that only a line's end closes, unless its keyword is the text's last byte."""
+    """Reads a list that only the end of a line closes, or none if its keyword ends the text."""
     while keyword < len(t):
         n, span, end = token(t, p)
         tree.add_token(n, span)
@@ -224,7 +224,7 @@ def precedence_declared(associativity):
     return declaration
 
 
-# the keywords, what they begin, and the one kind of file that has them
+# the keywords, their declarations, and the one kind of file that has them
 DECLARATIONS = (
     (b'%token', tokens_declared, None),
     (b'%actiontype', action_type_declared, 'Original'),
@@ -254,7 +254,7 @@ def rules(t, p, tree):
 
 
 def head(t, p, tree):
-    """A rule's name, and the place where its colon must stand."""
+    """The name of a rule, and the offset at which its colon has to be."""
     n, end = name(t, p)
     span, action_type = (p, end), tree.action_type
     if tree.start is None:
@@ -278,7 +278,7 @@ def ends_production(t, p):
 
 
 def body(t, p, tree, rule):
-    """Reads productions up to and with the `;`."""
+    """Reads productions up to and including the `;`."""
     while True:
         p = production(t, p, tree, rule)
         if t[p:p + 1] == b';':
@@ -302,15 +302,15 @@ def production(t, p, tree, rule):
             tree.add_token(precedence, span)
             p = blank(t, end)
         elif t.startswith(b'{', p):
-            text, span, behind = action_text(t, p)
-            action, end, p = (text, span), p, blank(t, behind)
+            text, span, after = action_text(t, p)
+            action, end, p = (text, span), p, blank(t, after)
             if not ends_production(t, p):
                 raise at('ProductionNotTerminated', p)
         elif t.startswith(b'%empty', p):
-            behind = blank(t, p + len('%empty'))
-            if symbols or not (ends_production(t, behind) or t.startswith((b'{', b'%prec'), behind)):
+            after = blank(t, p + len('%empty'))
+            if symbols or not (ends_production(t, after) or t.startswith((b'{', b'%prec'), after)):
                 raise at('NonEmptyProduction', p)
-            end, p = p + len('%empty'), behind
+            end, p = p + len('%empty'), after
         else:
             n, span, end = token(t, p)
             symbols.append((n in tree.declared, n, span))

@@ -1,4 +1,4 @@
-"""What a `%grmtools` section says, and which kind of file it names: "The section"."""
+"""The settings of a `%grmtools` section, and the kind of file that it names: "The `%grmtools` section", "The kind that a file names"."""
 import re
 
 from .faults import HeaderFault
@@ -27,7 +27,7 @@ def expect(t, p, character):
 
 
 def name(t, p):
-    """The name at p in lower case with its span, and the place behind it."""
+    """The name at p in lower case with its span, and the offset after it."""
     m = NAME.match(t, p)
     if m is None and t.startswith(b'*', p):
         raise HeaderFault('UnexpectedToken', [(p, p)], ('*', HINT))
@@ -36,10 +36,10 @@ def name(t, p):
     return (m.group().decode().lower(), m.span()), m.end()
 
 
-# ---------------------------------------------------------------- settings: the form, what it holds, and its places
+# ---------------------------------------------------------------- settings: the form, its values, and its spans
 
 def namespaced(t, p):
-    """(namespace or None, member), and the place past the white space behind them."""
+    """(namespace or None, member), and the offset after them and their white space."""
     first, p = name(t, p)
     p = white(t, p)
     if not t.startswith(b'::', p):
@@ -94,7 +94,7 @@ def setting(t, p, brackets):
 # ---------------------------------------------------------------- entries
 
 def entry(t, p):
-    """The key with its span, the value, and the place past the white space behind them."""
+    """The key with its span, the value, and the offset after them and their white space."""
     if t.startswith(b'!', p):
         key, end = name(t, p + 1)
         return (key, ('flag', False, (p, end))), white(t, end)
@@ -107,7 +107,7 @@ def entry(t, p):
 
 
 def entries(t, opening, found):
-    """Reads what stands from the brace at opening on, adds each entry to what was found, and tells where the section ends."""
+    """Reads from the brace at opening on, adds each entry to what was found, and returns where the section ends."""
     p = white(t, expect(t, opening, '{'))
     while p < len(t) and not t.startswith(b'}', p):
         one, p = entry(t, p)
@@ -123,16 +123,16 @@ def entries(t, opening, found):
 
 
 def duplicates(found):
-    places, repeated = {}, []
+    spans, repeated = {}, []
     for (key, span), _ in found:
-        places.setdefault(key, []).append(span)
-        if len(places[key]) == 2:
+        spans.setdefault(key, []).append(span)
+        if len(spans[key]) == 2:
             repeated.append(key)
-    return [HeaderFault('DuplicateEntry', places[key]) for key in repeated]
+    return [HeaderFault('DuplicateEntry', spans[key]) for key in repeated]
 
 
 def section(t, required):
-    """What the keys have, each with its place, the errors, and where the section ends."""
+    """The value of each key with the span of the key, the errors, and where the section ends."""
     found, p = [], white(t, 0)
     if not t.startswith(b'%grmtools', p):
         return {}, [HeaderFault('MissingGrmtoolsSection', [(0, 0)])] if required else [], 0
@@ -141,7 +141,7 @@ def section(t, required):
         end = entries(t, white(t, p + len('%grmtools')), found)
     except HeaderFault as fault:
         stop = [fault]
-    return {key: (place, value) for (key, place), value in found}, duplicates(found) + stop, end
+    return {key: (span, value) for (key, span), value in found}, duplicates(found) + stop, end
 
 
 # ---------------------------------------------------------------- the kind that a text names
@@ -151,26 +151,26 @@ PLAIN = {'grmtools': 'Grmtools', 'eco': 'Eco'}
 
 
 def wrong(named, namespace, members):
-    """The places of what is wrong with a name: its namespace, and then itself."""
-    (outer, (member, place)) = named
-    places = [outer[1]] if outer is not None and outer[0] != namespace else []
-    return places if member in members else places + [place]
+    """The spans of what is wrong with a name: its namespace, and then itself."""
+    (outer, (member, span)) = named
+    spans = [outer[1]] if outer is not None and outer[0] != namespace else []
+    return spans if member in members else spans + [span]
 
 
 def kind_of(value):
-    """The kind that a value names, and the places of what is wrong with it."""
+    """The kind that a value names, and the spans of what is wrong with it."""
     if value[0] == 'name':
         return PLAIN.get(value[1][1][0]), wrong(value[1], 'yacckind', PLAIN)
     if value[0] == 'applied':
-        places = wrong(value[1], 'yacckind', ['original']) + wrong(value[2], 'yaccoriginalactionkind', ACTIONS)
-        return 'Original(%s)' % ACTIONS.get(value[2][1][0]), places
+        spans = wrong(value[1], 'yacckind', ['original']) + wrong(value[2], 'yaccoriginalactionkind', ACTIONS)
+        return 'Original(%s)' % ACTIONS.get(value[2][1][0]), spans
     return None, [value[2]]
 
 
 def named_kind(t):
-    """The kind that the text names, or None with the errors that keep it from naming one."""
+    """The kind that the text names, or None with the errors because of which it names none."""
     values, errors, _ = section(t, True)
     if errors:
         return None, errors
-    kind, places = kind_of(values['yacckind'][1]) if 'yacckind' in values else (None, [(0, 0)])
-    return (None, [HeaderFault('InvalidEntry', places, ('yacckind',))]) if places else (kind, [])
+    kind, spans = kind_of(values['yacckind'][1]) if 'yacckind' in values else (None, [(0, 0)])
+    return (None, [HeaderFault('InvalidEntry', spans, ('yacckind',))]) if spans else (kind, [])

@@ -1,8 +1,8 @@
-"""The warnings of a tree: rules and tokens that nothing reaches."""
+"""The warnings of a tree: unused rules and tokens."""
 
 
 def used(tree):
-    """The names of the rules and of the tokens that rows of productions reach from the start rule."""
+    """The names of the rules and of the tokens that are reachable from the start rule."""
     rules, tokens = set(), set()
     found = set() if tree.start is None else {tree.start[0]}
     while found:
@@ -15,7 +15,7 @@ def used(tree):
 
 
 def warnings_of(tree):
-    """[(kind, span)]: of the rules, then of the tokens, in order."""
+    """[(kind, span)], of rules and then of tokens, in order."""
     rules, tokens = used(tree)
     rules |= {n for is_token, n, _ in tree.unused if not is_token}
     tokens |= {n for is_token, n, _ in tree.unused if is_token} | set(tree.implicit_tokens or {})

@@ -23,7 +23,7 @@ def validate(tree):
 
 
 def invalid_production(tree, production):
-    """The first fault of a production. (A token of %prec is always one, since %prec adds it.)"""
+    """The first fault of a production. (A token of a %prec is always a known token, since %prec adds it.)"""
     if production.precedence is not None and production.precedence not in tree.precedences:
         return Fault('NoPrecForToken', (0, 0), production.precedence)
     return next((unknown(symbol) for symbol in production.symbols if not is_known(tree, symbol)), None)
@@ -41,5 +41,5 @@ def unknown(symbol):
 
 def errors_of(kind, t):
     tree, faults = read(kind, t)
-    unfit = validate(tree)
-    return tree, tree.duplicates() + faults + ([] if unfit is None else [unfit])
+    fault = validate(tree)
+    return tree, tree.duplicates() + faults + ([] if fault is None else [fault])

@@ -1,4 +1,4 @@
-"""What a text is made of: "Blanks" and "Words". Each function reads at a place p of a text t of bytes."""
+"""The parts of a text: "Blanks" and "Words". Each function reads at an offset p of a text t, in bytes."""
 import re
 
 from .faults import at
@@ -9,7 +9,7 @@ CR, LF = 0x0D, 0x0A
 
 
 def line_comment(t, p):
-    """The place behind the line comment at p: up to and with the next CR or LF, or to the end."""
+    """The offset after the line comment at p, which ends with the next CR or LF, or at the end of the text."""
     p += 2
     while p < len(t):
         p += 1
@@ -77,7 +77,7 @@ def trimmed(piece):
 
 
 def name(t, p):
-    """The name at p, and the place behind it."""
+    """The name at p, and the offset after it."""
     m = NAME.match(t, p)
     if not m:
         raise at('IllegalName', p)
@@ -85,7 +85,7 @@ def name(t, p):
 
 
 def integer(t, p):
-    """The number at p, and the place behind it."""
+    """The number at p, and the offset after it."""
     m = INTEGER.match(t, p)
     if not m or int(m.group()) > GREATEST:
         raise at('IllegalInteger', p)
@@ -93,7 +93,7 @@ def integer(t, p):
 
 
 def line_rest(t, p):
-    """The text at p up to the next CR or LF, or to the end, and the place behind it."""
+    """The text at p up to the next CR or LF, or to the end, and the offset after it."""
     end = p
     while end < len(t) and t[end] not in (CR, LF):
         end += 1
@@ -101,10 +101,10 @@ def line_rest(t, p):
 
 
 def token(t, p):
-    """The token at p: its name, its span, and the place behind it (and behind its quote)."""
+    """The token at p: its name, its span, and the offset after it (and after its quote)."""
     if t[p:p + 1] in QUOTES:
-        # At least one character (which may be the quote), and all up to the next quote of that kind, with no LF.
-        # (A character of more bytes than one holds no byte of a quote, so the search may begin inside of it.)
+        # At least one character (which may be the quote), and all up to the next quote of that kind, without an LF.
+        # (A multibyte character has no byte of a quote, so the search may begin inside of it.)
         close = t.find(t[p:p + 1], p + 2)
         if close < 0 or b'\n' in t[p + 1:close]:
             raise at('IllegalString', p)
@@ -116,7 +116,7 @@ def token(t, p):
 
 
 def string(t, p):
-    """What the string at p says, and the place behind it."""
+    """The value of the string at p, and the offset after it."""
     quote, value, end = t[p:p + 1], bytearray(), p + 1
     if quote not in QUOTES:
         raise at('InvalidString', p)
@@ -132,7 +132,7 @@ def string(t, p):
 
 
 def colon_text(t, p):
-    """The text at p up to a single colon, trimmed, and the place of that colon."""
+    """The text at p up to a single colon, trimmed, and the offset of that colon."""
     end = p
     while end < len(t):
         if t.startswith(b'::', end):
@@ -145,7 +145,7 @@ def colon_text(t, p):
 
 
 def action_text(t, p):
-    """The action whose brace is at p, trimmed, its span, and the place behind the brace that balances that one."""
+    """The action whose brace is at p, trimmed, its span, and the offset after the matching brace."""
     depth, end = 0, p
     while end < len(t):
         depth += {b'{': 1, b'}': -1}.get(t[end:end + 1], 0)

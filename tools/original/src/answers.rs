@@ -1,4 +1,4 @@
-//! What is answered of rows, each in a process of its own.
+//! Answers to rows, each in a separate process.
 
 use crate::limit::{PANICS, within};
 use crate::row::{Row, rows};
@@ -10,7 +10,7 @@ use std::process::{Command, Stdio};
 use std::str::FromStr;
 use std::time::Duration;
 
-/// Writes what is answered of each row in these files.
+/// Prints the answers to each row in these files.
 pub fn write_files(limit: &str, files: &[&str]) -> io::Result<()> {
     for file in files {
         for row in rows(&std::fs::read_to_string(file)?)? {
@@ -21,7 +21,7 @@ pub fn write_files(limit: &str, files: &[&str]) -> io::Result<()> {
     Ok(())
 }
 
-/// What a process of its own answers of a row. One whose stack is used up is killed, which is written as a panic is.
+/// The answers of a separate process to a row. It is killed when its stack is used up, which is printed like a panic.
 fn of_process(limit: &str, row: &Row) -> io::Result<String> {
     let mut command = Command::new(std::env::current_exe()?);
     let mut process =
@@ -34,7 +34,7 @@ fn of_process(limit: &str, row: &Row) -> io::Result<String> {
     }
 }
 
-/// Writes what is answered of a row, within this time.
+/// Prints the answers to a row, within this time.
 pub fn write_row(row: &Row, limit: Duration) {
     let spelled = row.spelled.clone();
     let answered = match row.tries.as_str() {
@@ -58,7 +58,7 @@ fn lines_of(row: &Row) -> Vec<String> {
     }
 }
 
-/// Lines of a text's errors, syntax, warnings and tables, and of its paths where the row asks for them.
+/// Lines of a text's errors, syntax, warnings and tables, and of its paths if the row requests them.
 fn grammar_lines(row: &Row) -> Vec<String> {
     let parsed = match parse(row) {
         Ok(parsed) => parsed,

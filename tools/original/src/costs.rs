@@ -7,19 +7,19 @@ use cfgrammar::{RIdx, Symbol, TIdx};
 use std::sync::Arc;
 use std::time::Duration;
 
-/// How many derivations a rule may have whose minimal sentences are asked for.
+/// How many derivations a rule may have for its minimal sentences to be requested.
 const MOST: u64 = 200;
 
-/// How many sentences, and how many tokens of one, are written at most; of more their number is.
+/// How many sentences, and how many tokens of one, are printed at most; if there are more, their number is.
 const WRITTEN: usize = 20;
 
-/// What a call answers of each rule, or why it doesn't.
+/// What a call returns for each rule, or why it doesn't return.
 type OfRules = Result<Vec<String>, &'static str>;
 
-/// A question to a generator of a rule.
+/// A question to a generator about a rule.
 type Question = fn(&Asked, &SentenceGenerator<'_, u32>, RIdx<u32>) -> String;
 
-/// What each token costs, by a row.
+/// The cost of each token, by a row.
 fn costs(row: &Row, tokens: usize) -> Vec<u8> {
     let listed = row.first("costs").unwrap_or("");
     let each = row.first("cost").and_then(|it| it.parse().ok()).unwrap_or(1);
@@ -29,7 +29,7 @@ fn costs(row: &Row, tokens: usize) -> Vec<u8> {
 }
 
 /// Lines of the costs of each rule and of its minimal sentences. Those of all rules are found at once, so a call that
-/// doesn't end or panics does so of each.
+/// doesn't end or panics does so for each.
 pub fn lines(row: &Row, grammar: YaccGrammar<u32>, limit: Duration) -> Vec<String> {
     let asked = Arc::new(Asked { costs: costs(row, usize::from(grammar.tokens_len())), grammar });
     let greatest = asked
@@ -59,7 +59,7 @@ struct Asked {
 }
 
 impl Asked {
-    /// What a question answers of each rule, within this time.
+    /// The answer to a question for each rule, within this time.
     fn of_rules(self: &Arc<Self>, limit: Duration, ask: Question) -> OfRules {
         let asked = Arc::clone(self);
         within(limit, move || {

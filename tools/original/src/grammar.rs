@@ -20,7 +20,7 @@ pub fn tables(parsed: &ASTWithValidityInfo) -> Vec<String> {
     lines
 }
 
-/// Lines of which the first ends a title.
+/// Lines, with a title before the first one.
 fn titled(title: &str, mut lines: Vec<String>) -> Vec<String> {
     lines[0].insert_str(0, title);
     lines
@@ -39,7 +39,7 @@ where
     }
 }
 
-/// Lines of the rules to which each rule leads.
+/// Lines of the rules that are reachable from each rule.
 pub fn paths(grammar: &YaccGrammar<u32>) -> Vec<String> {
     let led_to = |from: RIdx<u32>| {
         let rules = grammar.iter_rules().filter(|to| grammar.has_path(from, *to));
@@ -48,7 +48,7 @@ pub fn paths(grammar: &YaccGrammar<u32>) -> Vec<String> {
     grammar.iter_rules().map(|from| format!("paths of {}:{}", grammar.rule_name_str(from), led_to(from))).collect()
 }
 
-/// A grammar whose tables are written.
+/// A grammar whose tables are printed.
 struct Tables<'a, S> {
     grammar: &'a YaccGrammar<S>,
 }
@@ -94,7 +94,7 @@ where
         format!("    rule {} {name}:{productions}{}", usize::from(rule), of_type.unwrap_or_default())
     }
 
-    /// The line of a production. Calls on added ones may panic, which is written in place of what they answer.
+    /// The line of a production. Calls on added ones may panic, which is printed instead of their results.
     fn production_line(&self, production: PIdx<S>) -> String {
         let grammar = self.grammar;
         let place = guarded(|| span(grammar.prod_span(production)));
@@ -134,7 +134,7 @@ where
         format!("    token {number} {}{level}{form}{avoided}", placed(name, place))
     }
 
-    /// What each name is of.
+    /// The rule and the token of each name.
     fn add_names(&self, lines: &mut Vec<String>) {
         let grammar = self.grammar;
         let rules = grammar.iter_rules().map(|rule| grammar.rule_name_str(rule));
@@ -168,7 +168,7 @@ fn symbol_text<S: PrimInt + Unsigned>(symbol: Symbol<S>) -> String {
     }
 }
 
-/// What a call answered, or that it panics.
+/// What a call returned, or that it panics.
 fn written(answer: Result<Option<impl std::fmt::Debug>, &str>) -> String {
     match answer {
         Ok(Some(answer)) => format!("{answer:?}"),

@@ -1,4 +1,4 @@
-//! Lines and columns of a text, as a row `lines` asks for them.
+//! Lines and columns of a text, as a row `lines` requests them.
 
 use crate::limit::{PANICS, guarded};
 use crate::row::Row;
@@ -6,7 +6,7 @@ use crate::written::span;
 use cfgrammar::{NewlineCache, Span};
 use std::str::FromStr;
 
-/// Lines of what a cache answers that was fed the text whole: of each byte, of the end and past it, and of the row's spans.
+/// Lines of the results of a cache that was fed the whole text: of each byte, the end, past it, and the row's spans.
 pub fn lines(row: &Row) -> Vec<String> {
     let cache = NewlineCache::from_str(&row.text).expect("never fails");
     let mut lines = vec![format!("text of {} bytes", row.text.len())];

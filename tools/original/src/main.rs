@@ -1,9 +1,9 @@
-//! What the Rust crate cfgrammar 0.15.0 answers of rows (docs/ROWS.md), written as the program of rows writes it, and how
-//! long each of its phases takes.
+//! What the Rust crate cfgrammar 0.15.0 returns for rows (docs/ROWS.md), printed as the program of rows prints it, and
+//! how long each of its phases takes.
 //!
-//!     original answers MILLISECONDS FILE..   what it answers of each row in these files of rows, each in a process of its
-//!                                            own, which is given up after so many milliseconds without an end
-//!     original row MILLISECONDS              the same of the one row on standard input
+//!     original answers MILLISECONDS FILE..   its answers to each row in these files of rows, each in a separate
+//!                                            process, which is killed after so many milliseconds
+//!     original row MILLISECONDS              the same for the single row on standard input
 //!     original time FILE PHASE..             how many microseconds each of these phases takes on this grammar, read as
 //!                                            `original-noaction`
 
@@ -41,7 +41,7 @@ fn main() -> ExitCode {
     }
 }
 
-/// Writes what is answered of the row on standard input.
+/// Prints the answers to the row on standard input.
 fn answer(milliseconds: &str) -> io::Result<()> {
     let limit = Duration::from_millis(milliseconds.parse().map_err(io::Error::other)?);
     let mut spelled = String::new();

@@ -5,7 +5,7 @@ use cfgrammar::markmap::{Entry, MarkMap, MergeBehavior};
 
 type Map = MarkMap<String, u32>;
 
-/// Lines of each call, what it answers, and the map after it.
+/// Lines of each call, its result, and the map after it.
 pub fn lines(row: &Row) -> Vec<String> {
     let (mut map, mut other, mut lines) = (Map::new(), Map::new(), Vec::new());
     for (word, rest) in &row.lines {
@@ -29,7 +29,7 @@ pub fn lines(row: &Row) -> Vec<String> {
     lines
 }
 
-/// Makes a call on a map: what it answers.
+/// Makes a call on a map: its result.
 fn call(map: &mut Map, line: &str) -> String {
     let mut words = line.split(' ');
     let (name, word, value) = (words.next(), words.next().unwrap_or(""), words.next().unwrap_or(""));

@@ -9,7 +9,7 @@ pub struct Row {
     pub name: String,
     pub text: String,
     pub lines: Vec<(String, String)>,
-    /// The row as it is spelled.
+    /// The text of the row.
     pub spelled: String,
     has_text: bool,
 }
@@ -57,13 +57,13 @@ impl Row {
         }
     }
 
-    /// What the first line with this word says.
+    /// The rest of the first line with this word.
     pub fn first(&self, word: &str) -> Option<&str> {
         let (_, rest) = self.lines.iter().find(|(first, _)| first == word)?;
         Some(rest)
     }
 
-    /// The kind as which the text is read; nothing where the text names it.
+    /// The kind as which the text is read; `None` if the text names it.
     pub fn kind(&self) -> Option<YaccKind> {
         match self.first("kind") {
             Some("original-noaction") => Some(YaccKind::Original(YaccOriginalActionKind::NoAction)),
@@ -76,7 +76,7 @@ impl Row {
     }
 }
 
-/// The rows that a text spells.
+/// The rows in a text.
 pub fn rows(spelled: &str) -> io::Result<Vec<Row>> {
     let mut rows: Vec<Row> = Vec::new();
     for line in spelled.split('\n').filter(|line| !line.is_empty() && !line.starts_with('#')) {

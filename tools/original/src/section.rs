@@ -6,7 +6,7 @@ use cfgrammar::Span;
 use cfgrammar::header::{GrmtoolsSectionParser, HeaderError, Namespaced, Setting, Value};
 use cfgrammar::yacc::YaccKind;
 
-/// Lines of what is answered of a section.
+/// Lines of the answers to a section.
 pub fn lines(row: &Row) -> Vec<String> {
     let mut lines = vec![format!("text of {} bytes", row.text.len())];
     let ends = || (0..=row.text.len()).filter(|end| row.text.is_char_boundary(*end));
@@ -89,7 +89,7 @@ fn setting_text(setting: &Setting<Span>) -> String {
     }
 }
 
-/// A name, after its namespace where it has one.
+/// A name, after its namespace if it has one.
 fn named(name: &Namespaced<Span>) -> String {
     let member = format!("{} {}", name.member.0, span(name.member.1));
     match &name.namespace {

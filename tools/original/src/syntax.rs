@@ -59,7 +59,7 @@ fn add_settings(lines: &mut Vec<String>, ast: &GrammarAST) {
     lines.extend(ast.expect_unused.iter().map(|symbol| format!("    expect-unused {}", symbol_text(symbol))));
 }
 
-/// What a file says of its parser, as its syntax and its tables show it.
+/// The settings of a file for its parser, as its syntax and its tables have them.
 pub fn add_said_of_parser(
     lines: &mut Vec<String>,
     param: &Option<(String, String)>,
@@ -77,7 +77,7 @@ pub fn add_said_of_parser(
     }
 }
 
-/// What is said of tokens. Maps here have no order, so their entries are written by their places.
+/// The settings of tokens. Maps here have no order, so their entries are printed by their offsets.
 fn add_said_of_tokens(lines: &mut Vec<String>, ast: &GrammarAST) {
     let mut levels: Vec<_> = ast.precs.iter().collect();
     levels.sort_by_key(|(_, (_, at))| at.start());

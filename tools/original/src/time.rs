@@ -10,7 +10,7 @@ use std::time::Instant;
 /// A text that is read before the clock starts, so that no phase compiles the crate's patterns.
 const SMALL: &str = "%token a %% A: 'b' a;";
 
-/// Goes through these phases on a grammar, and through those that they need, and writes a line for each of them: its
+/// Runs these phases on a grammar, and those that they need, and prints a line for each of them: its
 /// name, how much it found, and how many microseconds it took.
 pub fn run(file: &str, phases: &[&str]) -> io::Result<()> {
     let text = std::fs::read_to_string(file)?;
@@ -29,7 +29,7 @@ pub fn run(file: &str, phases: &[&str]) -> io::Result<()> {
     Ok(())
 }
 
-/// The phases that are written.
+/// The phases that are printed.
 struct Watch<'a> {
     phases: &'a [&'a str],
 }
@@ -39,7 +39,7 @@ impl Watch<'_> {
         self.phases.contains(&phase)
     }
 
-    /// Makes a call, and writes how long it took where that is asked for.
+    /// Makes a call, and prints how long it took if that is requested.
     fn time<T>(&self, phase: &str, call: impl FnOnce() -> T, found: impl FnOnce(&T) -> usize) -> T {
         let began = Instant::now();
         let answer = black_box(call());
@@ -50,7 +50,7 @@ impl Watch<'_> {
         answer
     }
 
-    /// Makes a call on which nothing else rests, where it is asked for.
+    /// Makes a call on which nothing else depends, if it is requested.
     fn time_if_asked<T>(&self, phase: &str, call: impl FnOnce() -> T, found: impl FnOnce(&T) -> usize) {
         if self.asks(phase) {
             self.time(phase, call, found);
@@ -65,7 +65,7 @@ fn analyse(watch: &Watch<'_>, grammar: &YaccGrammar<u32>) {
     watch.time_if_asked("path", || grammar.has_path(start, start), |it| usize::from(*it));
 }
 
-/// Costs are found when the first of them is asked for.
+/// Costs are computed when the first of them is requested.
 fn generate(watch: &Watch<'_>, grammar: &YaccGrammar<u32>) {
     let rules: Vec<RIdx<u32>> = grammar.iter_rules().collect();
     let generator = grammar.sentence_generator(|_| 1);
