@@ -1,3 +1,4 @@
 pub mod ErrorLemmas
 pub mod HeaderErrorLemmas
+pub mod Lines
 pub mod WarningLemmas

@@ -9,7 +9,7 @@ ghost use Rattle.cfgerrors.specs.ErrorTexts.{error_text, fault_text};
 ghost use Rattle.cfgerrors.specs.declared.error.YaccFault.TheVariants.{OutOfMemory};
 
 use crate::header::{HeaderError, HeaderErrorKind};
-use crate::parts::write_parts;
+use crate::parts::{write_lines, write_parts};
 use cfgbase::{Span, Spanned, SpansKind};
 use std::alloc::{AllocError, AllocFailed, Global};
 use std::error::Error;
@@ -314,17 +314,7 @@ impl fmt::Display for YaccFault {
 
     fn fmt<W: fmt::Write>(&self, f: &mut fmt::Formatter<W>) -> fmt::Result {
         match self {
-            YaccFault::Errors(errors) => {
-                let Some((first, others)) = errors.split_first() else {
-                    return Ok(());
-                };
-                first.fmt(f)?;
-                for error in others {
-                    f.write_str("\n")?;
-                    error.fmt(f)?;
-                }
-                Ok(())
-            }
+            YaccFault::Errors(errors) => write_lines(f, errors),
             YaccFault::OutOfMemory => f.write_str("out of memory"),
         }
     }

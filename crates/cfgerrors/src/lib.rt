@@ -10,4 +10,5 @@ pub mod warning;
 
 pub use error::{YaccFault, YaccGrammarError, YaccGrammarErrorKind, YaccGrammarResult, error_at};
 pub use header::{HeaderError, HeaderErrorKind};
+pub use parts::write_lines;
 pub use warning::{YaccGrammarWarning, YaccGrammarWarningKind, warning_at};

@@ -4,7 +4,7 @@ ghost use Rattle.std.specs.Prelude.{◌≡◌, Some};
 ghost use Rattle.cfgsection.specs.SectionTexts.{fault_text};
 
 use cfgbase::Span;
-use cfgerrors::HeaderError;
+use cfgerrors::{HeaderError, write_lines};
 use std::alloc::{AllocError, AllocFailed};
 use std::error::Error;
 use std::fmt;
@@ -25,17 +25,7 @@ impl fmt::Display for HeaderFault {
 
     fn fmt<W: fmt::Write>(&self, f: &mut fmt::Formatter<W>) -> fmt::Result {
         match self {
-            HeaderFault::Errors(errors) => {
-                let Some((first, others)) = errors.split_first() else {
-                    return Ok(());
-                };
-                first.fmt(f)?;
-                for error in others {
-                    f.write_str("\n")?;
-                    error.fmt(f)?;
-                }
-                Ok(())
-            }
+            HeaderFault::Errors(errors) => write_lines(f, errors),
             HeaderFault::OutOfMemory => f.write_str("out of memory"),
         }
     }
