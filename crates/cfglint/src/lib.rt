@@ -16,8 +16,8 @@ pub mod system;
 mod teller;
 mod warned;
 
-pub use cfgshell::{Counted, Input, KindArg, Sink, SinkFault, Source};
+pub use cfgshell::{Counted, Ended, Input, KindArg, Sink, SinkFault, Source};
 pub use finding::{Finding, FindingKind};
 pub use found::findings;
 pub use program::lint;
-pub use system::{Ended, run_over};
+pub use system::run_over;

@@ -1,42 +1,17 @@
 //! The program over a runtime.
 
-ghost use Rattle.std.specs.Prelude.{◌≡◌, ◌≤◌};
-ghost use Rattle.std.specs.Process.{exit_status};
+ghost use Rattle.std.specs.Prelude.{◌≤◌};
 
 use crate::linter::Lints;
-use std::process::{ExitCode, Termination};
+use cfgshell::ending::{Ended, ended_with};
 use std::rt::{Env, Files};
 
-/// The program ended, with this status. Only [`run_over`] makes one, so a `main` that returns one has run it.
-#[derive(Debug, Drop)]
-pub struct Ended {
-    status: u8,
-}
-
-impl Ended {
-    /// The status: 0 if nothing was found that counts; 1 if something was; 2 if the arguments were wrong, a file
-    /// couldn't be read or the output couldn't be written; 3 if memory ran out.
-    pub fn status(&self) -> u8
-        ensures { result ≡ self.now.status }
-    {
-        self.status
-    }
-}
-
-impl Termination for Ended {
-    fn report<R: Eprint>(self, _rt: &R) -> ExitCode
-        ensures { exit_status result ≡ self.status }
-    {
-        ExitCode::from(self.status)
-    }
-}
-
-/// Runs the program `cfglint` over a runtime: [`lint`](crate::lint) on the command-line arguments, with the runtime's
-/// files, its standard input under the name `-`, its standard output and its standard error. Arguments that aren't
-/// UTF-8 are a usage error.
+/// Runs the program `cfglint` over a runtime: [`lint`](crate::lint) on the words behind the program's name, over the
+/// runtime's files, its standard input under the name `-`, its standard output and its standard error. Words that are
+/// not UTF-8 are wrong usage. The status is 0 where nothing was found that counts, 1 where something was, 2 where the
+/// words were wrong, a file was not read or the output was not written, 3 where no memory was left.
 pub fn run_over<R: Env + Files + Input + Print + Eprint + AllocGlobal>(rt: &R) -> Ended
     ensures { result.status ≤ 3 }
 {
-    let status = lintshell::run_over(rt, &Lints);
-    Ended { status }
+    ended_with(lintshell::run_over(rt, &Lints))
 }

@@ -12,9 +12,9 @@ pub mod system;
 mod token_sets;
 
 pub use cfgshell::{
-    Command, Counted, Input, KindArg, Outcome, ReportFault, Sink, SinkFault, Source, laws, sink,
-    source, words,
+    Command, Counted, Ended, Input, KindArg, Outcome, ReportFault, Sink, SinkFault, Source, laws,
+    sink, source, words,
 };
 pub use engine::{report, report_lex};
 pub use program::run;
-pub use system::{Ended, run_over};
+pub use system::run_over;
