@@ -2,13 +2,13 @@
 
 ghost use Rattle.std.specs.Prelude.{◌≡◌, ◌+◌, ◌-◌, ◌^◌, ◌<◌, ◌≤◌, map, true, IfOk, IfErr};
 ghost use Rattle.std.specs.Str.{IsUtf8};
-ghost use Rattle.cfgshell.specs.Endings.{Ending, NotUtf8, IsFetched, ending_in, ending_with, faults_at};
+ghost use Rattle.cfgshell.specs.Endings.{NotUtf8, IsFetched, ending_in, ending_with, faults_at};
 ghost use Rattle.cfgshell.specs.Endings.{line_of, status_of};
 ghost use Rattle.cfgshell.specs.Run.{HandlesLexer, HandlesNames, HandlesWords};
 ghost use Rattle.cfgshell.specs.Arguments.{command_named, kind_named};
 ghost use Rattle.cfgshell.specs.declared.source.Input.{Input};
 ghost use Rattle.cfgsink.specs.Reports.{faults_met};
-ghost use Rattle.cfgsink.specs.Sinks.{AppendsOrFaults};
+ghost use Rattle.cfgsink.specs.Runs.{EndsWith};
 
 use crate::faults::{RunFault, tell};
 use crate::outcome::{Outcome, ReportFault};
@@ -79,12 +79,9 @@ pub fn run<P: Reporter, S: Source, O: Sink, E: Sink>(
     requires out_counts { O.faults_counted out.old < 2 ^ 64 - 1 }
     requires err_counts { E.faults_counted err.old < 2 ^ 64 - 1 }
     ensures small { result ≤ 3 }
-    ensures ends { (ending : Ending) × (result ≡ status_of ending)
-        × HandlesWords P.tells P.tells_lexer (map (λ word. word.now) args.now) S.fetches source.old source.new
-        (O.written out.old) (O.written out.new) ending
-        × (O.faults_counted out.new ≡ O.faults_counted out.old + faults_at ending)
-        × AppendsOrFaults (E.written err.old) (E.written err.new)
-        (E.faults_counted err.old) (E.faults_counted err.new) (line_of ending) }
+    ensures ends { EndsWith status_of faults_at line_of
+        (HandlesWords P.tells P.tells_lexer (map (λ word. word.now) args.now) S.fetches source.old source.new)
+        O.written O.faults_counted out.old out.new E.written E.faults_counted err.old err.new result }
 {
     match outcome(alloc, reporter, args, source, out) {
         Ok(Outcome::Done) => 0,

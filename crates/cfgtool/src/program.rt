@@ -1,8 +1,8 @@
 //! A run of the program.
 
-ghost use Rattle.std.specs.Prelude.{◌≡◌, ◌+◌, ◌-◌, ◌^◌, ◌<◌, ◌≤◌, map};
-ghost use Rattle.cfgshell.specs.Endings.{Ending, faults_at, line_of, status_of};
-ghost use Rattle.cfgsink.specs.Sinks.{AppendsOrFaults};
+ghost use Rattle.std.specs.Prelude.{◌-◌, ◌^◌, ◌<◌, ◌≤◌, map};
+ghost use Rattle.cfgshell.specs.Endings.{faults_at, line_of, status_of};
+ghost use Rattle.cfgsink.specs.Runs.{EndsWith};
 ghost use Rattle.cfgtool.specs.Run.{HandlesWords};
 
 use crate::engine::{Outcome, ReportFault, report, report_lex};
@@ -24,12 +24,9 @@ pub fn run<S: Source, O: Sink, E: Sink>(
     requires out_counts { O.faults_counted out.old < 2 ^ 64 - 1 }
     requires err_counts { E.faults_counted err.old < 2 ^ 64 - 1 }
     ensures small { result ≤ 3 }
-    ensures ends { (ending : Ending) × (result ≡ status_of ending)
-        × HandlesWords (map (λ word. word.now) args.now) S.fetches source.old source.new
-        (O.written out.old) (O.written out.new) ending
-        × (O.faults_counted out.new ≡ O.faults_counted out.old + faults_at ending)
-        × AppendsOrFaults (E.written err.old) (E.written err.new)
-        (E.faults_counted err.old) (E.faults_counted err.new) (line_of ending) }
+    ensures ends { EndsWith status_of faults_at line_of
+        (HandlesWords (map (λ word. word.now) args.now) S.fetches source.old source.new)
+        O.written O.faults_counted out.old out.new E.written E.faults_counted err.old err.new result }
 {
     program::run(alloc, &Reports, args, source, out, err)
 }

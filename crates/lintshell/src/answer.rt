@@ -1,9 +1,10 @@
 //! The result of a run, and how it is printed.
 
-ghost use Rattle.std.specs.Prelude.{◌≡◌, ◌+◌, ◌-◌, ◌^◌, ◌<◌, ◌≤◌, ◌++◌, IfOk};
+ghost use Rattle.std.specs.Prelude.{◌≡◌, ◌-◌, ◌^◌, ◌<◌, ◌≤◌, ◌++◌, IfOk};
+ghost use Rattle.cfgsink.specs.Runs.{EndsWith};
 ghost use Rattle.cfgsink.specs.Sinks.{AppendsOrFaults};
 ghost use Rattle.lintshell.specs.Inner.{IsEnding};
-ghost use Rattle.lintshell.specs.Run.{Ending, answer_of, ending_errors, ending_faults, ending_status, refused, written};
+ghost use Rattle.lintshell.specs.Run.{answer_of, ending_errors, ending_faults, ending_status, refused, written};
 
 use crate::summary::summary;
 use crate::tally::Tally;
@@ -83,11 +84,8 @@ pub(crate) fn tell<O: Sink, E: Sink>(answer: &Answer, out: &mut O, err: &mut E) 
     requires out_counts { O.faults_counted out.old < 2 ^ 64 - 1 }
     requires err_counts { E.faults_counted err.old < 2 ^ 64 - 1 }
     ensures small { result ≤ 3 }
-    ensures ends { (ending : Ending) × (result ≡ ending_status ending)
-        × IsEnding answer.now (O.written out.old) (O.written out.new) ending
-        × (O.faults_counted out.new ≡ O.faults_counted out.old + ending_faults ending)
-        × AppendsOrFaults (E.written err.old) (E.written err.new)
-        (E.faults_counted err.old) (E.faults_counted err.new) (ending_errors ending) }
+    ensures ends { EndsWith ending_status ending_faults ending_errors (IsEnding answer.now)
+        O.written O.faults_counted out.old out.new E.written E.faults_counted err.old err.new result }
 {
     match write_whole(out, answer.output.as_bytes()) {
         Ok(()) => {

@@ -1,10 +1,10 @@
 //! A run of the program.
 
-ghost use Rattle.std.specs.Prelude.{◌≡◌, ◌+◌, ◌-◌, ◌^◌, ◌<◌, ◌≤◌, IfOk, OnErr, map};
-ghost use Rattle.cfgsink.specs.Sinks.{AppendsOrFaults};
+ghost use Rattle.std.specs.Prelude.{◌-◌, ◌^◌, ◌<◌, ◌≤◌, IfOk, OnErr, map};
+ghost use Rattle.cfgsink.specs.Runs.{EndsWith};
 ghost use Rattle.lintshell.specs.Files.{AsksFirst};
 ghost use Rattle.lintshell.specs.Inner.{wanted_view};
-ghost use Rattle.lintshell.specs.Run.{Answers, Ending, Handles, ending_errors, ending_faults, ending_status};
+ghost use Rattle.lintshell.specs.Run.{Answers, Handles, ending_errors, ending_faults, ending_status};
 ghost use Rattle.lintshell.specs.Requests.{asked, files_asked};
 ghost use Rattle.lintshell.specs.Requests as requests;
 
@@ -31,12 +31,9 @@ pub fn lint<L: Linter, S: Source, O: Sink, E: Sink>(
     requires out_counts { O.faults_counted out.old < 2 ^ 64 - 1 }
     requires err_counts { E.faults_counted err.old < 2 ^ 64 - 1 }
     ensures small { result ≤ 3 }
-    ensures ends { (ending : Ending) × (result ≡ ending_status ending)
-        × Handles L.tells S.fetches source.old source.new (map (λ word. word.now) args.now)
-        (O.written out.old) (O.written out.new) ending
-        × (O.faults_counted out.new ≡ O.faults_counted out.old + ending_faults ending)
-        × AppendsOrFaults (E.written err.old) (E.written err.new)
-        (E.faults_counted err.old) (E.faults_counted err.new) (ending_errors ending) }
+    ensures ends { EndsWith ending_status ending_faults ending_errors
+        (Handles L.tells S.fetches source.old source.new (map (λ word. word.now) args.now))
+        O.written O.faults_counted out.old out.new E.written E.faults_counted err.old err.new result }
 {
     match answered(alloc, linter, args, source) {
         Ok(answer) => tell(&answer, out, err),
