@@ -2,7 +2,7 @@
 use Rattle.std.proofs.Common.{◌≡◌, ℕ, ◌+◌, ◌<◌, ◌≤◌, List, [], ◌∷◌, ◌++◌, length, map, take, drop, get_or, Option, Result, Ok, Err, refl, sym, ap, ◌∙◌, subst, arith}
 use Rattle.std.specs.Prelude.{OnErr}
 use Rattle.std.specs.Borrow.{Bor}
-use Rattle.std.proofs.lemmas.List.{append-nil, map-append, take-append-drop, take_more}
+use Rattle.std.proofs.lemmas.List.{append-nil, map-append, map_more, take-append-drop}
 use Rattle.cfgshell.specs.declared.source.Input.{Input}
 use Rattle.cfgshell.specs.declared.words.KindArg.{KindArg}
 use Rattle.lintshell.specs.Files.{AsksFirst, IsAsked, IsFate, Lints}
@@ -18,10 +18,6 @@ texts-with_file file (Linted told) tally = omega arith
 pub on_err : {T E P : Type 0} (r : Result T E) → P → OnErr r P
 on_err (Ok value) holds = tt
 on_err (Err fault) holds = holds
-
-names_more : (files : List (Bor (List ℕ))) (i : ℕ) (d : Bor (List ℕ)) → i < length files
-    → map (λ file. file.now) (take (i + 1) files) ≡ map (λ file. file.now) (take i files) ++ (get_or files i d).now ∷ []
-names_more files i d within = ap (map (λ file. file.now)) (take_more files i d within) ∙ map-append (λ file. file.now) (take i files) (get_or files i d ∷ [])
 
 module _ {S : Type 0} (Fetches : S → List ℕ → Input → S → Type 0) where
   -- one more file is asked for
@@ -46,7 +42,7 @@ module _ {S : Type 0} (Fetches : S → List ℕ → Input → S → Type 0) wher
     front = map (λ file. file.now) (take (i + 1) files);
     back = map (λ file. file.now) (drop (i + 1) files);
     are = ap (map (λ file. file.now)) (sym (take-append-drop (i + 1) files)) ∙ map-append (λ file. file.now) (take (i + 1) files) (drop (i + 1) files);
-    fetched = subst (λ names. IsAsked Fetches before names after) (sym (names_more files i d within)) (IsAsked-more (get_or files i d).now answer asked fetched);
+    fetched = subst (λ names. IsAsked Fetches before names after) (sym (map_more (λ (file : Bor (List ℕ)). file.now) files i d within)) (IsAsked-more (get_or files i d).now answer asked fetched);
   }
 
   module _ (Tells : Option KindArg → List ℕ → List ℕ → Told → Type 0) (kind : Option KindArg) where
@@ -68,5 +64,5 @@ module _ {S : Type 0} (Fetches : S → List ℕ → Input → S → Type 0) wher
         → Fetches between (get_or files i d).now answer after → IsFate Tells kind (get_or files i d).now answer fate
         → Lints Tells kind Fetches before tally (map (λ file. file.now) (take (i + 1) files)) after (with_file (get_or files i d).now fate last)
     linted_up_to files i d within before between after tally last answer fate linted fetched is =
-        subst (λ names. Lints Tells kind Fetches before tally names after (with_file (get_or files i d).now fate last)) (sym (names_more files i d within))
+        subst (λ names. Lints Tells kind Fetches before tally names after (with_file (get_or files i d).now fate last)) (sym (map_more (λ (file : Bor (List ℕ)). file.now) files i d within))
         (Lints-more (get_or files i d).now answer fate linted fetched is)
