@@ -8,8 +8,8 @@ use Rattle.cfgrammar.specs.Named.{NamesNoKind}
 use Rattle.cfgrammar.specs.Numbered.{Numbered}
 use Rattle.cfgrammar.specs.Syntax.{Syntax}
 use Rattle.cfgrammar.specs.YaccKind.{YaccKind}
-use Rattle.cfgshell.specs.declared.words.KindArg.{KindArg}
-use Rattle.cfgshell.specs.declared.words.KindArg.TheVariants.{Named, Section}
+use Rattle.cfgprogram.specs.declared.kinds.KindArg.{KindArg}
+use Rattle.cfgprogram.specs.declared.kinds.KindArg.TheVariants.{Named, Section}
 
 -- what a text is found to be, as a file of the requested kind, or else of the one that it names itself
 abbrev pub IsFound : KindArg → List ℕ → Found → Type 0

@@ -10,12 +10,12 @@ ghost use Rattle.cfgrammar.specs.GrammarOf.{IsFoundAs, IsFoundItself};
 ghost use Rattle.cfgrammar.specs.Places.{IsPiece, IsWithin};
 ghost use Rattle.cfgrammar.specs.Syntax.{EachSpan};
 ghost use Rattle.cfgrammar.specs.TreeView.{syntax};
-ghost use Rattle.cfgshell.specs.declared.words.KindArg.{KindArg};
+ghost use Rattle.cfgprogram.specs.declared.kinds.KindArg.{KindArg};
 ghost use Rattle.cfgdriver.specs.ReadText.{IsFound, IsMadeOf, IsReadAs};
 
+use cfgprogram::KindArg;
 use cfgrammar::yacc::ast::{ASTWithValidityInfo, GrammarAST, KindSource};
 use cfgrammar::yacc::{YaccFault, YaccGrammar, YaccGrammarError, YaccKind};
-use cfgshell::KindArg;
 use std::alloc::{AllocError, Global};
 
 /// What makes something of a text: of its errors, or of its grammar.

@@ -10,7 +10,7 @@ use Rattle.cfgrammar.specs.Render.{rendered}
 use Rattle.cfgrammar.specs.Answer.{Found}
 use Rattle.cfgrammar.specs.Numbered.{Numbered}
 use Rattle.cfgrammar.specs.Syntax.{Syntax}
-use Rattle.cfgshell.specs.declared.words.KindArg.{KindArg}
+use Rattle.cfgprogram.specs.declared.kinds.KindArg.{KindArg}
 use Rattle.cfgdriver.specs.ReadText.{IsFound, IsMadeOf, IsReadAs}
 use Rattle.lintshell.specs.Tally.{Told}
 use Rattle.cfglint.specs.Findings.{AreFindings}

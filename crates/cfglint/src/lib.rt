@@ -16,7 +16,8 @@ pub mod system;
 mod teller;
 mod warned;
 
-pub use cfgshell::{Counted, Ended, Input, KindArg, Sink, SinkFault, Source};
+pub use cfgprogram::{Ended, Input, KindArg, Source};
+pub use cfgsink::{Counted, Sink, SinkFault};
 pub use finding::{Finding, FindingKind};
 pub use found::findings;
 pub use program::lint;

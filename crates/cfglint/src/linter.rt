@@ -2,10 +2,10 @@
 
 use crate::found::findings;
 use cfgdriver::{TextReader, read_text_or};
+use cfgprogram::KindArg;
 use cfgrammar::render_all;
 use cfgrammar::yacc::ast::GrammarAST;
 use cfgrammar::yacc::{YaccGrammar, YaccGrammarError, YaccKind, YaccOriginalActionKind};
-use cfgshell::KindArg;
 use lintshell::{Linter, Report};
 use std::alloc::{AllocError, Global};
 

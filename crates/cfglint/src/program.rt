@@ -6,8 +6,8 @@ ghost use Rattle.lintshell.specs.Run.{Handles, ending_errors, ending_faults, end
 ghost use Rattle.cfglint.specs.Told.{TellsText};
 
 use crate::linter::Lints;
-use cfgshell::sink::Sink;
-use cfgshell::source::Source;
+use cfgprogram::source::Source;
+use cfgsink::sink::Sink;
 use std::alloc::Global;
 
 /// Runs the program on its command-line arguments, and returns its status. Its reports on the files among the

@@ -3,7 +3,7 @@
 ghost use Rattle.std.specs.Prelude.{◌≤◌};
 
 use crate::linter::Lints;
-use cfgshell::ending::{Ended, ended_with};
+use cfgprogram::ending::{Ended, ended_with};
 use std::rt::{Env, Files};
 
 /// Runs the program `cfglint` over a runtime: [`lint`](crate::lint) on the words behind the program's name, over the

@@ -8,12 +8,13 @@ use Rattle.std.proofs.KnownBytes.{Keeps-refl}
 use Rattle.cfgsink.specs.declared.outcome.Outcome.{Outcome}
 use Rattle.cfgsink.specs.declared.outcome.ReportFault.{ReportFault}
 use Rattle.cfgshell.specs.declared.faults.RunFault.{RunFault}
-use Rattle.cfgshell.specs.declared.source.Input.{Input}
-use Rattle.cfgshell.specs.declared.source.Input.TheVariants as input
+use Rattle.cfgprogram.specs.declared.source.Input.{Input}
+use Rattle.cfgprogram.specs.declared.source.Input.TheVariants as input
 use Rattle.cfgshell.specs.declared.words.Command.{Command}
-use Rattle.cfgshell.specs.declared.words.KindArg.{KindArg}
+use Rattle.cfgprogram.specs.declared.kinds.KindArg.{KindArg}
 use Rattle.cfgshell.specs.Endings.{Ending, NotUtf8, Usage, IsFetched, ending_in, ending_of, ending_with}
-use Rattle.cfgshell.specs.Arguments.{asks_lexer, kind_named, command_named}
+use Rattle.cfgprogram.specs.Kinds.{kind_named}
+use Rattle.cfgshell.specs.Arguments.{asks_lexer, command_named}
 use Rattle.cfgshell.specs.Run.{EndsReported, EndsUnread, HandlesFirst, HandlesLexer, HandlesNames, HandlesTexts, HandlesWords, WithBytes, WithText}
 
 three_words : (words : List (Bor (List ℕ))) (d : Bor (List ℕ)) → 3 ≤ length words → length words < 4

@@ -1,23 +1,8 @@
 -- What the arguments of the program name.
 use Rattle.std.specs.Prelude.{ℕ, List, Option, Some, None, if◌then◌else◌, codes, Bool, not, ◌&&◌}
 use Rattle.std.specs.Str.{bytes_eq}
-use Rattle.cfgrammar.specs.YaccKind.TheVariants.{Original, Grmtools, Eco}
-use Rattle.cfgrammar.specs.YaccOriginalActionKind.TheVariants.{NoAction, UserAction, GenericParseTree}
 use Rattle.cfgshell.specs.declared.words.Command.{Command}
 use Rattle.cfgshell.specs.declared.words.Command.TheVariants.{Grammar, Firsts, Follows, Sentences, Warnings}
-use Rattle.cfgshell.specs.declared.words.KindArg.{KindArg}
-use Rattle.cfgshell.specs.declared.words.KindArg.TheVariants.{Named, Section}
-
--- the kind that an argument names
-abbrev pub kind_named : List ℕ → Option KindArg
-kind_named word =
-    if bytes_eq word (codes "original-noaction") then Some (Named (Original NoAction))
-    else if bytes_eq word (codes "original-useraction") then Some (Named (Original UserAction))
-    else if bytes_eq word (codes "original-genericparsetree") then Some (Named (Original GenericParseTree))
-    else if bytes_eq word (codes "grmtools") then Some (Named Grmtools)
-    else if bytes_eq word (codes "eco") then Some (Named Eco)
-    else if bytes_eq word (codes "section") then Some Section
-    else None
 
 -- the command that an argument names
 unfoldable pub command_named : List ℕ → Option Command

@@ -3,14 +3,14 @@ use Rattle.std.specs.Prelude.{◌≡◌, ℕ, List, Vec, [], ◌++◌, Result, O
 use Rattle.std.specs.Global.{Global}
 use Rattle.cfgshell.specs.declared.faults.RunFault.{RunFault}
 use Rattle.cfgshell.specs.declared.faults.RunFault.TheVariants as why
-use Rattle.cfgshell.specs.declared.faults.WordsFault.{WordsFault}
-use Rattle.cfgshell.specs.declared.faults.WordsFault.TheVariants as words
+use Rattle.cfgprogram.specs.declared.words.WordsFault.{WordsFault}
+use Rattle.cfgprogram.specs.declared.words.WordsFault.TheVariants as words
 use Rattle.cfgsink.specs.declared.outcome.Outcome.{Outcome}
 use Rattle.cfgsink.specs.declared.outcome.Outcome.TheVariants.{Done, Refused}
 use Rattle.cfgsink.specs.declared.outcome.ReportFault.{ReportFault}
 use Rattle.cfgsink.specs.declared.outcome.ReportFault.TheVariants as faults
-use Rattle.cfgshell.specs.declared.source.Input.{Input}
-use Rattle.cfgshell.specs.declared.source.Input.TheVariants as input
+use Rattle.cfgprogram.specs.declared.source.Input.{Input}
+use Rattle.cfgprogram.specs.declared.source.Input.TheVariants as input
 
 -- how a run ends: with a report, or why there is none
 pub data Ending : Type 0 where

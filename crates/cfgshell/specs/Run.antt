@@ -5,13 +5,14 @@ use Rattle.std.specs.Prelude.{◌≡◌, ℕ, List, [], ◌∷◌, Option, Some,
 use Rattle.std.specs.Str.{IsUtf8}
 use Rattle.std.specs.Io.KnownBytes.{Keeps}
 use Rattle.cfgshell.specs.Endings.{Ending, Usage, Unreadable, NotUtf8, NoMemory, ending_of}
-use Rattle.cfgshell.specs.Arguments.{asks_lexer, command_named, kind_named}
+use Rattle.cfgprogram.specs.Kinds.{kind_named}
+use Rattle.cfgshell.specs.Arguments.{asks_lexer, command_named}
 use Rattle.cfgsink.specs.declared.outcome.Outcome.{Outcome}
 use Rattle.cfgsink.specs.declared.outcome.ReportFault.{ReportFault}
-use Rattle.cfgshell.specs.declared.source.Input.{Input}
-use Rattle.cfgshell.specs.declared.source.Input.TheVariants as input
+use Rattle.cfgprogram.specs.declared.source.Input.{Input}
+use Rattle.cfgprogram.specs.declared.source.Input.TheVariants as input
 use Rattle.cfgshell.specs.declared.words.Command.{Command}
-use Rattle.cfgshell.specs.declared.words.KindArg.{KindArg}
+use Rattle.cfgprogram.specs.declared.kinds.KindArg.{KindArg}
 
 -- The run ends so, and nothing was written to its output.
 abbrev pub EndsUnwritten : Ending → Option (List ℕ) → Option (List ℕ) → Ending → Type 0

@@ -3,11 +3,10 @@
 ghost use Rattle.std.specs.Prelude.{◌≡◌, ◌++◌, ◌+◌, ◌-◌, ◌^◌, ◌<◌, Err};
 ghost use Rattle.cfgshell.specs.Endings.{ending_of, ending_with, ending_without, line_of, status_of};
 ghost use Rattle.cfgsink.specs.Sinks.{AppendsOrFaults};
-ghost use Rattle.cfgshell.specs.declared.faults.WordsFault.TheVariants as words_fault;
 
 use crate::outcome::ReportFault;
 use crate::sink::{Sink, SinkFault, write_whole};
-use std::alloc::AllocError;
+use cfgprogram::words::WordsFault;
 
 /// Why a run failed.
 #[derive(Clone, Copy)]
@@ -60,25 +59,7 @@ impl From<ReportFault> for RunFault<'_> {
     }
 }
 
-/// Why there are no arguments to run on.
-#[derive(Clone, Copy, Debug, PartialEq, Eq)]
-pub enum WordsFault {
-    /// One of them is not UTF-8.
-    NotUtf8,
-    /// There was no memory for them.
-    OutOfMemory,
-}
-
-impl From<AllocError> for WordsFault {
-    ghost from_gives = { λ _ fault. fault ≡ words_fault.OutOfMemory };
-
-    fn from(_: AllocError) -> Self {
-        WordsFault::OutOfMemory
-    }
-}
-
-/// Ends a run that has no arguments, and returns its status. A line that says why is written to `err`, as far as `err`
-/// accepts it.
+/// Ends a run that has no words, and answers its status. A line on why is written to `err`, as far as `err` takes it.
 pub(crate) fn refuse_words<E: Sink>(fault: WordsFault, err: &mut E) -> u8
     requires { E.faults_counted err.old < 2 ^ 64 - 1 }
     ensures status { result ≡ status_of (ending_without fault) }

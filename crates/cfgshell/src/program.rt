@@ -5,16 +5,18 @@ ghost use Rattle.std.specs.Str.{IsUtf8};
 ghost use Rattle.cfgshell.specs.Endings.{NotUtf8, IsFetched, ending_in, ending_with, faults_at};
 ghost use Rattle.cfgshell.specs.Endings.{line_of, status_of};
 ghost use Rattle.cfgshell.specs.Run.{HandlesLexer, HandlesNames, HandlesWords};
-ghost use Rattle.cfgshell.specs.Arguments.{command_named, kind_named};
-ghost use Rattle.cfgshell.specs.declared.source.Input.{Input};
+ghost use Rattle.cfgprogram.specs.Kinds.{kind_named};
+ghost use Rattle.cfgshell.specs.Arguments.{command_named};
+ghost use Rattle.cfgprogram.specs.declared.source.Input.{Input};
 ghost use Rattle.cfgsink.specs.Reports.{faults_met};
 ghost use Rattle.cfgsink.specs.Runs.{EndsWith};
 
 use crate::faults::{RunFault, tell};
 use crate::outcome::{Outcome, ReportFault};
 use crate::sink::Sink;
-use crate::source::{Input, Source};
-use crate::words::{Command, KindArg, asks_lexer, command_of, kind_of};
+use crate::words::{Command, asks_lexer, command_of};
+use cfgprogram::kinds::{KindArg, kind_of};
+use cfgprogram::source::{Input, Source};
 use std::alloc::Global;
 
 /// What writes the report of a text.
@@ -23,7 +25,7 @@ pub trait Reporter {
     ghost use Rattle.cfgsink.specs.declared.outcome.Outcome.{Outcome};
     ghost use Rattle.cfgsink.specs.declared.outcome.ReportFault.{ReportFault};
     ghost use Rattle.cfgshell.specs.declared.words.Command.{Command};
-    ghost use Rattle.cfgshell.specs.declared.words.KindArg.{KindArg};
+    ghost use Rattle.cfgprogram.specs.declared.kinds.KindArg.{KindArg};
 
     ghost tells: { KindArg → Command → List ℕ → Option (List ℕ) → Option (List ℕ) → Result Outcome ReportFault
         → Type 0 };

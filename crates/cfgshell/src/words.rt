@@ -1,18 +1,7 @@
-//! The arguments that name a kind of Yacc and a command.
+//! The words that name a command.
 
 ghost use Rattle.std.specs.Prelude.{◌≡◌};
-ghost use Rattle.cfgshell.specs.Arguments.{asks_lexer, command_named, kind_named};
-
-use cfgrammar::yacc::{YaccKind, YaccOriginalActionKind};
-
-/// The kind of Yacc that a text is read as.
-#[derive(Clone, Copy, Debug, PartialEq, Eq)]
-pub enum KindArg {
-    /// This kind.
-    Named(YaccKind),
-    /// The kind that the section of the text names.
-    Section,
-}
+ghost use Rattle.cfgshell.specs.Arguments.{asks_lexer, command_named};
 
 /// What is reported about a grammar.
 #[derive(Clone, Copy, Debug, PartialEq, Eq)]
@@ -29,23 +18,7 @@ pub enum Command {
     Warnings,
 }
 
-/// The kind that an argument names, byte for byte.
-pub fn kind_of(word: &str) -> Option<KindArg>
-    ensures { result ≡ kind_named word.now }
-{
-    let kind = match word {
-        "original-noaction" => YaccKind::Original(YaccOriginalActionKind::NoAction),
-        "original-useraction" => YaccKind::Original(YaccOriginalActionKind::UserAction),
-        "original-genericparsetree" => YaccKind::Original(YaccOriginalActionKind::GenericParseTree),
-        "grmtools" => YaccKind::Grmtools,
-        "eco" => YaccKind::Eco,
-        "section" => return Some(KindArg::Section),
-        _ => return None,
-    };
-    Some(KindArg::Named(kind))
-}
-
-/// The command that an argument names, byte for byte.
+/// The command that a word names, byte for byte.
 #[tactic(auto, unfolding(crate::specs::Arguments::command_named))]
 pub fn command_of(word: &str) -> Option<Command>
     ensures { result ≡ command_named word.now }

@@ -11,7 +11,7 @@ use Rattle.cfgsink.specs.declared.outcome.ReportFault.{ReportFault}
 use Rattle.cfgsink.specs.declared.outcome.ReportFault.TheVariants as faults
 use Rattle.cfgshell.specs.declared.words.Command.{Command}
 use Rattle.cfgshell.specs.declared.words.Command.TheVariants.{Grammar, Firsts, Follows, Sentences, Warnings}
-use Rattle.cfgshell.specs.declared.words.KindArg.{KindArg}
+use Rattle.cfgprogram.specs.declared.kinds.KindArg.{KindArg}
 use Rattle.cfgdriver.specs.ReadText.{IsFound, IsMadeOfErrors, IsMadeOfGrammar}
 use Rattle.cfgtool.specs.FirstLines.{AreFirstLines}
 use Rattle.cfgtool.specs.FollowLines.{AreFollowLines}

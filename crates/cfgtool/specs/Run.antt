@@ -2,7 +2,7 @@
 use Rattle.std.specs.Prelude.{ℕ, List, Option}
 use Rattle.cfgshell.specs.Endings.{Ending}
 use Rattle.cfgshell.specs.Run as shell
-use Rattle.cfgshell.specs.declared.source.Input.{Input}
+use Rattle.cfgprogram.specs.declared.source.Input.{Input}
 use Rattle.cfgtool.specs.Report.{TellsLexer, TellsText}
 
 -- What a run does with its arguments, where `Fetches` says what a source may return for a file, and what becomes of it: a source that was

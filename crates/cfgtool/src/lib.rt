@@ -12,8 +12,8 @@ pub mod system;
 mod token_sets;
 
 pub use cfgshell::{
-    Command, Counted, Ended, Input, KindArg, Outcome, ReportFault, Sink, SinkFault, Source, laws,
-    sink, source, words,
+    Command, Counted, Ended, Input, KindArg, Outcome, ReportFault, Sink, SinkFault, Source, kinds,
+    laws, sink, source, words,
 };
 pub use engine::{report, report_lex};
 pub use program::run;

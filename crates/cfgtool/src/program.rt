@@ -6,10 +6,11 @@ ghost use Rattle.cfgsink.specs.Runs.{EndsWith};
 ghost use Rattle.cfgtool.specs.Run.{HandlesWords};
 
 use crate::engine::{Outcome, ReportFault, report, report_lex};
+use cfgprogram::KindArg;
+use cfgprogram::source::Source;
 use cfgshell::program::{self, Reporter};
 use cfgshell::sink::Sink;
-use cfgshell::source::Source;
-use cfgshell::words::{Command, KindArg};
+use cfgshell::words::Command;
 use std::alloc::Global;
 
 /// Runs the program on its command-line arguments, and returns its status. Its report is written to `out`, and a line

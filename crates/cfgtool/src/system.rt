@@ -4,7 +4,7 @@ ghost use Rattle.std.specs.Prelude.{◌≡◌};
 ghost use Rattle.cfgshell.specs.Endings.{Ending, status_of};
 
 use crate::program::Reports;
-use cfgshell::ending::{Ended, ended_with};
+use cfgprogram::ending::{Ended, ended_with};
 use cfgshell::runtime;
 use std::rt::{Env, Files};
 

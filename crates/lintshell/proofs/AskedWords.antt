@@ -5,8 +5,8 @@ use Rattle.std.specs.Option.{option_map_or}
 use Rattle.std.specs.Str.{bytes_eq}
 use Rattle.std.proofs.lemmas.List.{at_drop_all, at_drop_more}
 use Rattle.std.proofs.lemmas.Slice.Eq.{bytes_eq-Decides}
-use Rattle.cfgshell.specs.Arguments.{kind_named}
-use Rattle.cfgshell.specs.declared.words.KindArg.{KindArg}
+use Rattle.cfgprogram.specs.Kinds.{kind_named}
+use Rattle.cfgprogram.specs.declared.kinds.KindArg.{KindArg}
 use Rattle.lintshell.specs.Requests.{Asked, Help, Lint, Version, Wanted, Wrong, asked_files, is_option, words_ask}
 
 not_same : (a b : List ℕ) → (a ≡ b → ⊥) → bytes_eq a b ≡ false

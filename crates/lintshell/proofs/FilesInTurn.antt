@@ -3,8 +3,8 @@ use Rattle.std.proofs.Common.{◌≡◌, ℕ, ◌+◌, ◌<◌, ◌≤◌, List,
 use Rattle.std.specs.Prelude.{OnErr}
 use Rattle.std.specs.Borrow.{Bor}
 use Rattle.std.proofs.lemmas.List.{append-nil, map-append, map_more, take-append-drop}
-use Rattle.cfgshell.specs.declared.source.Input.{Input}
-use Rattle.cfgshell.specs.declared.words.KindArg.{KindArg}
+use Rattle.cfgprogram.specs.declared.source.Input.{Input}
+use Rattle.cfgprogram.specs.declared.kinds.KindArg.{KindArg}
 use Rattle.lintshell.specs.Files.{AsksFirst, IsAsked, IsFate, Lints}
 use Rattle.lintshell.specs.Tally.{Fate, Linted, NoText, Tally, Told, Unread, with_file}
 

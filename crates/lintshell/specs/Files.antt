@@ -2,9 +2,9 @@
 -- `Fetches` what a source may return for a file, and what the source then is.
 use Rattle.std.specs.Prelude.{◌≡◌, ℕ, List, [], ◌∷◌, ◌++◌, Option}
 use Rattle.std.specs.Str.{IsUtf8}
-use Rattle.cfgshell.specs.declared.source.Input.{Input}
-use Rattle.cfgshell.specs.declared.source.Input.TheVariants as input
-use Rattle.cfgshell.specs.declared.words.KindArg.{KindArg}
+use Rattle.cfgprogram.specs.declared.source.Input.{Input}
+use Rattle.cfgprogram.specs.declared.source.Input.TheVariants as input
+use Rattle.cfgprogram.specs.declared.kinds.KindArg.{KindArg}
 use Rattle.lintshell.specs.Tally.{Fate, Linted, NoText, Tally, Told, Unread, with_file}
 
 module _ (Tells : Option KindArg → List ℕ → List ℕ → Told → Type 0) (kind : Option KindArg) where

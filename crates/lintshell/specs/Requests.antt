@@ -2,8 +2,8 @@
 use Rattle.std.specs.Prelude.{ℕ, Bool, true, false, not, ◌&&◌, ◌==◌, List, [], ◌∷◌, ◌++◌, Option, Some, None, codes, if◌then◌else◌}
 use Rattle.std.specs.Option.{option_map_or}
 use Rattle.std.specs.Str.{bytes_eq}
-use Rattle.cfgshell.specs.Arguments.{kind_named}
-use Rattle.cfgshell.specs.declared.words.KindArg.{KindArg}
+use Rattle.cfgprogram.specs.Kinds.{kind_named}
+use Rattle.cfgprogram.specs.declared.kinds.KindArg.{KindArg}
 
 -- that these files are linted, in order, as files of the given kind, or else each as the kind that it names; and whether warnings are
 -- denied

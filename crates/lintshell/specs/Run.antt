@@ -2,10 +2,10 @@
 use Rattle.std.specs.Prelude.{◌≡◌, ℕ, Bool, List, [], ◌++◌, Option, codes}
 use Rattle.std.specs.Io.KnownBytes.{Appends, Keeps}
 use Rattle.cfgsink.specs.Sinks.{AppendsBeginning}
-use Rattle.cfgshell.specs.declared.faults.WordsFault.{WordsFault}
-use Rattle.cfgshell.specs.declared.faults.WordsFault.TheVariants as words
-use Rattle.cfgshell.specs.declared.source.Input.{Input}
-use Rattle.cfgshell.specs.declared.words.KindArg.{KindArg}
+use Rattle.cfgprogram.specs.declared.words.WordsFault.{WordsFault}
+use Rattle.cfgprogram.specs.declared.words.WordsFault.TheVariants as words
+use Rattle.cfgprogram.specs.declared.source.Input.{Input}
+use Rattle.cfgprogram.specs.declared.kinds.KindArg.{KindArg}
 use Rattle.lintshell.specs.Files.{AsksFirst, Lints}
 use Rattle.lintshell.specs.Tally.{Tally, Told, no_files, status_of, summary}
 use Rattle.lintshell.specs.Requests.{Asked, Help, Lint, Version, Wrong, asked, files_asked, help, usage, version}

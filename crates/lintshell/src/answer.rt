@@ -9,7 +9,7 @@ ghost use Rattle.lintshell.specs.Run.{answer_of, ending_errors, ending_faults, e
 use crate::summary::summary;
 use crate::tally::Tally;
 use crate::words::USAGE;
-use cfgshell::sink::{Sink, SinkFault, write_whole};
+use cfgsink::sink::{Sink, SinkFault, write_whole};
 use std::alloc::{AllocError, Global};
 use std::marker::Model;
 

@@ -1,14 +1,14 @@
 //! Linting of files, one by one.
 
 ghost use Rattle.std.specs.Prelude.{◌≡◌, ◌-◌, ◌^◌, ◌<◌, IfOk, OnErr, OnOk, map};
-ghost use Rattle.cfgshell.specs.declared.source.Input.{Input};
+ghost use Rattle.cfgprogram.specs.declared.source.Input.{Input};
 ghost use Rattle.lintshell.specs.Files.{AsksFirst, IsFate, IsTold, Lints};
 ghost use Rattle.lintshell.specs.Tally.{Fate, no_files, with_file};
 
 use crate::linter::Linter;
 use crate::tally::Tally;
-use cfgshell::KindArg;
-use cfgshell::source::{Input, Source};
+use cfgprogram::KindArg;
+use cfgprogram::source::{Input, Source};
 use std::alloc::{AllocError, Global};
 
 /// What is reported about files, one by one, as files of the kind; without one, each as the kind that it names.

@@ -2,7 +2,7 @@
 
 ghost use Rattle.std.specs.Prelude.{IfOk};
 
-use cfgshell::KindArg;
+use cfgprogram::KindArg;
 use std::alloc::{AllocError, Global};
 use std::marker::Model;
 
@@ -36,7 +36,7 @@ impl Model for Report {
 /// What lints texts.
 pub trait Linter {
     ghost use Rattle.std.specs.Prelude.{ℕ, List, Option};
-    ghost use Rattle.cfgshell.specs.declared.words.KindArg.{KindArg};
+    ghost use Rattle.cfgprogram.specs.declared.kinds.KindArg.{KindArg};
     ghost use Rattle.lintshell.specs.Tally.{Told};
 
     // What may be reported about a text in a file of this name, as a file of the kind; without one, as the kind that it

@@ -12,8 +12,8 @@ use crate::answer::{Answer, tell};
 use crate::files::lint_files;
 use crate::linter::Linter;
 use crate::words::{Asked, HELP, VERSION, Wanted, asked_by};
-use cfgshell::sink::{Sink, write_whole};
-use cfgshell::source::Source;
+use cfgprogram::source::Source;
+use cfgsink::sink::{Sink, write_whole};
 use std::alloc::{AllocError, Global};
 
 /// Runs the program on its command-line arguments, and returns its status. What it reports about the files that they

@@ -7,9 +7,9 @@ ghost use Rattle.lintshell.specs.Run.{ending_errors, ending_status, ending_witho
 use crate::linter::Linter;
 use crate::program::lint;
 use crate::words::USAGE;
-use cfgshell::faults::WordsFault;
-use cfgshell::runtime::{ErrorStream, SystemFiles, words};
-use cfgshell::sink::{Counted, Sink, write_whole};
+use cfgprogram::runtime::{ErrorStream, SystemFiles};
+use cfgprogram::words::{WordsFault, words};
+use cfgsink::sink::{Counted, Sink, write_whole};
 use std::io;
 use std::rt::{Env, Files};
 

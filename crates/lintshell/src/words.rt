@@ -4,8 +4,8 @@ ghost use Rattle.std.specs.Prelude.{◌≡◌, IfOk, map};
 ghost use Rattle.lintshell.specs.Inner.{asked_view};
 ghost use Rattle.lintshell.specs.Requests.{asked, is_option};
 
-use cfgshell::KindArg;
-use cfgshell::words::kind_of;
+use cfgprogram::KindArg;
+use cfgprogram::kinds::kind_of;
 use std::alloc::{AllocError, Global};
 
 /// How the program is used, which it prints if the arguments are wrong.

@@ -3,7 +3,8 @@
 use crate::narrow::{End, Narrow};
 use crate::rooms::{Run, write_rooms};
 use crate::runs::write_taken;
-use cfgtool::words::{command_of, kind_of};
+use cfgtool::kinds::kind_of;
+use cfgtool::words::command_of;
 use cfgtool::{Counted, KindArg, Outcome, ReportFault, Sink, report, report_lex};
 use std::alloc::{AllocError, Global};
 use vectors_rows::page::Page;

@@ -1,5 +1,5 @@
 use Rattle.std.proofs.Common.{Option, false, sym, subst}
-use Rattle.cfgshell.specs.declared.words.KindArg.{KindArg}
+use Rattle.cfgprogram.specs.declared.kinds.KindArg.{KindArg}
 use Rattle.cfgdriver.specs.ReadText.{IsReadAs, asked}
 use Rattle.cfgdriver.proofs.read_text_or.Goals as goal
 

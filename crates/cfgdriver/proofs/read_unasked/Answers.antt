@@ -2,7 +2,7 @@ use Rattle.std.proofs.Common.{Ok, Err, inl, refl, sym, subst}
 use Rattle.cfgrammar.specs.Answer.{Found, WasRead, IsRefused}
 use Rattle.cfgrammar.specs.YaccFault.TheVariants as faults
 use Rattle.cfgrammar.proofs.OfItself.{parsed_itself, refused_itself}
-use Rattle.cfgshell.specs.declared.words.KindArg.TheVariants.{Named, Section}
+use Rattle.cfgprogram.specs.declared.kinds.KindArg.TheVariants.{Named, Section}
 use Rattle.cfgdriver.specs.ReadText.{greatest, itself, taken}
 use Rattle.cfgdriver.proofs.ByNaming.{for_each}
 use Rattle.cfgdriver.proofs.read_unasked.Goals as goal

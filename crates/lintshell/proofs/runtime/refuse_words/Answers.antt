@@ -1,5 +1,5 @@
 use Rattle.std.proofs.Common.{ap, sym, subst, ◌∙◌}
-use Rattle.cfgshell.specs.declared.faults.WordsFault.{WordsFault}
+use Rattle.cfgprogram.specs.declared.words.WordsFault.{WordsFault}
 use Rattle.cfgsink.specs.Sinks.{AppendsOrFaults}
 use Rattle.cfgsink.proofs.Beginnings.{whole_or_faults}
 use Rattle.lintshell.specs.Run.{ending_errors, ending_without}

@@ -3,7 +3,7 @@
 /// Where the program gets a file's bytes.
 pub trait Source {
     ghost use Rattle.std.specs.Prelude.{ℕ, List};
-    ghost use Rattle.cfgshell.specs.declared.source.Input.{Input};
+    ghost use Rattle.cfgprogram.specs.declared.source.Input.{Input};
 
     ghost fetches: { Self → List ℕ → Input → Self → Type 0 } = { λ old name input new. Unit {0} };
 

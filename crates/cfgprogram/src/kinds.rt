@@ -1,0 +1,31 @@
+//! The words that name a kind of Yacc.
+
+ghost use Rattle.std.specs.Prelude.{◌≡◌};
+ghost use Rattle.cfgprogram.specs.Kinds.{kind_named};
+
+use cfgrammar::yacc::{YaccKind, YaccOriginalActionKind};
+
+/// Which kind of Yacc a text is read as.
+#[derive(Clone, Copy, Debug, PartialEq, Eq)]
+pub enum KindArg {
+    /// This kind.
+    Named(YaccKind),
+    /// The kind that the section of the text names.
+    Section,
+}
+
+/// The kind that a word names, byte for byte.
+pub fn kind_of(word: &str) -> Option<KindArg>
+    ensures { result ≡ kind_named word.now }
+{
+    let kind = match word {
+        "original-noaction" => YaccKind::Original(YaccOriginalActionKind::NoAction),
+        "original-useraction" => YaccKind::Original(YaccOriginalActionKind::UserAction),
+        "original-genericparsetree" => YaccKind::Original(YaccOriginalActionKind::GenericParseTree),
+        "grmtools" => YaccKind::Grmtools,
+        "eco" => YaccKind::Eco,
+        "section" => return Some(KindArg::Section),
+        _ => return None,
+    };
+    Some(KindArg::Named(kind))
+}

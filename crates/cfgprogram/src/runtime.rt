@@ -1,0 +1,55 @@
+//! The files and the error stream of a runtime.
+
+use crate::source::{self, Source};
+use std::fs;
+use std::io::{self, Read, Write};
+use std::rt::Files;
+
+/// The files of a runtime, and its standard input under the name `-`.
+#[derive(Drop)]
+pub struct SystemFiles<'a, R> {
+    /// The runtime.
+    pub rt: &'a R,
+}
+
+impl<R: Files + Input + AllocGlobal> Source for SystemFiles<'_, R> {
+    fn fetch(&mut self, name: &str) -> source::Input {
+        let bytes = if name == "-" {
+            let mut bytes = Vec::new(self.rt.alloc());
+            match self.rt.reader().read_to_end(&mut bytes) {
+                Ok(_) => Ok(bytes),
+                Err(error) => Err(error),
+            }
+        } else {
+            fs::read(self.rt, name)
+        };
+        match bytes {
+            Ok(bytes) => source::Input::Bytes(bytes),
+            Err(error) if error.kind() == io::ErrorKind::OutOfMemory => {
+                source::Input::OutOfMemory
+            }
+            Err(_) => source::Input::Unreadable,
+        }
+    }
+}
+
+/// Standard error of a runtime. It takes text alone.
+#[derive(Drop)]
+pub struct ErrorStream<'a, R> {
+    /// The runtime.
+    pub rt: &'a R,
+}
+
+impl<R: Eprint> Write for ErrorStream<'_, R> {
+    fn write(&mut self, bytes: &[u8]) -> io::Result<usize> {
+        let Ok(text) = std::str::from_utf8(bytes) else {
+            return Err(io::Error::from(io::ErrorKind::InvalidData));
+        };
+        self.rt.eprint(text)?;
+        Ok(bytes.len())
+    }
+
+    fn flush(&mut self) -> io::Result<()> {
+        Ok(())
+    }
+}
