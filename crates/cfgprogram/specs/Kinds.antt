@@ -6,7 +6,7 @@ use Rattle.cfgrammar.specs.YaccOriginalActionKind.TheVariants.{NoAction, UserAct
 use Rattle.cfgprogram.specs.declared.kinds.KindArg.{KindArg}
 use Rattle.cfgprogram.specs.declared.kinds.KindArg.TheVariants.{Named, Section}
 
--- the kind that a word names
+-- the kind that an argument names
 abbrev pub kind_named : List ℕ → Option KindArg
 kind_named word =
     if bytes_eq word (codes "original-noaction") then Some (Named (Original NoAction))

@@ -5,8 +5,8 @@ ghost use Rattle.std.specs.Process.{exit_status};
 
 use std::process::{ExitCode, Termination};
 
-/// That a program ended, and with which status. The crate of a program hands on this type and its `run_over`, and not
-/// [`ended_with`]: so a `main` that answers one has run the program.
+/// A program ended, with this status. The crate of a program passes on this type and its `run_over`, but not
+/// [`ended_with`]: so a `main` that returns one has run the program.
 #[derive(Debug, Drop)]
 pub struct Ended {
     status: u8,
@@ -29,7 +29,7 @@ impl Termination for Ended {
     }
 }
 
-/// That a program ended with this status.
+/// The end of a program with this status.
 pub fn ended_with(status: u8) -> Ended
     ensures { result.status ≡ status }
 {

@@ -1,11 +1,11 @@
-//! The words that name a kind of Yacc.
+//! The arguments that name a kind of Yacc.
 
 ghost use Rattle.std.specs.Prelude.{◌≡◌};
 ghost use Rattle.cfgprogram.specs.Kinds.{kind_named};
 
 use cfgrammar::yacc::{YaccKind, YaccOriginalActionKind};
 
-/// Which kind of Yacc a text is read as.
+/// The kind of Yacc that a text is read as.
 #[derive(Clone, Copy, Debug, PartialEq, Eq)]
 pub enum KindArg {
     /// This kind.
@@ -14,7 +14,7 @@ pub enum KindArg {
     Section,
 }
 
-/// The kind that a word names, byte for byte.
+/// The kind that an argument names, byte for byte.
 pub fn kind_of(word: &str) -> Option<KindArg>
     ensures { result ≡ kind_named word.now }
 {

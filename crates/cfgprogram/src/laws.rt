@@ -8,7 +8,7 @@ ghost use Rattle.cfgprogram.specs.declared.words.WordsFault.{WordsFault};
 use crate::kinds::KindArg;
 use crate::words::WordsFault;
 
-/// Kinds and faults are equal exactly if they are the same. A clone is its source, and takes no memory.
+/// Two kinds or faults are equal exactly if they are the same. A clone equals its source and allocates nothing.
 pub fn kinds_are_told_apart()
     ensures equal_kinds { (a b : KindArg) → IsTrue (⟦<KindArg as PartialEq>⟧.eq a b) ↔ (a ≡ b) }
     ensures clone_kind { (a b : KindArg) → ⟦<KindArg as Clone>⟧.is_clone a b → b ≡ a }

@@ -7,12 +7,12 @@ use std::alloc::AllocError;
 use std::rt::Env;
 use std::{env, io};
 
-/// Why there are no words to run on.
+/// Why there are no arguments to run on.
 #[derive(Clone, Copy, Debug, PartialEq, Eq)]
 pub enum WordsFault {
     /// One of them is not UTF-8.
     NotUtf8,
-    /// No memory was left for them.
+    /// There was no memory for them.
     OutOfMemory,
 }
 
@@ -24,11 +24,11 @@ impl From<AllocError> for WordsFault {
     }
 }
 
-/// The words behind the program's name.
+/// The command-line arguments, without the program's name.
 ///
 /// # Errors
 ///
-/// One that is not UTF-8, or want of memory.
+/// One that is not UTF-8, or running out of memory.
 pub fn words<R: Env + AllocGlobal>(rt: &R) -> Result<Vec<String>, WordsFault> {
     match env::args(rt) {
         Ok(words) => Ok(words.skip(1).collect(rt.alloc())?),

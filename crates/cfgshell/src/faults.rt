@@ -59,7 +59,8 @@ impl From<ReportFault> for RunFault<'_> {
     }
 }
 
-/// Ends a run that has no words, and answers its status. A line on why is written to `err`, as far as `err` takes it.
+/// Ends a run that has no arguments, and returns its status. It writes a line that says why to `err`, as far as `err`
+/// takes it.
 pub(crate) fn refuse_words<E: Sink>(fault: WordsFault, err: &mut E) -> u8
     requires { E.faults_counted err.old < 2 ^ 64 - 1 }
     ensures status { result ≡ status_of (ending_without fault) }

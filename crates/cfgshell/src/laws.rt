@@ -8,7 +8,7 @@ use crate::words::Command;
 pub use cfgprogram::laws::kinds_are_told_apart;
 pub use cfgsink::laws::outcomes_are_told_apart;
 
-/// Commands are equal exactly if they are the same. A clone is its source, and takes no memory.
+/// Two commands are equal exactly if they are the same. A clone equals its source and allocates nothing.
 pub fn commands_are_told_apart()
     ensures equal_commands { (a b : Command) → IsTrue (⟦<Command as PartialEq>⟧.eq a b) ↔ (a ≡ b) }
     ensures clone_command { (a b : Command) → ⟦<Command as Clone>⟧.is_clone a b → b ≡ a }

@@ -1,4 +1,4 @@
-//! The words that name a command.
+//! The arguments that name a command.
 
 ghost use Rattle.std.specs.Prelude.{◌≡◌};
 ghost use Rattle.cfgshell.specs.Arguments.{asks_lexer, command_named};
@@ -18,7 +18,7 @@ pub enum Command {
     Warnings,
 }
 
-/// The command that a word names, byte for byte.
+/// The command that an argument names, byte for byte.
 #[tactic(auto, unfolding(crate::specs::Arguments::command_named))]
 pub fn command_of(word: &str) -> Option<Command>
     ensures { result ≡ command_named word.now }

@@ -8,10 +8,10 @@ use cfgprogram::ending::{Ended, ended_with};
 use cfgshell::runtime;
 use std::rt::{Env, Files};
 
-/// Runs the program `cfgtool` over a runtime: [`run`](crate::run) on the words behind the program's name, over the
-/// runtime's files, its standard input under the name `-`, its standard output and its standard error. Words that are
-/// not UTF-8 are wrong usage. The status is 0 where a grammar is told, 1 where its text has errors, 2 where it was not
-/// read or not told, 3 where no memory was left.
+/// Runs the program `cfgtool` over a runtime: [`run`](crate::run) on the command-line arguments, over the
+/// runtime's files, its standard input under the name `-`, its standard output and its standard error. Arguments
+/// that aren't UTF-8 are wrong usage. The status is 0 if a grammar is printed; 1 if its text has errors; 2 if it couldn't be
+/// read or printed; 3 if memory ran out.
 pub fn run_over<R: Env + Files + Input + Print + Eprint + AllocGlobal>(rt: &R) -> Ended
     ensures { (ending : Ending) × (result.status ≡ status_of ending) }
 {
