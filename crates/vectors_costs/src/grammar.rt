@@ -8,10 +8,11 @@ use cfgrammar::TIdx;
 use cfgrammar::yacc::sentences::SentenceGenerator;
 use cfgrammar::yacc::{YaccFault, YaccGrammar, YaccKind, YaccOriginalActionKind};
 use std::cell::Cell;
+use vectors_rows::kind::kind_of;
+use vectors_rows::made::{Writer, write_made};
 use vectors_rows::page::Page;
 use vectors_rows::row::Row;
 use vectors_rows::{pen, text};
-use vectors_trees::read::kind_of;
 
 /// Writes a row's text, unless the row is brief, and the results for its costs.
 pub fn tell(out: &mut Page, row: &Row<'_>, text: &str) {
@@ -20,15 +21,26 @@ pub fn tell(out: &mut Page, row: &Row<'_>, text: &str) {
     if row.first("show") != Some("brief") {
         text::write_text(out, text);
     }
-    tell_text(out, row, kind, text);
+    let grammar = YaccGrammar::new(out.alloc, kind, text);
+    write_made(out, &Asked { row }, grammar);
 }
 
-/// Writes the results for the costs of a text's grammar, if it has one.
-fn tell_text(out: &mut Page, row: &Row<'_>, kind: YaccKind, text: &str) {
-    match YaccGrammar::new(out.alloc, kind, text) {
-        Ok(grammar) => tell_grammar(out, row, &grammar),
-        Err(YaccFault::Errors(_)) => out.push_str("no grammar\n"),
-        Err(YaccFault::OutOfMemory) => out.tear(),
+/// A row that asks what sentences of its text's grammar cost.
+#[derive(Drop)]
+struct Asked<'a> {
+    row: &'a Row<'a>,
+}
+
+impl Writer<YaccGrammar<u32>, YaccFault> for Asked<'_> {
+    fn write(&self, out: &mut Page, grammar: &mut YaccGrammar<u32>) {
+        tell_grammar(out, self.row, grammar);
+    }
+
+    fn refuse(&self, out: &mut Page, fault: &YaccFault) {
+        match fault {
+            YaccFault::Errors(_) => out.push_str("no grammar\n"),
+            YaccFault::OutOfMemory => out.tear(),
+        }
     }
 }
 

@@ -5,11 +5,12 @@ use crate::{accessors, names, openings, paths, rendered, starts, tables};
 use cfgrammar::yacc::ast::ASTWithValidityInfo;
 use cfgrammar::yacc::{YaccFault, YaccGrammar, YaccGrammarError, YaccGrammarResult, YaccKind};
 use std::alloc::Global;
+use vectors_rows::kind::kind_of;
 use vectors_rows::made::{Writer, write_made};
 use vectors_rows::page::Page;
 use vectors_rows::row::{Row, numbers};
 use vectors_rows::{pen, text};
-use vectors_trees::read::{kind_of, parse};
+use vectors_trees::read::parse;
 use vectors_trees::{cuts, errors, syntax, warnings};
 
 /// The message if a text that names no kind doesn't have just these errors.

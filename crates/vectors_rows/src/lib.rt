@@ -4,6 +4,7 @@
 pub mod digest;
 pub mod files;
 pub mod indices;
+pub mod kind;
 pub mod made;
 pub mod page;
 pub mod pen;
