@@ -11,36 +11,18 @@ use cfgrammar::yacc::grammar::Productions;
 use cfgrammar::{PIdx, RIdx, Storage, Symbol, TIdx, Vob};
 use std::alloc::{AllocError, Global};
 
-/// The FIRST sets of a grammar.
-pub fn firsts<S: Storage>(
+/// The FIRST and the FOLLOW sets of a grammar, by its own calls and by those of the sets.
+pub fn sets<S: Storage>(
     alloc: Global,
     grammar: &YaccGrammar<S>,
-) -> Result<YaccFirsts<S>, AllocError> {
-    grammar.firsts(alloc)
-}
-
-/// The FOLLOW sets of a grammar.
-pub fn follows<S: Storage>(
-    alloc: Global,
-    grammar: &YaccGrammar<S>,
-) -> Result<YaccFollows<S>, AllocError> {
-    grammar.follows(alloc)
-}
-
-/// The FIRST sets, by their own constructor.
-pub fn new_firsts<S: Storage>(
-    alloc: Global,
-    grammar: &YaccGrammar<S>,
-) -> Result<YaccFirsts<S>, AllocError> {
-    YaccFirsts::new(alloc, grammar)
-}
-
-/// The FOLLOW sets, by their own constructor.
-pub fn new_follows<S: Storage>(
-    alloc: Global,
-    grammar: &YaccGrammar<S>,
-) -> Result<YaccFollows<S>, AllocError> {
-    YaccFollows::new(alloc, grammar)
+) -> (
+    [Result<YaccFirsts<S>, AllocError>; 2],
+    [Result<YaccFollows<S>, AllocError>; 2],
+) {
+    (
+        [grammar.firsts(alloc), YaccFirsts::new(alloc, grammar)],
+        [grammar.follows(alloc), YaccFollows::new(alloc, grammar)],
+    )
 }
 
 /// The FIRST sets, from productions that are opened and counted.

@@ -21,9 +21,21 @@ pub fn kinds() -> [YaccKind; 5] {
     ]
 }
 
-/// A file that is read.
-pub fn read(alloc: Global, kind: YaccKind, text: &str) -> Result<ASTWithValidityInfo, AllocError> {
-    ASTWithValidityInfo::new(alloc, kind, text)
+/// A file that is read: as a kind, as the one that it names, and as that or else as a default.
+pub fn read(
+    alloc: Global,
+    kind: YaccKind,
+    text: &str,
+) -> (
+    Result<ASTWithValidityInfo, AllocError>,
+    YaccGrammarResult<ASTWithValidityInfo>,
+    YaccGrammarResult<(ASTWithValidityInfo, KindSource)>,
+) {
+    (
+        ASTWithValidityInfo::new(alloc, kind, text),
+        ASTWithValidityInfo::from_str(alloc, text),
+        ASTWithValidityInfo::from_str_or(alloc, kind, text),
+    )
 }
 
 /// What was found out about a file.
@@ -37,32 +49,23 @@ pub fn found(parsed: &ASTWithValidityInfo) -> (YaccKind, bool) {
     )
 }
 
-/// The warnings of a file.
-pub fn warnings(alloc: Global, ast: &GrammarAST) -> Result<Vec<YaccGrammarWarning>, AllocError> {
-    ast.warnings(alloc)
-}
-
-/// A file that names its kind.
-pub fn read_as_named(alloc: Global, text: &str) -> YaccGrammarResult<ASTWithValidityInfo> {
-    ASTWithValidityInfo::from_str(alloc, text)
-}
-
-/// A file that is read as `default` if it names no kind.
-pub fn read_as_named_or(
+/// The warnings of a file, what was read of it with another start rule, and copies of that and of its tree.
+pub fn made(
     alloc: Global,
-    default: YaccKind,
-    text: &str,
-) -> YaccGrammarResult<(ASTWithValidityInfo, KindSource)> {
-    ASTWithValidityInfo::from_str_or(alloc, default, text)
-}
-
-/// What was read, with another start rule.
-pub fn with_start(
     parsed: &ASTWithValidityInfo,
-    alloc: Global,
     rule: Rule,
-) -> Result<ASTWithValidityInfo, StartFault> {
-    parsed.clone_and_change_start_rule(alloc, rule)
+) -> (
+    Result<Vec<YaccGrammarWarning>, AllocError>,
+    Result<ASTWithValidityInfo, StartFault>,
+    Result<ASTWithValidityInfo, AllocError>,
+    Result<GrammarAST, AllocError>,
+) {
+    (
+        parsed.ast().warnings(alloc),
+        parsed.clone_and_change_start_rule(alloc, rule),
+        parsed.clone(),
+        parsed.ast().clone(),
+    )
 }
 
 /// Why it can't have another start rule.
@@ -71,16 +74,6 @@ pub fn start_error(fault: &StartFault) -> Option<&ASTModificationError> {
         StartFault::Modification(error) => Some(error),
         StartFault::OutOfMemory => None,
     }
-}
-
-/// A copy of what was read.
-pub fn copy(parsed: &ASTWithValidityInfo) -> Result<ASTWithValidityInfo, AllocError> {
-    parsed.clone()
-}
-
-/// A copy of its tree.
-pub fn tree_copy(ast: &GrammarAST) -> Result<GrammarAST, AllocError> {
-    ast.clone()
 }
 
 /// The first error of a file.
@@ -101,11 +94,15 @@ pub fn first_error(fault: &YaccFault) -> Option<(bool, bool, Option<Span>)> {
     }
 }
 
-/// A caller's own error, and its copy.
-pub fn own_error(kind: YaccGrammarErrorKind, spans: Vec<Span>) -> Result<bool, AllocError> {
-    let error: YaccGrammarError = YaccGrammarError::new(kind, spans);
+/// An error of one's own.
+pub fn own_error(kind: YaccGrammarErrorKind, spans: Vec<Span>) -> YaccGrammarError {
+    YaccGrammarError::new(kind, spans)
+}
+
+/// A copy of an error.
+pub fn is_copied(error: &YaccGrammarError) -> Result<bool, AllocError> {
     let same: YaccGrammarError = error.clone()?;
-    Ok(error == same)
+    Ok(*error == same)
 }
 
 /// Whether a warning is about a rule.

@@ -1,12 +1,13 @@
-//! Every type and every call of the library, written as users may write them, by their paths in `cfgrammar`. Nothing
-//! here runs: it shows that these compile and are proved.
+//! Every type and every call of the library, written out as its users may write them, by their paths in `cfgrammar`.
+//! Nothing here runs, and nothing is for other crates: that it compiles and is proved is what it shows. What calls make
+//! is returned, since a crate proves of each type that it drops how that is dropped.
 #![tactic(auto)]
 
-pub mod analyses;
-pub mod files;
-pub mod marks;
-pub mod sections;
-pub mod sentences;
-pub mod spans;
-pub mod tables;
-pub mod trees;
+mod analyses;
+mod files;
+mod marks;
+mod sections;
+mod sentences;
+mod spans;
+mod tables;
+mod trees;

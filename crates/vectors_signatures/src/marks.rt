@@ -6,49 +6,37 @@ use cfgrammar::markmap::{
 };
 use std::alloc::{AllocError, Global};
 
-/// The calls of a map that don't allocate.
-pub fn asked(map: &mut MarkMap<u32, String>, key: u32) -> bool {
-    map.set_default_merge_behavior(MergeBehavior::Ours);
-    let flags: (bool, bool, bool) = (
-        map.is_required(&key),
-        map.is_used(&key),
-        map.contains_key(&key),
-    );
-    let value: Option<&String> = map.get(&key);
-    let found: bool = value.is_some();
-    let removed: Option<String> = map.remove(&key);
-    found && flags.0 && flags.1 && flags.2 && removed.is_some()
-}
-
 /// A map without keys.
 pub fn empty(alloc: Global) -> MarkMap<u32, String> {
     MarkMap::new(alloc)
 }
 
-/// The calls of a map that may allocate.
-pub fn marked(map: &mut MarkMap<u32, String>, key: u32) -> Result<(), AllocError> {
+/// The calls of a map that mark keys and ask for them.
+pub fn asked(map: &mut MarkMap<u32, String>, key: u32) -> Result<(bool, bool, bool), AllocError> {
+    map.set_default_merge_behavior(MergeBehavior::Ours);
     map.mark_used(&key)?;
     map.mark_required(&key)?;
-    map.set_merge_behavior(&key, MergeBehavior::MutuallyExclusive)
+    map.set_merge_behavior(&key, MergeBehavior::MutuallyExclusive)?;
+    let value: Option<&String> = map.get(&key);
+    let found: bool = value.is_some() && map.contains_key(&key);
+    Ok((found, map.is_required(&key), map.is_used(&key)))
 }
 
-/// The keys that have a value and weren't used.
-pub fn unused(alloc: Global, map: &MarkMap<u32, String>) -> Result<Vec<u32>, AllocError> {
-    map.unused(alloc)
+/// The lists of a map's keys: those that hold a value and weren't used, and those that are required and hold none.
+pub fn listed(
+    alloc: Global,
+    map: &MarkMap<u32, String>,
+) -> (Result<Vec<u32>, AllocError>, Result<Vec<&u32>, AllocError>) {
+    (map.unused(alloc), map.missing(alloc))
 }
 
-/// The keys that are required and have no value.
-pub fn missing(alloc: Global, map: &MarkMap<u32, String>) -> Result<Vec<&u32>, AllocError> {
-    map.missing(alloc)
-}
-
-/// A value inserted under a key.
+/// A value put under a key, and one taken from it.
 pub fn inserted(
     map: &mut MarkMap<u32, String>,
     key: u32,
     value: String,
-) -> Result<Option<String>, (u32, String)> {
-    map.insert(key, value)
+) -> (Option<String>, Result<Option<String>, (u32, String)>) {
+    (map.remove(&key), map.insert(key, value))
 }
 
 /// The entries of a map.
@@ -78,18 +66,18 @@ pub fn entered(
     }
 }
 
-/// A vacant entry, marked and then filled.
-pub fn filled(map: &mut MarkMap<u32, String>, key: u32, value: String) -> Result<(), AllocError> {
-    match map.entry(key) {
-        Entry::Vacant(entry) => {
-            let mut entry: VacantEntry<'_, u32, String> = entry;
-            entry.mark_required()?;
-            entry.set_merge_behavior(MergeBehavior::Ours)?;
-            let _filled: Result<&mut String, (u32, String)> = entry.insert(value);
-            Ok(())
-        }
-        Entry::Occupied(_) => Ok(()),
-    }
+/// The entry of a key that holds no value, marked.
+pub fn marked(entry: &mut VacantEntry<'_, u32, String>) -> Result<(), AllocError> {
+    entry.mark_required()?;
+    entry.set_merge_behavior(MergeBehavior::Ours)
+}
+
+/// The entry of a key that holds no value, filled.
+pub fn filled<'a>(
+    entry: VacantEntry<'a, u32, String>,
+    value: String,
+) -> Result<&'a mut String, (u32, String)> {
+    entry.insert(value)
 }
 
 /// The keys of a map, and its entries.

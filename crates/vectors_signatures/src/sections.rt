@@ -15,13 +15,7 @@ pub fn section(alloc: Global, text: &str) -> Result<(Header<Span>, usize), Heade
     parser.parse(alloc)
 }
 
-/// What a header is.
-pub fn keys_of(header: &Header<Span>) -> bool {
-    let map: &MarkMap<String, HeaderValue<Span>> = header;
-    map.keys().next().is_some()
-}
-
-/// The entry of a section at an offset, if that is a character boundary.
+/// The entry of a section at an offset, where a character begins there.
 pub fn entry(
     alloc: Global,
     text: &str,
@@ -32,6 +26,12 @@ pub fn entry(
     } else {
         None
     }
+}
+
+/// What a header is.
+pub fn keys_of(header: &Header<Span>) -> bool {
+    let map: &MarkMap<String, HeaderValue<Span>> = header;
+    map.keys().next().is_some()
 }
 
 /// Why a section has no map.
@@ -67,22 +67,22 @@ pub fn number_of<T: Copy>(value: &HeaderValue<T>) -> Option<(u64, T)> {
     }
 }
 
-/// Where a value is, as a location.
-pub fn header_value_of(
+/// Values and settings with locations in place of spans.
+pub fn located(
     alloc: Global,
-    value: &HeaderValue<Span>,
-) -> Result<HeaderValue<Location>, AllocError> {
-    value.to_location(alloc)
-}
-
-/// The same for a value.
-pub fn value_of(alloc: Global, value: &Value<Span>) -> Result<Value<Location>, AllocError> {
-    value.to_location(alloc)
-}
-
-/// The same for a setting.
-pub fn setting_of(alloc: Global, setting: &Setting<Span>) -> Result<Setting<Location>, AllocError> {
-    setting.to_location(alloc)
+    header_value: &HeaderValue<Span>,
+    value: &Value<Span>,
+    setting: &Setting<Span>,
+) -> (
+    Result<HeaderValue<Location>, AllocError>,
+    Result<Value<Location>, AllocError>,
+    Result<Setting<Location>, AllocError>,
+) {
+    (
+        header_value.to_location(alloc),
+        value.to_location(alloc),
+        setting.to_location(alloc),
+    )
 }
 
 /// The location that represents a value, and whether two values are the same.

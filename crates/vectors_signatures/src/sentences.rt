@@ -42,26 +42,21 @@ pub fn costs<S: Storage>(
     }
 }
 
-/// The first minimal sentence of a rule.
-pub fn first_minimal<S: Storage>(
+/// The minimal sentences of a rule: the first, and all.
+pub fn minimal<S: Storage>(
     alloc: Global,
     generator: &SentenceGenerator<'_, S>,
     rule: RIdx<S>,
-) -> Result<Vec<TIdx<S>>, SentenceError>
+) -> (
+    Result<Vec<TIdx<S>>, SentenceError>,
+    Result<Vec<Vec<TIdx<S>>>, SentenceError>,
+)
     requires { S.number rule.0 < generator.now.grammar.rules }
 {
-    generator.min_sentence(alloc, rule)
-}
-
-/// All minimal sentences of a rule.
-pub fn all_minimal<S: Storage>(
-    alloc: Global,
-    generator: &SentenceGenerator<'_, S>,
-    rule: RIdx<S>,
-) -> Result<Vec<Vec<TIdx<S>>>, SentenceError>
-    requires { S.number rule.0 < generator.now.grammar.rules }
-{
-    generator.min_sentences(alloc, rule)
+    (
+        generator.min_sentence(alloc, rule),
+        generator.min_sentences(alloc, rule),
+    )
 }
 
 /// Whether a rule has no minimal sentence.

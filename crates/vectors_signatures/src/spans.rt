@@ -1,7 +1,5 @@
 //! Spans, locations, indices, the numbers that store them, lists of bits, lines and columns.
 
-ghost use Rattle.std.specs.Prelude.{◌<◌, ◌≤◌, ◌≡◌, length};
-
 use cfgrammar::{
     FeedError, Location, NewlineCache, PIdx, RIdx, SIdx, Span, Spanned, SpansKind, Storage, Symbol,
     TIdx, Vob, newlinecache, span,
@@ -9,51 +7,60 @@ use cfgrammar::{
 use std::alloc::{AllocError, Global};
 use std::hash::{Hash, Hasher};
 
-/// A span, and where it is.
-pub fn span_parts(start: usize, end: usize) -> (usize, usize, usize, bool)
-    requires { start ≤ end }
-{
-    let span: Span = Span::new(start, end);
+/// A span, and where a location is.
+pub fn span_parts(len: usize, location: &Location) -> (usize, usize, usize, bool) {
+    let span: Span = Span::new(0, len);
     let same: span::Span = span;
-    let _copied: bool = span == same;
-    let location: Location = Location::from(span);
-    let _located: span::Location = Location::Span(same);
     match location {
-        Location::Span(at) => (at.start(), at.end(), at.len(), at.is_empty()),
+        Location::Span(at) => (
+            at.start(),
+            at.end(),
+            at.len(),
+            at.is_empty() && span == same,
+        ),
         Location::CommandLine | Location::Other(_) => (0, 0, 0, true),
     }
 }
 
-/// Another location.
-pub fn place(alloc: Global, name: &str) -> Result<bool, AllocError> {
-    let other: Location = Location::Other(String::from_str(alloc, name)?);
-    let same: Location = other.clone()?;
-    Ok(same == other || same == Location::CommandLine)
+/// Locations.
+pub fn places(span: Span, script: String) -> [Location; 4] {
+    let located: span::Location = Location::Span(span);
+    [
+        located,
+        Location::from(span),
+        Location::Other(script),
+        Location::CommandLine,
+    ]
+}
+
+/// A copy of a location.
+pub fn is_copied(location: &Location) -> Result<bool, AllocError> {
+    let same: Location = location.clone()?;
+    Ok(same == *location)
 }
 
 /// What has spans.
-pub fn first_span<E: Spanned>(
-    alloc: Global,
-    error: &E,
-) -> Result<(String, Option<Span>, bool), AllocError> {
+pub fn first_span<E: Spanned>(error: &E) -> (Option<Span>, bool) {
     let spans: &[Span] = error.spans();
     let kind: SpansKind = error.spanskind();
     let is_duplicate: bool = matches!(kind, SpansKind::DuplicationError)
         || kind != SpansKind::Error;
-    Ok((
-        format!(in alloc; "{error}")?,
-        spans.first().copied(),
-        is_duplicate,
-    ))
+    (spans.first().copied(), is_duplicate)
 }
 
-/// Indices, and what is stored in them.
-pub fn indices<S: Storage>(
+/// The text of what has spans.
+pub fn shown<E: Spanned>(alloc: Global, error: &E) -> Result<String, AllocError> {
+    format!(in alloc; "{error}")
+}
+
+/// Indices, all their conversions, and symbols of productions.
+pub fn indices<S: Storage, H: Hasher>(
     rule: RIdx<S>,
     production: PIdx<S>,
     symbol: SIdx<S>,
     token: TIdx<S>,
-) -> (usize, u32, bool) {
+    hasher: &mut H,
+) -> ([usize; 4], [u32; 4], bool) {
     let stored: (S, S, S, S) = (
         rule.as_storaget(),
         production.as_storaget(),
@@ -62,21 +69,11 @@ pub fn indices<S: Storage>(
     );
     let by_number: bool = rule <= RIdx(stored.0)
         && production == PIdx(stored.1)
-        && symbol == SIdx(stored.2);
-    (
-        usize::from(rule),
-        u32::from(token),
-        by_number && token == TIdx(stored.3),
-    )
-}
-
-/// All conversions of indices.
-pub fn numbers<S: Storage>(
-    rule: RIdx<S>,
-    production: PIdx<S>,
-    symbol: SIdx<S>,
-    token: TIdx<S>,
-) -> ([usize; 4], [u32; 4]) {
+        && symbol == SIdx(stored.2)
+        && token == TIdx(stored.3);
+    let symbols: (Symbol<S>, Symbol<S>) = (Symbol::Rule(rule), Symbol::Token(token));
+    symbols.0.hash(hasher);
+    rule.hash(hasher);
     let numbers: [usize; 4] = [
         usize::from(rule),
         usize::from(production),
@@ -89,15 +86,7 @@ pub fn numbers<S: Storage>(
         u32::from(symbol),
         u32::from(token),
     ];
-    (numbers, halves)
-}
-
-/// A symbol of a production.
-pub fn symbol_of<S: Storage, H: Hasher>(rule: RIdx<S>, token: TIdx<S>, hasher: &mut H) -> bool {
-    let symbols: (Symbol<S>, Symbol<S>) = (Symbol::Rule(rule), Symbol::Token(token));
-    symbols.0.hash(hasher);
-    rule.hash(hasher);
-    symbols.0 == symbols.1
+    (numbers, halves, by_number && symbols.0 == symbols.1)
 }
 
 /// A number that an index type stores.
@@ -116,43 +105,48 @@ pub fn stored<S: Storage>(number: usize) -> Option<usize> {
 }
 
 /// A list of bits.
-pub fn bits(alloc: Global, len: usize) -> Result<(usize, bool), AllocError>
-    requires { 0 < len }
-{
-    let mut bits: Vob = Vob::from_elem(alloc, false, len)?;
-    let others: Vob = Vob::from_elem(alloc, true, len)?;
-    let changed: bool = bits.set(0, true);
-    let first: Option<bool> = bits.get(0);
-    let more: bool = bits.or(&others);
-    Ok((
-        bits.len(),
-        changed && first == Some(true) && more && bits == others,
-    ))
+pub fn bits(alloc: Global, len: usize) -> Result<Vob, AllocError> {
+    Vob::from_elem(alloc, false, len)
 }
 
-/// The lines of a text.
-pub fn lines(
+/// The calls of a list of bits that take no memory.
+pub fn bit_calls(bits: &mut Vob, others: &Vob) -> (usize, bool) {
+    let first: Option<bool> = bits.get(0);
+    let changed: bool = bits.len() > 0 && bits.set(0, true);
+    let more: bool = bits.len() == others.len() && bits.or(others);
+    (
+        bits.len(),
+        first == Some(changed) && more && *bits == *others,
+    )
+}
+
+/// A cache of the lines of a text that comes in pieces.
+pub fn lines_of_pieces(alloc: Global, pieces: &[&str]) -> Result<NewlineCache, FeedError> {
+    NewlineCache::from_pieces(alloc, pieces.iter().copied())
+}
+
+/// The line and the column of a byte.
+pub fn position(
     alloc: Global,
     text: &str,
-    span: Span,
-) -> Result<(Option<usize>, (usize, usize)), FeedError> {
-    let mut cache: NewlineCache = NewlineCache::new(alloc);
-    cache.feed(text)?;
-    let line: Option<usize> = cache.byte_to_line_num(span.start());
-    let begins: Option<usize> = cache.byte_to_line_byte(span.start());
+    byte: usize,
+) -> Result<Option<(usize, usize)>, FeedError> {
     let whole: newlinecache::NewlineCache = NewlineCache::from_str(alloc, text)?;
-    let position: Option<(usize, usize)> = whole.byte_to_line_num_and_col_num(text, span.end());
-    match (line.or(begins), position) {
-        (None, Some((line, _))) => Ok((Some(line), cache.span_line_bytes(span))),
-        (line, _) => Ok((line, cache.span_line_bytes(span))),
-    }
+    let position: Option<(usize, usize)> = whole.byte_to_line_num_and_col_num(text, byte);
+    Ok(position)
 }
 
-/// The lines of a text that comes in pieces.
-pub fn lines_of_pieces(alloc: Global, pieces: &[&str]) -> Result<NewlineCache, FeedError> {
-    match NewlineCache::from_pieces(alloc, pieces.iter().copied()) {
-        Err(FeedError::TooLong) => Ok(NewlineCache::new(alloc)),
-        Err(FeedError::OutOfMemory) => Err(FeedError::OutOfMemory),
-        Ok(cache) => Ok(cache),
-    }
+/// The lines of a span, by a cache that is fed a text.
+pub fn lines(alloc: Global, text: &str, span: Span) -> (Option<usize>, (usize, usize)) {
+    let mut cache: NewlineCache = NewlineCache::new(alloc);
+    let is_fed: bool = match cache.feed(text) {
+        Ok(()) => true,
+        Err(FeedError::TooLong | FeedError::OutOfMemory) => false,
+    };
+    let line: Option<usize> = cache.byte_to_line_num(span.start());
+    let begins: Option<usize> = cache.byte_to_line_byte(span.start());
+    (
+        if is_fed { line } else { begins },
+        cache.span_line_bytes(span),
+    )
 }

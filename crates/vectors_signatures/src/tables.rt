@@ -7,31 +7,24 @@ use cfgrammar::{PIdx, RIdx, SIdx, Span, Storage, Symbol, TIdx};
 use std::alloc::{AllocError, Global};
 use std::collections::HashMap;
 
-/// The grammar of a text.
-pub fn made(alloc: Global, kind: YaccKind, text: &str) -> YaccGrammarResult<YaccGrammar<u32>> {
-    YaccGrammar::<u32>::new(alloc, kind, text)
-}
-
-/// The grammar of a text, over an index type.
-pub fn made_over<S: Storage>(
+/// The grammars of a text and of what was read of it: over index types, and as the kind that the text names.
+pub fn made<S: Storage>(
     alloc: Global,
     kind: YaccKind,
     text: &str,
-) -> YaccGrammarResult<YaccGrammar<S>> {
-    YaccGrammar::<S>::new_with_storaget(alloc, kind, text)
-}
-
-/// The grammar of what was read.
-pub fn made_from<S: Storage>(
-    alloc: Global,
     parsed: &ASTWithValidityInfo,
-) -> YaccGrammarResult<grammar::YaccGrammar<S>> {
-    grammar::YaccGrammar::new_from_ast_with_validity_info(alloc, parsed)
-}
-
-/// The grammar of a text that names its kind.
-pub fn made_as_named<S: Storage>(alloc: Global, text: &str) -> YaccGrammarResult<YaccGrammar<S>> {
-    YaccGrammar::from_str(alloc, text)
+) -> (
+    YaccGrammarResult<YaccGrammar<u32>>,
+    YaccGrammarResult<YaccGrammar<S>>,
+    YaccGrammarResult<grammar::YaccGrammar<S>>,
+    YaccGrammarResult<YaccGrammar<S>>,
+) {
+    (
+        YaccGrammar::<u32>::new(alloc, kind, text),
+        YaccGrammar::<S>::new_with_storaget(alloc, kind, text),
+        grammar::YaccGrammar::new_from_ast_with_validity_info(alloc, parsed),
+        YaccGrammar::from_str(alloc, text),
+    )
 }
 
 /// The sizes of the tables, and the first index of each.
@@ -132,12 +125,9 @@ pub fn named_tokens(alloc: Global, grammar: &YaccGrammar<u32>) -> Result<usize, 
 pub fn shown<S: Storage>(
     alloc: Global,
     grammar: &YaccGrammar<S>,
-) -> Result<(String, bool), AllocError> {
-    let text: String = grammar.pp_prod(alloc, grammar.start_prod())?;
-    let has_path: bool = grammar.has_path(
-        alloc,
-        grammar.start_rule_idx(),
-        grammar.start_rule_idx(),
-    )?;
-    Ok((text, has_path))
+) -> (Result<String, AllocError>, Result<bool, AllocError>) {
+    let text: Result<String, AllocError> = grammar.pp_prod(alloc, grammar.start_prod());
+    let start: RIdx<S> = grammar.start_rule_idx();
+    let has_path: Result<bool, AllocError> = grammar.has_path(alloc, start, start);
+    (text, has_path)
 }

@@ -7,7 +7,7 @@ use indexmap::{IndexMap, IndexSet};
 use std::alloc::{AllocError, Global};
 
 /// The rules, productions and tokens of a tree.
-pub fn parts(ast: &GrammarAST) -> bool {
+pub fn parts<'a>(ast: &'a GrammarAST, name: &str) -> Option<&'a Rule> {
     let start: &Option<(String, Span)> = ast.start();
     let rules: &IndexMap<String, Rule> = ast.rules();
     let prods: &[Production] = ast.prods();
@@ -15,10 +15,15 @@ pub fn parts(ast: &GrammarAST) -> bool {
     let tokens: &IndexSet<String> = ast.tokens();
     let spans: &[Span] = ast.spans();
     let expect_unused: &[Symbol] = ast.expect_unused();
-    start.is_some()
-        && rules.len() <= prods.len()
+    let is_small: bool = rules.len() <= prods.len()
         && token_directives.len() <= tokens.len()
-        && expect_unused.len() <= spans.len()
+        && expect_unused.len() <= spans.len();
+    let rule: Option<&'a Rule> = ast.get_rule(name);
+    if start.is_some() && is_small && ast.has_token(name) {
+        None
+    } else {
+        rule
+    }
 }
 
 /// What the file says of precedences and of tokens.
@@ -52,14 +57,8 @@ pub fn settings(ast: &GrammarAST) -> bool {
         && programs.is_some()
 }
 
-/// A rule of a tree, by its name.
-pub fn found<'a>(ast: &'a GrammarAST, name: &str) -> Option<&'a Rule> {
-    let rule: Option<&'a Rule> = ast.get_rule(name);
-    if ast.has_token(name) { None } else { rule }
-}
-
 /// The parts of rules and productions.
-pub fn held(rule: &Rule, production: &Production) -> Option<(String, String)> {
+pub fn held<'a>(rule: &'a Rule, production: &'a Production) -> Option<(&'a String, &'a String)> {
     let (_name, _span): &(String, Span) = &rule.name;
     let pidxs: &Vec<usize> = &rule.pidxs;
     let actiont: &Option<String> = &rule.actiont;
@@ -71,28 +70,40 @@ pub fn held(rule: &Rule, production: &Production) -> Option<(String, String)> {
         return None;
     }
     match (actiont, precedence, action) {
-        (Some(actiont), Some(precedence), Some(_)) => Some((
-            actiont.clone().ok()?,
-            precedence.clone().ok()?,
-        )),
+        (Some(actiont), Some(precedence), Some(_)) => Some((actiont, precedence)),
         _ => None,
     }
 }
 
 /// Copies of parts of a tree.
 pub fn copied(
-    alloc: Global,
     rule: &Rule,
     production: &Production,
-) -> Result<(bool, Option<String>), AllocError> {
-    let same: bool = rule.clone()? == *rule && production.clone()? == *production;
-    match production.symbols.first() {
-        Some(symbol) => match symbol.clone()? {
-            Symbol::Rule(name, span) => Ok((same && !span.is_empty(), Some(name))),
-            Symbol::Token(_, _) => Ok((same, Some(format!(in alloc; "{symbol}")?))),
-        },
-        None => Ok((same, None)),
+    symbol: &Symbol,
+) -> (
+    Result<Rule, AllocError>,
+    Result<Production, AllocError>,
+    Result<Symbol, AllocError>,
+) {
+    (rule.clone(), production.clone(), symbol.clone())
+}
+
+/// Whether parts of a tree are the same, and the name and the place of a symbol.
+pub fn named<'a>(
+    rules: (&Rule, &Rule),
+    productions: (&Production, &Production),
+    symbol: &'a Symbol,
+) -> (bool, &'a String, &'a Span) {
+    let same: bool = *rules.0 == *rules.1 && *productions.0 == *productions.1;
+    match symbol {
+        Symbol::Rule(name, span) => (same, name, span),
+        Symbol::Token(name, span) => (!same, name, span),
     }
+}
+
+/// What a symbol prints.
+pub fn shown(alloc: Global, symbol: &Symbol) -> Result<String, AllocError> {
+    format!(in alloc; "{symbol}")
 }
 
 /// A rule and its production, written into a tree.
@@ -101,7 +112,6 @@ pub fn written(
     name: (String, Span),
     actiont: Option<String>,
     symbols: Vec<Symbol>,
-    programs: (String, String),
 ) -> Result<(), AllocError> {
     let rule: String = name.0.clone()?;
     ast.add_rule(name, actiont)?;
@@ -111,8 +121,11 @@ pub fn written(
         None::<String>,
         None::<(String, Span)>,
         Span::new(0, 0),
-    )?;
+    )
+}
+
+/// The programs that are written into a tree.
+pub fn with_programs(ast: &mut GrammarAST, programs: (String, String)) {
     ast.set_programs(programs.0);
     ast.add_programs(programs.1);
-    Ok(())
 }
