@@ -161,7 +161,7 @@ def headline(found):
     if not pairs or not all(isinstance(it, float) for pair in pairs for it in pair):
         return ""
     times = sorted(theirs / ours for ours, theirs in pairs)
-    return (f"Reading, numbering and analysing {len(pairs)} grammars of languages takes the Rust crate {ratio(times[0])} to "
+    return (f"Reading, numbering and analysing ten grammars of languages takes the Rust crate {ratio(times[0])} to "
             f"{ratio(times[-1])} times as long ([by phases](docs/PERFORMANCE.md#compared-with-the-rust-crate)).")
 
 
