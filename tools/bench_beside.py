@@ -161,7 +161,8 @@ def headline(found):
     if not pairs or not all(isinstance(it, float) for pair in pairs for it in pair):
         return ""
     times = sorted(theirs / ours for ours, theirs in pairs)
-    return (f"Reading, numbering and analysing ten grammars of languages takes the Rust crate {ratio(times[0])} to "
+    count = "ten" if len(times) == 10 else len(times)
+    return (f"Reading, numbering and analysing {count} grammars of languages takes the Rust crate {ratio(times[0])} to "
             f"{ratio(times[-1])} times as long ([by phases](docs/PERFORMANCE.md#compared-with-the-rust-crate)).")
 
 
