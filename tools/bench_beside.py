@@ -30,6 +30,7 @@ RUNS = 7
 TURN = 1                                           # which size of a shape is taken, from 0
 COUNTED = {"chain": 1, "ladder": 1, "declarations": 1, "languages": 2}  # of how many texts instructions are counted
 SHORTEST = 0.02                                    # what both programs do in less than that has no ratio
+SLOWER = re.compile(r"×0\.\d+|^(?:over|no memory|status)[^/]*(?= / \d)")
 
 
 class Crate:
@@ -147,7 +148,7 @@ def table(bench, found, columns):
 def slower(bench, rows):
     """Where the crate is quicker, phase by phase."""
     head, *rest = rows
-    found = {column: [f"{row[0]} ×{it}" for row in rest for it in re.findall(r"×(0\.\d+)", row[at])]
+    found = {column: [f"{row[0]} {it[0]}" for row in rest for it in [SLOWER.search(row[at])] if it]
              for at, column in enumerate(head)}
     named = [[column, "; ".join(those)] for column, those in found.items() if those]
     if not named:
@@ -175,10 +176,10 @@ def page(bench, given):
     counting = bench.argparse.Namespace(**{**vars(given), "instructions": True, "runs": 1})
     counted = list(measured(bench, CountedCrate(program, 10 * given.seconds, None), counting, to_count(grammars)))
     times, counts = table(bench, found, COLUMNS), table(bench, counted, [it for it in COLUMNS if it != "every"])
-    about = (f"Measured on {time.strftime('%Y-%m-%d')} at the commit {bench.commit()}: {bench.machine()}; load {load:.1f} "
-             f"at the start and {os.getloadavg()[0]:.1f} at the end. {'' if given.driver else built_over()}")
-    what = (f"Milliseconds here / in the crate, the least of {given.runs} runs, and how many times as long the crate takes, "
-            f"if one of them takes {SHORTEST} or more:")
+    about = (f"Measured on {time.strftime('%Y-%m-%d')} at the commit {bench.commit()}: {bench.machine()}; load "
+             f"{load:.1f} at the start and {os.getloadavg()[0]:.1f} at the end. {'' if given.driver else built_over()}")
+    what = (f"Milliseconds here / in the crate, the least of {given.runs} runs, and how many times as long the crate "
+            f"takes, if one of them takes {SHORTEST} or more:")
     return headline(found), [about, what, bench.markdown(times), slower(bench, times),
                              "Millions of instructions, likewise:", bench.markdown(counts), slower(bench, counts)]
 
