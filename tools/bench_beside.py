@@ -1,7 +1,7 @@
 """The tables of tools/bench --beside: how long the phases take here and in the Rust crate, side by side.
 
 Both programs go through the phases in a process for each run, and the least time counts. Where a phase takes the crate too long, a
-further run goes on after it."""
+further run goes on after it. Where shapes are named, their tables are printed, and no page is written."""
 import itertools
 import os
 import re
@@ -10,23 +10,27 @@ import sys
 import tempfile
 import time
 
-from beside_crate import ROOT, build
+from beside_crate import ROOT, build, built_over
 from explained import rows as rows_by_rules
 
 PAGE, README = f"{ROOT}/docs/PERFORMANCE.md", f"{ROOT}/README.md"
 BEGIN, END = "<!-- tools/bench --beside -->\n", "<!-- end of tools/bench --beside -->\n"
 THERE = ["reading", "tables", "firsts", "follows", "path", "greatest", "least", "min_sentence", "min_sentences", "every"]
 NEED_LEAST = {"min_sentence", "min_sentences", "every"}
-# the phases that a column sums up, here and in the crate, which computes costs when they are requested
-COLUMNS = {
+# the phases that a column takes together, here and in the crate, which finds costs when they are asked for
+PARTS = {
     "reading": (["reading"], ["reading"]), "tables": (["tables"], ["tables"]), "FIRST": (["firsts"], ["firsts"]),
     "FOLLOW": (["follows"], ["follows"]), "path": (["path"], ["path"]),
     "costs": (["generator", "max_sentence_cost"], ["least", "greatest"]), "sentence": (["min_sentence"], ["min_sentence"]),
     "sentences": (["min_sentences"], ["min_sentences"]), "every": (["every"], ["every"]),
 }
+WHOLE = ["reading", "tables", "FIRST", "FOLLOW", "costs"]
+COLUMNS = {"whole": tuple(sum(phases, []) for phases in zip(*(PARTS[it] for it in WHOLE))), **PARTS}
+RUNS = 7
 TURN = 1                                           # which size of a shape is taken, from 0
-TO_ANALYSE = ["reading", "tables", "FIRST", "FOLLOW", "costs"]
+COUNTED = {"chain": 1, "ladder": 1, "declarations": 1, "languages": 2}  # of how many texts instructions are counted
 SHORTEST = 0.02                                    # what both programs do in less than that has no ratio
+SLOWER = re.compile(r"×0\.\d+|^(?:over|no memory|status)[^/]*(?= / \d)")
 
 
 class Crate:
@@ -36,7 +40,7 @@ class Crate:
         self.program, self.seconds, self.before = program, seconds, before
 
     def run(self, words):
-        """The lines that a run printed, and why it failed if it did."""
+        """What a run wrote, line by line, and why it ended, unless it ended well."""
         with tempfile.TemporaryFile("w+") as out:
             try:
                 ran = subprocess.run(words, stdout=out, stderr=subprocess.DEVNULL, timeout=self.seconds, preexec_fn=self.before)
@@ -47,7 +51,7 @@ class Crate:
             return out.read().splitlines(), why
 
     def once(self, file, phases):
-        """The results of one run on these phases, and why it ended before the last."""
+        """What one run wrote of these phases, and why it ended before the last."""
         lines, why = self.run([self.program, "time", file, *phases])
         return {it[0]: int(it[2]) / 1000 for it in map(str.split, lines[1:])}, why
 
@@ -69,7 +73,7 @@ class Crate:
 
 
 class CountedCrate(Crate):
-    """The same in millions of instructions, as valgrind counts them between the lines that the program prints."""
+    """The same in millions of instructions, as valgrind counts them between what the program writes."""
 
     def once(self, file, phases):
         with tempfile.TemporaryDirectory() as room:
@@ -103,19 +107,26 @@ def ratio(times):
     return f"{times:.0f}" if times >= 10 else f"{times:.1f}" if times >= 1 else f"{times:.2f}"
 
 
-def texts(bench, shapes, turn):
+def texts(bench, shapes):
     """The texts of these shapes: the shape, what it is called, and the text."""
     for name in shapes:
         make, smallest, unit = bench.SHAPES[name]
         if name == "languages":
-            read = ((name, file, text) for file, text in make(None) if not rows_by_rules.errors_of("Original", text.encode())[1])
+            read = ((name, file, text) for file, text in make(None)
+                    if not rows_by_rules.errors_of("Original", text.encode())[1])
             yield from itertools.islice(read, smallest)
         else:
-            yield name, f"{name}, {smallest << turn:,} {unit}", make(smallest << turn)
+            yield name, f"{name}, {smallest << TURN:,} {unit}", make(smallest << TURN)
+
+
+def to_count(grammars):
+    """Those texts whose instructions are counted."""
+    return [it for shape, count in COUNTED.items() for it in [it for it in grammars if it[0] == shape][:count]]
 
 
 def measured(bench, crate, given, grammars):
-    """Of each text the shape, what it is called, how many bytes it has, and for each column what it takes here and in the crate."""
+    """Of each text the shape, what it is called, how many bytes it has, and for each column what it takes here and in
+    the crate."""
     for shape, title, text in grammars:
         print(f"bench: {title}", file=sys.stderr, flush=True)
         mine = {phase: it for phase, it in zip(bench.PHASES, bench.measure(shape, text, given)[0]) if it != "no answer"}
@@ -129,50 +140,66 @@ def measured(bench, crate, given, grammars):
 
 
 def table(bench, found, columns):
-    rows = [[title, f"{size / 1000:.0f}", *(cell(*both[it], bench.number) for it in columns)] for _, title, size, both in found]
+    rows = [[title, f"{size / 1000:.0f}", *(cell(*both[it], bench.number) for it in columns)]
+            for _, title, size, both in found]
     return [["grammar", "KB", *columns], *rows]
 
 
-def slower(rows):
-    """Where the crate is quicker."""
-    found = [f"{row[0]} ({column})" for row in rows[1:] for column, it in zip(rows[0], row) if re.search(r"×0\.", it)]
-    return f"Slower than in the crate: {'; '.join(found)}." if found else "Nothing here is slower than in the crate."
+def slower(bench, rows):
+    """Where the crate is quicker, phase by phase."""
+    head, *rest = rows
+    found = {column: [f"{row[0]} {it[0]}" for row in rest for it in [SLOWER.search(row[at])] if it]
+             for at, column in enumerate(head)}
+    named = [[column, "; ".join(those)] for column, those in found.items() if those]
+    if not named:
+        return "Nothing here is slower than in the crate."
+    return f"Slower than in the crate:\n\n{bench.markdown([['phase', 'grammars'], *named])}"
 
 
 def headline(found):
-    """How many times as long the crate takes for whole grammars that people wrote."""
-    pairs = [[both[it] for it in TO_ANALYSE] for shape, _, _, both in found if shape == "languages"]
-    if not pairs or not all(isinstance(it, float) for of_one in pairs for pair in of_one for it in pair):
+    """How many times as long the crate takes for grammars that people wrote."""
+    pairs = [both["whole"] for shape, _, _, both in found if shape == "languages"]
+    if not pairs or not all(isinstance(it, float) for pair in pairs for it in pair):
         return ""
-    times = sorted(sum(theirs for _, theirs in of_one) / sum(ours for ours, _ in of_one) for of_one in pairs)
-    return (f"To read, number and analyse a grammar, the Rust crate takes {ratio(times[0])} to {ratio(times[-1])} times as long, by ten "
-            "grammars of real languages.")
+    times = sorted(theirs / ours for ours, theirs in pairs)
+    count = "ten" if len(times) == 10 else len(times)
+    return (f"Reading, numbering and analysing {count} grammars of languages takes the Rust crate {ratio(times[0])} to "
+            f"{ratio(times[-1])} times as long ([by phases](docs/PERFORMANCE.md#compared-with-the-rust-crate)).")
 
 
 def page(bench, given):
-    """The tables, with the machine, as docs/PERFORMANCE.md has them, and the headline."""
-    program, load = given.driver or build(given.beside), os.getloadavg()[0]
+    """The headline, and the tables with the machine, as docs/PERFORMANCE.md has them."""
+    program = given.driver or build(given.beside)
+    load, grammars = os.getloadavg()[0], list(texts(bench, given.shapes or bench.SHAPES))
     crate = Crate(program, given.seconds, lambda: bench.limit(given.gigabytes))
-    found = list(measured(bench, crate, given, texts(bench, given.shapes or bench.SHAPES, TURN)))
+    found = list(measured(bench, crate, given, grammars))
     counting = bench.argparse.Namespace(**{**vars(given), "instructions": True, "runs": 1})
-    counted = list(measured(bench, CountedCrate(program, 10 * given.seconds, None), counting, texts(bench, bench.COUNTED, 0)))
-    times, counts = table(bench, found, list(COLUMNS)), table(bench, counted, list(COLUMNS)[:-1])
-    about = (f"Measured on {time.strftime('%Y-%m-%d')} at the commit {bench.commit()}: {bench.machine()}; load {load:.1f} at the start and "
-             f"{os.getloadavg()[0]:.1f} at the end. Milliseconds here / in the crate, the least of {given.runs} runs, and how many times as "
-             f"long the crate takes, where one of them takes {SHORTEST} or more:")
-    return [headline(found), about, bench.markdown(times), slower(times), "Millions of instructions, likewise:", bench.markdown(counts),
-            slower(counts)]
+    counted = list(measured(bench, CountedCrate(program, 10 * given.seconds, None), counting, to_count(grammars)))
+    times, counts = table(bench, found, COLUMNS), table(bench, counted, [it for it in COLUMNS if it != "every"])
+    about = (f"Measured on {time.strftime('%Y-%m-%d')} at the commit {bench.commit()}: {bench.machine()}; load "
+             f"{load:.1f} at the start and {os.getloadavg()[0]:.1f} at the end. {'' if given.driver else built_over()}")
+    what = (f"Milliseconds here / in the crate, the least of {given.runs} runs, and how many times as long the crate "
+            f"takes, if one of them takes {SHORTEST} or more:")
+    return headline(found), [about, what, bench.markdown(times), slower(bench, times),
+                             "Millions of instructions, likewise:", bench.markdown(counts), slower(bench, counts)]
 
 
 def put(file, text):
     """Puts a text between the marks in a file."""
     with open(file, encoding="utf-8") as it:
-        before, _, rest = it.read().partition(BEGIN)
+        before, begin, rest = it.read().partition(BEGIN)
+    if not begin or END not in rest:
+        sys.exit(f"bench: {file} has no marks for what is measured beside the crate")
     with open(file, "w", encoding="utf-8") as out:
         out.write(f"{before}{BEGIN}{text}{END}{rest.partition(END)[2]}")
 
 
-def write(paragraphs):
-    """Puts the tables into docs/PERFORMANCE.md, and the headline into README.md."""
-    put(PAGE, "".join(f"\n{it}\n" for it in paragraphs if it) + "\n")
-    put(README, f"{paragraphs[0]}\n" if paragraphs[0] else "")
+def write(bench, given):
+    """Puts the tables into docs/PERFORMANCE.md and the headline into README.md, and draws the picture."""
+    told, paragraphs = page(bench, given)
+    if given.shapes:
+        print("\n\n".join(paragraphs))
+        return
+    put(PAGE, "".join(f"\n{it.rstrip()}\n" for it in paragraphs) + "\n")
+    put(README, f"{told}\n" if told else "")
+    subprocess.run([f"{ROOT}/tools/picture"], check=True)

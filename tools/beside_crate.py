@@ -36,6 +36,19 @@ def build(original):
     return f'{COPY}/target/release/original'
 
 
+def built_over():
+    """By which compiler tools/original was built, and over which of the crate's dependencies."""
+    rustc = subprocess.run(['rustc', '--version'], capture_output=True, text=True, check=True).stdout.split()[1]
+    with open(f'{COPY}/project/Cargo.lock', encoding='utf-8') as it:
+        packages = it.read().split('[[package]]')
+    found = []
+    for name in ('indexmap', 'regex', 'vob'):
+        said = next(it for it in packages if f'name = "{name}"\n' in it)
+        version = re.search(r'version = "(.*)"', said)[1]
+        found.append(f'{name} {version}' if '\nsource = ' in said else f'a stand-in for {name} {version}')
+    return f'rustc {rustc} compiled the crate, by the release profile, over {", ".join(found[:-1])} and {found[-1]}.'
+
+
 def is_crate(folder):
     try:
         with open(f'{folder}/Cargo.toml', encoding='utf-8') as it:
