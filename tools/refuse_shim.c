@@ -1,13 +1,13 @@
-/* Preloaded by tools/refuse: a program's requests for memory are refused, each in a run of its own.
+/* Preloaded by tools/refuse: refuses a program's requests for memory, one in each run.
 
-   Each time that the program asks for memory, it is forked: the child's request is refused, and it goes on; what it then writes is
-   judged here, and its parent, whose request is granted, counts how that ended. So what stands before a request is run once, and
-   not again for each one.
+   The program of rows asks for a block of ROOM bytes for the answers of each row. So the run of a row begins there, and ends where
+   the row is written. The tool repeats a row as often as it has requests to refuse, and a table says which one is refused in which
+   run. How much is written in the block by then shows at which call that is. After the line `without memory` all requests are
+   refused from that one on, and the row has to be answered as ever.
 
-   The program of rows asks for a block of ROOM bytes for the answers of each row. Requests are refused from there on, until
-   the row is written, and how much is written in that block tells at which call a request was refused. Behind the line
-   `without memory` all requests are refused from the first one on, and the row has to be answered as ever. Another program is
-   refused its requests from the start. Nothing here asks for memory by malloc. */
+   A row that takes long isn't repeated: the program is forked at each of the requests. The child's request is refused, and what it
+   writes from there on is judged; its parent, whose request is granted, counts how that ended. So what comes before a request is
+   run once, and not again for each one. Another program is forked at each of its requests. Nothing here asks for memory by malloc. */
 #define _GNU_SOURCE
 #include <fcntl.h>
 #include <signal.h>
@@ -22,24 +22,29 @@
 #include <unistd.h>
 
 /* ROOM is that of crates/vectors_rows/src/files.rt. */
-enum { ROOM = 1048573, MOST_WRITTEN = 1 << 26, CHILD_SECONDS = 60 };
+enum { ROOM = 1048573, MOST_WRITTEN = 1 << 26, RUN_SECONDS = 60 };
 enum { TOLD = 41, UNNEEDED = 42, WRONG = 43 };
 
 void *__libc_malloc(size_t), *__libc_realloc(void *, size_t), *__libc_calloc(size_t, size_t), *__libc_memalign(size_t, size_t);
+void __libc_free(void *);
 
 static const char WANT[] = "out of memory\n", WITHOUT[] = "\nwithout memory\n";
 
-/* Of a row: its requests, the bytes of its answers, how long it takes, and that each stride-th request is refused; where rows
-   are counted, in place of that the requests behind the line `without memory`, or -1 where there is no such line. */
-typedef struct { long requests, bytes, micros, stride; } row_table;
+/* Of a row whose requests are counted: how many there are, the bytes of its answers, how long it takes, and how many requests come
+   after the line `without memory`, or -1 where there is no such line. */
+typedef struct { long requests, bytes, micros, without; } counted_row;
+
+/* Of a row whose requests are refused: where its answers begin, and their bytes; whether the program is forked; and which requests
+   are refused, in order. */
+typedef struct { long at, bytes, forks, count, refused[]; } tried_row;
 
 /* What the tool asks for: to count the requests of rows, to refuse those of rows, or to refuse those of a program. */
 static enum { NOTHING, COUNT, ROWS, PROGRAM } mode;
 static int results = -1, counts = -1, is_armed, is_child, rows_begun, wanted_status, is_without, refuses_all;
-static long share, shares, request, requests_without, written, row_at, told, unneeded, wrong;
+static long request, requests_without, written, begun_at, tried, told, unneeded, wrong;
 static char *block, *answers, *taken, *taken_errors;
 static size_t block_used, answers_len, taken_len, taken_errors_len;
-static row_table *rows, here;
+static const tried_row *here, *following, *end_of_table;
 
 static void say(const char *text) { syscall(SYS_write, results, text, strlen(text)); }
 
@@ -57,13 +62,13 @@ static void *room(size_t len)
     return it;
 }
 
-static char *contents(const char *path, size_t *len)
+static void *contents(const char *path, size_t *len)
 {
     struct stat is;
     int file = open(path, O_RDONLY | O_CLOEXEC);
     if (file < 0 || fstat(file, &is)) _exit(WRONG);
     *len = is.st_size;
-    char *it = is.st_size ? mmap(0, is.st_size, PROT_READ, MAP_PRIVATE, file, 0) : "";
+    void *it = is.st_size ? mmap(0, is.st_size, PROT_READ, MAP_PRIVATE, file, 0) : "";
     close(file);
     return it;
 }
@@ -83,9 +88,9 @@ static int is_text(const char *at, size_t len, const char *text) { return len ==
 static int is_wrong(const char *why, const char *from, size_t len)
 {
     char line[512];
-    const char *name = rows ? answers + row_at : "";
-    int name_len = rows ? strcspn(name, "\n") : 0;
-    snprintf(line, sizeof line, "wrong: %s: %.*s, request %ld, behind %zu bytes: %.*s\n", why, name_len > 100 ? 100 : name_len, name,
+    const char *name = here ? answers + here->at : "";
+    int name_len = here ? strcspn(name, "\n") : 0;
+    snprintf(line, sizeof line, "wrong: %s: %.*s, request %ld, after %zu bytes: %.*s\n", why, name_len > 100 ? 100 : name_len, name,
              request, block_used, (int)(len > 200 ? 200 : len), from);
     for (char *it = line; it[0] && it[1]; it++)
         if (*it == '\n') *it = '|';
@@ -97,8 +102,8 @@ static int is_wrong(const char *why, const char *from, size_t len)
    that stood before that call, and all that is answered from there on. */
 static int judge_row(void)
 {
-    const char *whole = answers + row_at, *got = taken;
-    size_t len = here.bytes, head = strcspn(whole, "\n") + 1 + block_used, got_len = taken_len;
+    const char *whole = answers + here->at, *got = taken;
+    size_t len = here->bytes, head = strcspn(whole, "\n") + 1 + block_used, got_len = taken_len;
     if (got_len == len && !memcmp(got, whole, len)) return UNNEEDED;
     size_t begins = 0;
     while (begins < got_len && begins < len && got[begins] == whole[begins]) begins++;
@@ -133,23 +138,31 @@ static int judge_program(int status)
     return is_wrong(why, taken_errors, taken_errors_len);
 }
 
+static void count(int judged)
+{
+    if (judged == TOLD) told++;
+    else if (judged == UNNEEDED) unneeded++;
+    else wrong++;
+}
+
+/* A request is refused, and those after it only where no call takes memory any more. */
+static int refuse(void)
+{
+    is_armed = 0, refuses_all = is_without;
+    alarm(RUN_SECONDS);
+    return 1;
+}
+
 /* Refuses a request in a child, and waits for what comes of it. Answers whether this is the child. */
-static int refused(void)
+static int refuse_in_child(void)
 {
     pid_t child = fork();
-    if (!child) {
-        is_child = 1, is_armed = 0, refuses_all = is_without;
-        taken = room(MOST_WRITTEN), taken_errors = room(MOST_WRITTEN);
-        alarm(CHILD_SECONDS);
-        return 1;
-    }
+    if (!child) return is_child = 1, refuse();
     int status = 0;
     while (waitpid(child, &status, 0) < 0) ;
-    int is = WIFEXITED(status) ? WEXITSTATUS(status) : 0;
-    if (is == TOLD) told++;
-    else if (is == UNNEEDED) unneeded++;
-    else wrong++;
-    if (child < 0 || (is != TOLD && is != UNNEEDED && is != WRONG)) {
+    int judged = WIFEXITED(status) ? WEXITSTATUS(status) : 0;
+    count(judged);
+    if (child < 0 || (judged != TOLD && judged != UNNEEDED && judged != WRONG)) {
         char why[64];
         snprintf(why, sizeof why, "the run ended with %#x", status);
         is_wrong(why, "", 0);
@@ -161,50 +174,57 @@ static int refused(void)
 static int is_refused(void)
 {
     if (!is_armed) return refuses_all;
-    long number = request++, stride = here.stride;
+    long number = request++;
+    if (mode == PROGRAM) return refuse_in_child();
+    if (mode == ROWS && (tried == here->count || here->refused[tried] != number)) return 0;
     look();
     requests_without += is_without;
     if (mode == COUNT) return 0;
-    if (is_without) stride = 1;
-    if (number / stride % shares != share || number % stride) return 0;
-    return refused();
+    tried++;
+    return here->forks ? refuse_in_child() : refuse();
 }
 
-/* A row is written, or all of them: notes what was counted, or judges what a child wrote. */
+/* A row is written, or all of them: notes what was counted, or judges what was written. */
 static void row_ends(void)
 {
     if (is_child) _exit(judge_row());
     if (!rows_begun) return;
     if (mode == COUNT) {
-        row_table it = {request, written, now() - here.micros, is_without ? requests_without : -1};
+        counted_row it = {request, written, now() - begun_at, is_without ? requests_without : -1};
         syscall(SYS_write, counts, &it, sizeof it);
-    }
-    row_at += written;
+    } else if (tried < here->count) wrong++, is_wrong("fewer requests than were counted", "", 0);
+    else if (!here->forks) count(judge_row());
 }
 
 /* The block for a row's answers is asked for. */
-static void row_begins(char *given)
+static void *row_begins(void)
 {
     row_ends();
-    block = given, block_used = 0, written = 0, request = 0, requests_without = 0, is_without = 0, is_armed = 1;
-    if (mode == ROWS) here = rows[rows_begun];
-    else here.micros = now();
+    memset(block, 0, block_used + strnlen(block + block_used, ROOM - block_used));
+    block_used = taken_len = taken_errors_len = 0;
+    request = requests_without = written = tried = 0;
+    is_without = refuses_all = 0, is_armed = 1;
+    if (mode == COUNT) begun_at = now();
+    else if (following == end_of_table) _exit(is_wrong("a row that isn't in the table", "", 0));
+    else here = following, following = (const tried_row *)(here->refused + here->count);
     rows_begun++;
+    return block;
 }
 
 void *malloc(size_t size)
 {
-    if (size == ROOM && (mode == COUNT || mode == ROWS)) {
-        char *given = __libc_calloc(1, size);
-        row_begins(given);
-        return given;
-    }
+    if (size == ROOM && block) return row_begins();
     return is_refused() ? 0 : __libc_malloc(size);
+}
+
+void free(void *it)
+{
+    if (!block || it != block) __libc_free(it);
 }
 
 void *realloc(void *from, size_t size)
 {
-    if (from && from == block && is_armed) say("wrong: a row has more answers than there is room for\n"), _exit(WRONG);
+    if (from && from == block) say("wrong: a row has more answers than there is room for\n"), _exit(WRONG);
     return is_refused() ? 0 : __libc_realloc(from, size);
 }
 
@@ -228,9 +248,11 @@ static void take(char *into, size_t *len, const void *bytes, size_t count)
 
 ssize_t write(int file, const void *bytes, size_t count)
 {
-    if (is_child && file == 1) return refuses_all = 0, take(taken, &taken_len, bytes, count), count;
-    if (is_child && file == 2) return take(taken_errors, &taken_errors_len, bytes, count), count;
-    if (file == 1 && mode != PROGRAM) look(), is_armed = 0, written += count;
+    int is_taken = is_child || mode == ROWS;
+    if (file == 1 && mode == COUNT) look(), written += count;
+    if (file == 1 && mode != PROGRAM) is_armed = refuses_all = 0;
+    if (is_taken && file == 1) return take(taken, &taken_len, bytes, count), count;
+    if (is_taken && file == 2) return take(taken_errors, &taken_errors_len, bytes, count), count;
     return syscall(SYS_write, file, bytes, count);
 }
 
@@ -242,11 +264,28 @@ static void ends(int status, void *unused)
     (void)unused;
     is_armed = 0;
     if (is_child && mode == PROGRAM) _exit(judge_program(status));
-    if (is_child && status) _exit(is_wrong("the program fails", taken_errors, taken_errors_len));
+    if (status && mode == ROWS) _exit(is_wrong("the program fails", taken_errors, taken_errors_len));
     row_ends();
+    if (following != end_of_table) _exit(is_wrong("fewer rows than the table has", "", 0));
     char line[128];
     snprintf(line, sizeof line, "runs %ld %ld %ld\n", told, unneeded, wrong);
     say(line);
+}
+
+/* A signal ends a run that isn't a child's, and with it the process. */
+static void dies(int number)
+{
+    char why[64];
+    snprintf(why, sizeof why, "the run ended with signal %d", number);
+    _exit(is_wrong(why, taken_errors, taken_errors_len));
+}
+
+static void catch_signals(void)
+{
+    static char stack[1 << 16];
+    sigaltstack(&(stack_t){.ss_sp = stack, .ss_size = sizeof stack}, 0);
+    struct sigaction caught = {.sa_handler = dies, .sa_flags = SA_ONSTACK};
+    for (const int *it = (const int[]){SIGALRM, SIGSEGV, SIGBUS, SIGILL, SIGFPE, SIGABRT, 0}; *it; it++) sigaction(*it, &caught, 0);
 }
 
 __attribute__((constructor)) static void begins(void)
@@ -254,14 +293,19 @@ __attribute__((constructor)) static void begins(void)
     const char *asked = getenv("REFUSE"), *to = getenv("REFUSE_RESULTS");
     if (!asked || !to) return;
     results = open(to, O_WRONLY | O_CREAT | O_APPEND | O_CLOEXEC, 0600);
-    const char *whole = getenv("REFUSE_ANSWERS"), *table = getenv("REFUSE_ROWS"), *part = getenv("REFUSE_SHARE");
+    const char *whole = getenv("REFUSE_ANSWERS"), *table = getenv("REFUSE_ROWS"), *status = getenv("REFUSE_STATUS");
     if (whole) answers = contents(whole, &answers_len);
+    if (status) wanted_status = atoi(status);
     size_t len;
-    if (!part || sscanf(part, "%ld/%ld/%d", &share, &shares, &wanted_status) != 3) shares = 1;
-    here.stride = 1;
     mode = !strcmp(asked, "count") ? COUNT : !strcmp(asked, "rows") ? ROWS : PROGRAM;
     is_armed = mode == PROGRAM;
-    if (table && mode == COUNT) counts = open(table, O_WRONLY | O_CREAT | O_APPEND | O_CLOEXEC, 0600);
-    else if (table) rows = (row_table *)contents(table, &len);
+    if (mode != PROGRAM) block = room(ROOM + 1);
+    if (mode == COUNT) counts = open(table, O_WRONLY | O_CREAT | O_APPEND | O_CLOEXEC, 0600);
+    else taken = room(MOST_WRITTEN), taken_errors = room(MOST_WRITTEN);
+    if (mode == ROWS) {
+        following = contents(table, &len);
+        end_of_table = (const tried_row *)((const char *)following + len);
+        catch_signals();
+    }
     on_exit(ends, 0);
 }
